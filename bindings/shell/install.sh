@@ -4,7 +4,7 @@
 # It writes below DESTDIR. MACHINE names another processor, as `uname -m` does.
 set -eu
 unset CDPATH
-remove=
+remove='' licences='LICENSE-musl ../../LICENSE-MIT ../../LICENSE-APACHE ../../NOTICE'
 [ "${1-}" != --uninstall ] || { remove=yes; shift; }
 [ $# = 1 ] || set -- ''
 case $1 in
@@ -13,9 +13,11 @@ case $1 in
 *) to=${DESTDIR-}$PWD/$1 ;;
 esac
 case $to in /*) ;; *) to=$PWD/$to ;; esac
-program=$to/bin/getopts_shell page=$to/share/man/man1/getopts_shell.1
+program=$to/bin/getopts_shell page=$to/share/man/man1/getopts_shell.1 papers=$to/share/doc/getopts_shell
 if [ -n "$remove" ]; then
+    for name in $licences; do rm -f "$papers/${name##*/}"; done
     rm -f "$program" "$page"
+    rmdir "$papers" 2>/dev/null || :
     echo "removed $program and its manual page"
     exit
 fi
@@ -27,11 +29,12 @@ fi
 machine=${MACHINE:-$(uname -m)}
 case $machine in amd64) machine=x86_64 ;; arm64) machine=aarch64 ;; esac
 if [ ! -f "$machine/getopts_shell" ]; then
+    [ -d x86_64 ] || { echo "install.sh: call it by its own place, not by a link" >&2; exit 1; }
     echo "install.sh: there is no program for $machine, only for" */getopts_shell | sed 's|/getopts_shell||g' >&2
     exit 1
 fi
 (cd "$machine" && sha256sum -c getopts_shell.sha256 >/dev/null)
-mkdir -p "$to/bin" "$to/share/man/man1"
+mkdir -p "$to/bin" "$to/share/man/man1" "$papers"
 # put FILE PLACE MODE: the old file stays until the new one is whole.
 put() {
     if [ -d "$2" ]; then
@@ -44,4 +47,5 @@ put() {
 }
 put "$machine/getopts_shell" "$program" 755
 put getopts_shell.1 "$page" 644
+for name in $licences; do put "$name" "$papers/${name##*/}" 644; done
 echo "installed $program and its manual page"

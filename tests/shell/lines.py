@@ -18,7 +18,7 @@ PIECES = [(50, lambda rng: rng.choice(SPECIAL)), (20, lambda rng: chr(rng.randra
           (2, lambda rng: chr(rng.randrange(0x10FF80, 0x110000))),
           (2, lambda rng: os.fsdecode(bytes([rng.randrange(0x80, 0x100)])))]
 # How an option is written by how often it may come, and what that is to the second reader.
-COUNTS = {"once": ("{}", "req"), "may": ("[{}]", "optional"), "many": ("[{}]..", "multi"), "last": ("[{}]*", "multi"),
+COUNTS = {"once": ("{}", "req"), "may": ("[{}]", "multi"), "many": ("[{}]..", "multi"),
           "alone": ("[{}]!", "multi")}
 
 
@@ -36,7 +36,7 @@ def table_of(rng, alone):
     options = []
     for short, long in list(zip(shorts, longs))[:rng.randrange(1, 7)]:
         names = rng.choice([(short, ""), ("", long), (short, long)])
-        rest = rng.choice(["no", "yes", "yes", "maybe"]), rng.choice(["once", "may", "may", "many", "last"])
+        rest = rng.choice(["no", "yes", "yes", "maybe"]), rng.choice(["once", "may", "may", "may", "many"])
         options.append(names + (("no", "alone") if rng.random() < alone else rest))
     return options
 

@@ -1,6 +1,7 @@
 mod Quoting
 mod QuotedBytes
 mod Items
+mod Operands
 mod Lines
 mod Only
 mod OneAnswer
@@ -9,7 +10,7 @@ mod Help
 mod Line
 -- texts cut at a byte, with another in its place
 mod Parts
--- one thing is offered at a word
+-- what is offered at the last of words
 mod Offers
 mod Fronts
 mod Shell
@@ -17,6 +18,5 @@ mod Shell
 mod Written
 mod Assignments
 mod Asked
-mod GoesOn
 mod Alone
 mod Chosen

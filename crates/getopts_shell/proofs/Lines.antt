@@ -3,6 +3,7 @@ use Rattle.std.proofs.Common.{◌≡◌, ℕ, ◌<◌, ◌+◌, Bool, true, fals
 use Rattle.std.proofs.Common.{take, drop}
 use Rattle.std.proofs.Common.{get_or}
 use Rattle.std.proofs.Common.{map, refl, sym, ap, ◌∙◌, arith}
+use Rattle.std.specs.Prelude.{◌&&◌, if◌then◌else◌, not}
 use Rattle.std.specs.Prelude.{◌||◌, ◌==◌, IfSome, Option, Some, None, slice_index, min, ◌-◌, ◌^◌}
 use Rattle.std.specs.List.{list_any}
 use Rattle.std.specs.Option.{option_to_list}
@@ -19,6 +20,8 @@ use Rattle.std.specs.Str.{IsTrimAscii}
 use Rattle.std.proofs.lemmas.Str.Ascii.{trim_ascii_is}
 use Rattle.getopts_shell.specs.Table.{after_blanks, trimmed, before_gap, from_gap}
 use Rattle.getopts_shell.specs.Table.{Entry, is_passed, IsItem, DeclaresEntry, Declares}
+use Rattle.getopts_shell.specs.Table.{Operand, is_operand, is_skipped, item_of, operand_at}
+use Rattle.getopts_shell.specs.Table.{operands_after}
 use Rattle.getopts_shell.specs.declared.row.Mark.{Mark}
 use Rattle.getopts_shell.specs.Table.{DeclareEntries, HaveNewNames, DeclareOptions, TableFault}
 use Rattle.getopts_shell.specs.Table.{line_number, name_again}
@@ -36,35 +39,107 @@ trimmed_is text other is = trim_ascii_is text other (after_blanks text) refl is
 
 -- ---- what a line declares
 
+-- whether a text without blanks at its ends is the line of nothing
+abbrev skips : Text → Bool
+skips text = is_empty text || (slice_index text 0 == 35)
+
+-- a line that declares something, and no operand, isn't passed over
+passed_not : (line text item : Text) → text ≡ trimmed line → skips text ≡ false
+    → item ≡ trimmed (before_gap text) → is_operand item ≡ false → is_passed line ≡ false
+passed_not line text item text_is there item_is plain =
+    ap (λ (b : Bool). b || is_operand (item_of line)) (rw text_is at there)
+    ∙ rw (item_is, text_is) at plain
+
+-- the operand that a line would declare
+abbrev operand_made : ℕ → Text → Operand
+operand_made number line = record {
+  line = number;
+  item = item_of line;
+  description = trimmed (from_gap (trimmed line));
+}
+
+-- what a line declares by these tests
+operand_by : (number : ℕ) (line : Text) (skipped operand : Bool) → is_skipped line ≡ skipped
+    → is_operand (item_of line) ≡ operand
+    → operand_at number line
+    ≡ (if not skipped && operand then Some (operand_made number line) else None)
+operand_by number line skipped operand skipped_is is =
+    ap (λ (b : Bool). if not b && is_operand (item_of line) then Some (operand_made number line)
+    else None) skipped_is
+    ∙ ap (λ (b : Bool). if not skipped && b then Some (operand_made number line) else None) is
+
+-- such a line declares no operand
+pub no_operand_at : (number : ℕ) (line text item : Text) → text ≡ trimmed line
+    → skips text ≡ false → item ≡ trimmed (before_gap text) → is_operand item ≡ false
+    → operand_at number line ≡ None
+no_operand_at number line text item text_is there item_is plain =
+    operand_by number line false false (rw text_is at there) (rw (item_is, text_is) at plain)
+
+-- nor does a line that declares nothing
+pub none_skipped : (number : ℕ) (line text : Text) → text ≡ trimmed line → skips text ≡ true
+    → (is_passed line ≡ true) × (operand_at number line ≡ None)
+none_skipped number line text text_is skipped =
+    let is : is_skipped line ≡ true = rw text_is at skipped in (
+      ap (λ (b : Bool). b || is_operand (item_of line)) is,
+      operand_by number line true (is_operand (item_of line)) is refl,
+    )
+
+-- a line of an operand
+pub declares_operand : (number : ℕ) (line text item rest description : Text) → text ≡ trimmed line
+    → skips text ≡ false → item ≡ trimmed (before_gap text) → rest ≡ from_gap text
+    → description ≡ trimmed rest → is_operand item ≡ true
+    → (is_passed line ≡ true) × (operand_at number line
+    ≡ Some (record { line = number; item = item; description = description }))
+declares_operand number line text item rest description text_is there item_is rest_is
+    description_is operand =
+    let skipped : is_skipped line ≡ false = rw text_is at there in
+    let is : is_operand (item_of line) ≡ true = rw (item_is, text_is) at operand in (
+      ap (λ (b : Bool). b || is_operand (item_of line)) skipped ∙ is,
+      operand_by number line false true skipped is
+          ∙ rw (description_is, rest_is, item_is, text_is) refl,
+    )
+
+-- one line more
+pub operands_push : (before : ℕ) (lines : List Text) (line : Text) (number : ℕ)
+    → number ≡ line_number (before + length lines)
+    → operands_after before (lines ++ line ∷ [])
+    ≡ operands_after before lines ++ option_to_list (operand_at number line)
+operands_push before [] line number number_is =
+    append-nil (option_to_list (operand_at (line_number before) line))
+    ∙ ap (λ (n : ℕ). option_to_list (operand_at n line)) (sym (number_is ∙ omega arith))
+operands_push before (first ∷ lines) line number number_is =
+    ap (λ (more : List Operand). option_to_list (operand_at (line_number before) first) ++ more)
+    (operands_push (before + 1) lines line number (number_is ∙ omega arith))
+    ∙ sym (append_assoc (option_to_list (operand_at (line_number before) first))
+    (operands_after (before + 1) lines) (option_to_list (operand_at number line)))
+
 -- a line that isn't passed over and has an option declares it
 pub declares_entry : (number : ℕ) (line text item rest description : Text) (entry : Entry)
-    → entry.line ≡ number → text ≡ trimmed line
-    → (is_empty text || (slice_index text 0 == 35)) ≡ false
-    → item ≡ trimmed (before_gap text) → rest ≡ from_gap text → description ≡ trimmed rest
+    → entry.line ≡ number → text ≡ trimmed line → skips text ≡ false
+    → item ≡ trimmed (before_gap text) → is_operand item ≡ false → rest ≡ from_gap text
+    → description ≡ trimmed rest
     → entry.description ≡ description → IsItem item entry.signature entry.hint entry.mark
     → DeclaresEntry number line entry
-declares_entry number line text item rest description entry number_is text_is there item_is rest_is
-    description_is is of_item =
+declares_entry number line text item rest description entry number_is text_is there item_is plain
+    rest_is description_is is of_item =
     record {
       number_is = number_is;
-      there = rw text_is at there;
+      there = passed_not line text item text_is there item_is plain;
       item = rw (item_is, text_is) at of_item;
       description = is ∙ description_is ∙ rw (rest_is, text_is) refl;
     }
 
 -- a line that isn't passed over and has no option has a fault
 pub faulty_line : (line text item : Text) (number : ℕ) (entries : List Entry) → text ≡ trimmed line
-    → (is_empty text || (slice_index text 0 == 35)) ≡ false → item ≡ trimmed (before_gap text)
+    → skips text ≡ false → item ≡ trimmed (before_gap text) → is_operand item ≡ false
     → ((known : Signature) (hint : Text) (mark : Mark) → ¬ (IsItem item known hint mark))
     → IsLineFault number entries line (no_option number item)
-faulty_line line text item number entries text_is there item_is none_of =
+faulty_line line text item number entries text_is there item_is plain none_of =
     rw (item_is, text_is) (none declares_not)
   where
-    passed_not : is_passed line ≡ false
-    passed_not = rw text_is at there
-
     declares_not : (declared : Option Entry) → ¬ (Declares number line declared)
-    declares_not None is = let both : true ≡ false = sym is ∙ passed_not in cc
+    declares_not None is = let both : true ≡ false =
+        sym is ∙ passed_not line text item text_is there item_is plain in cc
     declares_not (Some entry) is = none_of entry.signature entry.hint entry.mark
         (rw (item_is, text_is) is.item)
 
@@ -161,6 +236,16 @@ next_line lines line number next entries more declared so_far next_is is more_is
     once = new_names-append entries declared so_far.declared.once new;
   });
 }
+
+-- the operands of the lines so far, with those of one more
+pub next_operands : (lines : List Text) (line : Text) (number next : ℕ) (entries : List Entry)
+    (operands more : List Operand) → LinesSoFar lines number entries
+    → next ≡ min (number + 1) (2 ^ 64 - 1)
+    → more ≡ operands ++ option_to_list (operand_at next line)
+    → operands ≡ operands_after 0 lines → more ≡ operands_after 0 (lines ++ line ∷ [])
+next_operands lines line number next entries operands more so_far next_is more_is is =
+    more_is ∙ ap (λ (o : List Operand). o ++ option_to_list (operand_at next line)) is
+    ∙ sym (operands_push 0 lines line next (omega (arith, next_is, so_far.number_is)))
 
 -- a list in three parts
 in_parts : (all : List Text) (n : ℕ) (x : Text) → n < length all → x ≡ get_or all n x

@@ -1,6 +1,6 @@
 -- Words have one answer, with a status of 0, 2 or 5.
-use Rattle.std.proofs.Common.{◌≡◌, ◌≢◌, ◌≤◌, ◌-◌, ℕ, Bool, true, false, Result, Ok, Err, List, []}
-use Rattle.std.proofs.Common.{◌∷◌, Option, Some, None, arith, ap, length, refl, subst, sym, take}
+use Rattle.std.proofs.Common.{◌≡◌, ◌≢◌, ◌≤◌, ℕ, Bool, true, false, Result, Ok, Err, List, []}
+use Rattle.std.proofs.Common.{◌∷◌, Option, Some, None, arith, ap, refl, subst, sym}
 use Rattle.std.proofs.Common.{◌∙◌}
 use Rattle.std.specs.Prelude.{MatchOption, MatchResult, codes}
 use Rattle.std.specs.Bool.{MatchBool}
@@ -13,15 +13,16 @@ use Rattle.getopts.specs.Results.{canonical_result, parse_result, read_result}
 use Rattle.getopts_shell.specs.Completion.{functions, stub}
 use Rattle.getopts_shell.specs.Program.{Answer, AnswersAlone, AnswersCounted, AnswersDeclared}
 use Rattle.getopts_shell.specs.Program.{AnswersFree, AnswersLine, AnswersOffer, AnswersOwn}
-use Rattle.getopts_shell.specs.Program.{AnswersRead, AnswersScript, AnswersTable, AnswersVariables}
+use Rattle.getopts_shell.specs.Program.{AnswersAccepted, AnswersOrdered, AnswersRead, AnswersScript, AnswersTable, free_fault}
 use Rattle.getopts_shell.specs.Program.{AnswersWords, Asked, IsAnswer, IsHelp, IsStatus, OneAnswer}
 use Rattle.getopts_shell.specs.Program.{PrintsHelp, Script, TellsOptions, asked_by, asked_fault}
-use Rattle.getopts_shell.specs.Program.{asks_help, declared, done, faulty}
-use Rattle.getopts_shell.specs.Program.{help_code, is_alone, is_given, last_word, misused}
+use Rattle.getopts.specs.Usage.{IsUsageText}
+use Rattle.getopts_shell.specs.Program.{asks_help, brief_text, declared, done, faulty, help_front}
+use Rattle.getopts_shell.specs.Program.{shown_options}
+use Rattle.getopts_shell.specs.Program.{help_code, is_alone, is_given, misused}
 use Rattle.getopts_shell.specs.Program.{no_completion, own_options, read_options}
 use Rattle.getopts_shell.specs.Program.{table_fault_line}
-use Rattle.getopts_shell.specs.Table.{Entry, TableFault}
-use Rattle.getopts_shell.proofs.Offers.{one_offer}
+use Rattle.getopts_shell.specs.Table.{Entry, TableFault, first_late, operands_in}
 use Rattle.getopts_shell.proofs.Only.{one_table, one_fault, no_fault}
 
 -- ---- statuses
@@ -100,9 +101,17 @@ only_text : (Fact : Text → Type 0) (text other : Text) → IsTheOnly Fact text
     → other ≡ text
 only_text Fact text other is also = (is other).0 ((also other).1 refl)
 
+only_help : (script : Script) (help other : Text) → IsHelp script help → IsHelp script other
+    → other ≡ help
+only_help script help other is also =
+    let rows_same = (is.1 also.0).0 ((also.1 also.0).1 refl) in
+    only_text (IsUsageText (shown_options script) (help_front (brief_text script) is.0)) help other
+    is.2 (subst (λ (rows : List Text). IsTheOnly (IsUsageText (shown_options script)
+    (help_front (brief_text script) rows)) other) rows_same also.2)
+
 one_help : (script : Script) {Is : Text → Answer → Type 0} → ((help : Text) → IsOne (Is help))
     → IsOne (λ answer. (help : Text) × IsHelp script help × Is help answer)
-one_help script one = one_made (only_text _) one
+one_help script one = one_made (only_help script) one
 
 one_tells : (script : Script) (prefix : Text) (options : List _) (free : List Text)
     → IsOne (TellsOptions script prefix options free)
@@ -120,19 +129,21 @@ one_line script words = one_result (canonical_result (read_options script) words
     (λ written. one_option written one_never (λ line. one_with (one_equal _ is_done)))
     (λ fault. one_equal _ is_refused)
 
-one_variables : (script : Script) (prefix : Text) (words : List Text)
-    → IsOne (AnswersVariables script prefix words)
-one_variables script prefix words = one_result (parse_result (read_options script) words)
-    (λ matches. one_tells script prefix _ matches.free) (λ fault. one_equal _ is_refused)
+one_accepted : (script : Script) (words : List Text) (matches : Matched)
+    → IsOne (AnswersAccepted script words matches)
+one_accepted script words matches = one_option script.asked.variables (one_line script words)
+    (λ prefix. one_tells script prefix _ matches.free)
 
 one_counted : (script : Script) (words : List Text) → IsOne (AnswersCounted script words)
-one_counted script words = one_option script.asked.variables (one_line script words)
-    (λ prefix. one_variables script prefix words)
+one_counted script words = one_result (parse_result (read_options script) words)
+    (λ matches. one_option (free_fault script.operands matches.free)
+    (one_accepted script words matches) (λ fault. one_equal _ is_refused))
+    (λ fault. one_equal _ is_refused)
 
 one_printed : (script : Script) → IsOne (PrintsHelp script)
 one_printed script = record {
   only = λ answer other is also. also.3
-      ∙ ap (λ (help : Text). done (help_code help)) (only_text _ is.0 also.0 is.1 also.1)
+      ∙ ap (λ (help : Text). done (help_code help)) (only_help script is.0 also.0 is.1 also.1)
       ∙ sym is.3;
   by = λ answer is. subst (λ (a : Answer). AnswersBy a.status) (sym is.3) is_done;
 }
@@ -154,8 +165,7 @@ one_words script words = one_result (read_result (read_options script) words)
 one_at_word : (script : Script) (shell : Text) (words : List Text)
     → IsOne (AnswersOffer script shell words)
 one_at_word script shell words = one_option (functions shell) (one_equal _ is_misused)
-    (λ functions. one_made (λ text other is also. one_offer (read_options script)
-    (take (length words - 1) words) (last_word words) is also) (λ text. one_equal _ is_done))
+    (λ functions. one_equal _ is_done)
 
 one_script : (script : Script) (words : List Text) → IsOne (AnswersScript script words)
 one_script script words = one_bool script.asked.usage
@@ -168,20 +178,30 @@ by_completion : (fault : Text) (code : Option Text)
 by_completion fault (Some text) = is_done
 by_completion fault None = is_misused
 
-one_declared : (script : Script) (table : Text) (words : List Text)
-    → IsOne (AnswersDeclared script table words)
-one_declared script table words = one_option script.asked.complete
+one_ordered : (script : Script) (table : Text) (words : List Text)
+    → IsOne (AnswersOrdered script table words)
+one_ordered script table words = one_option script.asked.complete
     (one_option (asked_fault script.asked script.entries)
     (one_script script words) (λ fault. one_equal _ is_misused))
     (λ shell. one_equal _ (by_completion (no_completion shell).text
     (stub shell script.asked.stop script.asked.long_only script.name table)))
+
+one_declared : (script : Script) (table : Text) (words : List Text)
+    → IsOne (AnswersDeclared script table words)
+one_declared script table words = one_option (first_late [] script.operands)
+    (one_ordered script table words) (λ operand. one_equal _ is_misused)
 
 one_of_table : (asked : Asked) (name table : Text) (words : List Text)
     → IsOne (AnswersTable asked name table words)
 one_of_table asked name table words = record { only = only; by = by }
   where
     script : List Entry → Script
-    script entries = record { asked = asked; name = name; entries = entries }
+    script entries = record {
+      asked = asked;
+      name = name;
+      entries = entries;
+      operands = operands_in table;
+    }
 
     only : (answer other : Answer) → AnswersTable asked name table words answer
         → AnswersTable asked name table words other → other ≡ answer

@@ -2,13 +2,14 @@
 use Rattle.std.proofs.Common.{◌≡◌, ℕ, Bool, true, false, cond, eqb, List, [], ◌∷◌}
 use Rattle.std.proofs.Common.{refl, arith}
 use Rattle.std.specs.Prelude.{◌&&◌, not}
-use Rattle.std.specs.List.{AllByRecursion, ends_with, list_all}
+use Rattle.std.specs.List.{AllByRecursion, list_all}
 use Rattle.getopts.specs.Names.{Text, Names, is_empty, main_name}
 use Rattle.getopts.specs.Options.{Group}
 use Rattle.getopts.specs.Reading.{begins_with_dash, holds_equals}
 use Rattle.getopts_shell.specs.Held.{group_of_row, groups_of}
 use Rattle.getopts_shell.specs.declared.row.Row.{Row}
-use Rattle.getopts_shell.specs.Table.{is_long_byte, is_long_name, is_name, is_name_byte}
+use Rattle.getopts_shell.specs.Table.{ends_as_name, is_long_byte, is_long_name, is_name}
+use Rattle.getopts_shell.specs.Table.{is_name_byte}
 use Rattle.std.proofs.lemmas.Bool.{and_parts, or_from}
 use Rattle.std.proofs.lemmas.Bool.Decides.{nat_tests}
 
@@ -37,9 +38,9 @@ plain_main names short long = by_test (is_empty names.long)
     by_test true = plain_bytes is_name_byte plain_byte names.short
         (and_parts (not (begins_with_dash names.short)) (list_all is_name_byte names.short) short).1
     by_test false = plain_bytes is_long_byte plain_long_byte names.long
-        (and_parts (list_all is_long_byte names.long) (not (ends_with eqb names.long (58 ∷ [])))
+        (and_parts (list_all is_long_byte names.long) (ends_as_name names.long)
         (and_parts (not (begins_with_dash names.long))
-        (list_all is_long_byte names.long && not (ends_with eqb names.long (58 ∷ []))) long).1).0
+        (list_all is_long_byte names.long && ends_as_name names.long) long).1).0
 
 -- no main name holds `=`
 abbrev pub ArePlainlyNamed : List Group → Type 0

@@ -1,16 +1,17 @@
 -- Completion: the code that a shell runs at a script's words, and what the program offers it there.
-use Rattle.std.specs.Prelude.{◌≡◌, ◌==◌, ◌&&◌, ◌||◌, not, ℕ, nat_eq, Bool, true, false}
-use Rattle.std.specs.Prelude.{List, [], ◌++◌, Option, Some, None, codes, if◌then◌else◌}
+use Rattle.std.specs.Prelude.{◌==◌, ◌&&◌, ◌||◌, not, ℕ, nat_eq, Bool, true, false}
+use Rattle.std.specs.Prelude.{List, [], ◌++◌, ◌∷◌, ◌-◌, Option, Some, None, Result, Ok, Err, codes}
+use Rattle.std.specs.Prelude.{if◌then◌else◌, length}
 use Rattle.std.specs.List.{filter, flat_map, starts_with}
-use Rattle.std.specs.Option.{option_map}
+use Rattle.std.specs.Option.{option_map, option_map_or}
 use Rattle.std.specs.Str.{bytes_eq}
 use Rattle.getopts.specs.Accessors.{is_present}
-use Rattle.getopts.specs.Matches.{MatchedGroup, matches_of}
+use Rattle.getopts.specs.Fail.{Fault}
+use Rattle.getopts.specs.Matches.{Matched, MatchedGroup}
 use Rattle.getopts.specs.Names.{Text, is_empty, main_name}
-use Rattle.getopts.specs.Only.{IsTheOnly}
 use Rattle.getopts.specs.Options.{Group, Declared}
-use Rattle.getopts.specs.Parse.{Reads}
-use Rattle.getopts.specs.Reading.{Reading, line_end}
+use Rattle.getopts.specs.Reading.{stop_word}
+use Rattle.getopts.specs.Results.{read_result}
 use Rattle.getopts.specs.declared.groups.HasArg.{HasArg}
 use Rattle.getopts.specs.declared.groups.HasArg.TheVariants.{No}
 use Rattle.getopts.specs.declared.groups.Occur.{Occur}
@@ -21,14 +22,20 @@ use Rattle.getopts_shell.specs.Table.{is_long_name}
 
 -- ---- which options may come
 
--- An option may come after these words: they have one reading, and it ends with the line, neither
--- in a stop nor in a rest. The groups are what it gives.
-pub record MayGoOn (options : Declared) (before : List Text) (groups : List MatchedGroup)
-    : Type 0 where
-  pub reading : Reading
-  pub only : IsTheOnly (Reads options before) reading
-  pub ends : reading.tail ≡ line_end
-  pub groups_are : groups ≡ (matches_of options reading).groups
+-- whether one free word, the last, stands after a stop
+abbrev pub is_last_after_stop : Matched → Bool
+is_last_after_stop matches =
+    option_map_or (λ start. length matches.free - start == 1) matches.trailing_start false
+
+-- The groups that these words give, where an option may come after them: a `--` and one word more
+-- would be a stop and a free word.
+abbrev pub groups_after : Result Matched Fault → Option (List MatchedGroup)
+groups_after (Ok matches) = if is_last_after_stop matches then Some matches.groups else None
+groups_after (Err fault) = None
+
+abbrev pub goes_on : Declared → List Text → Option (List MatchedGroup)
+goes_on options before =
+    groups_after (read_result options (before ++ stop_word ∷ [] ∷ []))
 
 -- whether an option may come any number of times
 abbrev pub is_multi : Occur → Bool
@@ -74,15 +81,13 @@ abbrev pub options_lines : List MatchedGroup → Bool → Text → List Group �
 options_lines groups long_only word options =
     flat_map (option_lines long_only word) (filter (may_come groups) options)
 
--- What is offered at a word, after these words: options, where it begins with `-` and an option
--- may come; else files.
-pub data IsOffer (options : Declared) (before : List Text) (word : Text) : Text → Type 0 where
-  offers_options : (groups : List MatchedGroup) → starts_with nat_eq word (codes "-") ≡ true
-      → MayGoOn options before groups
-      → IsOffer options before word (options_lines groups options.long_only word options.groups)
-  offers_files : ((groups : List MatchedGroup) → starts_with nat_eq word (codes "-") ≡ true
-      → ¬ (MayGoOn options before groups))
-      → IsOffer options before word (codes "files\n")
+-- what is offered at a word, after these words: options, where it begins with `-` and an option may
+-- come; else files
+abbrev pub offer : Declared → List Text → Text → Text
+offer options before word =
+    option_map_or (λ groups. options_lines groups options.long_only word options.groups)
+    (if starts_with nat_eq word (codes "-") then goes_on options before else None)
+    (codes "files\n")
 
 -- ---- the code for a shell
 

@@ -4,17 +4,19 @@ use Rattle.std.specs.Prelude.{MatchOption}
 use Rattle.std.specs.Option.{option_map}
 use Rattle.std.specs.String.{string_bytes}
 use Rattle.getopts.specs.Matches.{MatchedGroup, matched}
-use Rattle.getopts.specs.Names.{Text}
 use Rattle.getopts.specs.Options.{Declared, Group, Signature, group_of, signatures_of, with_group}
-use Rattle.getopts.specs.Parse.{Reads}
-use Rattle.getopts.specs.Reading.{Occurrence, Reading}
-use Rattle.getopts_shell.specs.Program.{Answer, Asked, own_groups, read_groups}
+use Rattle.getopts.specs.Reading.{Occurrence}
+use Rattle.getopts_shell.specs.Program.{Answer, Asked, OperandFault, missing, own_groups, read_groups}
+use Rattle.getopts_shell.specs.Program.{unexpected}
 use Rattle.getopts_shell.specs.Variables.{VariableFault, arrays_only, no_prefix, no_variable}
 use Rattle.getopts_shell.specs.Variables.{variable_twice}
 use Rattle.getopts_shell.specs.Table.{Entry, group_of_entry, shown_group, TableFault, no_option}
-use Rattle.getopts_shell.specs.Table.{name_twice}
+use Rattle.getopts_shell.specs.Table.{Operand, name_twice}
 use Rattle.getopts_shell.specs.declared.script.Asked.{Asked as AskedHeld}
 use Rattle.getopts_shell.specs.declared.answer.Outcome.{Outcome}
+use Rattle.getopts_shell.specs.declared.operand.Operand.{Operand as OperandHeld}
+use Rattle.getopts_shell.specs.declared.operand.OperandError.{OperandError}
+use Rattle.getopts_shell.specs.declared.operand.OperandError.TheVariants as operand
 use Rattle.getopts_shell.specs.declared.row.Row.{Row}
 use Rattle.getopts_shell.specs.declared.table.TableError.{TableError}
 use Rattle.getopts_shell.specs.declared.table.TableError.TheVariants as error
@@ -38,6 +40,17 @@ entry_of_row row = record {
 
 abbrev pub entries_of : List Row → List Entry
 entries_of rows = map entry_of_row rows
+
+-- the operand that the code holds
+abbrev pub operand_of : OperandHeld → Operand
+operand_of operand = record {
+  line = operand.line;
+  item = operand.item.now;
+  description = operand.description.now;
+}
+
+abbrev pub operands_of : List OperandHeld → List Operand
+operands_of operands = map operand_of operands
 
 -- the groups of rows
 abbrev pub groups_of : List Row → List Group
@@ -80,10 +93,6 @@ abbrev pub HasOwnGroups : List MatchedGroup → Type 0
 HasOwnGroups groups = (occurrences : List Occurrence) × (groups
     ≡ matched 0 (signatures_of own_groups) occurrences)
 
--- the words have a reading
-abbrev pub HaveReading : Declared → List Text → Type 0
-HaveReading options words = (reading : Reading) × Reads options words reading
-
 -- the options with these groups too, the last ones
 abbrev pub with_groups : Declared → List Group → Declared
 with_groups options [] = options
@@ -99,3 +108,8 @@ variable_fault_told variable.ArraysOnly = arrays_only
 variable_fault_told (variable.NoPrefix prefix) = no_prefix prefix.now
 variable_fault_told (variable.NoVariable number name) = no_variable number name.now
 variable_fault_told (variable.VariableTwice number name) = variable_twice number name.now
+
+-- the fault that an error of free words tells
+abbrev pub operand_fault_told : OperandError → OperandFault
+operand_fault_told (operand.Missing name) = missing name.now
+operand_fault_told (operand.Unexpected word) = unexpected word.now

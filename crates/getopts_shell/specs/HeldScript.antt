@@ -1,5 +1,5 @@
 -- The script that the code holds, as the definitions see it.
-use Rattle.getopts_shell.specs.Held.{asked_of, entries_of}
+use Rattle.getopts_shell.specs.Held.{asked_of, entries_of, operands_of}
 use Rattle.getopts_shell.specs.Program.{Script}
 use Rattle.getopts_shell.specs.declared.script.Script.{Script as ScriptHeld}
 
@@ -8,4 +8,5 @@ script_of script = record {
   asked = asked_of script.asked.now;
   name = script.name.now;
   entries = entries_of script.rows.now;
+  operands = operands_of script.operands.now;
 }

@@ -1,10 +1,10 @@
 -- The program: what it answers to words, and with which status.
 use Rattle.std.specs.Prelude.{◌≡◌, ◌≢◌, ◌≤◌, ◌&&◌, ◌-◌, ℕ, Bool, true, false, List, [], ◌∷◌}
 use Rattle.std.specs.Prelude.{◌++◌, Option, Some, None, MatchOption, MatchResult, codes, decimal}
-use Rattle.std.specs.Prelude.{if◌then◌else◌, length, map, not, take}
+use Rattle.std.specs.Prelude.{if◌then◌else◌, length, map, nat_lt, not, take}
 use Rattle.std.specs.Bool.{MatchBool}
 use Rattle.std.specs.Io.KnownBytes.{Appends}
-use Rattle.std.specs.List.{AllByRecursion, find, last_or, list_any}
+use Rattle.std.specs.List.{AllByRecursion, AllZip, find, last_or, list_any}
 use Rattle.std.specs.Option.{option_map_or, unwrap_or}
 use Rattle.std.specs.Str.{bytes_eq}
 use Rattle.getopts.specs.Accessors.{first_value, found_of, is_present}
@@ -17,14 +17,17 @@ use Rattle.getopts.specs.Only.{IsTheOnly}
 use Rattle.getopts.specs.Options.{Group, Declared, group_of}
 use Rattle.getopts.specs.Reading.{stop_word}
 use Rattle.getopts.specs.Results.{canonical_result, parse_result, read_result}
-use Rattle.getopts.specs.Usage.{IsUsageText, short_usage_text}
+use Rattle.getopts.specs.Usage.{IsUsageText, next_row, short_usage_text, spaces}
+use Rattle.getopts.specs.Wrap.{IsDescriptionRows, continued, joined}
 use Rattle.getopts.specs.declared.groups.HasArg.TheVariants.{Yes, No}
 use Rattle.getopts.specs.declared.groups.Occur.TheVariants.{Optional}
 use Rattle.getopts.specs.declared.groups.ParsingStyle.TheVariants.{FloatingFrees, StopAtFirstFree}
 use Rattle.getopts_bytes.specs.Marks.{bytes_of}
-use Rattle.getopts_shell.specs.Completion.{IsOffer, functions, stub, takes_argument}
+use Rattle.getopts_shell.specs.Completion.{functions, offer, stub, takes_argument}
 use Rattle.getopts_shell.specs.Quote.{quoted, shell_words}
 use Rattle.getopts_shell.specs.Table.{Entry, group_of_entry, shown_group, DeclaresOptions}
+use Rattle.getopts_shell.specs.Table.{Operand, before, first_late, is_needed, may_repeat}
+use Rattle.getopts_shell.specs.Table.{operands_in}
 use Rattle.getopts_shell.specs.Table.{IsTableFault, TableFault, no_option, name_twice, reason_of}
 use Rattle.getopts_shell.specs.Variables.{HoldTexts, SetsVariables, SetsWords, Given, given_from}
 use Rattle.getopts_shell.specs.Variables.{given_alone, line_code, variables_code, VariableFault}
@@ -126,13 +129,19 @@ table_fault_line (no_option number item) =
 table_fault_line (name_twice number name) =
     of_line number (codes "the name '" ++ (name ++ codes "' stands in an earlier line\n"))
 
+-- what is said of an operand that may not come after those before it
+abbrev pub late_line : Operand → Text
+late_line operand = of_line operand.line
+    (operand.item ++ codes ": nothing comes after dots, and nothing required after brackets\n")
+
 -- ---- a script
 
--- a script: what is asked for it, its name, and the entries of its table
+-- a script: what is asked for it, its name, and the entries and the operands of its table
 pub record Script : Type 0 where
   pub asked : Asked
   pub name : Text
   pub entries : List Entry
+  pub operands : List Operand
 
 -- the groups of entries, as words are read by them
 abbrev pub read_groups : List Entry → List Group
@@ -153,21 +162,76 @@ read_options script = options_in script.asked (read_groups script.entries)
 abbrev pub shown_options : Script → Declared
 shown_options script = options_in script.asked (map shown_group script.entries)
 
+-- the short usage of a script: its options, and its operands as they are written
+abbrev pub usage_line : Script → Text
+usage_line script = short_usage_text (shown_options script) script.name
+    ++ continued (nat_lt 0 (length script.entries)) (codes " ")
+    (map (λ operand. operand.item) script.operands)
+
 -- the text that a script's help begins with: the one that was given, or else the short usage
 abbrev pub brief_text : Script → Text
-brief_text script = unwrap_or script.asked.brief (short_usage_text (shown_options script)
-    script.name)
+brief_text script = unwrap_or script.asked.brief (usage_line script)
+
+-- what stands before the description of an operand: its item, and spaces up to 24 columns, or else
+-- the next row
+abbrev pub operand_padding : Text → Text
+operand_padding item = if nat_lt (length item) 20 then spaces (20 - length item) else next_row
+
+abbrev pub operand_head : Text → Text
+operand_head item = spaces 4 ++ (item ++ operand_padding item)
+
+-- an operand's row: its head, and the rows of its description within 54 columns
+abbrev pub IsOperandRow : Operand → Text → Type 0
+IsOperandRow operand row =
+    (description : List Text) × IsDescriptionRows 54 operand.description description
+    × (row ≡ operand_head operand.item ++ joined next_row description)
+
+-- what a help says before its options: the text that it begins with; and where there are operands,
+-- an empty line, a line that says `Arguments:`, and the rows of operands
+abbrev pub help_front : Text → List Text → Text
+help_front brief [] = brief
+help_front brief rows = brief ++ (codes "\n\nArguments:\n" ++ joined (codes "\n") rows)
 
 -- the help of a script
 abbrev pub IsHelp : Script → Text → Type 0
-IsHelp script help = IsTheOnly (IsUsageText (shown_options script) (brief_text script)) help
+IsHelp script help = (rows : List Text) × IsTheOnly (AllZip IsOperandRow script.operands) rows
+    × IsTheOnly (IsUsageText (shown_options script) (help_front (brief_text script) rows)) help
 
--- the answer to words that are refused: the fault, and the text that the help begins with
+-- the answer to words that are refused: the line of the fault, and the text that the help begins
+-- with
+abbrev pub refused_by : Script → Text → Answer
+refused_by script line = record { text = line ++ (brief_text script ++ codes "\n"); status = 2 }
+
 abbrev pub refused : Script → Fault → Answer
-refused script fault = record {
-  text = fault_line script.name fault ++ (brief_text script ++ codes "\n");
-  status = 2;
-}
+refused script fault = refused_by script (fault_line script.name fault)
+
+-- ---- the number of free words
+
+-- a fault of free words: an operand of this name isn't there, or this word is one too many
+pub data OperandFault : Type 0 where
+  missing : Text → OperandFault
+  unexpected : Text → OperandFault
+
+-- the fault of free words with these operands, if they have one: each word is the next operand, and
+-- all from one that may come again on are that; it is named by what stands before its dots
+abbrev pub operand_fault : List Operand → List Text → Option OperandFault
+operand_fault [] [] = None
+operand_fault [] (word ∷ words) = Some (unexpected word)
+operand_fault (operand ∷ operands) [] =
+    if is_needed operand then Some (missing (before 46 operand.item)) else None
+operand_fault (operand ∷ operands) (word ∷ words) =
+    if may_repeat operand then None else operand_fault operands words
+
+-- the fault of a script's free words; where its table has no operands, there is none
+abbrev pub free_fault : List Operand → List Text → Option OperandFault
+free_fault [] free = None
+free_fault operands free = operand_fault operands free
+
+-- the line of a fault of free words, after a name
+abbrev pub operand_fault_line : Text → OperandFault → Text
+operand_fault_line name (missing operand) = name ++ (codes ": " ++ (operand ++ codes " missing\n"))
+operand_fault_line name (unexpected word) =
+    name ++ (codes ": unexpected word: '" ++ (word ++ codes "'\n"))
 
 -- a shell makes of this text in quotes one word, itself; and of the bytes of that the bytes of the
 -- text
@@ -249,9 +313,8 @@ last_word words = unwrap_or (last_or None words) []
 abbrev pub AnswersOffer : Script → Text → List Text → Answer → Type 0
 AnswersOffer script shell words answer = MatchOption (functions shell)
     (answer ≡ no_completion shell)
-    (λ functions. (text : Text)
-    × IsOffer (read_options script) (take (length words - 1) words) (last_word words) text
-    × (answer ≡ done text))
+    (λ functions. answer
+    ≡ done (offer (read_options script) (take (length words - 1) words) (last_word words)))
 
 -- The code that sets variables for options and free words: a shell that runs it holds these; and
 -- the values are UTF-8, so one that runs its bytes holds their bytes.
@@ -268,23 +331,27 @@ AnswersAlone script entry answer = MatchOption script.asked.variables
     (SetsWords (alone_line entry) × (answer ≡ done (line_code (alone_line entry))))
     (λ prefix. TellsOptions script prefix (given_alone script.entries entry) [] answer)
 
--- the answer to words whose counts are checked: their canonical line, variables for their matches,
--- or the first fault
+-- the answer to words that are accepted, with these matches: their canonical line, or variables
 abbrev pub AnswersLine : Script → List Text → Answer → Type 0
 AnswersLine script words answer = MatchResult (canonical_result (read_options script) words)
     (λ written. MatchOption written ⊥ (λ line. TellsWords (read_options script) words line
     × (answer ≡ done (line_code line))))
     (λ fault. answer ≡ refused script fault)
 
-abbrev pub AnswersVariables : Script → Text → List Text → Answer → Type 0
-AnswersVariables script prefix words answer = MatchResult (parse_result (read_options script) words)
-    (λ matches. TellsOptions script prefix (given_from 0 script.entries matches.groups) matches.free
+abbrev pub AnswersAccepted : Script → List Text → Matched → Answer → Type 0
+AnswersAccepted script words matches answer = MatchOption script.asked.variables
+    (AnswersLine script words answer)
+    (λ prefix. TellsOptions script prefix (given_from 0 script.entries matches.groups) matches.free
     answer)
-    (λ fault. answer ≡ refused script fault)
 
+-- the answer to words whose counts are checked: the first fault of an option, or else of the free
+-- words; if there is none, the words are accepted
 abbrev pub AnswersCounted : Script → List Text → Answer → Type 0
-AnswersCounted script words answer = MatchOption script.asked.variables
-    (AnswersLine script words answer) (λ prefix. AnswersVariables script prefix words answer)
+AnswersCounted script words answer = MatchResult (parse_result (read_options script) words)
+    (λ matches. MatchOption (free_fault script.operands matches.free)
+    (AnswersAccepted script words matches answer)
+    (λ fault. answer ≡ refused_by script (operand_fault_line script.name fault)))
+    (λ fault. answer ≡ refused script fault)
 
 -- the answer to words that ask for help: the code that prints it
 abbrev pub PrintsHelp : Script → Answer → Type 0
@@ -313,11 +380,16 @@ AnswersScript script words answer = MatchBool script.asked.usage
 
 -- the answer where a table has these entries: the code that completes words, the fault of the
 -- variables, or the answer for the script
-abbrev pub AnswersDeclared : Script → Text → List Text → Answer → Type 0
-AnswersDeclared script table words answer = MatchOption script.asked.complete
+abbrev pub AnswersOrdered : Script → Text → List Text → Answer → Type 0
+AnswersOrdered script table words answer = MatchOption script.asked.complete
     (MatchOption (asked_fault script.asked script.entries)
     (AnswersScript script words answer) (λ fault. answer ≡ misused (variable_fault_line fault)))
     (λ shell. answer ≡ completion_answer script.asked shell script.name table)
+
+-- the same, or that its operands stand in no order
+abbrev pub AnswersDeclared : Script → Text → List Text → Answer → Type 0
+AnswersDeclared script table words answer = MatchOption (first_late [] script.operands)
+    (AnswersOrdered script table words answer) (λ operand. answer ≡ misused (late_line operand))
 
 -- The answer to a script's name, its table and its words: the fault of the table, or what its
 -- entries give.
@@ -326,8 +398,12 @@ pub data AnswersTable (asked : Asked) (name table : Text) (words : List Text) (a
   faulty : (fault : TableFault) → IsTableFault table fault
       → answer ≡ misused (table_fault_line fault) → AnswersTable asked name table words answer
   declared : (entries : List Entry) → DeclaresOptions table entries
-      → AnswersDeclared (record { asked = asked; name = name; entries = entries }) table words
-      answer
+      → AnswersDeclared (record {
+        asked = asked;
+        name = name;
+        entries = entries;
+        operands = operands_in table;
+      }) table words answer
       → AnswersTable asked name table words answer
 
 -- the answer to the free words of the program's own

@@ -4,7 +4,8 @@ use Rattle.std.specs.Prelude.{true, false}
 use Rattle.std.specs.Prelude.{List, [], ◌∷◌, ◌++◌, Option, Some, None, codes, if◌then◌else◌}
 use Rattle.std.specs.Prelude.{slice_index, length}
 use Rattle.std.specs.Prelude.{drop, take, find}
-use Rattle.std.specs.Char.{is_ascii_alphanumeric, is_ascii_whitespace}
+use Rattle.std.specs.Char.{is_ascii_alphanumeric, is_ascii_digit, is_ascii_uppercase}
+use Rattle.std.specs.Char.{is_ascii_whitespace}
 use Rattle.std.specs.List.{AllByRecursion, after_first, before_first, ends_with}
 use Rattle.std.specs.List.{list_all, list_any}
 use Rattle.std.specs.List.{prefix_len, starts_with, suffix_len}
@@ -19,10 +20,28 @@ use Rattle.getopts.specs.declared.groups.HasArg.TheVariants.{Yes, No, Maybe}
 use Rattle.getopts.specs.declared.groups.Occur.{Occur}
 use Rattle.getopts.specs.declared.groups.Occur.TheVariants.{Req, Optional, Multi}
 use Rattle.getopts_shell.specs.declared.item.TheConstants.{APART, BAR, BRACKETS, BYTES, COLON}
-use Rattle.getopts_shell.specs.declared.item.TheConstants.{DASHES, EQUALS, GAP, LETTER}
-use Rattle.getopts_shell.specs.declared.item.TheConstants.{LONG, MARK, OPEN, ORDER, SHORT, SPACE}
+use Rattle.getopts_shell.specs.declared.item.TheConstants.{DASHES, END, EQUALS, GAP, LETTER}
+use Rattle.getopts_shell.specs.declared.item.TheConstants.{LONG, MARK, ONE, OPEN, ORDER, SHORT, SPACE}
 use Rattle.getopts_shell.specs.declared.row.Mark.{Mark}
 use Rattle.getopts_shell.specs.declared.row.Mark.TheVariants.{Plain, Alone, Last}
+
+-- ---- texts in parts
+
+-- whether a text holds a byte
+abbrev pub holds : ℕ → Text → Bool
+holds byte text = list_any (λ other. other == byte) text
+
+-- what stands before the first such byte, or all
+abbrev pub before : ℕ → Text → Text
+before byte text = before_first (λ other. other == byte) text
+
+-- what stands after it, or nothing
+abbrev pub after : ℕ → Text → Text
+after byte text = after_first (λ other. other == byte) text
+
+-- a text without a `[` in front
+abbrev pub unopened : Text → Text
+unopened text = if slice_index text 0 == 91 then drop 1 text else text
 
 -- ---- names, hints and items
 
@@ -41,11 +60,16 @@ abbrev pub is_long_byte : ℕ → Bool
 is_long_byte byte = is_ascii_alphanumeric byte || byte == 45 || byte == 95 || byte == 46
     || byte == 43 || byte == 58 || nat_lt 127 byte
 
--- whether a text may be a long name: it doesn't begin with `-` nor end in `:`, and its bytes may
--- stand there
+-- whether a text ends as a long name may: neither in `:` nor in `.`
+abbrev pub ends_as_name : Text → Bool
+ends_as_name text =
+    not (ends_with ◌==◌ text (codes ":")) && not (ends_with ◌==◌ text (codes "."))
+
+-- whether a text may be a long name: it doesn't begin with `-`, its bytes may stand there, and it
+-- ends as one may
 abbrev pub is_long_name : Text → Bool
 is_long_name text = not (begins_with_dash text)
-    && (list_all is_long_byte text && not (ends_with ◌==◌ text (codes ":")))
+    && (list_all is_long_byte text && ends_as_name text)
 
 -- a byte that a hint may hold: no space, no tab, no `[` and no `]`
 abbrev pub is_hint_byte : ℕ → Bool
@@ -93,14 +117,14 @@ abbrev pub HasParts : Text → Text → Option Text → Type 0
 HasParts text names argument = AllByRecursion (λ byte. byte ≢ 32) names
     × (text ≡ names ++ option_map_or (λ argument. codes " " ++ argument) argument [])
 
--- what stands behind `]`: nothing, the option may come once; `!`, it stands alone; two or three
--- dots, it may come any number of times; `*`, it may so, and its last value counts
+-- what stands behind `]`, where the option may come any number of times: nothing, its last value
+-- counts; two or three dots, all do; `!`, it stands alone
 abbrev pub end_means : Text → Option (Occur × Mark)
 end_means end =
-    if is_empty end then Some (Optional, Plain)
+    if is_empty end then Some (Multi, Last)
     else (if bytes_eq end (codes "!") then Some (Optional, Alone)
     else (if bytes_eq end (codes "..") || bytes_eq end (codes "...") then Some (Multi, Plain)
-    else (if bytes_eq end (codes "*") then Some (Multi, Last) else None)))
+    else None))
 
 -- A text with another inside, in no brackets where it is required, and else in `[` and `]`, and
 -- what follows these.
@@ -128,6 +152,52 @@ pub record IsItem (text : Text) (known : Signature) (hint : Text) (mark : Mark) 
   pub argument_is : IsArgument known.kind hint argument
   pub fits_kind : fits mark known.kind ≡ true
 
+-- ---- operands
+
+-- a byte of an operand's name: a capital letter, a digit, `_` or `-`
+abbrev pub is_operand_byte : ℕ → Bool
+is_operand_byte byte =
+    is_ascii_uppercase byte || is_ascii_digit byte || byte == 95 || byte == 45
+
+-- whether a text begins with a capital letter
+abbrev pub begins_capital : Text → Bool
+begins_capital text = is_ascii_uppercase (slice_index text 0)
+
+-- whether a text has `[` in front and its one `]` at its end, or neither
+abbrev pub has_brackets : Text → Bool
+has_brackets text =
+    if slice_index text 0 == 91 then holds 93 text && is_empty (after 93 text)
+    else not (holds 93 text)
+
+-- whether no dot stands in a text, or two or three at its end
+abbrev pub has_dots : Text → Bool
+has_dots text = not (holds 46 text)
+    || (ends_with ◌==◌ text (codes "..") && nat_lt (length (after 46 text)) 3)
+
+-- the name of an operand, as its item has it
+abbrev pub operand_name : Text → Text
+operand_name item = before 93 (unopened (before 46 item))
+
+-- whether an item is an operand: a name that begins with a capital letter, in brackets where it may
+-- be left out, and two or three dots where it may come again
+abbrev pub is_operand : Text → Bool
+is_operand item = begins_capital (unopened item)
+    && (list_all is_operand_byte (operand_name item)
+    && (has_brackets (before 46 item) && has_dots item))
+
+-- An operand of a table: the number of its line, its item, and its description.
+pub record Operand : Type 0 where
+  pub line : ℕ
+  pub item : Text
+  pub description : Text
+
+-- whether an operand has to be there, and whether it may come again
+abbrev pub is_needed : Operand → Bool
+is_needed operand = not (slice_index operand.item 0 == 91)
+
+abbrev pub may_repeat : Operand → Bool
+may_repeat operand = holds 46 operand.item
+
 -- An entry of a table: the number of its line, what is asked of its option, the hint, the
 -- description, and the mark.
 pub record Entry : Type 0 where
@@ -142,8 +212,7 @@ abbrev pub group_of_entry : Entry → Group
 group_of_entry entry =
     record { signature = entry.signature; hint = entry.hint; description = entry.description }
 
--- the group that a help shows: an option of which the last value counts is shown as one that may
--- come once
+-- the group that a help shows: an option of which the last value counts stands in brackets alone
 abbrev pub shown_occurrence : Mark → Occur → Occur
 shown_occurrence Last occurrence = Optional
 shown_occurrence mark occurrence = occurrence
@@ -192,8 +261,12 @@ abbrev pub item_of : Text → Text
 item_of line = trimmed (before_gap (trimmed line))
 
 -- whether a line declares nothing: it is empty or begins with `#`
+abbrev pub is_skipped : Text → Bool
+is_skipped line = is_empty (trimmed line) || slice_index (trimmed line) 0 == 35
+
+-- whether a line declares no option: it declares nothing, or its item is an operand
 abbrev pub is_passed : Text → Bool
-is_passed line = is_empty (trimmed line) || slice_index (trimmed line) 0 == 35
+is_passed line = is_skipped line || is_operand (item_of line)
 
 -- A line with this number declares an entry: its option, and after a tab or two spaces its
 -- description.
@@ -220,6 +293,38 @@ DeclareEntries before [] entries = entries ≡ []
 DeclareEntries before (line ∷ lines) entries = (declared : Option Entry) × (others : List Entry)
     × Declares (line_number before) line declared × DeclareEntries (before + 1) lines others
     × (entries ≡ option_to_list declared ++ others)
+
+-- the operand that a line with this number declares, if it declares one
+abbrev pub operand_at : ℕ → Text → Option Operand
+operand_at number line = if not (is_skipped line) && is_operand (item_of line) then Some (record {
+  line = number;
+  item = item_of line;
+  description = trimmed (from_gap (trimmed line));
+}) else None
+
+-- the operands that lines declare, in order, where so many lines stand before them
+abbrev pub operands_after : ℕ → List Text → List Operand
+operands_after before [] = []
+operands_after before (line ∷ lines) =
+    option_to_list (operand_at (line_number before) line) ++ operands_after (before + 1) lines
+
+-- the operands that a table declares
+abbrev pub operands_in : Text → List Operand
+operands_in table = operands_after 0 (lines_of table)
+
+-- whether another operand may come before this one: it may not come again, and it has to be there
+-- where this one has to
+abbrev pub comes_before : Operand → Operand → Bool
+comes_before operand other = not (may_repeat other) && (is_needed other || not (is_needed operand))
+
+abbrev pub may_follow : List Operand → Operand → Bool
+may_follow before operand = list_all (comes_before operand) before
+
+-- the first operand that may not come after those before it, where these stand before all
+abbrev pub first_late : List Operand → List Operand → Option Operand
+first_late before [] = None
+first_late before (operand ∷ more) =
+    if may_follow before operand then first_late (before ++ operand ∷ []) more else Some operand
 
 -- whether one of these entries has this name
 abbrev pub any_has_name : List Entry → Text → Bool
@@ -253,22 +358,6 @@ OneTableOneList = (table : Text) (entries others : List Entry) → DeclaresOptio
 
 -- ---- why a text is no option
 
--- whether a text holds a byte
-abbrev pub holds : ℕ → Text → Bool
-holds byte text = list_any (λ other. other == byte) text
-
--- what stands before the first such byte, or all
-abbrev pub before : ℕ → Text → Text
-before byte text = before_first (λ other. other == byte) text
-
--- what stands after it, or nothing
-abbrev pub after : ℕ → Text → Text
-after byte text = after_first (λ other. other == byte) text
-
--- a text without a `[` in front
-abbrev pub unopened : Text → Text
-unopened text = if slice_index text 0 == 91 then drop 1 text else text
-
 -- what stands for the names of an item: all before the first space or `]`, without a `[` in front
 abbrev pub names_in : Text → Text
 names_in item = before 32 (before 93 (unopened item))
@@ -279,6 +368,11 @@ dashed names =
     if starts_with ◌==◌ names (codes "--") then record { short = []; long = names }
     else record { short = before 124 names; long = after 124 names }
 
+-- whether a text holds `]`, and ends in what can't stand behind it
+abbrev pub ends_behind : Text → Bool
+ends_behind text =
+    holds 93 text && not (ends_with ◌==◌ text (codes "]") || ends_with ◌==◌ text (codes "."))
+
 -- why a text may be no option: what each reason claims of it, and the reason
 abbrev pub reasons : Text → List (Bool × Text)
 reasons item =
@@ -286,11 +380,14 @@ reasons item =
     let short = (dashed names).short in
     let long = (dashed names).long in
     (holds 91 item && not (holds 93 item), OPEN.now)
+    ∷ (starts_with ◌==◌ (after 93 item) (codes " [-"), ONE.now)
     ∷ (begins_name (unopened (after 32 item)), APART.now)
     ∷ (holds 32 (after 93 item), GAP.now)
     ∷ (holds 32 (after 32 item), SPACE.now)
     ∷ (holds 61 names, EQUALS.now)
+    ∷ (holds 44 (drop 1 (drop 1 names)), APART.now)
     ∷ (holds 91 names, BRACKETS.now)
+    ∷ (begins_capital names && holds 32 item, GAP.now)
     ∷ (not (begins_with_dash names) || length short == 1, DASHES.now)
     ∷ (holds 124 names && not (starts_with ◌==◌ long (codes "--")), BAR.now)
     ∷ (starts_with ◌==◌ long (codes "---"), DASHES.now)
@@ -299,8 +396,9 @@ reasons item =
     ∷ (not (is_name (drop 1 short)), LETTER.now)
     ∷ (not (is_empty long) && nat_lt (length long) 4, LONG.now)
     ∷ (not (list_all is_long_byte long), BYTES.now)
-    ∷ (ends_with ◌==◌ long (codes ":"), COLON.now)
+    ∷ (not (ends_as_name long), COLON.now)
     ∷ (ends_with ◌==◌ item (codes "!"), MARK.now)
+    ∷ (ends_behind item, END.now)
     ∷ []
 
 -- why a text is no option: the first reason whose claim is so, or else BRACKETS

@@ -10,21 +10,24 @@ ghost use Rattle.std.specs.String.{string_bytes};
 ghost use Rattle.getopts.specs.Fail.{Fault, fault_of};
 ghost use Rattle.getopts.specs.Names.{AreTexts, Text, texts};
 ghost use Rattle.getopts.specs.Options.{signatures_of};
-ghost use Rattle.getopts.specs.Results.{first_count_fault, fits_count, read_result};
-ghost use Rattle.getopts_shell.specs.Completion.{IsOffer, takes_argument};
+ghost use Rattle.getopts.specs.Results.{first_count_fault, fits_count, parse_result, read_result};
+ghost use Rattle.getopts_shell.specs.Completion.{offer, takes_argument};
 ghost use Rattle.getopts_shell.specs.Held.{HasOwnGroups, answer_of, asked_of, entries_of};
 ghost use Rattle.getopts_shell.specs.Held.{entry_of_row, fault_told, groups_as, groups_of};
-ghost use Rattle.getopts_shell.specs.Held.{held_signatures, variable_fault_told, with_groups};
+ghost use Rattle.getopts_shell.specs.Held.{held_signatures, operand_fault_told, operand_of};
+ghost use Rattle.getopts_shell.specs.Held.{operands_of, variable_fault_told, with_groups};
 ghost use Rattle.getopts_shell.specs.HeldScript.{script_of};
-ghost use Rattle.getopts_shell.specs.Program.{AnswersAlone, AnswersCounted, AnswersDeclared};
+ghost use Rattle.getopts_shell.specs.Program.{AnswersAccepted, AnswersAlone, AnswersCounted};
+ghost use Rattle.getopts_shell.specs.Program.{AnswersDeclared, AnswersOrdered, late_line};
+ghost use Rattle.getopts_shell.specs.Program.{operand_fault_line, refused_by, usage_line};
 ghost use Rattle.getopts_shell.specs.Program.{AnswersFree, AnswersLine, AnswersOffer, AnswersOwn};
 ghost use Rattle.getopts_shell.specs.Program.{AnswersRead, AnswersScript, AnswersTable};
-ghost use Rattle.getopts_shell.specs.Program.{AnswersVariables, AnswersWords, AppendsFront};
+ghost use Rattle.getopts_shell.specs.Program.{AnswersWords, AppendsFront};
 ghost use Rattle.getopts_shell.specs.Program.{IsAnswer, IsHelp, IsOutput, IsStatus};
 ghost use Rattle.getopts_shell.specs.Program.{ShowsAnswer, ShowsFront, TellsOptions, alone_line};
 ghost use Rattle.getopts_shell.specs.Program.{asked_by, asked_fault, asks_help, brief_text};
 ghost use Rattle.getopts_shell.specs.Program.{completion_answer, done, fault_line};
-ghost use Rattle.getopts_shell.specs.Program.{help_code, is_alone, last_word, misused};
+ghost use Rattle.getopts_shell.specs.Program.{help_code, help_front, is_alone, last_word, misused};
 ghost use Rattle.getopts_shell.specs.Program.{no_completion, options_in, own_groups, own_options};
 ghost use Rattle.getopts_shell.specs.Program.{read_options, refused, shown_options, stands_alone};
 ghost use Rattle.getopts_shell.specs.Program.{table_fault_line, variable_fault_line};
@@ -33,10 +36,11 @@ ghost use Rattle.getopts_shell.specs.Variables.{given_from, line_code};
 
 use crate::complete::{functions, is_given, offers, stub, takes_argument};
 use crate::item::reason_of;
-use crate::quote::{push_line, push_quoted};
+use crate::operand::{Operand, OperandError, first_late, free_error, push_operands, rows_of};
+use crate::quote::{push_joined, push_line, push_quoted};
 use crate::row::{Mark, Row};
 use crate::script::{Asked, Script};
-use crate::table::{TableError, rows_of};
+use crate::table::{TableError, declared_in};
 use crate::variables::{
     VariableError, Variables, alone_code, main_name, variable_error, variables_code,
 };
@@ -323,24 +327,69 @@ fn table_answer(
         AnswersTable (asked_of asked.now) name.now table.now (texts words.now)
         (answer_of outcome)) }
 {
-    match rows_of(alloc, table) {
-        Ok(rows) => declared_answer(alloc, asked, name, table, &rows, words),
+    match declared_in(alloc, table) {
+        Ok((rows, operands)) => {
+            declared_answer(alloc, asked, name, table, &rows, &operands, words)
+        }
         Err(error) => Ok(Outcome::misused(table_refusal(alloc, error)?)),
     }
 }
 
-/// The answer where a table has these rows: the code that completes words, the fault of the
-/// variables, or the answer for the script.
+/// The answer where a table has these rows and operands: that the operands stand in no order, or
+/// what it is else.
 fn declared_answer(
     alloc: Global,
     asked: &Asked,
     name: &str,
     table: &str,
     rows: &[Row<'_>],
+    operands: &[Operand<'_>],
     words: &[&str],
 ) -> Result<Outcome, AllocError>
     ensures { IfOk result (λ outcome. AnswersDeclared
-        record { asked = asked_of asked.now; name = name.now; entries = entries_of rows.now }
+        record {
+          asked = asked_of asked.now;
+          name = name.now;
+          entries = entries_of rows.now;
+          operands = operands_of operands.now;
+        }
+        table.now (texts words.now) (answer_of outcome)) }
+{
+    match first_late(operands) {
+        Some(operand) => Ok(Outcome::misused(late_line(alloc, operand)?)),
+        None => ordered_answer(alloc, asked, name, table, rows, operands, words),
+    }
+}
+
+/// What is said of an operand that may not come after those before it.
+fn late_line(alloc: Global, operand: Operand<'_>) -> Result<String, AllocError>
+    ensures { IfOk result (λ text. string_bytes text ≡ late_line (operand_of operand.entry)) }
+{
+    let Operand { line, item, .. } = operand;
+    format!(in alloc;
+        "getopts_shell: line {line} of the options: \
+         {item}: nothing comes after dots, and nothing required after brackets\n"
+    )
+}
+
+/// The answer where the operands of a table stand in order: the code that completes words, the
+/// fault of the variables, or the answer for the script.
+fn ordered_answer(
+    alloc: Global,
+    asked: &Asked,
+    name: &str,
+    table: &str,
+    rows: &[Row<'_>],
+    operands: &[Operand<'_>],
+    words: &[&str],
+) -> Result<Outcome, AllocError>
+    ensures { IfOk result (λ outcome. AnswersOrdered
+        record {
+          asked = asked_of asked.now;
+          name = name.now;
+          entries = entries_of rows.now;
+          operands = operands_of operands.now;
+        }
         table.now (texts words.now) (answer_of outcome)) }
 {
     if let Some(shell) = &asked.complete {
@@ -354,6 +403,7 @@ fn declared_answer(
         asked,
         name,
         rows,
+        operands,
         options: &options,
     };
     script_answer(alloc, script, words)
@@ -495,8 +545,18 @@ fn brief_text(alloc: Global, script: Script<'_>, shown: &Options) -> Result<Stri
 {
     match &script.asked.brief {
         Some(brief) => String::from_str(alloc, brief.as_str()),
-        None => shown.short_usage(alloc, script.name),
+        None => usage_line(alloc, script, shown),
     }
+}
+
+/// The short usage of a script: its options, and its operands.
+fn usage_line(alloc: Global, script: Script<'_>, shown: &Options) -> Result<String, AllocError>
+    requires { shown.now ≡ shown_options (script_of script) }
+    ensures { IfOk result (λ text. string_bytes text ≡ usage_line (script_of script.entry)) }
+{
+    let mut text = shown.short_usage(alloc, script.name)?;
+    push_operands(&mut text, !script.rows.is_empty(), script.operands)?;
+    Ok(text)
 }
 
 /// The help of a script.
@@ -505,7 +565,23 @@ fn help_of(alloc: Global, script: Script<'_>) -> Result<String, AllocError>
 {
     let shown = shown_options(alloc, script)?;
     let brief = brief_text(alloc, script, &shown)?;
-    shown.usage(alloc, brief.as_str())
+    let rows = rows_of(alloc, script.operands)?;
+    let front = help_front(brief, &rows)?;
+    shown.usage(alloc, front.as_str())
+}
+
+/// What a help says before its options.
+fn help_front(brief: String, rows: &[String]) -> Result<String, AllocError>
+    ensures { IfOk result (λ text. string_bytes text
+        ≡ help_front (string_bytes brief) (map string_bytes rows.now)) }
+{
+    if rows.is_empty() {
+        return Ok(brief);
+    }
+    let mut text = brief;
+    text.push_str("\n\nArguments:\n")?;
+    push_joined(&mut text, rows, "\n")?;
+    Ok(text)
 }
 
 /// The code that completes a script's words in a shell, or that there is none for it.
@@ -553,9 +629,8 @@ fn offer_answer(
 
 /// What may come at the last word.
 fn last_offers(alloc: Global, script: Script<'_>, words: &[&str]) -> Result<String, AllocError>
-    ensures { IfOk result (λ text. IsOffer (read_options (script_of script.entry))
-        (take (length (texts words.now) - 1) (texts words.now)) (last_word (texts words.now))
-        (string_bytes text)) }
+    ensures { IfOk result (λ text. string_bytes text ≡ offer (read_options (script_of script.entry))
+        (take (length (texts words.now) - 1) (texts words.now)) (last_word (texts words.now))) }
 {
     let options = script.options;
     let long_only = script.asked.long_only;
@@ -683,8 +758,8 @@ fn help_code(alloc: Global, script: Script<'_>) -> Result<String, AllocError>
     Ok(text)
 }
 
-/// The answer to words with these matches, whose counts are checked: variables or the canonical
-/// line, or the first fault. Only where they break a count are they read once more for variables.
+/// The answer to words with these matches, whose counts are checked. Only where they break the count
+/// of an option are they read once more.
 fn counted_answer(
     alloc: Global,
     script: Script<'_>,
@@ -695,11 +770,45 @@ fn counted_answer(
     ensures { IfOk result (λ outcome.
         AnswersCounted (script_of script.entry) (texts words.now) (answer_of outcome)) }
 {
+    if keep_counts(script.rows, matches) {
+        return parsed_answer(alloc, script, words, matches);
+    }
+    match script.options.parse_words(alloc, words) {
+        Ok(matches) => parsed_answer(alloc, script, words, &matches),
+        Err(fail) => refusal(alloc, script, &fail),
+    }
+}
+
+/// The answer to words that keep the counts of options: the fault of the free words, or what the
+/// words are.
+fn parsed_answer(
+    alloc: Global,
+    script: Script<'_>,
+    words: &[&str],
+    matches: &Matches,
+) -> Result<Outcome, AllocError>
+    requires { parse_result (read_options (script_of script)) (texts words.now) ≡ Ok matches.now }
+    ensures { IfOk result (λ outcome.
+        AnswersCounted (script_of script.entry) (texts words.now) (answer_of outcome)) }
+{
+    match free_error(script.operands, &matches.free) {
+        Some(error) => operand_refusal(alloc, script, error),
+        None => accepted_answer(alloc, script, words, matches),
+    }
+}
+
+/// The answer to words that are accepted, with these matches: variables, or the canonical line.
+fn accepted_answer(
+    alloc: Global,
+    script: Script<'_>,
+    words: &[&str],
+    matches: &Matches,
+) -> Result<Outcome, AllocError>
+    ensures { IfOk result (λ outcome. AnswersAccepted (script_of script.entry) (texts words.now)
+        matches.now (answer_of outcome)) }
+{
     match &script.asked.variables {
-        Some(prefix) if keep_counts(script.rows, matches) => {
-            variables_answer(alloc, script, prefix.as_str(), matches)
-        }
-        Some(prefix) => parsed_answer(alloc, script, prefix.as_str(), words),
+        Some(prefix) => variables_answer(alloc, script, prefix.as_str(), matches),
         None => line_answer(alloc, script, words),
     }
 }
@@ -726,24 +835,6 @@ fn keeps_count(occurrence: Occur, count: usize) -> bool
         Occur::Req => count == 1,
         Occur::Optional => count <= 1,
         Occur::Multi => true,
-    }
-}
-
-/// The variables of words, or their first fault.
-fn parsed_answer(
-    alloc: Global,
-    script: Script<'_>,
-    prefix: &str,
-    words: &[&str],
-) -> Result<Outcome, AllocError>
-    requires { (asked_of script.asked.now).variables ≡ Some prefix.now }
-    ensures { IfOk result (λ outcome.
-        AnswersVariables (script_of script.entry) prefix.now (texts words.now)
-        (answer_of outcome)) }
-{
-    match script.options.parse_words(alloc, words) {
-        Ok(matches) => variables_answer(alloc, script, prefix, &matches),
-        Err(fail) => refusal(alloc, script, &fail),
     }
 }
 
@@ -790,7 +881,46 @@ fn refusal(alloc: Global, script: Script<'_>, fail: &Fail) -> Result<Outcome, Al
     ensures { IfOk result (λ outcome. (fault : Fault) × (fault_of fail.now ≡ Some fault)
         × (answer_of outcome ≡ refused (script_of script.entry) fault)) }
 {
-    let mut text = fault_line(alloc, script.name, fail)?;
+    let line = fault_line(alloc, script.name, fail)?;
+    refused(alloc, script, line)
+}
+
+/// The same for free words that don't fit the script's operands.
+fn operand_refusal(
+    alloc: Global,
+    script: Script<'_>,
+    error: OperandError<'_>,
+) -> Result<Outcome, AllocError>
+    ensures { IfOk result (λ outcome. answer_of outcome ≡ refused_by (script_of script.entry)
+        (operand_fault_line script.entry.name.now (operand_fault_told error.entry))) }
+{
+    let line = operand_fault_line(alloc, script.name, error)?;
+    refused(alloc, script, line)
+}
+
+/// The line of a fault of free words, after a name.
+fn operand_fault_line(
+    alloc: Global,
+    name: &str,
+    error: OperandError<'_>,
+) -> Result<String, AllocError>
+    ensures { IfOk result (λ text.
+        string_bytes text ≡ operand_fault_line name.now (operand_fault_told error.entry)) }
+{
+    match error {
+        OperandError::Missing(operand) => format!(in alloc; "{name}: {operand} missing\n"),
+        OperandError::Unexpected(word) => {
+            format!(in alloc; "{name}: unexpected word: '{word}'\n")
+        }
+    }
+}
+
+/// A line, and the text that a script's help begins with.
+fn refused(alloc: Global, script: Script<'_>, line: String) -> Result<Outcome, AllocError>
+    ensures { IfOk result (λ outcome.
+        answer_of outcome ≡ refused_by (script_of script.entry) (string_bytes line)) }
+{
+    let mut text = line;
     let shown = shown_options(alloc, script)?;
     let brief = brief_text(alloc, script, &shown)?;
     text.push_str(brief.as_str())?;

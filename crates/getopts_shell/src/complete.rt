@@ -1,21 +1,20 @@
 //! What completes a script's words: the code for bash, zsh and fish, and what it is answered.
 
-ghost use Rattle.std.specs.Prelude.{◌≡◌, ◌==◌, ◌++◌, ◌-◌, ◌∷◌, [], List, Some, false, length};
-ghost use Rattle.std.specs.Prelude.{nat_eq, IfOk, MatchOption, OnOk};
+ghost use Rattle.std.specs.Prelude.{◌≡◌, ◌++◌, ◌∷◌, [], None, Some, MatchResult};
+ghost use Rattle.std.specs.Prelude.{nat_eq, IfOk, OnOk};
 ghost use Rattle.std.specs.List.{starts_with};
-ghost use Rattle.std.specs.Option.{option_map, option_map_or};
+ghost use Rattle.std.specs.Option.{option_map};
 ghost use Rattle.std.specs.String.{string_bytes};
 ghost use Rattle.getopts.specs.Accessors.{is_present};
 ghost use Rattle.getopts.specs.Fail.{Fault, fault_of};
-ghost use Rattle.getopts.specs.Matches.{MatchedGroup};
 ghost use Rattle.getopts.specs.Names.{texts};
-ghost use Rattle.getopts.specs.Parse.{HasReading};
+ghost use Rattle.getopts.specs.Results.{read_result};
 ghost use Rattle.getopts.specs.Reading.{stop_word};
-ghost use Rattle.getopts_shell.specs.Completion.{IsOffer, MayGoOn, is_multi, may_come, name_line};
+ghost use Rattle.getopts_shell.specs.Completion.{goes_on, is_last_after_stop, is_multi, may_come, name_line, offer};
 ghost use Rattle.getopts_shell.specs.Completion.{option_lines, options_lines, takes_argument};
 ghost use Rattle.getopts_shell.specs.Completion.{first_line, functions, modes, stub, stub_call};
 ghost use Rattle.getopts_shell.specs.Completion.{stub_quoted};
-ghost use Rattle.getopts_shell.specs.Held.{HaveReading, group_of_row, groups_of};
+ghost use Rattle.getopts_shell.specs.Held.{group_of_row, groups_of};
 
 use crate::item::is_long_name;
 use crate::quote::{push_parting, push_replaced};
@@ -198,7 +197,7 @@ pub(crate) fn offers(
     requires rows { options.now.groups ≡ groups_of rows.now }
     requires mode { options.now.long_only ≡ long_only }
     ensures { IfOk result (λ text.
-        IsOffer options.now (texts before.now) word.now (string_bytes text)) }
+        string_bytes text ≡ offer options.now (texts before.now) word.now) }
 {
     if !begins_with(word, "-") {
         return String::from_str(alloc, "files\n");
@@ -209,11 +208,11 @@ pub(crate) fn offers(
     }
 }
 
-/// The matches of words after which an option may come, if one may: a `--` after them is a stop.
+/// The matches of words after which an option may come, with a `--` and an empty word after them, if
+/// one may: these are a stop and a free word.
 fn goes_on(alloc: Global, options: &Options, before: &[&str]) -> Result<Option<Matches>, AllocError>
-    ensures { IfOk result (λ found. MatchOption found
-        ((groups : List MatchedGroup) → ¬ (MayGoOn options.now (texts before.now) groups))
-        (λ matches. MayGoOn options.now (texts before.now) matches.groups)) }
+    ensures { IfOk result (λ found. option_map (λ matches. matches.groups) found
+        ≡ goes_on options.now (texts before.now)) }
 {
     let words = with_stop(alloc, before)?;
     let found = read_words(alloc, options, &words)?;
@@ -230,14 +229,13 @@ fn goes_on(alloc: Global, options: &Options, before: &[&str]) -> Result<Option<M
 }
 
 /// The matches of words, whatever counts they have, if they have a reading.
-pub(crate) fn read_words(
+fn read_words(
     alloc: Global,
     options: &Options,
     words: &[&str],
 ) -> Result<Option<Matches>, AllocError>
-    ensures { IfOk result (λ found. MatchOption found
-        (¬ (HaveReading options.now (texts words.now)))
-        (HasReading options.now (texts words.now))) }
+    ensures { IfOk result (λ found. MatchResult (read_result options.now (texts words.now))
+        (λ matches. found ≡ Some matches) (λ fault. found ≡ None)) }
 {
     match options.parse_ignoring_counts(alloc, words) {
         Ok(matches) => Ok(Some(matches)),
@@ -245,8 +243,7 @@ pub(crate) fn read_words(
     }
 }
 
-/// Words that have no reading have no matches. An error comes where the refusal tells that memory
-/// was refused.
+/// No matches. An error comes where the refusal tells that memory was refused.
 fn no_matches(fail: &Fail) -> Result<Option<Matches>, AllocError>
     ensures { IfOk result (λ found.
         (found ≡ None) × (fault : Fault) × (fault_of fail.now ≡ Some fault)) }
@@ -270,8 +267,7 @@ fn with_stop<'w>(alloc: Global, before: &[&'w str]) -> Result<Vec<&'w str>, Allo
 
 /// Whether one free word, the last, stands after a stop.
 fn is_last_after_stop(matches: &Matches) -> bool
-    ensures { result ≡ option_map_or (λ start. length matches.now.free - start == 1)
-        matches.now.trailing_start false }
+    ensures { result ≡ is_last_after_stop matches.now }
 {
     match matches.free_trailing_start() {
         Some(start) => matches.free.len().saturating_sub(start) == 1,

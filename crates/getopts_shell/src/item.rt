@@ -14,7 +14,8 @@ ghost use Rattle.getopts_shell.specs.Held.{entry_of_row};
 ghost use Rattle.getopts_shell.specs.Table.{is_name, is_name_byte, is_hint, is_hint_byte, AreNames};
 ghost use Rattle.getopts_shell.specs.Table.{is_long_name, is_long_byte, MayBeNames};
 ghost use Rattle.getopts_shell.specs.Table.{IsArgument, HasParts, IsBracketed, IsItem, end_means};
-ghost use Rattle.getopts_shell.specs.Table.{begins_name, fits, unopened};
+ghost use Rattle.getopts_shell.specs.Table.{begins_capital, begins_name, ends_as_name};
+ghost use Rattle.getopts_shell.specs.Table.{ends_behind, fits, unopened};
 ghost use Rattle.getopts_shell.specs.Table.{after, before, dashed, holds, names_in, reason_of};
 ghost use Rattle.getopts_shell.specs.declared.row.Mark.{Mark as Behind};
 
@@ -86,13 +87,11 @@ fn end_means(end: &str) -> Option<(Occur, Mark)>
     ensures { result ≡ end_means end.now }
 {
     if end.is_empty() {
-        Some((Occur::Optional, Mark::Plain))
+        Some((Occur::Multi, Mark::Last))
     } else if end == "!" {
         Some((Occur::Optional, Mark::Alone))
     } else if end == ".." || end == "..." {
         Some((Occur::Multi, Mark::Plain))
-    } else if end == "*" {
-        Some((Occur::Multi, Mark::Last))
     } else {
         None
     }
@@ -173,7 +172,14 @@ fn is_name_byte(byte: u8) -> bool
 pub(crate) fn is_long_name(bytes: &[u8]) -> bool
     ensures { result ≡ is_long_name bytes.now }
 {
-    !bytes.starts_with(b"-") && are_long_bytes(bytes) && !bytes.ends_with(b":")
+    !bytes.starts_with(b"-") && are_long_bytes(bytes) && ends_as_name(bytes)
+}
+
+/// Whether bytes end as a long name may.
+fn ends_as_name(bytes: &[u8]) -> bool
+    ensures { result ≡ ends_as_name bytes.now }
+{
+    !bytes.ends_with(b":") && !bytes.ends_with(b".")
 }
 
 /// Whether bytes may stand in a long name.
@@ -255,13 +261,14 @@ const EQUALS: &str = "an argument comes after a space, as in '--long ARG'";
 const BRACKETS: &str =
     "brackets stand around the option or its argument, and two or three dots only after ']'";
 /// Where a name has the wrong dashes.
-const DASHES: &str = "a short name comes after '-', a long one after '--'";
+const DASHES: &str =
+    "a short name comes after '-', a long one after '--', and an operand has capital letters";
 /// Where no long name stands after `|`.
 const BAR: &str = "a long name comes after '|', with two dashes";
 /// Where another name stands after the long one.
 const ORDER: &str = "the short name comes first, then one long one";
 /// Where its short name has more.
-const SHORT: &str = "a short name has one byte";
+const SHORT: &str = "a short name has one byte, and a long one comes after '--'";
 /// Where its short name is another byte.
 const LETTER: &str = "a short name is a letter, a digit or one of ?@#%+_^,./:";
 /// Where its long name is shorter.
@@ -270,7 +277,11 @@ const LONG: &str = "a long name has at least two bytes";
 const BYTES: &str =
     "a long name may hold letters, digits, '-', '_', '.', '+', ':' and bytes from 128 on";
 /// Where its long name does.
-const COLON: &str = "a long name doesn't end in ':'";
+const COLON: &str = "a long name doesn't end in ':' or '.', and dots come after ']'";
+/// Where another item stands behind it.
+const ONE: &str = "each option has a line of its own";
+/// Where something else stands behind the last `]`.
+const END: &str = "behind ']' comes nothing, or '..' or '!'";
 /// Where it ends in `!`.
 const MARK: &str = "'!' comes only after ']' of an option without an argument";
 
@@ -285,11 +296,14 @@ pub(crate) fn reason_of(item: &str) -> &'static str
     let (short, long) = dashed(names);
     let reasons = [
         (is_open(item), OPEN),
+        (end.starts_with(b" [-"), ONE),
         (begins_name(unopened(argument)), APART),
         (end.contains(&b' '), GAP),
         (argument.contains(&b' '), SPACE),
         (names.contains(&b'='), EQUALS),
+        (without_first(without_first(names)).contains(&b','), APART),
         (names.contains(&b'['), BRACKETS),
+        (is_described(names, item), GAP),
         (lack_dash(names, short), DASHES),
         (lack_two_dashes(names, long), BAR),
         (long.starts_with(b"---"), DASHES),
@@ -298,8 +312,9 @@ pub(crate) fn reason_of(item: &str) -> &'static str
         (!is_name(without_first(short)), LETTER),
         (is_too_short(long), LONG),
         (!are_long_bytes(long), BYTES),
-        (long.ends_with(b":"), COLON),
+        (!ends_as_name(long), COLON),
         (item.ends_with(b"!"), MARK),
+        (ends_behind(item), END),
     ];
     first_so(&reasons, BRACKETS)
 }
@@ -325,11 +340,32 @@ fn is_open(bytes: &[u8]) -> bool
     bytes.contains(&b'[') && !bytes.contains(&b']')
 }
 
+/// Whether bytes hold `]`, and end in what can't stand behind it.
+fn ends_behind(bytes: &[u8]) -> bool
+    ensures { result ≡ ends_behind bytes.now }
+{
+    bytes.contains(&b']') && !(bytes.ends_with(b"]") || bytes.ends_with(b"."))
+}
+
 /// Whether bytes begin with a dash or `|`.
 fn begins_name(bytes: &[u8]) -> bool
     ensures { result ≡ begins_name bytes.now }
 {
     matches!(bytes, [b'-' | b'|', ..])
+}
+
+/// Whether names begin as an operand does, and a space stands in the item.
+fn is_described(names: &[u8], item: &[u8]) -> bool
+    ensures { result ≡ (begins_capital names.now && holds 32 item.now) }
+{
+    begins_capital(names) && item.contains(&b' ')
+}
+
+/// Whether bytes begin with a capital letter.
+pub(crate) fn begins_capital(bytes: &[u8]) -> bool
+    ensures { result ≡ begins_capital bytes.now }
+{
+    matches!(bytes, [b'A'..=b'Z', ..])
 }
 
 /// Whether names begin with no dash, or the short one of them is nothing else.
@@ -361,7 +397,7 @@ fn names_in(item: &[u8]) -> &[u8]
 }
 
 /// Bytes without a `[` in front.
-fn unopened(bytes: &[u8]) -> &[u8]
+pub(crate) fn unopened(bytes: &[u8]) -> &[u8]
     ensures { result.now ≡ unopened bytes.now }
 {
     if bytes.starts_with(b"[") {
@@ -384,7 +420,7 @@ fn dashed(names: &[u8]) -> (&[u8], &[u8])
 }
 
 /// What stands before the first such byte, or all, and what stands after it, or nothing.
-fn cut_at(bytes: &[u8], byte: u8) -> (&[u8], &[u8])
+pub(crate) fn cut_at(bytes: &[u8], byte: u8) -> (&[u8], &[u8])
     ensures before { result.0.now ≡ before byte bytes.now }
     ensures after { result.1.now ≡ after byte bytes.now }
 {

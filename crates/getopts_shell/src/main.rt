@@ -9,6 +9,7 @@ mod answer;
 mod complete;
 mod item;
 mod laws;
+mod operand;
 mod quote;
 mod row;
 mod script;

@@ -4,7 +4,7 @@ ghost use Rattle.std.specs.Prelude.{◌≡◌, ◌<◌, ◌++◌, map, ℕ, List
 ghost use Rattle.std.specs.List.{AllByRecursion, flat_map};
 ghost use Rattle.std.specs.String.{string_bytes};
 ghost use Rattle.getopts.specs.Names.{Text};
-ghost use Rattle.getopts.specs.Wrap.{parting};
+ghost use Rattle.getopts.specs.Wrap.{joined, parting};
 ghost use Rattle.getopts_bytes.specs.Marks.{AreBytes, bytes_of, text_of};
 ghost use Rattle.getopts_shell.specs.Quote.{quoted, quoted_words, replaced, shell_words, spaced};
 ghost use Rattle.getopts_shell.specs.Variables.{line_code};
@@ -51,6 +51,24 @@ pub(crate) fn push_parting(
         ≡ string_bytes text.old ++ parting begun separator.now) }
 {
     text.push_str(if begun { separator } else { "" })
+}
+
+/// Adds texts, with the separator between each two.
+pub(crate) fn push_joined(
+    text: &mut String,
+    texts: &[String],
+    separator: &str,
+) -> Result<(), AllocError>
+    ensures { OnOk result (string_bytes text.new ≡ string_bytes text.old
+        ++ joined separator.now (map string_bytes texts.now)) }
+{
+    let mut begun = false;
+    for part in texts {
+        push_parting(text, begun, separator)?;
+        text.push_str(part.as_str())?;
+        begun = true;
+    }
+    Ok(())
 }
 
 /// Adds a word in quotes: `'`, its bytes with `'\''` for each `'`, and `'`.

@@ -6,13 +6,14 @@ ghost use Rattle.std.specs.List.{list_any};
 ghost use Rattle.std.specs.Option.{option_copied, option_to_list};
 ghost use Rattle.std.specs.Str.{bytes_eq};
 ghost use Rattle.getopts.specs.Names.{is_empty};
-ghost use Rattle.getopts_shell.specs.Held.{entry_of_row, entries_of, TellsFault};
+ghost use Rattle.getopts_shell.specs.Held.{entry_of_row, entries_of, operands_of, TellsFault};
 ghost use Rattle.getopts_shell.specs.Table.{trimmed, begins_gap, before_gap, from_gap};
 ghost use Rattle.getopts_shell.specs.Table.{any_has_name, name_again};
 ghost use Rattle.getopts_shell.specs.Table.{Entry, OneTableOneList, Declares, DeclaresOptions};
-ghost use Rattle.getopts_shell.specs.Table.{IsLineFault, IsTableFault};
+ghost use Rattle.getopts_shell.specs.Table.{IsLineFault, IsTableFault, operand_at, operands_in};
 
 use crate::item::row_of;
+use crate::operand::{Operand, is_operand};
 use crate::row::Row;
 use std::alloc::{AllocError, Global};
 
@@ -32,29 +33,37 @@ pub fn one_table_one_list()
     ensures { OneTableOneList }
 {}
 
-/// The options that a table declares, in order.
-pub(crate) fn rows_of(alloc: Global, table: &str) -> Result<Vec<Row<'_>>, TableError<'_>>
-    ensures { MatchResult result (λ rows. DeclaresOptions table.now (entries_of rows.items))
+/// The options that a table declares, in order, and its operands.
+pub(crate) fn declared_in<'t>(
+    alloc: Global,
+    table: &'t str,
+) -> Result<(Vec<Row<'t>>, Vec<Operand<'t>>), TableError<'t>>
+    ensures { MatchResult result (λ found. DeclaresOptions table.now (entries_of found.0.items)
+        × (operands_of found.1.items ≡ operands_in table.now))
         (λ error. TellsFault error (IsTableFault table.now)) }
 {
     let mut rows = Vec::new(alloc);
+    let mut operands = Vec::new(alloc);
     let mut number = 0usize;
     for line in table.split('\n') {
         number = number.saturating_add(1);
-        push_line(&mut rows, number, line)?;
+        push_line(&mut rows, &mut operands, number, line)?;
     }
-    Ok(rows)
+    Ok((rows, operands))
 }
 
-/// Adds the option that a line declares, if it declares one.
+/// Adds the option or the operand that a line declares, if it declares one.
 fn push_line<'t>(
     rows: &mut Vec<Row<'t>>,
+    operands: &mut Vec<Operand<'t>>,
     number: usize,
     line: &'t str,
 ) -> Result<(), TableError<'t>>
     ensures declared { OnOk result ((declared : Option Entry) × Declares number line.now declared
         × (entries_of rows.new.items ≡ entries_of rows.old.items ++ option_to_list declared)
         × IfSome declared (λ entry. name_again (entries_of rows.old.items) entry ≡ None)) }
+    ensures operands { OnOk result (operands_of operands.new.items
+        ≡ operands_of operands.old.items ++ option_to_list (operand_at number line.now)) }
     ensures fault { IfErr result (λ error.
         TellsFault error (IsLineFault number (entries_of rows.old.items) line.now)) }
 {
@@ -64,7 +73,19 @@ fn push_line<'t>(
     }
     let (item, description) = cut_at_gap(line);
     let item = trimmed(item);
-    let Some(row) = row_of(number, item, trimmed(description)) else {
+    let description = trimmed(description);
+    if is_operand(item) {
+        let operand = Operand {
+            line: number,
+            item,
+            description,
+        };
+        return match operands.push(operand) {
+            Ok(()) => Ok(()),
+            Err(_) => Err(TableError::OutOfMemory),
+        };
+    }
+    let Some(row) = row_of(number, item, description) else {
         return Err(TableError::NoOption(number, item));
     };
     match name_again(rows, row) {

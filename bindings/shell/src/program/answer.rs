@@ -5,10 +5,11 @@ use crate::host::*;
 
 use super::complete::{functions, is_given, offers, stub, takes_argument};
 use super::item::reason_of;
-use super::quote::{push_line, push_quoted};
+use super::operand::{Operand, OperandError, first_late, free_error, push_operands, rows_of};
+use super::quote::{push_joined, push_line, push_quoted};
 use super::row::{Mark, Row};
 use super::script::{Asked, Script};
-use super::table::{TableError, rows_of};
+use super::table::{TableError, declared_in};
 use super::variables::{
     VariableError, Variables, alone_code, main_name, variable_error, variables_code,
 };
@@ -235,20 +236,47 @@ fn table_answer(
     table: &str,
     words: &[&str],
 ) -> Result<Outcome, AllocError> {
-    match rows_of(alloc, table) {
-        Ok(rows) => declared_answer(alloc, asked, name, table, &rows, words),
+    match declared_in(alloc, table) {
+        Ok((rows, operands)) => declared_answer(alloc, asked, name, table, &rows, &operands, words),
         Err(error) => Ok(Outcome::misused(table_refusal(alloc, error)?)),
     }
 }
 
-/// The answer where a table has these rows: the code that completes words, the fault of the
-/// variables, or the answer for the script.
+/// The answer where a table has these rows and operands: that the operands stand in no order, or
+/// what it is else.
 fn declared_answer(
     alloc: Global,
     asked: &Asked,
     name: &str,
     table: &str,
     rows: &[Row<'_>],
+    operands: &[Operand<'_>],
+    words: &[&str],
+) -> Result<Outcome, AllocError> {
+    match first_late(operands) {
+        Some(operand) => Ok(Outcome::misused(late_line(alloc, operand)?)),
+        None => ordered_answer(alloc, asked, name, table, rows, operands, words),
+    }
+}
+
+/// What is said of an operand that may not come after those before it.
+fn late_line(alloc: Global, operand: Operand<'_>) -> Result<String, AllocError> {
+    let Operand { line, item, .. } = operand;
+    text!(in alloc;
+        "getopts_shell: line {line} of the options: \
+         {item}: nothing comes after dots, and nothing required after brackets\n"
+    )
+}
+
+/// The answer where the operands of a table stand in order: the code that completes words, the
+/// fault of the variables, or the answer for the script.
+fn ordered_answer(
+    alloc: Global,
+    asked: &Asked,
+    name: &str,
+    table: &str,
+    rows: &[Row<'_>],
+    operands: &[Operand<'_>],
     words: &[&str],
 ) -> Result<Outcome, AllocError> {
     if let Some(shell) = &asked.complete {
@@ -262,6 +290,7 @@ fn declared_answer(
         asked,
         name,
         rows,
+        operands,
         options: &options,
     };
     script_answer(alloc, script, words)
@@ -376,15 +405,35 @@ fn shown_options(alloc: Global, script: Script<'_>) -> Result<Options, AllocErro
 fn brief_text(alloc: Global, script: Script<'_>, shown: &Options) -> Result<String, AllocError> {
     match &script.asked.brief {
         Some(brief) => String::copy_of(alloc, brief.as_str()),
-        None => shown.short_usage(alloc, script.name),
+        None => usage_line(alloc, script, shown),
     }
+}
+
+/// The short usage of a script: its options, and its operands.
+fn usage_line(alloc: Global, script: Script<'_>, shown: &Options) -> Result<String, AllocError> {
+    let mut text = shown.short_usage(alloc, script.name)?;
+    push_operands(&mut text, !script.rows.is_empty(), script.operands)?;
+    Ok(text)
 }
 
 /// The help of a script.
 fn help_of(alloc: Global, script: Script<'_>) -> Result<String, AllocError> {
     let shown = shown_options(alloc, script)?;
     let brief = brief_text(alloc, script, &shown)?;
-    shown.usage(alloc, brief.as_str())
+    let rows = rows_of(alloc, script.operands)?;
+    let front = help_front(brief, &rows)?;
+    shown.usage(alloc, front.as_str())
+}
+
+/// What a help says before its options.
+fn help_front(brief: String, rows: &[String]) -> Result<String, AllocError> {
+    if rows.is_empty() {
+        return Ok(brief);
+    }
+    let mut text = brief;
+    text.try_push_str("\n\nArguments:\n")?;
+    push_joined(&mut text, rows, "\n")?;
+    Ok(text)
 }
 
 /// The code that completes a script's words in a shell, or that there is none for it.
@@ -526,19 +575,46 @@ fn help_code(alloc: Global, script: Script<'_>) -> Result<String, AllocError> {
     Ok(text)
 }
 
-/// The answer to words with these matches, whose counts are checked: variables or the canonical
-/// line, or the first fault. Only where they break a count are they read once more for variables.
+/// The answer to words with these matches, whose counts are checked. Only where they break the count
+/// of an option are they read once more.
 fn counted_answer(
     alloc: Global,
     script: Script<'_>,
     words: &[&str],
     matches: &Matches,
 ) -> Result<Outcome, AllocError> {
+    if keep_counts(script.rows, matches) {
+        return parsed_answer(alloc, script, words, matches);
+    }
+    match script.options.parse_words(alloc, words) {
+        Ok(matches) => parsed_answer(alloc, script, words, &matches),
+        Err(fail) => refusal(alloc, script, &fail),
+    }
+}
+
+/// The answer to words that keep the counts of options: the fault of the free words, or what the
+/// words are.
+fn parsed_answer(
+    alloc: Global,
+    script: Script<'_>,
+    words: &[&str],
+    matches: &Matches,
+) -> Result<Outcome, AllocError> {
+    match free_error(script.operands, &matches.free) {
+        Some(error) => operand_refusal(alloc, script, error),
+        None => accepted_answer(alloc, script, words, matches),
+    }
+}
+
+/// The answer to words that are accepted, with these matches: variables, or the canonical line.
+fn accepted_answer(
+    alloc: Global,
+    script: Script<'_>,
+    words: &[&str],
+    matches: &Matches,
+) -> Result<Outcome, AllocError> {
     match &script.asked.variables {
-        Some(prefix) if keep_counts(script.rows, matches) => {
-            variables_answer(alloc, script, prefix.as_str(), matches)
-        }
-        Some(prefix) => parsed_answer(alloc, script, prefix.as_str(), words),
+        Some(prefix) => variables_answer(alloc, script, prefix.as_str(), matches),
         None => line_answer(alloc, script, words),
     }
 }
@@ -560,19 +636,6 @@ fn keeps_count(occurrence: Occur, count: usize) -> bool {
         Occur::Req => count == 1,
         Occur::Optional => count <= 1,
         Occur::Multi => true,
-    }
-}
-
-/// The variables of words, or their first fault.
-fn parsed_answer(
-    alloc: Global,
-    script: Script<'_>,
-    prefix: &str,
-    words: &[&str],
-) -> Result<Outcome, AllocError> {
-    match script.options.parse_words(alloc, words) {
-        Ok(matches) => variables_answer(alloc, script, prefix, &matches),
-        Err(fail) => refusal(alloc, script, &fail),
     }
 }
 
@@ -611,7 +674,37 @@ fn line_code(alloc: Global, line: &[String]) -> Result<String, AllocError> {
 
 /// Why a script's words are refused, and the text that its help begins with.
 fn refusal(alloc: Global, script: Script<'_>, fail: &Fail) -> Result<Outcome, AllocError> {
-    let mut text = fault_line(alloc, script.name, fail)?;
+    let line = fault_line(alloc, script.name, fail)?;
+    refused(alloc, script, line)
+}
+
+/// The same for free words that don't fit the script's operands.
+fn operand_refusal(
+    alloc: Global,
+    script: Script<'_>,
+    error: OperandError<'_>,
+) -> Result<Outcome, AllocError> {
+    let line = operand_fault_line(alloc, script.name, error)?;
+    refused(alloc, script, line)
+}
+
+/// The line of a fault of free words, after a name.
+fn operand_fault_line(
+    alloc: Global,
+    name: &str,
+    error: OperandError<'_>,
+) -> Result<String, AllocError> {
+    match error {
+        OperandError::Missing(operand) => text!(in alloc; "{name}: {operand} missing\n"),
+        OperandError::Unexpected(word) => {
+            text!(in alloc; "{name}: unexpected word: '{word}'\n")
+        }
+    }
+}
+
+/// A line, and the text that a script's help begins with.
+fn refused(alloc: Global, script: Script<'_>, line: String) -> Result<Outcome, AllocError> {
+    let mut text = line;
     let shown = shown_options(alloc, script)?;
     let brief = brief_text(alloc, script, &shown)?;
     text.try_push_str(brief.as_str())?;

@@ -175,7 +175,8 @@ pub(crate) fn offers(
     }
 }
 
-/// The matches of words after which an option may come, if one may: a `--` after them is a stop.
+/// The matches of words after which an option may come, with a `--` and an empty word after them, if
+/// one may: these are a stop and a free word.
 fn goes_on(
     alloc: Global,
     options: &Options,
@@ -196,7 +197,7 @@ fn goes_on(
 }
 
 /// The matches of words, whatever counts they have, if they have a reading.
-pub(crate) fn read_words(
+fn read_words(
     alloc: Global,
     options: &Options,
     words: &[&str],
@@ -207,8 +208,7 @@ pub(crate) fn read_words(
     }
 }
 
-/// Words that have no reading have no matches. An error comes where the refusal tells that memory
-/// was refused.
+/// No matches. An error comes where the refusal tells that memory was refused.
 fn no_matches(fail: &Fail) -> Result<Option<Matches>, AllocError> {
     match fail {
         Fail::OutOfMemory => Err(AllocError),

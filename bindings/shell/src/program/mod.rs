@@ -7,6 +7,7 @@ use crate::host::*;
 mod answer;
 mod complete;
 mod item;
+mod operand;
 mod quote;
 mod row;
 mod script;

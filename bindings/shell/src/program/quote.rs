@@ -34,6 +34,21 @@ pub(crate) fn push_parting(
     text.try_push_str(if begun { separator } else { "" })
 }
 
+/// Adds texts, with the separator between each two.
+pub(crate) fn push_joined(
+    text: &mut String,
+    texts: &[String],
+    separator: &str,
+) -> Result<(), AllocError> {
+    let mut begun = false;
+    for part in texts {
+        push_parting(text, begun, separator)?;
+        text.try_push_str(part.as_str())?;
+        begun = true;
+    }
+    Ok(())
+}
+
 /// Adds a word in quotes: `'`, its bytes with `'\''` for each `'`, and `'`.
 pub(crate) fn push_quoted(text: &mut String, word: &str) -> Result<(), AllocError> {
     text.try_push('\'')?;

@@ -8,11 +8,11 @@ use crate::getopts::{HasArg, Occur};
 /// What stands behind the brackets of an option, besides how often it may come.
 #[derive(Clone, Copy)]
 pub enum Mark {
-    /// Nothing.
+    /// Nothing, and all values count: dots, or no brackets.
     Plain,
     /// `!`: it stands alone.
     Alone,
-    /// `*`: it may come again, and its last value counts.
+    /// Nothing either, and its last value counts.
     Last,
 }
 

@@ -3,6 +3,7 @@
 
 use crate::host::*;
 
+use super::operand::Operand;
 use super::row::Row;
 use super::variables::Variables;
 use crate::getopts::Options;
@@ -19,13 +20,14 @@ pub(crate) struct Asked {
     pub arrays: bool,
 }
 
-/// A script: what is asked for it, its name, and its options, as the rows of its table declare
+/// A script: what is asked for it, its name, and its options and operands, as its table declares
 /// them.
 #[derive(Clone, Copy)]
 pub(crate) struct Script<'s> {
     pub asked: &'s Asked,
     pub name: &'s str,
     pub rows: &'s [Row<'s>],
+    pub operands: &'s [Operand<'s>],
     pub options: &'s Options,
 }
 

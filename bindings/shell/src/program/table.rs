@@ -4,6 +4,7 @@
 use crate::host::*;
 
 use super::item::row_of;
+use super::operand::{Operand, is_operand};
 use super::row::Row;
 use crate::host::alloc::{AllocError, Global};
 
@@ -20,20 +21,25 @@ pub(crate) enum TableError<'t> {
 /// A table declares one list of options at most: a law to cite, which does nothing.
 pub fn one_table_one_list() {}
 
-/// The options that a table declares, in order.
-pub(crate) fn rows_of(alloc: Global, table: &str) -> Result<Vec<Row<'_>>, TableError<'_>> {
+/// The options that a table declares, in order, and its operands.
+pub(crate) fn declared_in<'t>(
+    alloc: Global,
+    table: &'t str,
+) -> Result<(Vec<Row<'t>>, Vec<Operand<'t>>), TableError<'t>> {
     let mut rows = Vec::empty(alloc);
+    let mut operands = Vec::empty(alloc);
     let mut number = 0usize;
     for line in table.split('\n') {
         number = number.saturating_add(1);
-        push_line(&mut rows, number, line)?;
+        push_line(&mut rows, &mut operands, number, line)?;
     }
-    Ok(rows)
+    Ok((rows, operands))
 }
 
-/// Adds the option that a line declares, if it declares one.
+/// Adds the option or the operand that a line declares, if it declares one.
 fn push_line<'t>(
     rows: &mut Vec<Row<'t>>,
+    operands: &mut Vec<Operand<'t>>,
     number: usize,
     line: &'t str,
 ) -> Result<(), TableError<'t>> {
@@ -43,7 +49,19 @@ fn push_line<'t>(
     }
     let (item, description) = cut_at_gap(line);
     let item = trimmed(item);
-    let Some(row) = row_of(number, item, trimmed(description)) else {
+    let description = trimmed(description);
+    if is_operand(item) {
+        let operand = Operand {
+            line: number,
+            item,
+            description,
+        };
+        return match operands.try_push(operand) {
+            Ok(()) => Ok(()),
+            Err(_) => Err(TableError::OutOfMemory),
+        };
+    }
+    let Some(row) = row_of(number, item, description) else {
         return Err(TableError::NoOption(number, item));
     };
     match name_again(rows, row) {

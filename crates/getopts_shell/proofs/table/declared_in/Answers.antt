@@ -4,16 +4,20 @@ use Rattle.std.proofs.lemmas.Iterator.Consumers.{YieldsList-end, YieldsList-turn
 use Rattle.std.proofs.lemmas.Iterator.Splits.{YieldsList-from_str_split}
 use Rattle.std.proofs.lemmas.List.{map-append, length-map}
 use Rattle.std.proofs.lemmas.Result.{err_from_is_err_and}
-use Rattle.getopts_shell.proofs.Lines.{next_line, table_fault, tells_weaker}
-use Rattle.getopts_shell.proofs.table.rows_of.Goals as goal
+use Rattle.getopts_shell.proofs.Lines.{next_line, next_operands, table_fault, tells_weaker}
+use Rattle.getopts_shell.proofs.table.declared_in.Goals as goal
 
 pub loop-line-preserved : goal.loop-line-preserved
 loop-line-preserved c =
     let lines = map (λ line. line.now) c.loop-line.yielded in
     let pushed = c.in_ok-push_line.ensures.declared in
-    rw (map-append (λ line. line.now) c.loop-line.yielded (c.in-Some.line ∷ []))
-    (next_line lines c.in-Some.line.now c.loop-line.number _ _ _ pushed.0 c.loop-line.invariant
-    c.saturating_add-number.ensures pushed.1 pushed.2 pushed.3)
+    rw (map-append (λ line. line.now) c.loop-line.yielded (c.in-Some.line ∷ [])) (
+      next_line lines c.in-Some.line.now c.loop-line.number _ _ _ pushed.0 c.loop-line.invariant.0
+          c.saturating_add-number.ensures pushed.1 pushed.2 pushed.3,
+      next_operands lines c.in-Some.line.now c.loop-line.number _ _ _ _ c.loop-line.invariant.0
+          c.saturating_add-number.ensures c.in_ok-push_line.ensures.operands
+          c.loop-line.invariant.1,
+    )
 
 pub returns-in_err-push_line : goal.returns-in_err-push_line
 returns-in_err-push_line c =
@@ -33,7 +37,7 @@ returns-in_err-push_line c =
     (λ fault is. table_fault c.args.table.now (map (λ line. line.now) c.loop-line.yielded)
     c.in-Some.line.now
     c.loop-line.number _ _ fault (rw count so_far) (rw count turn.0) (rw count turn.1)
-    c.loop-line.invariant
+    c.loop-line.invariant.0
     c.saturating_add-number.ensures is))
 
 pub returns : goal.returns
@@ -45,4 +49,4 @@ returns c =
     (ap split_has_more start ∙ split.has_more) (ap split_pattern start ∙ split.pattern) in
     let each = YieldsList-end all c.loop-line.yielded _ c.loop-line.yielded_by _ _ c.in-None.is
     c.next.ensures.steps in
-    rw each.0 at c.loop-line.invariant.declared
+    (rw each.0 at c.loop-line.invariant.0.declared, rw each.0 at c.loop-line.invariant.1)

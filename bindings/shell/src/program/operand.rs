@@ -1,0 +1,193 @@
+// What bindings/rust/erase.py leaves of crates/getopts_shell/src/operand.rt: change that file, not this one.
+//! Operands of a table: the words that are no options, and how many of them may come.
+
+use crate::host::*;
+
+use super::item::{begins_capital, cut_at, unopened};
+use super::quote::{push_joined, push_parting};
+use crate::getopts::wrap::each_split_within;
+use crate::host::alloc::{AllocError, Global};
+
+/// An operand that the line of a table with this number declares.
+#[derive(Clone, Copy)]
+pub struct Operand<'t> {
+    pub line: usize,
+    pub item: &'t str,
+    pub description: &'t str,
+}
+
+/// Why free words don't fit operands.
+#[derive(Clone, Copy)]
+pub enum OperandError<'t> {
+    /// The operand of this name isn't there.
+    Missing(&'t str),
+    /// This word is one too many.
+    Unexpected(&'t str),
+}
+
+/// Whether an item is an operand.
+pub(crate) fn is_operand(item: &str) -> bool {
+    let item = item.as_bytes();
+    if !begins_capital(unopened(item)) {
+        return false;
+    }
+    let (front, _) = cut_at(item, b'.');
+    let (name, _) = cut_at(unopened(front), b']');
+    are_operand_bytes(name) && has_brackets(front) && has_dots(item)
+}
+
+/// Whether bytes may stand in the name of an operand.
+fn are_operand_bytes(bytes: &[u8]) -> bool {
+    bytes.iter().all(|byte| is_operand_byte(*byte))
+}
+
+/// Whether a byte may stand in the name of an operand.
+fn is_operand_byte(byte: u8) -> bool {
+    matches!(byte, b'A'..=b'Z' | b'0'..=b'9' | b'_' | b'-')
+}
+
+/// Whether bytes have `[` in front and their one `]` at their end, or neither.
+fn has_brackets(bytes: &[u8]) -> bool {
+    if bytes.starts_with(b"[") {
+        let (_, end) = cut_at(bytes, b']');
+        bytes.contains(&b']') && end.is_empty()
+    } else {
+        !bytes.contains(&b']')
+    }
+}
+
+/// Whether no dot stands in bytes, or two or three at their end.
+fn has_dots(bytes: &[u8]) -> bool {
+    let (_, dots) = cut_at(bytes, b'.');
+    !bytes.contains(&b'.') || (bytes.ends_with(b"..") && dots.len() < 3)
+}
+
+/// Whether an operand has to be there.
+fn is_needed(operand: Operand<'_>) -> bool {
+    !operand.item.as_bytes().starts_with(b"[")
+}
+
+/// Whether an operand may come again.
+fn may_repeat(operand: Operand<'_>) -> bool {
+    operand.item.as_bytes().contains(&b'.')
+}
+
+/// What stands before the dots of an item.
+fn undotted(item: &str) -> &str {
+    match item.split_once('.') {
+        Some((front, _)) => front,
+        None => item,
+    }
+}
+
+/// The first operand that may not come after those before it.
+pub(crate) fn first_late<'t>(operands: &[Operand<'t>]) -> Option<Operand<'t>> {
+    for at in 0..operands.len() {
+        let operand = operands[at];
+        if !may_follow(&operands[..at], operand) {
+            return Some(operand);
+        }
+    }
+    None
+}
+
+/// Whether an operand may come after these.
+fn may_follow(before: &[Operand<'_>], operand: Operand<'_>) -> bool {
+    before.iter().all(|other| comes_before(*other, operand))
+}
+
+/// Whether an operand may come before another.
+fn comes_before(other: Operand<'_>, operand: Operand<'_>) -> bool {
+    !may_repeat(other) && (is_needed(other) || !is_needed(operand))
+}
+
+/// Why free words don't fit these operands, if they don't.
+pub(crate) fn free_error<'t>(
+    operands: &[Operand<'t>],
+    free: &'t [String],
+) -> Option<OperandError<'t>> {
+    if operands.is_empty() {
+        return None;
+    }
+    for at in 0..operands.len() {
+        let operand = operands[at];
+        if at >= free.len() {
+            return missing(operand);
+        }
+        if may_repeat(operand) {
+            return None;
+        }
+    }
+    let count = operands.len();
+    if free.len() > count {
+        return Some(OperandError::Unexpected(free[count].as_str()));
+    }
+    None
+}
+
+/// That an operand isn't there, if it has to be.
+fn missing<'t>(operand: Operand<'t>) -> Option<OperandError<'t>> {
+    if is_needed(operand) {
+        Some(OperandError::Missing(undotted(operand.item)))
+    } else {
+        None
+    }
+}
+
+/// What parts the rows of a description.
+const NEXT_ROW: &str = "\n                        ";
+
+/// The columns of an item before its description.
+const COLUMNS: usize = 20;
+
+/// The rows of operands with their descriptions.
+pub(crate) fn rows_of(alloc: Global, operands: &[Operand<'_>]) -> Result<Vec<String>, AllocError> {
+    let mut rows = Vec::of_capacity(alloc, operands.len())?;
+    for operand in operands {
+        let row = row_of(alloc, *operand)?;
+        rows.try_push(row)?;
+    }
+    Ok(rows)
+}
+
+/// The row of an operand with its description.
+fn row_of(alloc: Global, operand: Operand<'_>) -> Result<String, AllocError> {
+    let description = each_split_within(alloc, operand.description, 54)?;
+    let mut text = head_of(alloc, operand.item)?;
+    push_joined(&mut text, &description, NEXT_ROW)?;
+    Ok(text)
+}
+
+/// What stands before the description of an operand.
+fn head_of(alloc: Global, item: &str) -> Result<String, AllocError> {
+    let mut text = String::copy_of(alloc, "    ")?;
+    text.try_push_str(item)?;
+    text.try_push_str(padding_after(item))?;
+    Ok(text)
+}
+
+/// What stands between an item and its description.
+fn padding_after(item: &str) -> &'static str {
+    let columns = item.len();
+    if columns < COLUMNS {
+        &NEXT_ROW[5 + columns..]
+    } else {
+        NEXT_ROW
+    }
+}
+
+/// Adds operands to a usage line, with a space before each, but for the first where `begun` doesn't
+/// say that anything came before it.
+pub(crate) fn push_operands(
+    text: &mut String,
+    begun: bool,
+    operands: &[Operand<'_>],
+) -> Result<(), AllocError> {
+    let mut parted = begun;
+    for operand in operands {
+        push_parting(text, parted, " ")?;
+        text.try_push_str(operand.item)?;
+        parted = true;
+    }
+    Ok(())
+}

@@ -1,0 +1,198 @@
+-- Operands, one after the other.
+use Rattle.std.proofs.Common.{◌≡◌, ℕ, ◌<◌, ◌≤◌, ◌+◌, Bool, true, false, List, [], ◌∷◌, ◌++◌, length}
+use Rattle.std.proofs.Common.{drop, get_or, map, take, Some, None, refl, sym, ap, ◌∙◌}
+use Rattle.std.proofs.Common.{arith}
+use Rattle.std.proofs.Math.ListN.{drop_of_length-le}
+use Rattle.std.proofs.Common.{◌-◌, append-nil, append_assoc, suc, zero}
+use Rattle.std.specs.Prelude.{◌||◌, codes, if◌then◌else◌, nat_lt}
+use Rattle.std.specs.List.{AllZip, flat_map, list_all}
+use Rattle.getopts.specs.Only.{IsTheOnly}
+use Rattle.getopts.specs.Usage.{next_row, spaces}
+use Rattle.getopts.proofs.Wrapping.Usage.{made_of_the_only}
+use Rattle.std.proofs.lemmas.List.Folds.{list_all-map}
+use Rattle.std.proofs.lemmas.List.{at_drop_more, length-map, length-take-le}
+use Rattle.std.proofs.lemmas.List.Concat.{flat_map-append}
+use Rattle.std.proofs.lemmas.List.{map-append, take_more}
+use Rattle.getopts.proofs.Wrapping.Texts.{joined-push}
+use Rattle.getopts.specs.Wrap.{IsDescriptionRows, continued, joined, parting}
+use Rattle.getopts.specs.Names.{Text}
+use Rattle.getopts_shell.specs.Held.{operand_of, operands_of}
+use Rattle.getopts_shell.specs.Program.{IsOperandRow, free_fault, operand_fault, operand_head}
+use Rattle.getopts_shell.specs.Program.{help_front, unexpected}
+use Rattle.getopts_shell.specs.Table.{Operand, comes_before, first_late, may_repeat}
+use Rattle.getopts_shell.specs.declared.operand.Operand.{Operand as OperandHeld}
+
+-- the first late operand from a place on
+pub late_from : (operands : List OperandHeld) (at : ℕ) (d : OperandHeld) (fits : Bool)
+    → at < length operands
+    → list_all (λ other. comes_before (operand_of (get_or operands at d)) (operand_of other))
+    (take at operands)
+    ≡ fits
+    → first_late (operands_of (take at operands)) (operands_of (drop at operands))
+    ≡ (if fits then first_late (operands_of (take (at + 1) operands))
+    (operands_of (drop (at + 1) operands)) else Some (operand_of (get_or operands at d)))
+late_from operands at d fits below fits_is =
+    let operand = get_or operands at d in
+    let rest = operands_of (drop (at + 1) operands) in
+    let before = operands_of (take at operands) in
+    ap (λ (more : List OperandHeld). first_late before (operands_of more))
+    (at_drop_more (λ (t : List OperandHeld). t) operands at d below)
+    ∙ ap (λ (b : Bool). if b then first_late (before ++ operand_of operand ∷ []) rest
+    else Some (operand_of operand))
+    (list_all-map (comes_before (operand_of operand)) operand_of (take at operands) ∙ fits_is)
+    ∙ ap (λ (so_far : List Operand). if fits then first_late so_far rest
+    else Some (operand_of operand))
+    (sym (map-append operand_of (take at operands) (operand ∷ []))
+    ∙ ap operands_of (sym (take_more operands at d below)))
+
+-- where a table has operands, the fault of free words is theirs
+pub fault_of_some : (operands : List OperandHeld) (free : List Text) → 0 < length operands
+    → free_fault (operands_of operands) free ≡ operand_fault (operands_of operands) free
+fault_of_some [] free some = absurd (omega arith)
+fault_of_some (operand ∷ operands) free some = refl
+
+-- where no word is left for an operand, it decides
+pub fault_at_end : (operands : List OperandHeld) (free : List Text) (at : ℕ) (d : OperandHeld)
+    → at < length operands → length free ≤ at
+    → operand_fault (operands_of (drop at operands)) (drop at free)
+    ≡ operand_fault (operand_of (get_or operands at d) ∷ []) []
+fault_at_end operands free at d below past =
+    ap (λ (more : List OperandHeld). operand_fault (operands_of more) (drop at free))
+    (at_drop_more (λ (t : List OperandHeld). t) operands at d below)
+    ∙ ap (operand_fault (operands_of (get_or operands at d ∷ drop (at + 1) operands)))
+    (drop_of_length-le free past)
+
+-- a word is that of an operand, or all from there on are
+pub fault_from : (operands : List OperandHeld) (free : List Text) (at : ℕ) (d : OperandHeld)
+    (again : Bool)
+    → at < length operands → at < length free → may_repeat (operand_of (get_or operands at d))
+    ≡ again
+    → operand_fault (operands_of (drop at operands)) (drop at free)
+    ≡ (if again then None else operand_fault (operands_of (drop (at + 1) operands))
+    (drop (at + 1) free))
+fault_from operands free at d again below more again_is =
+    ap (λ (more : List OperandHeld). operand_fault (operands_of more) (drop at free))
+    (at_drop_more (λ (t : List OperandHeld). t) operands at d below)
+    ∙ ap (operand_fault (operands_of (get_or operands at d ∷ drop (at + 1) operands)))
+    (at_drop_more (λ (t : List Text). t) free at [] more)
+    ∙ ap (λ (b : Bool). if b then None else operand_fault (operands_of (drop (at + 1) operands))
+    (drop (at + 1) free)) again_is
+
+-- where each operand has its word, the next word is one too many
+pub fault_past : (operands : List OperandHeld) (free : List Text) (at : ℕ)
+    → length operands ≤ at → at < length free
+    → operand_fault (operands_of (drop at operands)) (drop at free)
+    ≡ Some (unexpected (get_or free at []))
+fault_past operands free at past more =
+    ap (λ (none : List OperandHeld). operand_fault (operands_of none) (drop at free))
+    (drop_of_length-le operands past)
+    ∙ ap (operand_fault []) (at_drop_more (λ (t : List Text). t) free at [] more)
+
+-- and where there is none, no word is
+pub fault_none : (operands : List OperandHeld) (free : List Text) (at : ℕ)
+    → length operands ≤ at → length free ≤ at
+    → operand_fault (operands_of (drop at operands)) (drop at free) ≡ None
+fault_none operands free at past end =
+    ap (λ (none : List OperandHeld). operand_fault (operands_of none) (drop at free))
+    (drop_of_length-le operands past)
+    ∙ ap (operand_fault []) (drop_of_length-le free end)
+
+-- a text after the last one
+pub continued_push : (begun : Bool) (separator : Text) (texts : List Text) (text : Text)
+    → continued begun separator (texts ++ text ∷ [])
+    ≡ continued begun separator texts
+    ++ (parting (begun || nat_lt 0 (length texts)) separator ++ text)
+continued_push true separator texts text =
+    flat_map-append (λ (text : Text). separator ++ text) texts (text ∷ [])
+    ∙ ap (λ (last : Text). flat_map (λ (text : Text). separator ++ text) texts ++ last)
+    (append-nil (separator ++ text))
+continued_push false separator texts text = joined-push separator texts text
+
+-- the items of operands
+abbrev pub items_of : List OperandHeld → List Text
+items_of operands = map (λ (operand : Operand). operand.item) (operands_of operands)
+
+-- what stands past the last operand, as the code reads it
+abbrev pub no_operand : OperandHeld
+no_operand = record {
+  line = 0;
+  item = record { ref_ptr = (0, 0); now = [] };
+  description = record { ref_ptr = (0, 0); now = [] };
+}
+
+-- one operand more
+pub items_push : (begun parted : Bool) (operands : List OperandHeld) (at : ℕ) (d : OperandHeld)
+    (old text : Text) → at < length operands → parted ≡ (begun || nat_lt 0 at)
+    → text ≡ old ++ continued begun (codes " ") (items_of (take at operands))
+    → (text ++ parting parted (codes " ")) ++ (get_or operands at d).item.now
+    ≡ old ++ continued begun (codes " ") (items_of (take (at + 1) operands))
+items_push begun parted operands at d old text below parted_is text_is =
+    let items = items_of (take at operands) in
+    let item = (get_or operands at d).item.now in
+    let count : length items ≡ at =
+    length-map (operands_of (take at operands)) (λ (operand : Operand). operand.item)
+    ∙ length-map (take at operands) operand_of ∙ length-take-le at operands (omega (arith, below)) in
+    append_assoc text (parting parted (codes " ")) item
+    ∙ ap (λ (t : Text). t ++ (parting parted (codes " ") ++ item)) text_is
+    ∙ append_assoc old (continued begun (codes " ") items) (parting parted (codes " ") ++ item)
+    ∙ ap (λ (b : Bool). old ++ (continued begun (codes " ") items ++ (parting b (codes " ")
+    ++ item))) (parted_is ∙ ap (λ (n : ℕ). begun || nat_lt 0 n) (sym count))
+    ∙ ap (λ (t : Text). old ++ t) (sym (continued_push begun (codes " ") items item)
+    ∙ ap (λ (all : List Text). continued begun (codes " ") all)
+    (sym (ap (λ (some : List Operand). map (λ (operand : Operand). operand.item) some)
+    (ap operands_of (take_more operands at d below)
+    ∙ map-append operand_of (take at operands) (get_or operands at d ∷ []))
+    ∙ map-append (λ (operand : Operand). operand.item) (operands_of (take at operands))
+    (operand_of (get_or operands at d) ∷ []))))
+
+-- ---- rows
+
+drop_spaces : (m n total : ℕ) → total ≡ m + n → drop m (spaces total) ≡ spaces n
+drop_spaces zero n total e = ap spaces (omega arith)
+drop_spaces (suc m) n zero e = absurd (omega arith)
+drop_spaces (suc m) n (suc total) e = drop_spaces m n total (omega arith)
+
+-- the padding of a short item is the end of the next row
+pub padding_short : (columns : ℕ) → columns < 20 → drop (5 + columns) next_row
+    ≡ spaces (20 - columns)
+padding_short columns short =
+    let past_line_end : 5 + columns ≡ suc (4 + columns) = omega arith in
+    ap (λ (skipped : ℕ). drop skipped next_row) past_line_end
+    ∙ drop_spaces (4 + columns) (20 - columns) 24 (omega arith)
+
+-- a row that is made of the only description rows is the only row
+pub row_made : (operand : Operand) (description : List Text) (row : Text)
+    → IsTheOnly (IsDescriptionRows 54 operand.description) description
+    → row ≡ operand_head operand.item ++ joined next_row description
+    → IsTheOnly (IsOperandRow operand) row
+row_made operand description row only row_is =
+    made_of_the_only (IsDescriptionRows 54 operand.description)
+    (λ (rows : List Text). operand_head operand.item ++ joined next_row rows) description row only
+    row_is
+
+-- what is the only row of each operand so far
+abbrev pub AreOnlyRows : List Operand → List Text → Type 0
+AreOnlyRows operands rows =
+    AllZip (λ (operand : Operand) (row : Text). IsTheOnly (IsOperandRow operand) row) operands rows
+
+-- one row more
+pub rows_push : (operands : List Operand) (rows : List Text) (operand : Operand) (row : Text)
+    → AreOnlyRows operands rows → IsTheOnly (IsOperandRow operand) row
+    → AreOnlyRows (operands ++ operand ∷ []) (rows ++ row ∷ [])
+rows_push [] [] operand row all is = (is, tt)
+rows_push [] (other ∷ rows) operand row all is = absurd all
+rows_push (other ∷ operands) [] operand row all is = absurd all
+rows_push (other ∷ operands) (first ∷ rows) operand row all is =
+    (all.0, rows_push operands rows operand row all.1 is)
+
+-- what a help says before its options, where there are no rows, and where there are some
+pub front_without : (brief : Text) (rows : List Text) → length rows ≡ 0
+    → help_front brief rows ≡ brief
+front_without brief [] none = refl
+front_without brief (row ∷ rows) none = absurd (omega (arith, none))
+
+pub front_with : (brief : Text) (rows : List Text) → 0 < length rows
+    → help_front brief rows
+    ≡ brief ++ (codes "\n\nArguments:\n" ++ joined (codes "\n") rows)
+front_with brief [] some = absurd (omega arith)
+front_with brief (row ∷ rows) some = refl

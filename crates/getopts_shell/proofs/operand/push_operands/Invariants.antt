@@ -1,0 +1,11 @@
+use Rattle.std.proofs.Common.{◌≡◌, ◌++◌, codes, map, string_bytes, take}
+use Rattle.std.specs.Prelude.{◌||◌, nat_lt}
+use Rattle.getopts.specs.Wrap.{continued}
+use Rattle.getopts_shell.specs.Held.{operands_of}
+use Rattle.getopts_shell.proofs.operand.push_operands.Given as goal
+
+-- the operands so far stand in the text
+abbrev pub invariant-loop-operand : goal.invariant-loop-operand
+invariant-loop-operand l = (l.parted ≡ (l.begun || nat_lt 0 l.operand-index))
+    × (string_bytes l.text ≡ string_bytes l.initial.text ++ continued l.begun (codes " ")
+    (map (λ operand. operand.item) (operands_of (take l.operand-index l.operands))))

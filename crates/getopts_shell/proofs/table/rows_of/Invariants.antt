@@ -1,9 +1,0 @@
-use Rattle.std.proofs.Common.{map}
-use Rattle.getopts_shell.specs.Held.{entries_of}
-use Rattle.getopts_shell.proofs.Lines.{LinesSoFar}
-use Rattle.getopts_shell.proofs.table.rows_of.Given as goal
-
--- what the lines so far declare
-abbrev pub invariant-loop-line : goal.invariant-loop-line
-invariant-loop-line l = LinesSoFar (map (λ line. line.now) l.yielded) l.number
-    (entries_of l.rows.items)
