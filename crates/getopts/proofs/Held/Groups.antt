@@ -20,7 +20,7 @@ use Rattle.getopts.specs.declared.help.Groups.TheInside.{Inside}
 use Rattle.getopts.specs.declared.groups.Ends.{Ends}
 use Rattle.getopts.specs.declared.groups.SignatureRecord.{SignatureRecord}
 use Rattle.getopts.proofs.Lists.{AllByRecursion-unmap, AllByRecursion-at, AllByRecursion-append}
-use Rattle.getopts.proofs.Lists.{slice_get-read, each_kept}
+use Rattle.getopts.proofs.Lists.{slice_get-read, each_kept, element}
 use Rattle.getopts.proofs.Held.Twos.{two-append}
 
 -- the record of a signature that is there
@@ -60,6 +60,15 @@ names_at-signature (first ∷ signatures) zero signature is =
     ap (λ k. k.names) (same_Some first signature is)
 names_at-signature (first ∷ signatures) (suc place) signature is =
     names_at-signature signatures place signature is
+
+-- names of lawful signatures are lawful
+pub lawful_at : (signatures : List Signature) (i : ℕ) → AreLawfulSignatures signatures
+    → i < length signatures → IsLawfullyNamed (names_at (names_in signatures) i)
+lawful_at signatures i lawful within =
+    let there = element signatures i within in
+    subst IsLawfullyNamed (sym (names_at-signature signatures i there.0 there.1))
+    (AllByRecursion-at (λ (s : Signature). IsLawfullyNamed s.names) signatures i there.0
+    lawful.named there.1)
 
 -- where the text of all is of bytes, each name is
 pub HaveNamesOfBytes-in : (text : Text) → IsOfBytes text → (records : List SignatureRecord)
