@@ -9,8 +9,9 @@ ghost use Rattle.getopts.specs.Names.{AreLawful};
 ghost use Rattle.getopts.specs.Options.{MayBeDeclared, group_of, signatures_of};
 ghost use Rattle.getopts.specs.Canon.{main_at};
 
-use crate::groups::{Ends, FIRST_GROUPS, first_at, push_two, second_at};
-use crate::groups::{Kinds, Signature, Signatures};
+use crate::groups::{
+    Ends, FIRST_GROUPS, Kinds, Signature, Signatures, first_at, push_two, second_at,
+};
 use std::alloc::{AllocError, Global};
 use std::marker::Model;
 

@@ -8,7 +8,7 @@ use Rattle.std.specs.String.{string_bytes}
 use Rattle.std.proofs.lemmas.List.{length-map, map-append}
 use Rattle.std.proofs.lemmas.List.Elements.{All-nil, All-take, All-drop}
 use Rattle.std.proofs.lemmas.Option.{same_Some, slice_get-map}
-use Rattle.getopts.specs.Names.{Text, IsLawfullyNamed, main_name}
+use Rattle.getopts.specs.Names.{Text, Names, IsLawfullyNamed, main_name}
 use Rattle.getopts.specs.Options.{Signature, Group, MayBeDeclared, signatures_of}
 use Rattle.getopts.specs.Canon.{main_at}
 use Rattle.getopts.specs.Held.Pieces.{IsOfBytes}
@@ -19,8 +19,8 @@ use Rattle.getopts.specs.Held.Help.{groups_with, groups_view, HoldGroups}
 use Rattle.getopts.specs.declared.help.Groups.TheInside.{Inside}
 use Rattle.getopts.specs.declared.groups.Ends.{Ends}
 use Rattle.getopts.specs.declared.groups.SignatureRecord.{SignatureRecord}
-use Rattle.getopts.proofs.Lists.{AllByRecursion-unmap, AllByRecursion-at, AllByRecursion-append}
-use Rattle.getopts.proofs.Lists.{slice_get-read, each_kept, element}
+use Rattle.getopts.proofs.Lists.{AllByRecursion-map, AllByRecursion-unmap, AllByRecursion-at, AllByRecursion-append}
+use Rattle.getopts.proofs.Lists.{slice_get-read, each_kept}
 use Rattle.getopts.proofs.Held.Twos.{two-append}
 
 -- the record of a signature that is there
@@ -61,14 +61,18 @@ names_at-signature (first ∷ signatures) zero signature is =
 names_at-signature (first ∷ signatures) (suc place) signature is =
     names_at-signature signatures place signature is
 
+-- of lawfully named groups those at a place are
+pub fits_at : (groups : List Names) → AllByRecursion IsLawfullyNamed groups → (i : ℕ)
+    → i < length groups → IsLawfullyNamed (names_at groups i)
+fits_at [] lawful i within = absurd (omega (arith, within))
+fits_at (first ∷ groups) lawful zero within = lawful.0
+fits_at (first ∷ groups) lawful (suc i) within = fits_at groups lawful.1 i (omega (arith, within))
+
 -- names of lawful signatures are lawful
-pub lawful_at : (signatures : List Signature) (i : ℕ) → AreLawfulSignatures signatures
-    → i < length signatures → IsLawfullyNamed (names_at (names_in signatures) i)
-lawful_at signatures i lawful within =
-    let there = element signatures i within in
-    subst IsLawfullyNamed (sym (names_at-signature signatures i there.0 there.1))
-    (AllByRecursion-at (λ (s : Signature). IsLawfullyNamed s.names) signatures i there.0
-    lawful.named there.1)
+pub lawful_names : (signatures : List Signature) → AreLawfulSignatures signatures
+    → AllByRecursion IsLawfullyNamed (names_in signatures)
+lawful_names signatures lawful = AllByRecursion-map IsLawfullyNamed (λ (s : Signature). s.names)
+    signatures lawful.named
 
 -- where the text of all is of bytes, each name is
 pub HaveNamesOfBytes-in : (text : Text) → IsOfBytes text → (records : List SignatureRecord)

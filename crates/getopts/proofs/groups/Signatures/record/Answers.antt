@@ -1,8 +1,11 @@
 -- A record has the keys and the kinds of its group, which is lawful.
 use Rattle.std.proofs.Common.{arith, sym, ap}
 use Rattle.std.specs.Option.{option_map}
-use Rattle.getopts.specs.Held.Groups.{kinds_of}
-use Rattle.getopts.proofs.Held.Groups.{held_at, record_within, names_at-signature, lawful_at}
+use Rattle.std.proofs.lemmas.List.{length-map}
+use Rattle.getopts.specs.Options.{Signature}
+use Rattle.getopts.specs.Held.Groups.{kinds_of, names_in}
+use Rattle.getopts.proofs.Held.Groups.{held_at, record_within, names_at-signature}
+use Rattle.getopts.proofs.Held.Groups.{fits_at, lawful_names}
 use Rattle.getopts.proofs.groups.Signatures.record.Goals as goal
 
 pub index-requires : goal.index-requires
@@ -18,7 +21,9 @@ returns-clause-keys c =
 
 pub returns-clause-lawful : goal.returns-clause-lawful
 returns-clause-lawful c =
-    lawful_at c.args.self.now c.args.place (rw (← c.self.view_is) c.self.invariant.lawful) c.requires
+    fits_at (names_in c.args.self.now)
+    (lawful_names c.args.self.now (rw (← c.self.view_is) c.self.invariant.lawful)) c.args.place
+    (omega (arith, c.requires, length-map c.args.self.now (λ (s : Signature). s.names)))
 
 pub returns-clause-kinds : goal.returns-clause-kinds
 returns-clause-kinds c =
