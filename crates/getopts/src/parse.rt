@@ -111,7 +111,11 @@ impl Options {
 
     /// Reads a line, and checks its counts.
     #[inline(always)]
-    pub(crate) fn accepted_line<S: AsStr>(&self, alloc: Global, words: &[S]) -> Result<ReadLine, Fail>
+    pub(crate) fn accepted_line<S: AsStr>(
+        &self,
+        alloc: Global,
+        words: &[S],
+    ) -> Result<ReadLine, Fail>
         ensures accepted { IfOk result (IsAcceptedLine self.now (map S.text words.now)) }
         ensures refused { IfErr result (λ fail. Tells fail
             (IsRefused self.now (map S.text words.now))) }
