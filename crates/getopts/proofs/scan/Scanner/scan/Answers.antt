@@ -1,10 +1,9 @@
 -- Each turn reads one more item, and each end is that of a reading or a fault.
-use Rattle.std.proofs.Common.{refl, map, Bor, ◌≡◌, ◌+◌, drop, length, sym, ap, ◌∙◌, arith, rules}
+use Rattle.std.proofs.Common.{refl, map, ◌≡◌, ◌+◌, drop, length, sym, ap, ◌∙◌, arith, rules}
 use Rattle.std.specs.String.{string_bytes}
 use Rattle.std.proofs.lemmas.List.{drop-map, append-nil, drop_all, length-map}
 use Rattle.std.proofs.lemmas.Option.{slice_get_read}
 use Rattle.std.proofs.lemmas.Result.{err_from_is_err_and}
-use Rattle.getopts.specs.Names.{Text, texts}
 use Rattle.getopts.specs.Held.Line.{scanner_grammar, IsLawfulScanner}
 use Rattle.getopts.specs.Reading.{line_end, stop, rest, free_items}
 use Rattle.getopts.specs.declared.groups.ParsingStyle.TheVariants.{FloatingFrees, StopAtFirstFree}
