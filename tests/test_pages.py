@@ -13,7 +13,7 @@ import shutil
 import textwrap
 
 import pytest
-from conftest import ROOT, need, run
+from conftest import ROOT, answer, kit, need, run
 from conftest import tracked as all_tracked
 
 
@@ -25,12 +25,20 @@ tracked = all_tracked()
 pages = {name: read(name) for name in tracked if name.endswith(".md")}
 sources = {name: read(name) for name in tracked if re.match(r"crates/\w*/src/.*\.rt$", name)}
 CALLING, CONTRACTS = (next(name for name in pages if name.endswith(end)) for end in ("CALLING.md", "CONTRACTS.md"))
-edits = {os.path.basename(name)[:-5] for name in tracked if name.endswith(".edit") and "/private/" not in name}
+edits = {name: read(name) for name in tracked if name.endswith(".edit") and "/private/" not in name}
+BENCH, TIMES, ANEW = "bench/last_run.txt", "tests/times.txt", "'bash test.sh -k pages --fix' writes it anew"
 
 
 def none(failures):
     failures = list(dict.fromkeys(failures))
     assert not failures, "\n".join(failures)
+
+
+def fix(page, text, request):
+    """With --fix, writes a page anew."""
+    if request.config.getoption("--fix") and text != pages[page]:
+        (ROOT / page).write_text(text, encoding="utf-8")
+        pages[page] = text
 
 
 # ---- figures
@@ -39,7 +47,7 @@ def none(failures):
 def tables():
     """The tables of bench/last_run.txt: by their titles and jobs, the figures by the names of their columns."""
     kept = {}
-    for title, heads, rows in re.findall(r"^(.+)\njob (.*)\n((?:.+\n)*)", read("bench/last_run.txt"), re.M):
+    for title, heads, rows in re.findall(r"^(.+)\njob (.*)\n((?:.+\n)*)", read(BENCH), re.M):
         columns = re.split(r"\s{2,}", heads.strip())
         for job, *cells in (re.split(r"\s{2,}", row) for row in rows.splitlines()):
             kept[title, job] = dict(zip(columns, cells))
@@ -62,7 +70,7 @@ def megabytes(column):
 @functools.cache
 def minutes(command):
     """The least and the most minutes of a command in tests/times.txt, of processors and by the clock."""
-    rows = [line.rsplit(maxsplit=2) for line in read("tests/times.txt").split("\n") if line and line[0] != "#"]
+    rows = [line.rsplit(maxsplit=2) for line in read(TIMES).split("\n") if line and line[0] != "#"]
     spans = []
     for kind in (1, 2):
         of = [round(int(row[kind]) / 60) for row in rows if row[0] == command] or [0]
@@ -72,29 +80,30 @@ def minutes(command):
 
 @functools.cache
 def logic():
-    """The sum of the logic that the toolchain proves with."""
-    return run("rt", "version")[0].split()[-1] if shutil.which("rt") else "unknown"
+    """The sum of the logic that the toolchain proves with, or without one that of the page."""
+    return run("rt", "version")[0].split()[-1] if shutil.which("rt") else re.search(r"logic `(\w+)`", pages["README.md"])[1]
 
 
 INSTRUCTIONS = "Instructions of one turn"
 PEAK = "The most bytes held at once for reading 100,000 words, above the words and the options"
-# The figures that stand in no table of jobs: a page, a pattern whose groups are figures, and what each has to be.
+# The figures that stand in no table of jobs: a page, a pattern whose groups are figures, where they come from, and what each
+# has to be.
 FIGURES = [
-    ("README.md", r"\| ([\d,]+) named wrong bodies", lambda: [str(len(edits))]),
-    ("README.md", r"logic `(\w+)`", lambda: [logic()]),
-    ("README.md", r"`\(cd crates/getopts && rt lib\)` .* \| ([^|]*) \| ([^|]*) \|", lambda: minutes("rt lib")),
-    ("README.md", r"`bash test.sh` .* \| ([^|]*) \| ([^|]*) \|", lambda: minutes("bash test.sh")),
-    ("README.md", r"program takes (\d+) % of the Rust crate's .* and (\d+) %",
+    ("README.md", r"\| ([\d,]+) named wrong bodies", "tests/must-fail", lambda: [str(len(edits))]),
+    ("README.md", r"logic `(\w+)`", "rt version", lambda: [logic()]),
+    ("README.md", r"`\(cd crates/getopts && rt lib\)` .* \| ([^|]*) \| ([^|]*) \|", TIMES, lambda: minutes("rt lib")),
+    ("README.md", r"`bash test.sh` .* \| ([^|]*) \| ([^|]*) \|", TIMES, lambda: minutes("bash test.sh")),
+    ("README.md", r"program takes (\d+) % of the Rust crate's .* and (\d+) %", BENCH,
      lambda: [share("small"), share("long")]),
-    ("README.md", r"it takes (\d+) % and (\d+) %", lambda: [share("copied-small"), share("copied-long")]),
-    ("README.md", r"takes (\d+) % of the instructions of the crate .* and (\d+) %",
+    ("README.md", r"it takes (\d+) % and (\d+) %", BENCH, lambda: [share("copied-small"), share("copied-long")]),
+    ("README.md", r"takes (\d+) % of the instructions of the crate .* and (\d+) %", BENCH,
      lambda: [share("small", "bindings/rust"), share("long", "bindings/rust")]),
-    ("tests/differential/README.md", r"first ([\d,]+) of seed 1",
+    ("tests/differential/README.md", r"first ([\d,]+) of seed 1", "tests/differential/record.sh",
      lambda: [f"{int(re.search(r'choose 1 (.*?) ', read('tests/differential/record.sh'))[1]):,}"]),
-    *((f"bindings/{folder}/README.md", r"Rust ([\d.]+) or later",
+    *((f"bindings/{folder}/README.md", r"Rust ([\d.]+) or later", f"bindings/{folder}/Cargo.toml",
        lambda folder=folder: re.findall(r'rust-version = "(.*)"', read(f"bindings/{folder}/Cargo.toml")))
       for folder in ("rust", "c", "shell")),
-    ("bench/README.md", r"holds is ([\d.]+) MB here, ([\d.]+) MB in the Rust\s+crate and ([\d.]+) MB",
+    ("bench/README.md", r"holds is ([\d.]+) MB here, ([\d.]+) MB in the Rust\s+crate and ([\d.]+) MB", BENCH,
      lambda: [megabytes("this library"), megabytes("Rust crate"), megabytes("bindings/rust")]),
 ]
 
@@ -102,7 +111,7 @@ FIGURES = [
 NO_FIGURES = re.compile(r"""
     \bU\+\w+ | \b0\.2\.24\b | Apache-2\.0 | x86-64(-v2)?
     | 1,000\ words | 100,000\ words | 20\ options | 10\ words
-    | (32|64)\ bits | 54\ columns | 24\ (spaces|columns) | stop\ at\ 255 | 24\ bytes | 4\.2\ or\ later | C\+\+11 | Debian\ 12 | 80\ words | 200,000\ cases
+    | (32|64)\ bits | 54\ columns | 24\ (spaces|columns) | stop\ at\ 255 | 24\ bytes | 4\.2\ or\ later | before\ 4\.4 | C\+\+11 | Debian\ 12 | 80\ words | 200,000\ cases
 """, re.X)
 
 def table_figures(page):
@@ -116,17 +125,17 @@ def table_figures(page):
             for (at, cell_text), column in list(zip(cells, columns))[1:]:
                 wanted = tables().get((INSTRUCTIONS, job[1]), {}).get("bindings/rust" if column == "drop-in" else column)
                 if wanted:
-                    yield at, cell_text, re.sub(r"^\d+", lambda it: f"{int(it[0]):,}", wanted)
+                    yield at, cell_text, re.sub(r"^\d+", lambda it: f"{int(it[0]):,}", wanted), BENCH
 
 
 def figures_of(page):
-    """The figures of a page that are known: where each is, what it is, and what it has to be."""
+    """The figures of a page that are known: where each is, what it is, what it has to be, and what says so."""
     yield from table_figures(page)
-    for name, pattern, values in FIGURES:
+    for name, pattern, source, values in FIGURES:
         if name == page:
             it = re.search(pattern, pages[page])
             for group, wanted in enumerate(values(), 1):
-                yield (it.start(group), it[group], wanted) if it else (0, f"nothing for '{pattern}'", wanted)
+                yield (it.start(group), it[group], wanted, source) if it else (0, f"nothing for '{pattern}'", wanted, source)
 
 
 def unknown_in(page):
@@ -134,22 +143,11 @@ def unknown_in(page):
     blank = lambda it: " " * len(it[0])
     prose = re.sub(r"^```.*?^```|^    [^\n]*$|`[^`\n]*`|\]\([^)]*\)", blank, pages[page], flags=re.M | re.S)
     prose = list(NO_FIGURES.sub(blank, prose))
-    for at, is_now, _ in figures_of(page):
+    for at, is_now, *_ in figures_of(page):
         prose[at:at + len(is_now)] = " " * len(is_now)
     for it in re.finditer(r"(?<![\w.,-])\d[\d,]*(?:\.\d+)?(?!\w)", "".join(prose)):
         if len(re.sub(r"\D", "", it[0])) > 1:
             yield it.start(), it[0]
-
-
-def put_in(page):
-    """Puts what each figure of a page has to be in the place of what it is."""
-    text = pages[page]
-    for at, is_now, wanted in sorted(figures_of(page), reverse=True):
-        if at:
-            text = text[:at] + wanted + text[at + len(is_now):]
-    if text != pages[page]:
-        (ROOT / page).write_text(text, encoding="utf-8")
-        pages[page] = text
 
 
 @pytest.mark.parametrize("page", pages)
@@ -157,9 +155,12 @@ def test_figures(page, request):
     def place(at):
         return f"{page}:{pages[page].count(chr(10), 0, at) + 1}"
 
-    if request.config.getoption("--fix"):
-        put_in(page)
-    none([f"{place(at)}: {is_now} has to be {wanted}" for at, is_now, wanted in figures_of(page) if is_now != wanted] +
+    text = pages[page]
+    for at, is_now, wanted, _ in sorted(figures_of(page), reverse=True):
+        text = text[:at] + wanted + text[at + len(is_now):] if at else text
+    fix(page, text, request)
+    none([f"{place(at)}: {is_now} has to be {wanted}, by {source}"
+          for at, is_now, wanted, source in figures_of(page) if is_now != wanted] +
          [f"{place(at)}: no check knows the figure {it}" for at, it in unknown_in(page)])
 
 
@@ -238,10 +239,20 @@ def imports(text):
 def test_contracts(request):
     """CONTRACTS.md has the contract of each public function, as the sources have it."""
     wanted = re.sub(r"^```\w+\n.*?^```", lambda _: f"```text\n{contracts()}\n{imports(contracts())}```", pages[CONTRACTS], flags=re.M | re.S)
-    if request.config.getoption("--fix") and wanted != pages[CONTRACTS]:
-        (ROOT / CONTRACTS).write_text(wanted, encoding="utf-8")
-        pages[CONTRACTS] = wanted
-    assert pages[CONTRACTS] == wanted, "pytest tests/test_pages.py --fix writes it anew"
+    fix(CONTRACTS, wanted, request)
+    assert pages[CONTRACTS] == wanted, ANEW
+
+
+# Those that wait for a caller.
+UNCITED = {"lines_again", "ReadsOnce-unsigned", "IsReadAs-one", "IsReadAs-not_both", "IsReadAs-weaker", "HasReading-known"}
+
+
+def test_offered_lemmas_are_cited():
+    """Each lemma that CONTRACTS offers is named outside its own lines."""
+    offered = set(re.findall(r"`([\w-]+)`", re.search(r"\*\*Lemmas to cite\*\*.*?\n\n", pages[CONTRACTS], re.S)[0]))
+    text = "\n".join(read(name) for name in tracked if name.endswith((".rt", ".antt")))
+    none(f"nothing cites {name}" for name in sorted(offered - UNCITED)
+         if not re.search(rf"^(?!(?:  )?(?:pub )?{name} ).*(?<![\w-]){name}(?![\w-])", text, re.M))
 
 
 # ---- promises
@@ -291,12 +302,20 @@ def test_definitions_are_in_the_grammar(crate):
     none(lacking)
 
 
-def test_edits_are_in_the_proofs():
-    none(edit for edit in sorted(edits) if f"`{edit}`" not in pages["docs/PROOFS.md"])
+def test_wrong_bodies(request):
+    """PROOFS has each public edit with the function that it turns, by modules."""
+    modules, page, head = {}, "docs/PROOFS.md", "| module | wrong bodies, each with its function |\n|---|---|\n"
+    for name in sorted(edits):
+        module, function = re.search(r"^fn: ([a-z_:]+)::((?:[A-Z]\w*::)?\w+)$", edits[name], re.M).groups()
+        modules.setdefault(module, []).append(f"`{os.path.basename(name)[:-5]}` (`{function}`)")
+    rows = [f"| `{module}` | {', '.join(bodies)} |\n" for module, bodies in sorted(modules.items())]
+    wanted = re.sub(rf"(?<={re.escape(head)})(\|.*\n)*", "".join(rows), pages[page], count=1)
+    fix(page, wanted, request)
+    assert pages[page] == wanted, ANEW
 
 
 # Names of the toolchain, of Rust and of Debian's packages.
-OTHERS = """Send Sync unicode-width x86-64-v2 POSIXLY_CORRECT optind IFS copied-
+OTHERS = """Send Sync unicode-width x86-64-v2 POSIXLY_CORRECT optind IFS BASH_ENV copied-
     librust-clap-dev librust-lexopt-dev librust-pico-args-dev librust-unicode-width-dev"""
 
 
@@ -344,6 +363,12 @@ def test_no_module_uses_one_that_uses_it(crate):
 
 
 # ---- form
+
+def test_layout():
+    files = [name for name in tracked if name.endswith((".rt", ".antt"))]
+    said, status = answer(kit() / "bin/rattle", "fmt", "--check", *files, cwd=ROOT)
+    assert status == 0, f"'rt fmt' in these crates:\n{said.decode()}"
+
 
 def test_shell_scripts():
     need("shellcheck")
