@@ -2,7 +2,7 @@
 that uses it, and scripts, Rust and manual pages are well formed.
 
 Each figure of ten or more on a page is counted, measured or recorded (FIGURES). With --fix those that differ are replaced,
-and CONTRACTS.md is written anew from the sources.
+and CONTRACTS.md and PROOFS' table of wrong bodies are written anew.
 """
 
 import functools
@@ -26,7 +26,7 @@ pages = {name: read(name) for name in tracked if name.endswith(".md")}
 sources = {name: read(name) for name in tracked if re.match(r"crates/\w*/src/.*\.rt$", name)}
 CALLING, CONTRACTS = (next(name for name in pages if name.endswith(end)) for end in ("CALLING.md", "CONTRACTS.md"))
 edits = {name: read(name) for name in tracked if name.endswith(".edit") and "/private/" not in name}
-BENCH, TIMES, ANEW = "bench/last_run.txt", "tests/times.txt", "'bash test.sh -k pages --fix' writes it anew"
+ANEW = "'bash test.sh -k pages --fix' writes it anew"
 
 
 def none(failures):
@@ -47,7 +47,7 @@ def fix(page, text, request):
 def tables():
     """The tables of bench/last_run.txt: by their titles and jobs, the figures by the names of their columns."""
     kept = {}
-    for title, heads, rows in re.findall(r"^(.+)\njob (.*)\n((?:.+\n)*)", read(BENCH), re.M):
+    for title, heads, rows in re.findall(r"^(.+)\njob (.*)\n((?:.+\n)*)", read("bench/last_run.txt"), re.M):
         columns = re.split(r"\s{2,}", heads.strip())
         for job, *cells in (re.split(r"\s{2,}", row) for row in rows.splitlines()):
             kept[title, job] = dict(zip(columns, cells))
@@ -70,7 +70,7 @@ def megabytes(column):
 @functools.cache
 def minutes(command):
     """The least and the most minutes of a command in tests/times.txt, of processors and by the clock."""
-    rows = [line.rsplit(maxsplit=2) for line in read(TIMES).split("\n") if line and line[0] != "#"]
+    rows = [line.rsplit(maxsplit=2) for line in read("tests/times.txt").split("\n") if line and line[0] != "#"]
     spans = []
     for kind in (1, 2):
         of = [round(int(row[kind]) / 60) for row in rows if row[0] == command] or [0]
@@ -80,30 +80,29 @@ def minutes(command):
 
 @functools.cache
 def logic():
-    """The sum of the logic that the toolchain proves with, or without one that of the page."""
-    return run("rt", "version")[0].split()[-1] if shutil.which("rt") else re.search(r"logic `(\w+)`", pages["README.md"])[1]
+    """The sum of the logic that the toolchain proves with."""
+    return run("rt", "version")[0].split()[-1] if shutil.which("rt") else "unknown"
 
 
 INSTRUCTIONS = "Instructions of one turn"
 PEAK = "The most bytes held at once for reading 100,000 words, above the words and the options"
-# The figures that stand in no table of jobs: a page, a pattern whose groups are figures, where they come from, and what each
-# has to be.
+# The figures that stand in no table of jobs: a page, a pattern whose groups are figures, and what each has to be.
 FIGURES = [
-    ("README.md", r"\| ([\d,]+) named wrong bodies", "tests/must-fail", lambda: [str(len(edits))]),
-    ("README.md", r"logic `(\w+)`", "rt version", lambda: [logic()]),
-    ("README.md", r"`\(cd crates/getopts && rt lib\)` .* \| ([^|]*) \| ([^|]*) \|", TIMES, lambda: minutes("rt lib")),
-    ("README.md", r"`bash test.sh` .* \| ([^|]*) \| ([^|]*) \|", TIMES, lambda: minutes("bash test.sh")),
-    ("README.md", r"program takes (\d+) % of the Rust crate's .* and (\d+) %", BENCH,
+    ("README.md", r"\| ([\d,]+) named wrong bodies", lambda: [str(len(edits))]),
+    ("README.md", r"logic `(\w+)`", lambda: [logic()]),
+    ("README.md", r"`\(cd crates/getopts && rt lib\)` .* \| ([^|]*) \| ([^|]*) \|", lambda: minutes("rt lib")),
+    ("README.md", r"`bash test.sh` .* \| ([^|]*) \| ([^|]*) \|", lambda: minutes("bash test.sh")),
+    ("README.md", r"program takes (\d+) % of the Rust crate's .* and (\d+) %",
      lambda: [share("small"), share("long")]),
-    ("README.md", r"it takes (\d+) % and (\d+) %", BENCH, lambda: [share("copied-small"), share("copied-long")]),
-    ("README.md", r"takes (\d+) % of the instructions of the crate .* and (\d+) %", BENCH,
+    ("README.md", r"it takes (\d+) % and (\d+) %", lambda: [share("copied-small"), share("copied-long")]),
+    ("README.md", r"takes (\d+) % of the instructions of the crate .* and (\d+) %",
      lambda: [share("small", "bindings/rust"), share("long", "bindings/rust")]),
-    ("tests/differential/README.md", r"first ([\d,]+) of seed 1", "tests/differential/record.sh",
+    ("tests/differential/README.md", r"first ([\d,]+) of seed 1",
      lambda: [f"{int(re.search(r'choose 1 (.*?) ', read('tests/differential/record.sh'))[1]):,}"]),
-    *((f"bindings/{folder}/README.md", r"Rust ([\d.]+) or later", f"bindings/{folder}/Cargo.toml",
+    *((f"bindings/{folder}/README.md", r"Rust ([\d.]+) or later",
        lambda folder=folder: re.findall(r'rust-version = "(.*)"', read(f"bindings/{folder}/Cargo.toml")))
       for folder in ("rust", "c", "shell")),
-    ("bench/README.md", r"holds is ([\d.]+) MB here, ([\d.]+) MB in the Rust\s+crate and ([\d.]+) MB", BENCH,
+    ("bench/README.md", r"holds is ([\d.]+) MB here, ([\d.]+) MB in the Rust\s+crate and ([\d.]+) MB",
      lambda: [megabytes("this library"), megabytes("Rust crate"), megabytes("bindings/rust")]),
 ]
 
@@ -125,17 +124,17 @@ def table_figures(page):
             for (at, cell_text), column in list(zip(cells, columns))[1:]:
                 wanted = tables().get((INSTRUCTIONS, job[1]), {}).get("bindings/rust" if column == "drop-in" else column)
                 if wanted:
-                    yield at, cell_text, re.sub(r"^\d+", lambda it: f"{int(it[0]):,}", wanted), BENCH
+                    yield at, cell_text, re.sub(r"^\d+", lambda it: f"{int(it[0]):,}", wanted)
 
 
 def figures_of(page):
-    """The figures of a page that are known: where each is, what it is, what it has to be, and what says so."""
+    """The figures of a page that are known: where each is, what it is, and what it has to be."""
     yield from table_figures(page)
-    for name, pattern, source, values in FIGURES:
+    for name, pattern, values in FIGURES:
         if name == page:
             it = re.search(pattern, pages[page])
             for group, wanted in enumerate(values(), 1):
-                yield (it.start(group), it[group], wanted, source) if it else (0, f"nothing for '{pattern}'", wanted, source)
+                yield (it.start(group), it[group], wanted) if it else (0, f"nothing for '{pattern}'", wanted)
 
 
 def unknown_in(page):
@@ -143,7 +142,7 @@ def unknown_in(page):
     blank = lambda it: " " * len(it[0])
     prose = re.sub(r"^```.*?^```|^    [^\n]*$|`[^`\n]*`|\]\([^)]*\)", blank, pages[page], flags=re.M | re.S)
     prose = list(NO_FIGURES.sub(blank, prose))
-    for at, is_now, *_ in figures_of(page):
+    for at, is_now, _ in figures_of(page):
         prose[at:at + len(is_now)] = " " * len(is_now)
     for it in re.finditer(r"(?<![\w.,-])\d[\d,]*(?:\.\d+)?(?!\w)", "".join(prose)):
         if len(re.sub(r"\D", "", it[0])) > 1:
@@ -155,12 +154,15 @@ def test_figures(page, request):
     def place(at):
         return f"{page}:{pages[page].count(chr(10), 0, at) + 1}"
 
+    def wrong():
+        return [(at, is_now, wanted) for at, is_now, wanted in figures_of(page) if is_now != wanted != "unknown"]
+
     text = pages[page]
-    for at, is_now, wanted, _ in sorted(figures_of(page), reverse=True):
+    for at, is_now, wanted in sorted(wrong(), reverse=True):
         text = text[:at] + wanted + text[at + len(is_now):] if at else text
     fix(page, text, request)
-    none([f"{place(at)}: {is_now} has to be {wanted}, by {source}"
-          for at, is_now, wanted, source in figures_of(page) if is_now != wanted] +
+    none([f"{place(at)}: {is_now} has to be {wanted} (what is measured stands in bench/last_run.txt and tests/times.txt)"
+          for at, is_now, wanted in wrong()] +
          [f"{place(at)}: no check knows the figure {it}" for at, it in unknown_in(page)])
 
 
@@ -327,7 +329,7 @@ def words():
         if re.search(r"\.(rt|antt|rs|c|h|cpp|sh|py|edit|toml|txt|ini|rows)$|/stdin$|^crates.txt$|^HANDLES$", name):
             text = read(name)
             found |= set(re.findall(r"[\w+-]+", text)) | set(re.findall(r"\w+", text))
-    return found
+    return found if shutil.which("rt") else found | set(re.findall(r"logic `(\w+)`", pages["README.md"]))
 
 
 @pytest.mark.parametrize("page", pages)
@@ -367,7 +369,7 @@ def test_no_module_uses_one_that_uses_it(crate):
 def test_layout():
     files = [name for name in tracked if name.endswith((".rt", ".antt"))]
     said, status = answer(kit() / "bin/rattle", "fmt", "--check", *files, cwd=ROOT)
-    assert status == 0, f"'rt fmt' in these crates:\n{said.decode()}"
+    assert status == 0, f"'rt fmt' in the crate:\n{said.decode()}"
 
 
 def test_shell_scripts():
