@@ -19,7 +19,6 @@ import shutil
 import pytest
 from conftest import ROOT, answer, copy_tree, kit, wait_for
 
-EDITS = sorted(path for path in (ROOT / "tests/must-fail").rglob("*.edit"))
 LIBRARIES = ["getopts", "getopts_bytes"]
 # Programs whose modules are tried in another, which has no module of the same name.
 GUESTS = {"getopts_greet": "getopts_uses", "getopts_show": "getopts_uses"}
@@ -64,8 +63,8 @@ class Edit:
         return files
 
 
-ALL = [Edit(path, variant) for path in EDITS
-       for variant in (("new", "right") if re.search("^right:", path.read_text(encoding="utf-8"), re.M) else ("new",))]
+ALL = [Edit(path, variant) for path in sorted((ROOT / "tests/must-fail").rglob("*.edit")) for variant in ("new", "right")
+       if variant == "new" or "\nright:" in path.read_text(encoding="utf-8")]
 
 
 def named(functions, text):
@@ -153,13 +152,6 @@ def join(folder, guest):
         to.write_text(text.replace(f"Rattle.{guest.name}.", f"Rattle.{folder.name}."), encoding="utf-8")
 
 
-def check(folder, functions):
-    """What a check of these functions says."""
-    only = [word for function in functions for word in ("--only", function)]
-    said, _ = answer("rt", "check", "--jobs", os.environ.get("JOBS", "1"), *only, cwd=folder)
-    return said.decode(errors="replace")
-
-
 def verdict(said, function):
     """`proved`, `refused`, or why a check doesn't say which."""
     proof = "./proofs/" + function.partition("::")[2].replace("::", "/") + "/"
@@ -191,7 +183,7 @@ def verdicts(request, tmp_path_factory):
             found[host] = {}
             items = [item for item in request.session.items if item.name.startswith("test_edit[")]
             asked = [edit for edit in (item.callspec.params["edit"] for item in items)
-                     if edit.host == host and not passed_over(edit, request.config)]
+                     if edit.host == host and is_tried(edit, request.config)]
             found[host] = tried(asked, tmp_path_factory.mktemp(host))
         return found[host]
 
@@ -213,20 +205,16 @@ def tried(edits, room):
     functions = {edit: copies.add(edit) for edit in edits}
     for file, text in copies.files.items():
         (folder / file).write_text(text, encoding="utf-8")
-    said = check(folder, functions.values())
+    only = [word for function in functions.values() for word in ("--only", function)]
+    said = answer("rt", "check", "--jobs", os.environ.get("JOBS", "1"), *only, cwd=folder)[0].decode(errors="replace")
     (room / "said").write_text(said)
     again = set(re.findall(r"^crate (\w+): ", said, re.M)) - {host}
     assert not again or "CI_LOG" not in os.environ, f"proved again: {again}"
     return {edit: verdict(said, function) for edit, function in functions.items()}
 
 
-def passed_over(edit, config):
-    """Why an edit isn't tried."""
-    if config.getoption("--quick"):
-        return "edits: --quick proves nothing"
-    if "private" in edit.path.parts and not config.getoption("--many"):
-        return "edits of private bodies: --many tries them"
-    return None
+def is_tried(edit, config):
+    return not config.getoption("--quick") and ("private" not in edit.path.parts or config.getoption("--many"))
 
 
 def marks(edit):
@@ -237,8 +225,8 @@ def marks(edit):
 
 @pytest.mark.parametrize("edit", [pytest.param(edit, id=f"{edit.crate}-{edit.name}", marks=marks(edit)) for edit in ALL])
 def test_edit(edit, verdicts, request):
-    if why := passed_over(edit, request.config):
-        pytest.skip(why)
+    if not is_tried(edit, request.config):
+        pytest.skip("edits: --quick tries none, and those of private bodies --many alone")
     assert verdicts(edit.host).get(edit, "the check failed before") == ("proved" if edit.variant == "right" else "refused")
 
 
