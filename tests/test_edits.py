@@ -36,19 +36,12 @@ class Edit:
         self.path, self.variant, self.name = path, variant, path.stem + (":right" if variant == "right" else "")
         self.crate = path.relative_to(ROOT / "tests/must-fail").parts[0]
         self.host = GUESTS.get(self.crate, self.crate)
-        self.pairs, self.function, file, texts = [], "", "", {}
-        for line in [*path.read_text(encoding="utf-8").splitlines(), "end:"]:
-            kind, _, rest = line.partition(":")
-            rest = rest.removeprefix(" ")
-            if "new" in texts and kind not in ("new", "right"):
-                self.pairs.append((file, {kind: "\n".join(lines) for kind, lines in texts.items()}))
-                texts = {}
-            if kind == "fn":
-                self.function = rest.replace(self.crate, self.host, 1)
-            elif kind == "file":
-                file = rest
-            elif kind in ("old", "new", "right"):
-                texts.setdefault(kind, []).append(rest)
+        text, file, self.pairs = path.read_text(encoding="utf-8") + "\n", "", []
+        self.function = re.search("^fn: (.*)", text, re.M)[1].replace(self.crate, self.host, 1)
+        for it in re.finditer(r"^(?:file: (.*)|((?:old:.*\n)+)((?:new:.*\n)+)((?:right:.*\n)*))", text, re.M):
+            file, lines = it[1] or file, zip(("old", "new", "right"), it.groups()[1:])
+            texts = {kind: re.sub(r"^\w+: ?", "", block[:-1], flags=re.M) for kind, block in lines if block}
+            self.pairs += [(file, texts)] if texts else []
 
     def texts(self, kind):
         return "\n".join(texts.get(kind, "") for _, texts in self.pairs)
