@@ -67,7 +67,7 @@ def need(*tools):
     """Skips a test where one of its tools isn't there."""
     for tool in tools:
         if not shutil.which(str(tool)):
-            pytest.skip(f"there is no {tool} (CONTRIBUTING.md has the packages)")
+            pytest.skip(f"there is no {tool}: see CONTRIBUTING.md")
 
 
 def run(*words, status=0, env=None, **how):

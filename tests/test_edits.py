@@ -146,7 +146,7 @@ def join(folder, guest):
 
 
 def verdict(said, function):
-    """`proved`, `refused`, or why a check doesn't say which."""
+    """`proved`, `refused`, `let through` where only its own false file fails, or why a check doesn't say which."""
     proof = "./proofs/" + function.partition("::")[2].replace("::", "/") + "/"
     lines = said.split("\n")
     own = next((line for line in lines if line.startswith(f"fn {function}: ")), "")
@@ -155,12 +155,12 @@ def verdict(said, function):
     if "no proof: " in own and "`search` did not prove" in own:
         return "refused"
     if own.startswith(f"fn {function}: not proved"):
-        if any(proof in line and ": error: " in line and OWN_ERROR not in line and not NAMES.search(line) for line in lines):
-            return "refused"
+        errors = [line for line in lines if proof in line and ": error: " in line and not NAMES.search(line)]
         notes = itertools.takewhile(lambda line: not line.startswith("fn "), reversed(lines[:lines.index(own)]))
-        if any(re.match(r"note: src/.*: it is not proved that ", line) for line in notes):
+        goals = [line for line in notes if re.match(r"note: src/.*: it is not proved that ", line)]
+        if goals or any(OWN_ERROR not in line for line in errors):
             return "refused"
-        if any(proof in line and OWN_ERROR in line for line in lines):
+        if errors and own.endswith(": not proved"):
             return "let through"
     return own or next((line for line in lines if ": error: " in line), said[-300:])
 
