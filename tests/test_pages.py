@@ -313,8 +313,9 @@ def words():
 
 @pytest.mark.parametrize("page", pages)
 def test_names_and_links(page):
-    """What a page names in backquotes exists, as a word of the sources or a file; so does what it links to."""
-    failures = []
+    """What a page names in backquotes exists, as a word of the sources or a file; so does what it links to. The folder
+    of the library is copied alone, so its pages link to nothing outside it."""
+    failures, copied = [], "crates/getopts/"
     prose = re.sub(r"^```.*?^```", "", pages[page], flags=re.M | re.S)
     for span in sorted(set(re.findall(r"`([A-Za-z_][\w-]*)`", prose))):
         failures += [] if span in words() else [f"nothing is called {span}"]
@@ -325,6 +326,7 @@ def test_names_and_links(page):
     for target, heading in re.findall(r"\]\(([^)#]*)#?([^)]*)\)", prose):
         there = os.path.normpath(os.path.join(os.path.dirname(page), target)) if target else page
         failures += [] if "://" in target or (ROOT / there).exists() else [f"there is no {target}"]
+        failures += [f"{target} isn't copied"] if page.startswith(copied) and not there.startswith(copied) else []
         headings = re.findall(r"^#+ (.*)", pages.get(there, ""), re.M)
         anchors = [re.sub(r"[^\w -]", "", it).lower().replace(" ", "-") for it in headings]
         failures += [] if not heading or heading in anchors else [f"{target} has no heading {heading}"]
