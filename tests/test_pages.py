@@ -7,6 +7,7 @@ and CONTRACTS.md is written anew from the sources.
 
 import functools
 import graphlib
+import itertools
 import os
 import re
 import shutil
@@ -225,14 +226,26 @@ def contracts():
     return "\n\n".join(parts) + "\n"
 
 
+def clauses_in(text):
+    """The clauses of contracts, without their names and comments."""
+    text = re.sub(r"//.*", "", text)
+    for it in re.finditer(r"\b(?:requires|ensures) (?:\w+ )?\{", text):
+        ends = itertools.accumulate((char == "{") - (char == "}") for char in text[it.end():])
+        yield text[it.end():it.end() + list(ends).index(-1)]
+
+
 def imports(text):
-    """The lines that bring the words of these contracts into a file, one a module."""
-    modules = {}
-    for source in sorted((ROOT / "crates/getopts/src").glob("*.rt")):
-        for module, names in re.findall(r"ghost use (Rattle[\w.]*)\.\{([^}]*)\};", source.read_text(encoding="utf-8")):
-            used = {name for name in re.split(r",\s*", names) if name.strip("◌") in re.findall(r"\w+|[^\w\s]+", text)}
-            modules.setdefault(module, set()).update(used)
-    return "".join(f"ghost use {module}.{{{', '.join(sorted(names))}}};\n" for module, names in sorted(modules.items()) if names)
+    """The lines that bring the words of the clauses into a file, one a module."""
+    words, modules, known = set(re.findall(r"\w+|[^\w\s]+", " ".join(clauses_in(text)))), {}, set()
+    for name, source in sorted(sources.items()):
+        for module, names in re.findall(r"ghost use (Rattle[\w.]*)\.\{([^}]*)\};", source if "/getopts/" in name else ""):
+            modules.setdefault(module, set()).update(re.split(r",\s*", names))
+    lines = []
+    for module, names in sorted(modules.items(), key=lambda it: (it[0].startswith("Rattle.std"), it[0])):
+        used = sorted(name for name in names - known if name.strip("◌") in words)
+        known |= names
+        lines += [f"ghost use {module}.{{{', '.join(used)}}};\n"] if used else []
+    return "".join(lines)
 
 
 def test_contracts(request):

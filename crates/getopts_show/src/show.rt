@@ -1,7 +1,6 @@
 //! The program's work over words and a writer.
 
-ghost use Rattle.std.specs.Prelude.{◌≡◌, ◌++◌, codes, true, false, map, IfOk, Ok, OnOk};
-ghost use Rattle.std.specs.Prelude.{Some};
+ghost use Rattle.std.specs.Prelude.{◌≡◌, ◌++◌, codes, true, false, map, IfOk, Ok, OnOk, Some};
 ghost use Rattle.std.specs.List.{flat_map};
 ghost use Rattle.std.specs.String.{string_bytes};
 ghost use Rattle.std.specs.Io.KnownBytes.{Appends};
