@@ -7,6 +7,7 @@ and CONTRACTS.md and PROOFS' table of wrong bodies are written anew.
 
 import functools
 import graphlib
+import itertools
 import os
 import re
 import shutil
@@ -228,14 +229,26 @@ def contracts():
     return "\n\n".join(parts) + "\n"
 
 
+def clauses_in(text):
+    """The clauses of contracts, without their names and comments."""
+    text = re.sub(r"//.*", "", text)
+    for it in re.finditer(r"\b(?:requires|ensures) (?:\w+ )?\{", text):
+        ends = itertools.accumulate((char == "{") - (char == "}") for char in text[it.end():])
+        yield text[it.end():it.end() + list(ends).index(-1)]
+
+
 def imports(text):
-    """The lines that bring the words of these contracts into a file, one a module."""
-    modules = {}
-    for source in sorted((ROOT / "crates/getopts/src").glob("*.rt")):
-        for module, names in re.findall(r"ghost use (Rattle[\w.]*)\.\{([^}]*)\};", source.read_text(encoding="utf-8")):
-            used = {name for name in re.split(r",\s*", names) if name.strip("◌") in re.findall(r"\w+|[^\w\s]+", text)}
-            modules.setdefault(module, set()).update(used)
-    return "".join(f"ghost use {module}.{{{', '.join(sorted(names))}}};\n" for module, names in sorted(modules.items()) if names)
+    """The lines that bring the words of the clauses into a file, one a module."""
+    words, modules, known = set(re.findall(r"\w+|[^\w\s]+", " ".join(clauses_in(text)))), {}, set()
+    for name, source in sorted(sources.items()):
+        for module, names in re.findall(r"ghost use (Rattle[\w.]*)\.\{([^}]*)\};", source if "/getopts/" in name else ""):
+            modules.setdefault(module, set()).update(re.split(r",\s*", names))
+    lines = []
+    for module, names in sorted(modules.items(), key=lambda it: (it[0].startswith("Rattle.std"), it[0])):
+        used = sorted(name for name in names - known if name.strip("◌") in words)
+        known |= names
+        lines += [f"ghost use {module}.{{{', '.join(used)}}};\n"] if used else []
+    return "".join(lines)
 
 
 def test_contracts(request):
@@ -334,8 +347,9 @@ def words():
 
 @pytest.mark.parametrize("page", pages)
 def test_names_and_links(page):
-    """What a page names in backquotes exists, as a word of the sources or a file; so does what it links to."""
-    failures = []
+    """What a page names in backquotes exists, as a word of the sources or a file; so does what it links to. The folder
+    of the library is copied alone, so its pages link to nothing outside it."""
+    failures, copied = [], "crates/getopts/"
     prose = re.sub(r"^```.*?^```", "", pages[page], flags=re.M | re.S)
     for span in sorted(set(re.findall(r"`([A-Za-z_][\w-]*)`", prose))):
         failures += [] if span in words() else [f"nothing is called {span}"]
@@ -346,6 +360,7 @@ def test_names_and_links(page):
     for target, heading in re.findall(r"\]\(([^)#]*)#?([^)]*)\)", prose):
         there = os.path.normpath(os.path.join(os.path.dirname(page), target)) if target else page
         failures += [] if "://" in target or (ROOT / there).exists() else [f"there is no {target}"]
+        failures += [f"{target} isn't copied"] if page.startswith(copied) and not there.startswith(copied) else []
         headings = re.findall(r"^#+ (.*)", pages.get(there, ""), re.M)
         anchors = [re.sub(r"[^\w -]", "", it).lower().replace(" ", "-") for it in headings]
         failures += [] if not heading or heading in anchors else [f"{target} has no heading {heading}"]
