@@ -10,7 +10,7 @@ from pathlib import Path
 
 import pytest
 from conftest import LINES, ROOT, ROWS, answer, run
-from targets import TARGETS, UNWINDS, cargo, cargo_for, copied, runner
+from targets import REGISTRY, TARGETS, UNWINDS, cargo, cargo_for, committed, copied, offline, runner
 
 RUST = ROOT / "bindings/rust"
 TWIN = ROOT / "tests/differential/twin"
@@ -104,7 +104,7 @@ def test_no_warning(folder, features):
 
 
 def test_lints(folder):
-    cargo(folder, "clippy", "--all-targets", "--features", "proved canonical", "--", "-D", "warnings")
+    cargo(folder, "clippy", "--all-targets", "--features", "proved", "--", "-D", "warnings")
     cargo(folder, "clippy", "--features", "bare", "--", "-D", "warnings")
 
 
@@ -117,13 +117,34 @@ def test_documentation(folder):
             example = line.startswith("    /// ```") or example and not line.startswith(("    }", "impl"))
 
 
-def test_package(folder):
+def test_package(folder, tmp_path):
+    """Both packages are built from what would be uploaded. No registry is asked."""
     names = cargo(folder, "package", "--allow-dirty", "--list")[0].split()
     assert set("README.md LICENSE-MIT LICENSE-APACHE NOTICE src/proved/mod.rs src/bytes/mod.rs".split()) <= set(names)
     for name in set(names) - {"Cargo.lock", "Cargo.toml.orig", ".cargo_vcs_info.json"}:
         (RUST / name).read_text(encoding="utf-8")
     tree = cargo(folder, "tree", "--edges", "normal", "--prefix", "none")[0].splitlines()
-    assert {line.split()[0] for line in tree} == {"getopts", "unicode-width"}
+    assert {line.split()[0] for line in tree} == {"proved-getopts", "unicode-width"}
+    cargo(folder, "package", "--allow-dirty")
+    for crate in REGISTRY.glob("unicode-width-*"):
+        (tmp_path / crate.name).symlink_to(crate)
+    shutil.unpack_archive(folder / "target/package/proved-getopts-0.2.24.crate", tmp_path, "gztar")
+    (tmp_path / "proved-getopts-0.2.24/.cargo-checksum.json").write_text('{"files": {}}')
+    if offline():
+        cargo(folder / "getopts", "package", "--allow-dirty", registry=tmp_path)
+
+
+def test_git(tmp_path):
+    """Of a repository a new program takes one package, and one that uses the crate getopts the other, by a patch."""
+    url = committed(copied(tmp_path / "clone", "bindings") / "bindings")
+    (tmp_path / "src").mkdir()
+    (tmp_path / "src/main.rs").write_text("fn main() { let _: proved::Options = getopts::Options::new(); }\n")
+    (tmp_path / "Cargo.toml").write_text(f"""package = {{ name = "program", version = "0.0.0", edition = "2021" }}
+dependencies.getopts = "0.2"
+dependencies.proved = {{ package = "proved-getopts", git = "{url}" }}
+patch.crates-io.getopts = {{ git = "{url}" }}
+""")
+    run("cargo", "run", *offline()[1:], cwd=tmp_path, env={"CARGO_HOME": str(tmp_path / "home")})
 
 
 @pytest.fixture(scope="module")
@@ -140,14 +161,14 @@ def test_example_answers_as_getopts_show(line, example, show):
 # ---- beside the crate getopts 0.2.24
 
 def twin_over(room, over, edit=None):
-    """A copy of tests/differential's program over a copy of a crate."""
-    ignored = shutil.ignore_patterns("target", "Cargo.lock")
+    """A copy of tests/differential's program over a copy of a crate, of ours by the package that stands in for it."""
+    ignored, place = shutil.ignore_patterns("target", "Cargo.lock"), "../crate/getopts" if over == RUST else "../crate"
     for source, to in ((TWIN, "twin"), (over, "crate")):
         shutil.copytree(source, room / to, ignore=ignored)
     if edit:
         edited(room / "crate/src" / edit[0], *edit[1:])
     with open(room / "twin/Cargo.toml", "a") as file:
-        file.write('\n[patch.crates-io]\ngetopts = { path = "../crate" }\n')
+        file.write(f'\n[patch.crates-io]\ngetopts = {{ path = "{place}" }}\n')
     return room / "twin"
 
 

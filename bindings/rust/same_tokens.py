@@ -48,8 +48,8 @@ TAKEN = r"use (crate|super|unicode_width) ::|use std :: (alloc|cmp|convert|env|e
 CALLED = set("""all alloc allocator any arg as_bytes as_slice as_str binary_search_by binary_search_by_key bytes
     capacity chars checked_add clone cmp contains count dedup_by encode_utf8 ends_with enumerate
     extend_from_slice first flush from from_be_bytes from_str from_u32 from_utf8 get into_iter is_ascii
-    is_ascii_alphanumeric is_ascii_digit is_empty is_none is_some iter iter_mut kind len len_utf8 lines map_or max min
-    next new ok_or parse position push push_reserved push_str reserve reserve_exact resize rev rsplit_once saturating_add
+    is_ascii_alphanumeric is_ascii_digit is_empty is_some iter iter_mut kind len len_utf8 lines map_or max min
+    next new ok_or parse position push push_reserved push_str reserve reserve_exact resize rsplit_once saturating_add
     saturating_mul saturating_sub size_hint sort_by split split_at split_at_mut split_once split_whitespace
     starts_with stderr strip_prefix strip_suffix then_some trim_ascii truncate unwrap_or width with_capacity
     write writer Err FnMut Ok Some format matches unreachable vec writeln inline derive cfg tactic if in let for
