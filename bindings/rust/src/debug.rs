@@ -91,11 +91,11 @@ impl Debug for Name<'_> {
 }
 
 /// What an occurrence of an option gave: a value, or none.
-pub struct Given<'a>(pub Option<&'a str>);
+pub struct Given<V>(pub Option<V>);
 
-impl Debug for Given<'_> {
+impl<V: Debug> Debug for Given<V> {
     fn fmt(&self, f: &mut Formatter<'_>) -> Result {
-        match self.0 {
+        match &self.0 {
             Some(value) => f.debug_tuple("Val").field(&value).finish(),
             None => f.write_str("Given"),
         }

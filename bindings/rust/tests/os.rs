@@ -79,6 +79,15 @@ fn words_of_any_bytes_come_back() {
         assert_eq!(matches.free_trailing_start(), Some(0));
         assert_eq!(matches, matches.clone());
         assert!(!matches.opt_defined("x") && matches.opt_present("color"));
+        assert_eq!(matches.opt_default("c", "auto"), Some(&*word));
+        let read = matches.opt_get::<String>("o");
+        assert_eq!(
+            read,
+            word.to_str().map(|text| Some(text.into())).ok_or(None)
+        );
+        // What stands for a byte is not printed.
+        assert!(format!("{matches:?}").contains(&format!("vals: [[(0, Val({word:?}))]")));
+        assert!(format!("{matches:?}").contains(&format!("free: [{word:?}]")));
     }
 }
 
@@ -95,6 +104,22 @@ fn texts_are_read_as_by_parse() {
         assert_eq!(texts.opt_positions(name), matches.opt_positions(name));
     }
     assert!(texts.free.iter().map(OsStr::new).eq(&matches.free));
+    assert_eq!(format!("{matches:?}"), format!("Os{texts:?}"));
+    let given = (
+        matches.opt_default("c", "auto"),
+        matches.opt_default("verbose", "x"),
+    );
+    assert_eq!(given, (Some("auto".as_ref()), Some("x".as_ref())));
+    let none = options().parse_os(["-o7"]).unwrap();
+    assert_eq!(
+        (none.opt_default("c", "auto"), none.opt_get::<u8>("c")),
+        (None, Ok(None))
+    );
+    assert_eq!(
+        (none.opt_get::<u8>("o"), none.opt_get("o")),
+        (Ok(Some(7)), Ok(Some('7')))
+    );
+    assert!(matches!(none.opt_get::<bool>("o"), Err(Some(_))));
     assert_eq!(
         options().parse_os(["-x"]).unwrap_err(),
         Fail::UnrecognizedOption("x".into())
@@ -157,6 +182,41 @@ fn a_name_that_no_option_has_panics() {
     says(&|| assert!(os.value("y").is_none()));
     says(&|| assert!(!os.opt_present("y")));
     says(&|| assert!(os.occurrences("y").next().is_none()));
+}
+
+/// Items of 200,000 bytes.
+struct Large([u8; 200_000]);
+
+impl AsRef<OsStr> for Large {
+    fn as_ref(&self) -> &OsStr {
+        std::str::from_utf8(&self.0[..3]).unwrap().as_ref()
+    }
+}
+
+/// Words from an iterator that promises too many.
+struct Promised<I>(I);
+
+impl<I: Iterator> Iterator for Promised<I> {
+    type Item = I::Item;
+    fn next(&mut self) -> Option<I::Item> {
+        self.0.next()
+    }
+    fn size_hint(&self) -> (usize, Option<usize>) {
+        (usize::MAX, None)
+    }
+}
+
+#[test]
+fn any_items_are_read() {
+    for count in [0, 1, 15, 16, 17, 20, 2_000] {
+        let words = || Promised(std::iter::repeat("x").take(count));
+        assert_eq!(options().parse(words()).unwrap().free, vec!["x"; count]);
+        assert_eq!(options().parse_os(words()).unwrap().free, vec!["x"; count]);
+    }
+    let large = || (0..20).map(|_| Large([b'x'; 200_000]));
+    assert_eq!(options().parse(large()).unwrap().free, ["xxx"; 20]);
+    assert_eq!(options().parse_os(large()).unwrap().free, ["xxx"; 20]);
+    assert_eq!(options().canonical(large()).unwrap().unwrap().len(), 21);
 }
 
 #[test]
