@@ -93,7 +93,8 @@ def folder(tmp_path_factory):
     return copied(tmp_path_factory.mktemp("rust"), "bindings/rust") / "bindings/rust"
 
 
-@pytest.mark.parametrize("features", [["--features", "proved"], ["--no-default-features", "--tests"]])
+@pytest.mark.parametrize("features", [["--features", "proved"], ["--no-default-features", "--tests"],
+                                      ["--features", "bare", "--doc"]])
 def test_crate(folder, features):
     cargo(folder, "test", *features)
 
