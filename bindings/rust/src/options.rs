@@ -64,32 +64,26 @@ const FIRST_ROOM: usize = 1024;
 
 /// What is made of the texts of words, or where a word has none, of that word and of all.
 #[inline]
-pub(crate) fn read_words<I: Iterator, T>(
-    words: I,
+pub(crate) fn read_words<A: AsRef<OsStr>, T>(
+    words: impl Iterator<Item = A>,
     text_of: impl Fn(&OsStr) -> Option<&str>,
     ask: impl FnOnce(&[&str]) -> T,
     otherwise: impl FnOnce(&OsStr, &mut dyn Iterator<Item = &OsStr>) -> T,
-) -> T
-where
-    I::Item: AsRef<OsStr>,
-{
-    if std::mem::size_of::<I::Item>() > SMALL {
-        read_list([], words, text_of, ask, otherwise)
+) -> T {
+    if std::mem::size_of::<A>() > SMALL {
+        read_list(None, words, text_of, ask, otherwise)
     } else {
         read_few(words, text_of, ask, otherwise)
     }
 }
 
-fn read_few<I: Iterator, T>(
-    mut words: I,
+fn read_few<A: AsRef<OsStr>, T>(
+    mut words: impl Iterator<Item = A>,
     text_of: impl Fn(&OsStr) -> Option<&str>,
     ask: impl FnOnce(&[&str]) -> T,
     otherwise: impl FnOnce(&OsStr, &mut dyn Iterator<Item = &OsStr>) -> T,
-) -> T
-where
-    I::Item: AsRef<OsStr>,
-{
-    let (mut first, mut few) = (<[Option<I::Item>; FEW]>::default(), 0);
+) -> T {
+    let (mut first, mut few) = (<[Option<A>; FEW]>::default(), 0);
     while few < FEW {
         first[few] = words.next();
         if first[few].is_none() {
@@ -100,40 +94,32 @@ where
     if few == FEW {
         return read_list(first.into_iter().flatten(), words, text_of, ask, otherwise);
     }
-    let (words, mut texts) = (
-        || first[..few].iter().flatten().map(I::Item::as_ref),
-        [""; FEW],
-    );
+    let (words, mut texts) = (|| first[..few].iter().flatten().map(A::as_ref), [""; FEW]);
     match put_texts(&mut texts[..few], words(), text_of) {
         Ok(()) => ask(&texts[..few]),
         Err(word) => otherwise(word, &mut words()),
     }
 }
 
-fn read_list<I: Iterator, T>(
-    first: impl IntoIterator<Item = I::Item>,
-    others: I,
+fn read_list<A: AsRef<OsStr>, T>(
+    first: impl IntoIterator<Item = A>,
+    others: impl Iterator<Item = A>,
     text_of: impl Fn(&OsStr) -> Option<&str>,
     ask: impl FnOnce(&[&str]) -> T,
     otherwise: impl FnOnce(&OsStr, &mut dyn Iterator<Item = &OsStr>) -> T,
-) -> T
-where
-    I::Item: AsRef<OsStr>,
-{
+) -> T {
     let promised = others.size_hint().0;
     let mut all = Vec::with_capacity(FEW + promised.min(FIRST_ROOM));
     all.extend(first);
     if promised <= FIRST_ROOM {
         all.extend(others);
     } else {
-        for word in others {
-            all.push(word);
-        }
+        others.for_each(|word| all.push(word));
     }
     let mut texts = vec![""; all.len()];
-    match put_texts(&mut texts, all.iter().map(I::Item::as_ref), text_of) {
+    match put_texts(&mut texts, all.iter().map(A::as_ref), text_of) {
         Ok(()) => ask(&texts),
-        Err(word) => otherwise(word, &mut all.iter().map(I::Item::as_ref)),
+        Err(word) => otherwise(word, &mut all.iter().map(A::as_ref)),
     }
 }
 

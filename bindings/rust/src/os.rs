@@ -143,9 +143,6 @@ impl OsMatches {
     /// options.optflag("q", "quiet", "say less");
     /// assert!(options.parse_os(["-q"]).unwrap().opt_present("quiet"));
     /// ```
-    ///
-    /// # Panics
-    /// Where no option has the name.
     pub fn opt_present(&self, name: &str) -> bool {
         self.matches.opt_present(name)
     }
@@ -157,9 +154,6 @@ impl OsMatches {
     /// options.optflagmulti("v", "verbose", "say more");
     /// assert_eq!(options.parse_os(["-vv", "--verbose"]).unwrap().opt_count("v"), 3);
     /// ```
-    ///
-    /// # Panics
-    /// Where no option has the name.
     pub fn opt_count(&self, name: &str) -> usize {
         self.matches.opt_count(name)
     }
@@ -172,9 +166,6 @@ impl OsMatches {
     /// let matches = options.parse_os(["-v", "-o", "x", "-vv"]).unwrap();
     /// assert_eq!(matches.opt_positions("v"), [0, 3, 3]);
     /// ```
-    ///
-    /// # Panics
-    /// Where no option has the name.
     pub fn opt_positions(&self, name: &str) -> Vec<usize> {
         self.matches.opt_positions(name)
     }
@@ -186,9 +177,6 @@ impl OsMatches {
     /// options.optopt("o", "output", "set the output file", "NAME");
     /// assert_eq!(options.parse_os(["-ofile"]).unwrap().value("output").unwrap(), "file");
     /// ```
-    ///
-    /// # Panics
-    /// Where no option has the name.
     pub fn value(&self, name: &str) -> Option<&OsStr> {
         self.occurrences(name).next()?.1
     }
@@ -201,9 +189,6 @@ impl OsMatches {
     /// let matches = options.parse_os(["-La", "-L", "b"]).unwrap();
     /// assert!(matches.values("L").eq(["a", "b"]));
     /// ```
-    ///
-    /// # Panics
-    /// Where no option has the name.
     pub fn values(&self, name: &str) -> impl Iterator<Item = &OsStr> + '_ {
         self.occurrences(name).filter_map(|(_, value)| value)
     }
@@ -216,9 +201,6 @@ impl OsMatches {
     /// let matches = options.parse_os(["in.txt", "--color"]).unwrap();
     /// assert_eq!(matches.occurrences("c").next(), Some((1, None)));
     /// ```
-    ///
-    /// # Panics
-    /// Where no option has the name.
     pub fn occurrences(&self, name: &str) -> impl Iterator<Item = (usize, Option<&OsStr>)> + '_ {
         self.given_at(self.matches.place(name))
     }
@@ -240,9 +222,6 @@ impl OsMatches {
     /// let matches = options.parse_os(["--color"]).unwrap();
     /// assert_eq!(matches.opt_default("color", "auto").unwrap(), "auto");
     /// ```
-    ///
-    /// # Panics
-    /// Where no option has the name.
     pub fn opt_default<'a>(
         &'a self,
         name: &str,
@@ -262,9 +241,6 @@ impl OsMatches {
     ///
     /// # Errors
     /// Where the value can't be read as a `T`, with the error of `T`, or with none where the value isn't UTF-8.
-    ///
-    /// # Panics
-    /// Where no option has the name.
     pub fn opt_get<T: FromStr>(&self, name: &str) -> Result<Option<T>, Option<T::Err>> {
         let read = |value: &OsStr| value.to_str().ok_or(None)?.parse().map_err(Some);
         self.value(name).map(read).transpose()
