@@ -123,6 +123,7 @@ impl Matches {
     ///
     /// # Panics
     /// Where no option has the name.
+    #[inline]
     pub fn values(&self, name: &str) -> impl Iterator<Item = &str> + '_ {
         self.occurrences(name).filter_map(|(_, value)| value)
     }
@@ -139,6 +140,7 @@ impl Matches {
     ///
     /// # Panics
     /// Where no option has the name.
+    #[inline]
     pub fn occurrences(&self, name: &str) -> impl Iterator<Item = (usize, Option<&str>)> + '_ {
         self.given(name).into_iter()
     }

@@ -177,6 +177,7 @@ impl OsMatches {
     /// options.optopt("o", "output", "set the output file", "NAME");
     /// assert_eq!(options.parse_os(["-ofile"]).unwrap().value("output").unwrap(), "file");
     /// ```
+    #[inline]
     pub fn value(&self, name: &str) -> Option<&OsStr> {
         self.occurrences(name).next()?.1
     }
@@ -189,6 +190,7 @@ impl OsMatches {
     /// let matches = options.parse_os(["-La", "-L", "b"]).unwrap();
     /// assert!(matches.values("L").eq(["a", "b"]));
     /// ```
+    #[inline]
     pub fn values(&self, name: &str) -> impl Iterator<Item = &OsStr> + '_ {
         self.occurrences(name).filter_map(|(_, value)| value)
     }
@@ -201,10 +203,12 @@ impl OsMatches {
     /// let matches = options.parse_os(["in.txt", "--color"]).unwrap();
     /// assert_eq!(matches.occurrences("c").next(), Some((1, None)));
     /// ```
+    #[inline]
     pub fn occurrences(&self, name: &str) -> impl Iterator<Item = (usize, Option<&OsStr>)> + '_ {
         self.given_at(self.matches.place(name))
     }
 
+    #[inline]
     fn given_at(&self, place: usize) -> impl Iterator<Item = (usize, Option<&OsStr>)> + '_ {
         let held = self.values.get(place);
         let given = self.matches.given_at(place).into_iter().enumerate();
