@@ -34,7 +34,7 @@ HOST = {"resize": "try_resize", "trim_ascii": "trimmed_ascii", "str :: from_utf8
 HOST |= {"format !": "text !", "write !": "add !", "writeln !": "add_line !", "fn main": "pub fn main"}
 HOST |= {f"std :: {name}": f"crate :: host :: {name}" for name in ("alloc", "env", "io")} | {"crate ::": "super ::"}
 HOST |= {"getopts ::": "crate :: getopts ::", "getopts_bytes ::": ":: getopts :: bytes ::"}
-TOKEN = r"""//.*|r#"[\s\S]*?"#|b?"(?:\\[\s\S]|[^"\\])*"|b?'(?:\\.[^']*|[^\\'])'|'\w+|\w+|::|\S"""
+TOKEN = r"""//.*|b?r"[^"]*"|b?r#"[\s\S]*?"#|b?"(?:\\[\s\S]|[^"\\])*"|b?'(?:\\.[^']*|[^\\'])'|'\w+|\w+|::|\S"""
 
 
 # Words that Rust and Rattle read apart, or that no source needs.
