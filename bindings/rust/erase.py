@@ -48,7 +48,8 @@ import sys
 from pathlib import Path
 
 TOP = Path(__file__).resolve().parents[2]
-RUSTFMT = ["rustfmt", "--edition", "2021", "--config", "style_edition=2024,reorder_imports=false"]
+LAYOUT = "style_edition=2024,reorder_imports=false,use_small_heuristics=Default"
+RUSTFMT = ["rustfmt", "--edition", "2021", "--config", LAYOUT]
 
 # Rattle's calls that may be refused memory, by those of `fallible.rs`.
 CALLS = {name: f"try_{name}" for name in "push push_str sort_by extend_from_slice clone".split()} | {

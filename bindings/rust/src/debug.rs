@@ -63,10 +63,7 @@ pub struct Opt<'a>(pub Group<'a>);
 impl Debug for Opt<'_> {
     fn fmt(&self, f: &mut Formatter<'_>) -> Result {
         let (group, names) = (&self.0, self.0.names);
-        let alias = Opt(Group {
-            names: [names[0], ""],
-            ..*group
-        });
+        let alias = Opt(Group { names: [names[0], ""], ..*group });
         let has_alias = names.iter().all(|name| !name.is_empty());
         f.debug_struct("Opt")
             .field("name", &Name(names))

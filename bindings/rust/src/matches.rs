@@ -42,11 +42,7 @@ impl Eq for Matches {}
 impl Matches {
     #[inline]
     pub(crate) fn of(proved: proved::Matches) -> Matches {
-        Matches {
-            free: proved.free,
-            held: proved.held,
-            trailing_start: proved.trailing_start,
-        }
+        Matches { free: proved.free, held: proved.held, trailing_start: proved.trailing_start }
     }
 
     /// The place of the option that has a name.
@@ -86,16 +82,9 @@ impl Matches {
         free: &dyn fmt::Debug,
         given_at: impl Fn(usize) -> I,
     ) -> fmt::Result {
-        let vals = self.of_each(given_at, |(position, value)| {
-            (position, debug::Given(value))
-        });
-        shown
-            .field("opts", &debug::opts_of(&self.held))
-            .field("vals", &vals);
-        shown
-            .field("free", free)
-            .field("args_end", &self.free_trailing_start())
-            .finish()
+        let vals = self.of_each(given_at, |(position, value)| (position, debug::Given(value)));
+        shown.field("opts", &debug::opts_of(&self.held)).field("vals", &vals);
+        shown.field("free", free).field("args_end", &self.free_trailing_start()).finish()
     }
 
     /// The value of an option's first occurrence, lent. The crate getopts has no such call.
@@ -227,9 +216,7 @@ impl Matches {
     where
         C::Item: AsRef<str>,
     {
-        names
-            .into_iter()
-            .any(|name| self.opt_present(name.as_ref()))
+        names.into_iter().any(|name| self.opt_present(name.as_ref()))
     }
 
     /// The value for the first name in the list whose option's first occurrence has one.
@@ -263,9 +250,7 @@ impl Matches {
     where
         C::Item: AsRef<str>,
     {
-        names
-            .into_iter()
-            .find_map(|name| self.opt_str(name.as_ref()))
+        names.into_iter().find_map(|name| self.opt_str(name.as_ref()))
     }
 
     /// The values of an option's occurrences, in the order of the line.
@@ -385,8 +370,6 @@ impl Matches {
 
 impl fmt::Debug for Matches {
     fn fmt(&self, f: &mut fmt::Formatter<'_>) -> fmt::Result {
-        self.show(f.debug_struct("Matches"), &self.free, |place| {
-            self.given_at(place)
-        })
+        self.show(f.debug_struct("Matches"), &self.free, |place| self.given_at(place))
     }
 }

@@ -25,10 +25,7 @@ impl Default for Options {
 
 impl Clone for Options {
     fn clone(&self) -> Options {
-        Options {
-            proved: granted(self.proved.try_clone()),
-            nameless: self.nameless.clone(),
-        }
+        Options { proved: granted(self.proved.try_clone()), nameless: self.nameless.clone() }
     }
 }
 
@@ -37,16 +34,7 @@ impl fmt::Debug for Options {
         let mut shown = groups_of(&self.proved);
         for &(place, [ref hint, ref desc], hasarg, occur) in &self.nameless {
             let names = ["", ""];
-            shown.insert(
-                place,
-                Group {
-                    names,
-                    hint,
-                    desc,
-                    hasarg,
-                    occur,
-                },
-            );
+            shown.insert(place, Group { names, hint, desc, hasarg, occur });
         }
         f.debug_struct("Options")
             .field("grps", &shown)
@@ -144,10 +132,7 @@ impl Options {
     /// assert_eq!(options.parse(["in.txt"]).unwrap().free, ["in.txt"]);
     /// ```
     pub fn new() -> Options {
-        Options {
-            proved: proved::Options::new(Global),
-            nameless: Vec::new(),
-        }
+        Options { proved: proved::Options::new(Global), nameless: Vec::new() }
     }
 
     /// Sets what the first free word does to the words after it.

@@ -106,10 +106,7 @@ impl OsMatches {
     fn of(mut matches: Matches, marked: bool) -> OsMatches {
         let free = std::mem::take(&mut matches.free);
         let values = if marked {
-            matches.of_each(
-                |place| matches.given_at(place),
-                |(_, value)| value.map(os_of),
-            )
+            matches.of_each(|place| matches.given_at(place), |(_, value)| value.map(os_of))
         } else {
             Vec::new()
         };
@@ -330,11 +327,7 @@ fn bytes_of(word: &OsStr) -> Result<Cow<'_, [u8]>, Fail> {
             Ok(character) => bytes.extend(character.encode_utf8(&mut [0; 4]).bytes()),
             Err(half) => {
                 let half = half.unpaired_surrogate();
-                bytes.extend([
-                    0xED,
-                    0x80 | (half >> 6 & 0x3F) as u8,
-                    0x80 | (half & 0x3F) as u8,
-                ]);
+                bytes.extend([0xED, 0x80 | (half >> 6 & 0x3F) as u8, 0x80 | (half & 0x3F) as u8]);
             }
         }
     }
