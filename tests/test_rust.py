@@ -60,7 +60,7 @@ def reader(tmp_path):
 
 @pytest.mark.parametrize("plant", sorted(path.stem for path in (ROOT / "tests/eraser").glob("*.plant")))
 def test_readers_stop(plant, reader, tmp_path):
-    """Each is Rattle, or was taken for it, and means something else once it is erased: both readers stop at it."""
+    """Each is of Rattle, or was taken for it, and means something else once it is erased: both readers stop at it."""
     eraser, source = reader
     text = (ROOT / f"tests/eraser/{plant}.plant").read_text()
     file = next((name for name in ("laws", "lib") if plant.endswith(name)), "names")

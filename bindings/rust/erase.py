@@ -32,10 +32,10 @@ accept and Rust does otherwise, as Rattle's guides list it; `tests/eraser` has e
     which fail in Rattle; a method that is Rust's and asks for memory; a type, an import or a path of another meaning;
     a `drop` that does something; a trait, and a bound of an impl, by which a call may pick another function
 
-The rest of those lists can't stand here. Errors of `anyhow`, threads, channels, `once` and `empty`, and a bound by `Index`
-need an import. Macros, and `stringify!`, aren't among the calls, `try_from` is no name. When temporaries and parts of a
-pattern are dropped (the packages are of edition 2021, Rattle is as 2024), and whether a pattern of `self` drops it, tells
-nobody, since no `drop` does anything. What overflows on 32 bits alone is tested, not proved.
+The rest of those lists can't stand here. Errors of `anyhow`, threads, channels, `once` and `empty`, and a bound by
+`Index` need an import. Macros, and `stringify!`, aren't among the calls; `try_from` is no name. No `drop` does anything,
+so it doesn't matter when temporaries and parts of a pattern are dropped (the packages are of edition 2021, Rattle is as
+2024), nor whether a pattern of `self` drops it. What overflows on 32 bits alone is tested, not proved.
 
 It renames by the tables below; no source has a name of those that it gives. `same_tokens.py` checks what it wrote, and
 shares neither code nor tables with it.
@@ -112,8 +112,8 @@ KEYWORDS = set("""as break const continue crate else enum fn for if impl in let 
 # The names that renaming gives, which no source may have.
 GIVEN = re.compile(r"try_\w+|of_capacity|copy_of|TryClone|trimmed_ascii")
 # Types of Rust, which no source may define: renaming takes their calls for Rust's.
-RUSTS = set("""bool char f32 f64 i8 i16 i32 i64 i128 isize str u8 u16 u32 u64 u128 usize String Vec Option Some None Ok Err
-    Box Clone Copy Default Drop Eq Iterator IntoIterator Ord PartialEq PartialOrd ToString alloc core std""".split())
+RUSTS = set("""bool char f32 f64 i8 i16 i32 i64 i128 isize str u8 u16 u32 u64 u128 usize String Vec Option Some None
+    Ok Err Box Clone Copy Default Drop Eq Iterator IntoIterator Ord PartialEq PartialOrd ToString alloc core std""".split())
 # Methods of Rust's types that ask for memory, which no source may define: a call by the name may be Rust's.
 ASKING = set("""append collect concat extend insert insert_str into_boxed_slice into_boxed_str join repeat replace
     resize_with shrink_to shrink_to_fit sort sort_by_cached_key sort_by_key splice split_off to_lowercase to_owned
@@ -467,8 +467,8 @@ class Eraser:
             self.stop(at + 1, "Rust may panic where this is no order")
 
     def dots(self):
-        """Stops at a range with no end that isn't an index, which goes on past the last number in Rust, and at `..` of a
-        record that more than names follow, which Rust looks at even if nothing is taken of it."""
+        """Stops at a range with no end that isn't an index, which goes on past the last number in Rust, and at `..` of
+        a record that more than names follow, which Rust looks at even if nothing is taken of it."""
         opened = []
         for at, token in enumerate(self.tokens):
             if token.text in BRACKETS:

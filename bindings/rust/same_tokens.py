@@ -70,12 +70,12 @@ def end_of(source, at, end):
     return len(source)
 
 
-# What they read apart: names of Rust's, methods that ask for memory there, numbers of 32 bits, a record of more than names,
-# what a type has, a bound that only Rattle may meet, an import by another name, and what is sorted by no order.
+# What they read apart: names of Rust's, methods that ask for memory there, numbers of 32 bits, a record of more than
+# names, what a type has, a bound that only Rattle may meet, an import by another name, and what is sorted by no order.
 NAMES = "(bool|char|str|[iuf]\\d+|[iu]size|String|Vec|Option|Some|None|Ok|Err|Box|Clone|Copy|Default|Drop|Eq|Iterator"
 NAMES += "|IntoIterator|Ord|PartialEq|PartialOrd|ToString|alloc|core|std)"
-ASKING = "(append|collect|concat|extend|insert|insert_str|into_boxed_(slice|str)|join|repeat|replace|resize_with|shrink_to"
-ASKING += "|shrink_to_fit|sort|sort_by_(cached_)?key|splice|split_off|to_(lowercase|owned|string|uppercase|vec))"
+ASKING = "(append|collect|concat|extend|insert|insert_str|into_boxed_(slice|str)|join|repeat|replace|resize_with"
+ASKING += "|shrink_to|shrink_to_fit|sort|sort_by_(cached_)?key|splice|split_off|to_(lowercase|owned|string|uppercase|vec))"
 ORDERS = "[|] entry , other [|] entry . order \\( signatures , other \\) \\)"
 ORDERS += "|[|] letter , other [|] letter . short . cmp \\( & other . short \\) \\)"
 APART = rf"(struct|enum|type|trait|mod|const|fn) {NAMES} |fn {ASKING} (< [^(]* )?\( (& )?('\w+ )?(mut )?self "
