@@ -125,7 +125,7 @@ def built(out, getopts):
         shutil.which(tool) or stop(f"there is no {tool}")
     build = HERE.parent / "tests/differential/build.sh"
     subprocess.run(["bash", build, HERE / "peers", out / "peers", *([getopts] if getopts else [])], check=True)
-    subprocess.run(["bash", build, HERE / "peers", out / "over_ours", HERE.parent / "bindings/rust"], check=True)
+    subprocess.run(["bash", build, HERE / "peers", out / "over_ours", HERE.parent / "bindings/rust/getopts"], check=True)
     if "OURS" not in os.environ:
         print("bench.py: proves and builds getopts_bench, some minutes where nothing is kept ..", file=sys.stderr)
         subprocess.run(["rt", "run", "--", "whole", CRATE / "data/small.rows", "1"], cwd=CRATE, check=True,

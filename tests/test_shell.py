@@ -14,7 +14,7 @@ from pathlib import Path
 import pytest
 from conftest import MACHINE, ROOT, answer, need, rows_in, run, script
 from shell import lines, tables
-from targets import cargo, cargo_for, copied, offline, runner
+from targets import cargo, cargo_for, committed, copied, offline, runner
 
 SHELL = ROOT / "bindings/shell"
 SHELLS = ["dash", "bash", "bash --posix", "zsh", "ksh93", "mksh", "yash", "busybox sh"]
@@ -44,13 +44,10 @@ def by_qemu(tmp_path_factory):
 @pytest.fixture(scope="session")
 def by_cargo(tmp_path_factory):
     """The program that cargo installs from a clone."""
-    need("cargo", "cc", "git")
+    need("cargo", "cc")
     room = tmp_path_factory.mktemp("cargo")
-    clone = copied(room, "bindings/rust", "bindings/shell") / "bindings"
-    for words in (["init", "-q"], ["add", "-A"], ["-c", "user.name=a", "-c", "user.email=a@b", "commit", "-q", "-m", "a"]):
-        run("git", *words, cwd=clone)
-    registry = [word for word in offline() if word != "--offline"]
-    run("cargo", "install", *registry, "--quiet", "--git", f"file://{clone}", "--root", room / "root", "getopts_shell")
+    clone = committed(copied(room, "bindings/rust", "bindings/shell") / "bindings")
+    run("cargo", "install", *offline()[1:], "--quiet", "--git", clone, "--root", room / "root", "getopts_shell")
     return room / "root/bin/getopts_shell"
 
 
