@@ -83,7 +83,7 @@ def test_calls(build):
 def test_calls_under_refused_memory(build):
     if build.name in ("wasm", "windows", "valgrind"):
         pytest.skip("its linker doesn't wrap malloc, or it is slow")
-    run(*build(C / "tests/layer_refused.c", WRAPS))
+    run(*build(C / "tests/random.c", "-DREFUSES", WRAPS), 4_000)
 
 
 def test_random_tables_and_words(build, cases):
