@@ -21,6 +21,7 @@ HOST = "x86_64-unknown-linux-gnu"
 BUILDS = {
     "gcc": (["gcc", "-O2"], None, []), "clang": (["clang", "-O2"], None, []),
     "gcc-san": (["gcc", *SANITIZERS], None, []), "clang-san": (["clang", *SANITIZERS], None, []),
+    "short-enums": (["gcc", "-O2", "-fshort-enums"], None, []),
     "valgrind": (["gcc", "-g"], None, "valgrind -q --error-exitcode=9 --leak-check=full".split()),
     "musl": (["musl-gcc", "-static", "-O2"], None, []), "old": (["gcc", "-O2"], HOST, []),
     "aarch64": (["aarch64-linux-gnu-gcc", "-O2"], "aarch64-unknown-linux-gnu", None),
@@ -183,6 +184,25 @@ def test_example(compiler, flags, tmp_path):
         assert ("".join(out.splitlines(True)[:2]).startswith(output), err) == (True, errors), words
 
 
+CMAKE = """cmake_minimum_required(VERSION 3.6)
+project(head C)
+find_package(PkgConfig REQUIRED)
+pkg_check_modules(GETOPTS REQUIRED IMPORTED_TARGET %s)
+add_executable(head %s)
+target_link_libraries(head PkgConfig::GETOPTS)
+"""
+
+
+@pytest.mark.parametrize("module", ["getopts", "getopts-static"])
+def test_cmake(module, prefix, tmp_path):
+    need("cmake", "make")
+    (tmp_path / "CMakeLists.txt").write_text(CMAKE % (module, C / "head.c"))
+    run("cmake", "-S", tmp_path, "-B", tmp_path, env={"PKG_CONFIG_PATH": str(prefix / "lib/pkgconfig")})
+    run("cmake", "--build", tmp_path)
+    assert run(tmp_path / "head", "-n1", tmp_path / "CMakeLists.txt")[0] == CMAKE.splitlines(True)[0]
+    assert ("libgetopts.so.2" in run("readelf", "-d", tmp_path / "head")[0]) == (module == "getopts")
+
+
 @pytest.mark.parametrize("compiler", ["g++", "clang++"])
 def test_cpp(compiler, flags, tmp_path):
     need(compiler)
@@ -201,6 +221,21 @@ def test_exports(prefix):
     asked = {line.split()[-1] for line in run("nm", "-u", archive)[0].splitlines() if " U " in line}
     assert asked <= set("abort bcmp free malloc memcmp memcpy memmove memset realloc strlen".split())
     assert re.search(r"SONAME.*\[libgetopts.so.2\]", run("readelf", "-d", shared)[0])
+
+
+def test_manual_page(prefix):
+    """groff has nothing to say of the page, and it has each call, whose name leads to it, and the examples."""
+    need("groff", "man")
+    page, header = prefix / "share/man/man3/getopts.3", (C / "getopts.h").read_text()
+    assert run("groff", "-man", "-Tutf8", "-ww", page)[1] == ""
+    shown = run("man", "-l", page, env={"MANWIDTH": "200", "MANROFFOPT": ""})[0]
+    for code in re.findall(r"^ \* {5}(.*)|^([a-z].*;)$", header, re.M):
+        assert max(code) in shown
+    words = " ".join(shown.replace("•", "-").split())
+    for text in re.findall(r"^/\*(.*?)\*/", header.split("#ifdef __cplusplus\n}")[0], re.M | re.S):
+        assert " ".join(re.sub(r"^ \*|`", "", text, flags=re.M).split()) in words
+    for name in re.findall(r"(getopts_[a-z_]+)\(", header):
+        assert (page.parent / f"{name}.3").read_text() == ".so man3/getopts.3\n"
 
 
 def test_what_a_program_grows_by(prefix, tmp_path):
@@ -262,7 +297,7 @@ def test_destdir_and_uninstall(shell, relative, tmp_path):
     if shell == "busybox":
         tools, words = tmp_path / "tools", ["busybox", "sh"]
         tools.mkdir()
-        for tool in "sed cp ln mkdir chmod rm rmdir dirname mktemp cat".split():
+        for tool in "awk sed cp ln mkdir chmod rm rmdir dirname mktemp cat".split():
             (tools / tool).symlink_to(shutil.which("busybox"))
         # Debian's busybox has tools of its own before those on the path, of which ar makes no archives.
         env.update(PATH=f"{tools}:{os.environ['PATH']}", AR=shutil.which("ar"))
@@ -291,10 +326,13 @@ def test_files_of_others_stay(tmp_path):
     assert "include/getopts.h" in run("sh", C / "install.sh", to, status=1)[1]
 
 
-@pytest.mark.parametrize("sign", '"$#\\')
-def test_prefix_that_pkg_config_reads_otherwise(sign, tmp_path):
-    errors = run("sh", C / "install.sh", tmp_path / f"a{sign}b", status=1)[1]
-    assert "name one without them" in errors and not list(tmp_path.iterdir())
+@pytest.mark.parametrize("sign", '"$#\\:\n')
+@pytest.mark.parametrize("words", [["sh"], ["busybox", "sh"]])
+def test_prefix_that_is_read_otherwise(words, sign, tmp_path):
+    need(words[0])
+    for name in [f"a{sign}b", f"{sign}", f"b{sign}"] + [f"b{blank}{end}" for blank in " \t\r" for end in ("", "//")]:
+        errors = run(*words, C / "install.sh", f"{tmp_path}/{name}", status=1)[1]
+        assert "prefix" in errors and "name one without" in errors and not list(tmp_path.iterdir())
 
 
 def test_usage_of_install():

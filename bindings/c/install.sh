@@ -6,7 +6,7 @@
 # - PREFIX/lib: libgetopts.a, and on Linux libgetopts.so, which both export the functions of getopts.h alone
 # - PREFIX/include: getopts.h
 # - PREFIX/lib/pkgconfig: getopts.pc, and getopts-static.pc for a program that holds the library itself
-# - PREFIX/share/man/man3: getopts.3, also by the name of each function
+# - PREFIX/share/man/man3: getopts.3, made of getopts.h, also by the name of each function
 # - PREFIX/share/doc/getopts: README.md, head.c and the licences
 #
 # It needs cargo with Rust 1.68 or later, a C compiler and binutils, and runs by any POSIX shell, also busybox's (where
@@ -42,8 +42,12 @@ absolute() {
     esac | sed 's,//*$,,'
 }
 prefix=$(absolute "$1")
-case $prefix in
-*[\"\$\#\\]*) fail "pkg-config reads \", \$, # and \\ in a prefix otherwise: name one without them" ;;
+line_end='
+'
+case $1$prefix in
+*"$line_end"*) fail "pkg-config doesn't read a prefix with a line end: name one without" ;;
+*[[:space:]]) fail "pkg-config doesn't read a blank at the end of a prefix: name one without" ;;
+*[\"\$\#\\:]*) fail "pkg-config and paths read \", \$, #, \\ and : in a prefix otherwise: name one without them" ;;
 esac
 to=$(absolute "${DESTDIR:-/}")$prefix
 
@@ -68,7 +72,8 @@ remove_versions() {
 
 if [ -n "$remove" ]; then
     rm -f "$to/include/getopts.h" "$to/lib/libgetopts.a" "$to/lib/libgetopts.so" "$to/lib/$soname" \
-        "$to/lib/pkgconfig/getopts.pc" "$to/lib/pkgconfig/getopts-static.pc" "$to/share/man/man3/getopts.3"
+        "$to/lib/pkgconfig/getopts.pc" "$to/lib/pkgconfig/getopts-static.pc" "$to/share/man/man3/getopts.3" \
+        "$to/lib/getopts-static/libgetopts.a"
     remove_versions
     for function in $functions; do
         rm -f "$to/share/man/man3/$function.3"
@@ -76,7 +81,7 @@ if [ -n "$remove" ]; then
     for file in $documents; do
         rm -f "$to/share/doc/getopts/${file##*/}"
     done
-    rmdir "$to/share/doc/getopts" 2>/dev/null || :
+    rmdir "$to/share/doc/getopts" "$to/lib/getopts-static" 2>/dev/null || :
     echo "removed from $to"
     exit
 fi
@@ -131,6 +136,7 @@ Cflags: "-I\${includedir}"
 END
 }
 
+awk -f "$here/man.awk" "$here/getopts.h" "$here/getopts.h" >"$room/getopts.3"
 remove_versions
 case $($cc -dumpmachine) in
 *linux*)
@@ -159,13 +165,16 @@ case $($cc -dumpmachine) in
     put "$room/getopts.pc" lib/pkgconfig/getopts.pc
     ;;
 esac
+# The archive in a folder without the shared library: CMake links what `-L` and `-l` name, and not a file, after its own.
 # shellcheck disable=SC2016
-describe '"${libdir}/libgetopts.a"' >"$room/getopts-static.pc"
+describe '"-L${libdir}/getopts-static" -lgetopts' >"$room/getopts-static.pc"
 echo '.so man3/getopts.3' >"$room/page.3"
 put "$built" lib/libgetopts.a
+mkdir -p "$to/lib/getopts-static"
+ln -sf ../libgetopts.a "$to/lib/getopts-static/libgetopts.a"
 put "$room/getopts-static.pc" lib/pkgconfig/getopts-static.pc
 put "$here/getopts.h" include/getopts.h
-put "$here/getopts.3" share/man/man3/getopts.3
+put "$room/getopts.3" share/man/man3/getopts.3
 for function in $functions; do
     put "$room/page.3" "share/man/man3/$function.3"
 done
