@@ -138,6 +138,20 @@ def test_a_kind_in_place_of_a_mode(compiler, modes, right, tmp_path):
     assert (answer(compiler, *flags, "-c", source, "-o", tmp_path / "modes.o")[1] == 0) == right
 
 
+ORDER = [  # words, what is said in turn
+    ("-qv", "verbose"), ("-vq", "quiet"), ("--verbose -q --quiet -v f -q", "quiet"), ("-q -- -v", "quiet"),
+    ("-Ia -vXb --include=c -X d=e -q", "take a,leave b,take c,leave d=e,quiet"),
+    ("-Xa -I- --include --", "leave a,take -,take --,verbose"),
+]
+
+
+def test_order(build):
+    program = build(C / "order.c", "-I", C)
+    for words, said in ORDER:
+        assert run(*program, *words.split())[0].splitlines() == said.split(","), words
+    assert run(*program, "-q", "-o", status=2)[1].strip() == "order: Unrecognized option: 'o'"
+
+
 # ---- installed
 
 HEAD = [  # status, output, errors, words

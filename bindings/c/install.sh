@@ -7,7 +7,7 @@
 # - PREFIX/include: getopts.h
 # - PREFIX/lib/pkgconfig: getopts.pc, and getopts-static.pc for a program that holds the library itself
 # - PREFIX/share/man/man3: getopts.3, made of getopts.h, also by the name of each function
-# - PREFIX/share/doc/getopts: README.md, head.c and the licences
+# - PREFIX/share/doc/getopts: README.md, head.c, order.c and the licences
 #
 # It needs cargo with Rust 1.68 or later, a C compiler and binutils, and runs by any POSIX shell, also busybox's (where
 # that has an ar of its own, as Debian's, with AR=/usr/bin/ar). It takes unicode-width from Debian's
@@ -58,7 +58,7 @@ shared=libgetopts.so.$version
 functions=$(sed -n 's/^[a-z].*[ *]\(getopts_[a-z_]*\)(.*/\1/p' "$here/getopts.h")
 
 # What goes into share/doc/getopts, by its place from here.
-documents="README.md head.c ../../LICENSE-MIT ../../LICENSE-APACHE ../../NOTICE"
+documents="README.md head.c order.c ../../LICENSE-MIT ../../LICENSE-APACHE ../../NOTICE"
 
 # Removes the shared libraries of all versions with the first number of this one.
 remove_versions() {

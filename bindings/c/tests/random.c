@@ -14,7 +14,7 @@ static int failed;
 
 static size_t below(size_t count) {
     state ^= state << 13, state ^= state >> 7, state ^= state << 17;
-    return (size_t)(state >> 16) % count;
+    return (size_t)((state >> 16) % count);
 }
 
 static void expect(bool holds, const char *what) {
