@@ -357,4 +357,4 @@ def test_usage_of_install():
 
 def test_example_of_the_page():
     example = re.search(r"^```c\n(.*?)^```", (C / "README.md").read_text(), re.M | re.S)[1]
-    assert example == (C / "head.c").read_text() and len(example.splitlines()) < 60
+    assert all(part in (C / "head.c").read_text() for part in example.split("\n\n")) and len(example.splitlines()) < 40

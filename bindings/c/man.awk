@@ -3,7 +3,8 @@
 function escaped(line) {
     gsub(/\\/, "\\e", line)
     gsub(/-/, "\\-", line)
-    return line ~ /^[.']/ ? "\\&" line : line
+    gsub(/'/, "\\(aq", line)
+    return line ~ /^\./ ? "\\&" line : line
 }
 # A declaration of a call, which is broken between parameters alone.
 function call(line) {
