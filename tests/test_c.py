@@ -178,12 +178,14 @@ def prefix(tmp_path_factory):
 
 @pytest.fixture(params=["getopts", "getopts-static"])
 def flags(request, prefix, monkeypatch):
-    monkeypatch.setenv("LD_LIBRARY_PATH", str(prefix / "lib"))
+    if request.param == "getopts":
+        monkeypatch.setenv("LD_LIBRARY_PATH", str(prefix / "lib"))
     env = {"PKG_CONFIG_PATH": str(prefix / "lib/pkgconfig")}
     version = re.search(r'GETOPTS_VERSION "(.*)"', (C / "getopts.h").read_text())[1]
     assert run("pkg-config", "--modversion", request.param, env=env)[0] == f"{version}\n"
     assert f'version = "{version}"\n' in (C / "Cargo.toml").read_text()
-    return shlex.split(run("pkg-config", "--cflags", "--libs", request.param, env=env)[0])
+    # Where another package of the prefix is named before it.
+    return [f"-L{prefix}/lib", *shlex.split(run("pkg-config", "--cflags", "--libs", request.param, env=env)[0])]
 
 
 @pytest.mark.parametrize("compiler", ["gcc", "clang", "gcc-san", "clang-san"])

@@ -3,7 +3,8 @@
 #
 #     bindings/c/install.sh [--uninstall] PREFIX
 #
-# - PREFIX/lib: libgetopts.a, and on Linux libgetopts.so, which both export the functions of getopts.h alone
+# - PREFIX/lib: libgetopts.a, also named libgetopts-static.a, and on Linux libgetopts.so; both export the functions of
+#   getopts.h alone
 # - PREFIX/include: getopts.h
 # - PREFIX/lib/pkgconfig: getopts.pc, and getopts-static.pc for a program that holds the library itself
 # - PREFIX/share/man/man3: getopts.3, made of getopts.h, also by the name of each function
@@ -72,8 +73,8 @@ remove_versions() {
 
 if [ -n "$remove" ]; then
     rm -f "$to/include/getopts.h" "$to/lib/libgetopts.a" "$to/lib/libgetopts.so" "$to/lib/$soname" \
-        "$to/lib/pkgconfig/getopts.pc" "$to/lib/pkgconfig/getopts-static.pc" "$to/share/man/man3/getopts.3" \
-        "$to/lib/getopts-static/libgetopts.a"
+        "$to/lib/libgetopts-static.a" "$to/lib/pkgconfig/getopts.pc" "$to/lib/pkgconfig/getopts-static.pc" \
+        "$to/share/man/man3/getopts.3"
     remove_versions
     for function in $functions; do
         rm -f "$to/share/man/man3/$function.3"
@@ -81,7 +82,7 @@ if [ -n "$remove" ]; then
     for file in $documents; do
         rm -f "$to/share/doc/getopts/${file##*/}"
     done
-    rmdir "$to/share/doc/getopts" "$to/lib/getopts-static" 2>/dev/null || :
+    rmdir "$to/share/doc/getopts" 2>/dev/null || :
     echo "removed from $to"
     exit
 fi
@@ -165,13 +166,12 @@ case $($cc -dumpmachine) in
     put "$room/getopts.pc" lib/pkgconfig/getopts.pc
     ;;
 esac
-# The archive in a folder without the shared library: CMake links what `-L` and `-l` name, and not a file, after its own.
+# By a name that no shared library has. CMake would put the path of an archive before what asks for it.
 # shellcheck disable=SC2016
-describe '"-L${libdir}/getopts-static" -lgetopts' >"$room/getopts-static.pc"
+describe '"-L${libdir}" -lgetopts-static' >"$room/getopts-static.pc"
 echo '.so man3/getopts.3' >"$room/page.3"
 put "$built" lib/libgetopts.a
-mkdir -p "$to/lib/getopts-static"
-ln -sf ../libgetopts.a "$to/lib/getopts-static/libgetopts.a"
+ln -sf libgetopts.a "$to/lib/libgetopts-static.a"
 put "$room/getopts-static.pc" lib/pkgconfig/getopts-static.pc
 put "$here/getopts.h" include/getopts.h
 put "$room/getopts.3" share/man/man3/getopts.3
