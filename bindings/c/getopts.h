@@ -59,7 +59,7 @@ enum getopts_kind {
     GETOPTS_OPTIONAL = 0, /* it comes at most once */
     GETOPTS_REQ = 4,      /* it comes exactly once */
     GETOPTS_MULTI = 8,    /* it comes any number of times */
-    GETOPTS_KIND_MAX = 0x7fffffff /* no kind: so it has 4 bytes with each flag */
+    GETOPTS_KIND_MAX = 0x7fffffff /* no kind: so that it has four bytes */
 };
 
 /* A row of a table. A text that is "" or NULL is none, and a kind of 0 is a plain flag. In the last row of a table both
@@ -79,7 +79,7 @@ enum getopts_modes {
     GETOPTS_ORDINARY = 0,   /* neither of the two */
     GETOPTS_STOP = 16,      /* all words from the first free one on are free */
     GETOPTS_LONG_ONLY = 32, /* long names follow one dash or two */
-    GETOPTS_MODES_MAX = 0x7fffffff /* no mode, as GETOPTS_KIND_MAX is no kind */
+    GETOPTS_MODES_MAX = 0x7fffffff /* no mode, for the same */
 };
 
 /* Options, and what the last reading gave. */
@@ -149,10 +149,11 @@ char *getopts_usage(const struct getopts *options, const char *brief);
 /* All options in one line, as getopts_usage. */
 char *getopts_short_usage(const struct getopts *options, const char *program);
 
-/* Writes words again by main names (the long name, or the short one): `--main` or `--main=value` for each option,
- * then `--`, then the free words. Returns what getopts_read would, and doesn't change what that read last. The
- * line is like argv, and the caller frees it by one free(). It is NULL if the status isn't GETOPTS_OK, and if the
- * words have no such line, because a main name holds `=`. */
+/* Writes words again by main names (the long name, or the short one): `--main` or `--main=value` for each option, in
+ * the order in which they were given, then `--`, then the free words. Returns what getopts_read would, and doesn't change
+ * what that read last. The line is like argv, and the caller frees it by one free(). It is NULL if the status isn't
+ * GETOPTS_OK, and if the words have no such line, because a main name holds `=`. PREFIX/share/doc/getopts/order.c loops
+ * over a line with a switch, as over getopt_long. */
 int getopts_canonical(const struct getopts *options, int count, char *const *words, char ***line);
 
 /* Frees options. NULL is allowed. */
