@@ -211,7 +211,7 @@ target_link_libraries(head PkgConfig::GETOPTS)
 
 @pytest.mark.parametrize("module", ["getopts", "getopts-static"])
 def test_cmake(module, prefix, tmp_path):
-    need("cmake", "make")
+    need("cmake", "make", "readelf")
     (tmp_path / "CMakeLists.txt").write_text(CMAKE % (module, C / "head.c"))
     run("cmake", "-S", tmp_path, "-B", tmp_path, env={"PKG_CONFIG_PATH": str(prefix / "lib/pkgconfig")})
     run("cmake", "--build", tmp_path)

@@ -150,10 +150,10 @@ char *getopts_usage(const struct getopts *options, const char *brief);
 char *getopts_short_usage(const struct getopts *options, const char *program);
 
 /* Writes words again by main names (the long name, or the short one): `--main` or `--main=value` for each option, in
- * the order in which they were given, then `--`, then the free words. Returns what getopts_read would, and doesn't change
- * what that read last. The line is like argv, and the caller frees it by one free(). It is NULL if the status isn't
- * GETOPTS_OK, and if the words have no such line, because a main name holds `=`. PREFIX/share/doc/getopts/order.c loops
- * over a line with a switch, as over getopt_long. */
+ * the order in which they were given, then `--`, then the free words. Returns what getopts_read would, and doesn't
+ * change what that read last. The line is like argv, and the caller frees it by one free(). It is NULL if the status
+ * isn't GETOPTS_OK, and if the words have no such line, because a main name holds `=`. In
+ * PREFIX/share/doc/getopts/order.c a loop with a switch goes over a line, as over getopt_long. */
 int getopts_canonical(const struct getopts *options, int count, char *const *words, char ***line);
 
 /* Frees options. NULL is allowed. */
