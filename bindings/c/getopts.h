@@ -79,7 +79,7 @@ enum getopts_modes {
     GETOPTS_ORDINARY = 0,   /* neither of the two */
     GETOPTS_STOP = 16,      /* all words from the first free one on are free */
     GETOPTS_LONG_ONLY = 32, /* long names follow one dash or two */
-    GETOPTS_MODES_MAX = 0x7fffffff /* no mode, for the same */
+    GETOPTS_MODES_MAX = 0x7fffffff /* no mode, for the same reason */
 };
 
 /* Options, and what the last reading gave. */
