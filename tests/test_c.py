@@ -1,14 +1,16 @@
 """The library for C: its calls on six targets, as each C compiler of this machine builds them, and the installation."""
 
 import functools
+import itertools
 import os
 import re
 import shlex
 import shutil
 
 import pytest
-from conftest import LINES, ROOT, ROWS, answer, need, refused_in_turn, run, script
+from conftest import LINES, ROOT, answer, need, refused_in_turn, run, script
 from targets import OLD, cargo, cargo_for, copied, need_std, runner
+from test_rows import all_rows
 
 C = ROOT / "bindings/c"
 WARNINGS = "-std=c11 -Wall -Wextra -Wpedantic -Wshadow -Wconversion -Wno-sign-conversion -Werror".split()
@@ -16,6 +18,9 @@ PLUS_WARNINGS = "-Wall -Wextra -Wpedantic -Werror".split()
 SANITIZERS = "-fsanitize=address,undefined -fno-sanitize-recover=all -g -O1".split()
 WRAPS = "-Wl,--wrap=malloc,--wrap=calloc,--wrap=realloc,--wrap=free"
 HOST = "x86_64-unknown-linux-gnu"
+# What rows ask that the library for C has.
+ASKED = set(b"""words ignoring_counts canonical option positions opt_present opt_count opt_str opt_default opt_strs opt_strs_pos
+    opt_positions opt_defined short usage""".split())
 # Of each build the compiler with its flags, the target of the library, or none where it is this machine's by its own
 # cargo, and what runs its programs where that isn't what runs those of the target.
 BUILDS = {
@@ -71,10 +76,12 @@ def build(request, tmp_path, library):
     return built
 
 
-def test_rows(build):
-    program = build(C / "tests/rows.c")
-    for rows in ROWS:
-        assert ", 0 differ" in run(*program, rows)[0]
+def test_rows(build, tmp_path):
+    """The stored rows, and what the rules ask beyond them."""
+    (tmp_path / "rows").write_bytes(b"".join(row + b"\n" for row, _ in all_rows()))
+    said = run(*build(C / "tests/rows.c"), tmp_path / "rows")[0].replace("\r\n", "\n").split("\n")
+    wanted = [os.fsdecode(line) for row, answers in all_rows() if row.split(b"\t")[0] in ASKED for line in (row, *answers)]
+    assert next((pair for pair in itertools.zip_longest(said, [*wanted, ""]) if pair[0] != pair[1]), None) is None
 
 
 def test_calls(build):
