@@ -13,6 +13,7 @@ import re
 import shutil
 import textwrap
 
+import bench as bench_py
 import pytest
 from conftest import ROOT, answer, kit, need, run
 from conftest import tracked as all_tracked
@@ -44,6 +45,9 @@ def fix(page, text, request):
 
 # ---- figures
 
+INSTRUCTIONS = "Instructions of one turn"
+
+
 @functools.cache
 def tables():
     """The tables of bench/last_run.txt: by their titles and jobs, the figures by the names of their columns."""
@@ -59,9 +63,18 @@ def cell(title, job, column):
     return tables().get((title, job), {}).get(column, "0").rstrip("*")
 
 
-def share(job, library="this library"):
-    """What part of the Rust crate's instructions a library takes, in hundredths."""
-    return f"{100 * int(cell(INSTRUCTIONS, job, library)) / max(1, int(cell(INSTRUCTIONS, job, 'Rust crate'))):.0f}"
+def share(job):
+    """What part of the Rust crate's instructions the drop-in takes, in hundredths."""
+    return f"{100 * int(cell(INSTRUCTIONS, job, 'bindings/rust')) / max(1, int(cell(INSTRUCTIONS, job, 'Rust crate'))):.0f}"
+
+
+def ahead(column, title=INSTRUCTIONS, ours="bindings/rust"):
+    """On which jobs a peer takes fewer instructions than ours."""
+    both = {job: (int(cells[column].rstrip("*")), int(cells[ours].rstrip("*"))) for (kind, job), cells in tables().items()
+            if kind == title and "-" not in (cells[column], cells[ours])}
+    fewer = [f"`{job}`" for job, (peers, own) in both.items() if peers < own]
+    others = [f"`{job}`" for job, (peers, own) in both.items() if peers >= own]
+    return ", ".join(fewer) if len(fewer) <= len(others) else f"all but {', '.join(others)}"
 
 
 def megabytes(column):
@@ -80,24 +93,22 @@ def minutes(command):
 
 
 @functools.cache
-def logic():
-    """The sum of the logic that the toolchain proves with."""
-    return run("rt", "version")[0].split()[-1] if shutil.which("rt") else "unknown"
+def toolchain():
+    """The toolchain's name, and the sum of the logic that it proves with."""
+    name, _, logic = run("rt", "version")[0].split() if shutil.which("rt") else ["unknown"] * 3
+    return [name, logic]
 
 
-INSTRUCTIONS = "Instructions of one turn"
+HELD = "Bytes that matches hold"
 PEAK = "The most bytes held at once for reading 100,000 words, above the words and the options"
 # The figures that stand in no table of jobs: a page, a pattern whose groups are figures, and what each has to be.
 FIGURES = [
     ("README.md", r"\| ([\d,]+) named wrong bodies", lambda: [str(len(edits))]),
-    ("README.md", r"logic `(\w+)`", lambda: [logic()]),
+    ("README.md", r"toolchain \(([\w-]+), logic `(\w+)`", toolchain),
     ("README.md", r"`\(cd crates/getopts && rt lib\)` .* \| ([^|]*) \| ([^|]*) \|", lambda: minutes("rt lib")),
     ("README.md", r"`bash test.sh` .* \| ([^|]*) \| ([^|]*) \|", lambda: minutes("bash test.sh")),
-    ("README.md", r"program takes (\d+) % of the Rust crate's .* and (\d+) %",
-     lambda: [share("small"), share("long")]),
-    ("README.md", r"it takes (\d+) % and (\d+) %", lambda: [share("copied-small"), share("copied-long")]),
     ("README.md", r"takes (\d+) % of the instructions of the crate .* and (\d+) %",
-     lambda: [share("small", "bindings/rust"), share("long", "bindings/rust")]),
+     lambda: [share("copied-small"), share("copied-long")]),
     ("tests/differential/README.md", r"first ([\d,]+) of seed 1",
      lambda: [f"{int(re.search(r'choose 1 (.*?) ', read('tests/differential/record.sh'))[1]):,}"]),
     *((f"bindings/{folder}/README.md", r"Rust ([\d.]+) or later",
@@ -106,6 +117,18 @@ FIGURES = [
     ("bindings/c/README.md", r"grows by (\d+) KB", lambda: re.findall(r"grows by (\d+) KB", read("bindings/c/getopts.h"))),
     ("bench/README.md", r"holds is ([\d.]+) MB here, ([\d.]+) MB in the Rust\s+crate and ([\d.]+) MB",
      lambda: [megabytes("this library"), megabytes("Rust crate"), megabytes("bindings/rust")]),
+    *(("README.md", rf"`{line}`: ([\d,]+) options, ([\d,]+) ", lambda line=line: [f"{len(part):,}" for part in bench_py.parts(line)])
+      for line in ("small", "typical", "rustc", "sub60", "long", "files")),
+    ("bench/README.md", r"`files`: ([\d,]+) file names", lambda: [f"{len(bench_py.parts('files')[1]):,}"]),
+    ("bench/README.md", r"`sub60`: ([\d,]+) options", lambda: [str(len(bench_py.parts("sub60")[0]))]),
+    ("bench/README.md", r"`many`: ([\d,]+) options", lambda: [str(len(bench_py.parts("many")[0]))]),
+    *(("bench/README.md", rf"\n- {name} on (.*)\n", lambda of=of: [ahead(*of)]) for name, of in {
+        "`lexopt`": ["lexopt"], "`pico-args`": ["pico-args"], "the Rust crate": ["Rust crate"],
+        "`getopt_long`": ["getopt_long", f"{INSTRUCTIONS} in C", "bindings/c"],
+        "`argp`": ["argp", f"{INSTRUCTIONS} in C", "bindings/c"]}.items()),
+    *(("bench/README.md", rf"{words} ([\d,]+) and ([\d,]+)", lambda line=line: [
+        f"{int(cell(HELD, f'held-{line}', column)):,}" for column in ("this library", "Rust crate")])
+      for line, words in {"small": "of `small`", "long": "1,000 words", "described": "descriptions"}.items()),
 ]
 
 # What is no figure: versions, rules of the language, the jobs of the bench and the sizes of tests.
@@ -338,7 +361,7 @@ OTHERS = """Send Sync unicode-width x86-64-v2 POSIXLY_CORRECT optind IFS BASH_EN
 @functools.cache
 def words():
     """The words of the sources, and the names of files."""
-    found = set(OTHERS.split()) | {logic()} | {part for name in tracked for part in re.split(r"[/.]", name)}
+    found = set(OTHERS.split()) | set(toolchain()) | {part for name in tracked for part in re.split(r"[/.]", name)}
     for name in tracked:
         if re.search(r"\.(rt|antt|rs|c|h|cpp|sh|py|edit|toml|txt|ini|rows)$|/stdin$|^crates.txt$|^HANDLES$", name):
             text = read(name)
