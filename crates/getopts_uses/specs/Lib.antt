@@ -1,3 +1,4 @@
+pub mod Checked
 pub mod Command
 pub mod Compile
 pub mod Driver

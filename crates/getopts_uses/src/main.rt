@@ -6,6 +6,8 @@
 //! types, and faults under any format.
 #![tactic(auto)]
 
+mod add;
+mod checked;
 mod compile;
 mod driver;
 mod flag;
