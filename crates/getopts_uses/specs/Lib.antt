@@ -4,6 +4,7 @@ pub mod Compile
 pub mod Driver
 pub mod Log
 pub mod Logged
+pub mod Loudness
 pub mod Output
 pub mod Peek
 pub mod Wrapper

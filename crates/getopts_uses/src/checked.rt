@@ -1,6 +1,7 @@
 //! Values that are checked: a number within bounds, and a choice, each with a default.
 
 ghost use Rattle.std.specs.Prelude.{◌≡◌, IfOk};
+ghost use Rattle.std.specs.Option.{option_copied};
 ghost use Rattle.std.specs.Str.Parse.{ParsesUnsigned};
 ghost use Rattle.getopts.specs.Accessors.{IsDefined, first_value, found_of};
 ghost use Rattle.getopts.specs.Names.{texts};
@@ -87,6 +88,18 @@ pub fn read_settings(alloc: Global, words: &[&str]) -> Result<Settings, Refusal>
     })
 }
 
+/// An option's value, lent, if it has one.
+fn value_of<'m>(matches: &'m Matches, option: &str) -> Option<&'m str>
+    requires { IsDefined matches.now.groups option.now }
+    ensures { option_copied result ≡ first_value (found_of matches.now.groups option.now) }
+{
+    let place = matches.opt_place(option)?;
+    match matches.occurrences_at(place).get(0) {
+        Some((_, value)) => value,
+        None => None,
+    }
+}
+
 /// An option's number from `low` to `high`, or the default where it isn't given.
 fn number_of(
     alloc: Global,
@@ -100,14 +113,14 @@ fn number_of(
     ensures { IsNumberBy option.now low high default
         (first_value (found_of matches.now.groups option.now)) result }
 {
-    let Some(text) = matches.opt_str(alloc, option)? else {
+    let Some(text) = value_of(matches, option) else {
         return Ok(default);
     };
-    match read_number(text.as_str()) {
+    match read_number(text) {
         Ok(number) if low <= number && number <= high => Ok(number),
         _ => Err(Refusal::Number {
             option,
-            text,
+            text: String::from_str(alloc, text)?,
             low,
             high,
         }),
@@ -126,12 +139,15 @@ fn color_of(alloc: Global, matches: &Matches, option: &'static str) -> Result<Co
     requires { IsDefined matches.now.groups option.now }
     ensures { IsColorBy option.now (first_value (found_of matches.now.groups option.now)) result }
 {
-    let Some(text) = matches.opt_str(alloc, option)? else {
+    let Some(text) = value_of(matches, option) else {
         return Ok(Color::Auto);
     };
-    match color_named(text.as_str()) {
+    match color_named(text) {
         Some(color) => Ok(color),
-        None => Err(Refusal::Choice { option, text }),
+        None => Err(Refusal::Choice {
+            option,
+            text: String::from_str(alloc, text)?,
+        }),
     }
 }
 

@@ -14,6 +14,7 @@ mod flag;
 mod lists;
 mod log;
 mod logged;
+mod loudness;
 mod output;
 mod peek;
 mod plugin;

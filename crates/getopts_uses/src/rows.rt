@@ -10,6 +10,7 @@ use crate::checked::read_settings;
 use crate::compile::read_job;
 use crate::driver;
 use crate::logged::{log_line, read_build};
+use crate::loudness::loudness_of;
 use crate::output::output_of;
 use crate::peek::{help_text, read_request};
 use crate::required::{input_of, input_options};
@@ -64,6 +65,7 @@ fn push_caller(
         "logged" => push(text, log_line(alloc, words)),
         "replayed" => push_replayed(alloc, text, words),
         "checked" => push(text, read_settings(alloc, words)),
+        "loudness" => push(text, loudness_of(alloc, words)),
         "wrapper" => push(text, handed_on(alloc, words)),
         "compile" => push(text, read_job(alloc, words)),
         "command" => push(text, read_run(alloc, words)),
