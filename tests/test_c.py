@@ -78,10 +78,12 @@ def build(request, tmp_path, library):
 
 def test_rows(build, tmp_path):
     """The stored rows, and what the rules ask beyond them."""
-    (tmp_path / "rows").write_bytes(b"".join(row + b"\n" for row, _ in all_rows()))
-    said = run(*build(C / "tests/rows.c"), tmp_path / "rows")[0].replace("\r\n", "\n").split("\n")
-    wanted = [os.fsdecode(line) for row, answers in all_rows() if row.split(b"\t")[0] in ASKED for line in (row, *answers)]
-    assert next((pair for pair in itertools.zip_longest(said, [*wanted, ""]) if pair[0] != pair[1]), None) is None
+    rows, said = tmp_path / "rows", tmp_path / "said"
+    rows.write_bytes(b"".join(row + b"\n" for row, _ in all_rows()))
+    run(*build(C / "tests/rows.c"), rows, said)
+    wanted = [line for row, answers in all_rows() if row.split(b"\t")[0] in ASKED for line in (row, *answers)]
+    pairs = itertools.zip_longest(said.read_bytes().split(b"\n"), [*wanted, b""])
+    assert next((pair for pair in pairs if pair[0] != pair[1]), None) is None
 
 
 def test_calls(build):
