@@ -16,7 +16,7 @@ C = ROOT / "bindings/c"
 WARNINGS = "-std=c11 -Wall -Wextra -Wpedantic -Wshadow -Wconversion -Wno-sign-conversion -Werror".split()
 PLUS_WARNINGS = "-Wall -Wextra -Wpedantic -Werror".split()
 SANITIZERS = "-fsanitize=address,undefined -fno-sanitize-recover=all -g -O1".split()
-WRAPS = "-Wl,--wrap=malloc,--wrap=calloc,--wrap=realloc,--wrap=free"
+WRAPS = "-Wl,--wrap=malloc,--wrap=realloc,--wrap=free"
 HOST = "x86_64-unknown-linux-gnu"
 # What rows ask that the library for C has.
 ASKED = set(b"""words ignoring_counts canonical option positions opt_present opt_count opt_str opt_default opt_strs opt_strs_pos
