@@ -98,7 +98,7 @@ struct getopts *getopts_new(const struct getopts_option *table, enum getopts_mod
  * - GETOPTS_ARGUMENT_MISSING, GETOPTS_UNRECOGNIZED_OPTION, GETOPTS_UNEXPECTED_ARGUMENT: the words can't be read,
  *   and the calls below return nothing.
  * - GETOPTS_NO_MEMORY: out of memory; what was read before stays.
- * - GETOPTS_BAD: the table is wrong, or one of the words, which are `count`, is NULL; what was read before stays. */
+ * - GETOPTS_BAD: the table is wrong, or one of the `count` words is NULL; what was read before stays. */
 int getopts_read(struct getopts *options, int count, char *const *words);
 
 /* Why the last reading failed, such as "Unrecognized option: 'x'". Returns "" if it didn't fail, or if nothing

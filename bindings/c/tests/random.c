@@ -1,7 +1,7 @@
 /* Random tables and words, half of them broken, and what getopts.h promises of each: random COUNT.
  *
  * With REFUSES each call is made while malloc refuses one request after the other, once that request alone, and once that
- * one and all after it. It is linked with --wrap for malloc, calloc, realloc and free. */
+ * one and all after it. It is linked with --wrap for malloc, realloc and free. */
 #include "../getopts.h"
 
 #include <stdint.h>
@@ -95,7 +95,6 @@ void *__real_malloc(size_t size);
 void *__real_realloc(void *block, size_t size);
 void __real_free(void *block);
 void *__wrap_malloc(size_t size);
-void *__wrap_calloc(size_t count, size_t size);
 void *__wrap_realloc(void *block, size_t size);
 void __wrap_free(void *block);
 
@@ -116,11 +115,6 @@ void *__wrap_malloc(size_t size) {
     void *block = refuses() ? NULL : __real_malloc(size);
     heap.blocks += block != NULL;
     return block;
-}
-
-void *__wrap_calloc(size_t count, size_t size) {
-    void *block = __wrap_malloc(count * size);
-    return block != NULL ? memset(block, 0, count * size) : NULL;
 }
 
 void *__wrap_realloc(void *block, size_t size) {

@@ -1,5 +1,5 @@
-/* Asks getopts.h what rows ask, in the form of crates/getopts_vectors: rows ROWS. It writes each row that it answers, and
- * then the answer. What the library for C doesn't have is passed over. */
+/* Asks getopts.h what rows ask, in the form of crates/getopts_vectors: rows ROWS ANSWERS. It writes each row that it
+ * answers, and then the answer. What the library for C doesn't have is passed over. */
 #include "../getopts.h"
 
 #include <stdio.h>
@@ -302,9 +302,12 @@ static bool answers(void) {
 
 int main(int argc, char **argv) {
     struct text rows = { 0 };
-    FILE *file = fopen(argc > 1 ? argv[1] : "", "rb");
-    for (int byte; file != NULL && (byte = getc(file)) != EOF;)
+    FILE *file = argc == 3 ? fopen(argv[1], "rb") : NULL;
+    if (file == NULL || freopen(argv[2], "wb", stdout) == NULL)
+        return 2;
+    for (int byte; (byte = getc(file)) != EOF;)
         add(&rows, (char)byte);
+    fclose(file);
     add(&rows, '\0');
     for (char *row = strtok(rows.bytes, "\n"); row != NULL; row = strtok(NULL, "\n")) {
         char *line = copy(row);
@@ -316,5 +319,5 @@ int main(int argc, char **argv) {
     anew();
     free(answer.bytes);
     free(rows.bytes);
-    return file == NULL || fclose(file) != 0;
+    return fclose(stdout) != 0;
 }
