@@ -7,11 +7,13 @@ and CONTRACTS.md and PROOFS' table of wrong bodies are written anew.
 
 import functools
 import graphlib
+import itertools
 import os
 import re
 import shutil
 import textwrap
 
+import bench as bench_py
 import pytest
 from conftest import ROOT, answer, kit, need, run
 from conftest import tracked as all_tracked
@@ -43,6 +45,9 @@ def fix(page, text, request):
 
 # ---- figures
 
+INSTRUCTIONS = "Instructions of one turn"
+
+
 @functools.cache
 def tables():
     """The tables of bench/last_run.txt: by their titles and jobs, the figures by the names of their columns."""
@@ -58,9 +63,18 @@ def cell(title, job, column):
     return tables().get((title, job), {}).get(column, "0").rstrip("*")
 
 
-def share(job, library="this library"):
-    """What part of the Rust crate's instructions a library takes, in hundredths."""
-    return f"{100 * int(cell(INSTRUCTIONS, job, library)) / max(1, int(cell(INSTRUCTIONS, job, 'Rust crate'))):.0f}"
+def share(job):
+    """What part of the Rust crate's instructions the drop-in takes, in hundredths."""
+    return f"{100 * int(cell(INSTRUCTIONS, job, 'bindings/rust')) / max(1, int(cell(INSTRUCTIONS, job, 'Rust crate'))):.0f}"
+
+
+def ahead(column, title=INSTRUCTIONS, ours="bindings/rust"):
+    """On which jobs a peer takes fewer instructions than ours."""
+    both = {job: (int(cells[column].rstrip("*")), int(cells[ours].rstrip("*"))) for (kind, job), cells in tables().items()
+            if kind == title and "-" not in (cells[column], cells[ours])}
+    fewer = [f"`{job}`" for job, (peers, own) in both.items() if peers < own]
+    others = [f"`{job}`" for job, (peers, own) in both.items() if peers >= own]
+    return ", ".join(fewer) if len(fewer) <= len(others) else f"all but {', '.join(others)}"
 
 
 def megabytes(column):
@@ -79,31 +93,42 @@ def minutes(command):
 
 
 @functools.cache
-def logic():
-    """The sum of the logic that the toolchain proves with."""
-    return run("rt", "version")[0].split()[-1] if shutil.which("rt") else "unknown"
+def toolchain():
+    """The toolchain's name, and the sum of the logic that it proves with."""
+    name, _, logic = run("rt", "version")[0].split() if shutil.which("rt") else ["unknown"] * 3
+    return [name, logic]
 
 
-INSTRUCTIONS = "Instructions of one turn"
+HELD = "Bytes that matches hold"
 PEAK = "The most bytes held at once for reading 100,000 words, above the words and the options"
 # The figures that stand in no table of jobs: a page, a pattern whose groups are figures, and what each has to be.
 FIGURES = [
     ("README.md", r"\| ([\d,]+) named wrong bodies", lambda: [str(len(edits))]),
-    ("README.md", r"logic `(\w+)`", lambda: [logic()]),
+    ("README.md", r"toolchain \(([\w-]+), logic `(\w+)`", toolchain),
     ("README.md", r"`\(cd crates/getopts && rt lib\)` .* \| ([^|]*) \| ([^|]*) \|", lambda: minutes("rt lib")),
     ("README.md", r"`bash test.sh` .* \| ([^|]*) \| ([^|]*) \|", lambda: minutes("bash test.sh")),
-    ("README.md", r"program takes (\d+) % of the Rust crate's .* and (\d+) %",
-     lambda: [share("small"), share("long")]),
-    ("README.md", r"it takes (\d+) % and (\d+) %", lambda: [share("copied-small"), share("copied-long")]),
     ("README.md", r"takes (\d+) % of the instructions of the crate .* and (\d+) %",
-     lambda: [share("small", "bindings/rust"), share("long", "bindings/rust")]),
+     lambda: [share("copied-small"), share("copied-long")]),
     ("tests/differential/README.md", r"first ([\d,]+) of seed 1",
      lambda: [f"{int(re.search(r'choose 1 (.*?) ', read('tests/differential/record.sh'))[1]):,}"]),
     *((f"bindings/{folder}/README.md", r"Rust ([\d.]+) or later",
        lambda folder=folder: re.findall(r'rust-version = "(.*)"', read(f"bindings/{folder}/Cargo.toml")))
       for folder in ("rust", "c", "shell")),
+    ("bindings/c/README.md", r"grows by (\d+) KB", lambda: re.findall(r"grows by (\d+) KB", read("bindings/c/getopts.h"))),
     ("bench/README.md", r"holds is ([\d.]+) MB here, ([\d.]+) MB in the Rust\s+crate and ([\d.]+) MB",
      lambda: [megabytes("this library"), megabytes("Rust crate"), megabytes("bindings/rust")]),
+    *(("README.md", rf"`{line}`: ([\d,]+) options, ([\d,]+) ", lambda line=line: [f"{len(part):,}" for part in bench_py.parts(line)])
+      for line in ("small", "typical", "rustc", "sub60", "long", "files")),
+    ("bench/README.md", r"`files`: ([\d,]+) file names", lambda: [f"{len(bench_py.parts('files')[1]):,}"]),
+    ("bench/README.md", r"`sub60`: ([\d,]+) options", lambda: [str(len(bench_py.parts("sub60")[0]))]),
+    ("bench/README.md", r"`many`: ([\d,]+) options", lambda: [str(len(bench_py.parts("many")[0]))]),
+    *(("bench/README.md", rf"\n- {name} on (.*)\n", lambda of=of: [ahead(*of)]) for name, of in {
+        "`lexopt`": ["lexopt"], "`pico-args`": ["pico-args"], "the Rust crate": ["Rust crate"],
+        "`getopt_long`": ["getopt_long", f"{INSTRUCTIONS} in C", "bindings/c"],
+        "`argp`": ["argp", f"{INSTRUCTIONS} in C", "bindings/c"]}.items()),
+    *(("bench/README.md", rf"{words} ([\d,]+) and ([\d,]+)", lambda line=line: [
+        f"{int(cell(HELD, f'held-{line}', column)):,}" for column in ("this library", "Rust crate")])
+      for line, words in {"small": "of `small`", "long": "1,000 words", "described": "descriptions"}.items()),
 ]
 
 # What is no figure: versions, rules of the language, the jobs of the bench and the sizes of tests.
@@ -228,14 +253,26 @@ def contracts():
     return "\n\n".join(parts) + "\n"
 
 
+def clauses_in(text):
+    """The clauses of contracts, without their names and comments."""
+    text = re.sub(r"//.*", "", text)
+    for it in re.finditer(r"\b(?:requires|ensures) (?:\w+ )?\{", text):
+        ends = itertools.accumulate((char == "{") - (char == "}") for char in text[it.end():])
+        yield text[it.end():it.end() + list(ends).index(-1)]
+
+
 def imports(text):
-    """The lines that bring the words of these contracts into a file, one a module."""
-    modules = {}
-    for source in sorted((ROOT / "crates/getopts/src").glob("*.rt")):
-        for module, names in re.findall(r"ghost use (Rattle[\w.]*)\.\{([^}]*)\};", source.read_text(encoding="utf-8")):
-            used = {name for name in re.split(r",\s*", names) if name.strip("◌") in re.findall(r"\w+|[^\w\s]+", text)}
-            modules.setdefault(module, set()).update(used)
-    return "".join(f"ghost use {module}.{{{', '.join(sorted(names))}}};\n" for module, names in sorted(modules.items()) if names)
+    """The lines that bring the words of the clauses into a file, one a module."""
+    words, modules, known = set(re.findall(r"\w+|[^\w\s]+", " ".join(clauses_in(text)))), {}, set()
+    for name, source in sorted(sources.items()):
+        for module, names in re.findall(r"ghost use (Rattle[\w.]*)\.\{([^}]*)\};", source if "/getopts/" in name else ""):
+            modules.setdefault(module, set()).update(re.split(r",\s*", names))
+    lines = []
+    for module, names in sorted(modules.items(), key=lambda it: (it[0].startswith("Rattle.std"), it[0])):
+        used = sorted(name for name in names - known if name.strip("◌") in words)
+        known |= names
+        lines += [f"ghost use {module}.{{{', '.join(used)}}};\n"] if used else []
+    return "".join(lines)
 
 
 def test_contracts(request):
@@ -324,7 +361,7 @@ OTHERS = """Send Sync unicode-width x86-64-v2 POSIXLY_CORRECT optind IFS BASH_EN
 @functools.cache
 def words():
     """The words of the sources, and the names of files."""
-    found = set(OTHERS.split()) | {logic()} | {part for name in tracked for part in re.split(r"[/.]", name)}
+    found = set(OTHERS.split()) | set(toolchain()) | {part for name in tracked for part in re.split(r"[/.]", name)}
     for name in tracked:
         if re.search(r"\.(rt|antt|rs|c|h|cpp|sh|py|edit|toml|txt|ini|rows)$|/stdin$|^crates.txt$|^HANDLES$", name):
             text = read(name)
@@ -334,8 +371,9 @@ def words():
 
 @pytest.mark.parametrize("page", pages)
 def test_names_and_links(page):
-    """What a page names in backquotes exists, as a word of the sources or a file; so does what it links to."""
-    failures = []
+    """What a page names in backquotes exists, as a word of the sources or a file; so does what it links to. The folder
+    of the library is copied alone, so its pages link to nothing outside it."""
+    failures, copied = [], "crates/getopts/"
     prose = re.sub(r"^```.*?^```", "", pages[page], flags=re.M | re.S)
     for span in sorted(set(re.findall(r"`([A-Za-z_][\w-]*)`", prose))):
         failures += [] if span in words() else [f"nothing is called {span}"]
@@ -346,6 +384,7 @@ def test_names_and_links(page):
     for target, heading in re.findall(r"\]\(([^)#]*)#?([^)]*)\)", prose):
         there = os.path.normpath(os.path.join(os.path.dirname(page), target)) if target else page
         failures += [] if "://" in target or (ROOT / there).exists() else [f"there is no {target}"]
+        failures += [f"{target} isn't copied"] if page.startswith(copied) and not there.startswith(copied) else []
         headings = re.findall(r"^#+ (.*)", pages.get(there, ""), re.M)
         anchors = [re.sub(r"[^\w -]", "", it).lower().replace(" ", "-") for it in headings]
         failures += [] if not heading or heading in anchors else [f"{target} has no heading {heading}"]
