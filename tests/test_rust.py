@@ -73,7 +73,7 @@ def test_readers_stop(plant, reader, tmp_path):
 
 @pytest.mark.parametrize("file, right, wrong, why", [
     ("row.rt", "const MARGIN: usize = 24", "const MARGIN: usize ≡ 24", "'≡': it isn't Rust"),
-    ("table.rt", "        } = self;", "        } = &self;",
+    ("index.rt", "let Index { groups: _, held: _ } = self;", "let _ = self;",
      "'Drop': its impl does more than to take a value apart"),
     ("names.rt", "    short.len()", "    (short.len()", "'}': it closes nothing")])
 def test_eraser_stops(file, right, wrong, why, reader):

@@ -150,7 +150,8 @@ impl Options {
         self
     }
 
-    /// Sets whether a long name follows one dash or two, and no short names are joined in a word.
+    /// Sets whether a long name follows one dash or two, and no short names are joined in a word: short options stand
+    /// alone, so neither `-vv` nor `-ofile` is read.
     ///
     /// ```
     /// let mut options = getopts::Options::new();
