@@ -168,7 +168,7 @@ def built(out, getopts):
     for tool in ("cargo", "cc", "valgrind", os.environ.get("OURS", "rt")):
         shutil.which(tool) or stop(f"there is no {tool}")
     build = HERE.parent / "tests/differential/build.sh"
-    for name, crate, flags in (("peers", getopts, ""), ("over_ours", HERE.parent / "bindings/rust", " --features over_ours")):
+    for name, crate, flags in (("peers", getopts, ""), ("over_ours", HERE.parent / "bindings/rust/getopts", " --features over_ours")):
         (out / name / "src").mkdir(parents=True, exist_ok=True)
         (out / name / "src/lines.rs").write_text(lexopt_lines(), encoding="utf-8")
         subprocess.run(["bash", build, HERE / "peers", out / name, *([crate] if crate else [])], check=True,

@@ -2,11 +2,12 @@
 that uses it, and scripts, Rust and manual pages are well formed.
 
 Each figure of ten or more on a page is counted, measured or recorded (FIGURES). With --fix those that differ are replaced,
-and CONTRACTS.md is written anew from the sources.
+and CONTRACTS.md and PROOFS' table of wrong bodies are written anew.
 """
 
 import functools
 import graphlib
+import itertools
 import os
 import re
 import shutil
@@ -14,7 +15,7 @@ import textwrap
 
 import bench as bench_py
 import pytest
-from conftest import ROOT, need, run
+from conftest import ROOT, answer, kit, need, run
 from conftest import tracked as all_tracked
 
 
@@ -27,12 +28,20 @@ pages = {name: read(name) for name in tracked if name.endswith(".md")}
 sources = {name: read(name) for name in tracked if re.match(r"crates/\w*/src/.*\.rt$", name)}
 modules = sources | {name: read(name) for name in tracked if re.match(r"bindings/.*\.rs$", name)}
 CALLING, CONTRACTS = (next(name for name in pages if name.endswith(end)) for end in ("CALLING.md", "CONTRACTS.md"))
-edits = {os.path.basename(name)[:-5] for name in tracked if name.endswith(".edit") and "/private/" not in name}
+edits = {name: read(name) for name in tracked if name.endswith(".edit") and "/private/" not in name}
+ANEW = "'bash test.sh -k pages --fix' writes it anew"
 
 
 def none(failures):
     failures = list(dict.fromkeys(failures))
     assert not failures, "\n".join(failures)
+
+
+def fix(page, text, request):
+    """With --fix, writes a page anew."""
+    if request.config.getoption("--fix") and text != pages[page]:
+        (ROOT / page).write_text(text, encoding="utf-8")
+        pages[page] = text
 
 
 # ---- figures
@@ -106,6 +115,7 @@ FIGURES = [
     *((f"bindings/{folder}/README.md", r"Rust ([\d.]+) or later",
        lambda folder=folder: re.findall(r'rust-version = "(.*)"', read(f"bindings/{folder}/Cargo.toml")))
       for folder in ("rust", "c", "shell")),
+    ("bindings/c/README.md", r"grows by (\d+) KB", lambda: re.findall(r"grows by (\d+) KB", read("bindings/c/getopts.h"))),
     ("bench/README.md", r"holds is ([\d.]+) MB here, ([\d.]+) MB in the Rust\s+crate and ([\d.]+) MB",
      lambda: [megabytes("this library"), megabytes("Rust crate"), megabytes("bindings/rust")]),
     *(("README.md", rf"`{line}`: ([\d,]+) options, ([\d,]+) ", lambda line=line: [f"{len(part):,}" for part in bench_py.parts(line)])
@@ -124,9 +134,9 @@ FIGURES = [
 
 # What is no figure: versions, rules of the language, the jobs of the bench and the sizes of tests.
 NO_FIGURES = re.compile(r"""
-    \bU\+\w+ | \b0\.2\.24\b | Apache-2\.0 | x86-64(-v2)?
+    \bU\+\w+ | \b0\.2\.24\b | \d{4}-\d\d-\d\d | Apache-2\.0 | x86-64(-v2)?
     | 1,000\ words | 100,000\ words | 20\ options | 10\ words
-    | (32|64)\ bits | 54\ columns | 24\ (spaces|columns) | stop\ at\ 255 | 24\ bytes | 4\.2\ or\ later | C\+\+11 | Debian\ 12 | 80\ words | 200,000\ cases
+    | (32|64)\ bits | 54\ columns | 24\ (spaces|columns) | stop\ at\ 255 | 24\ bytes | 4\.2\ or\ later | before\ 4\.4 | C\+\+11 | Debian\ 12 | 80\ words | 200,000\ cases
 """, re.X)
 
 def table_figures(page):
@@ -165,25 +175,20 @@ def unknown_in(page):
             yield it.start(), it[0]
 
 
-def put_in(page):
-    """Puts what each figure of a page has to be in the place of what it is."""
-    text = pages[page]
-    for at, is_now, wanted in sorted(figures_of(page), reverse=True):
-        if at:
-            text = text[:at] + wanted + text[at + len(is_now):]
-    if text != pages[page]:
-        (ROOT / page).write_text(text, encoding="utf-8")
-        pages[page] = text
-
-
 @pytest.mark.parametrize("page", pages)
 def test_figures(page, request):
     def place(at):
         return f"{page}:{pages[page].count(chr(10), 0, at) + 1}"
 
-    if request.config.getoption("--fix"):
-        put_in(page)
-    none([f"{place(at)}: {is_now} has to be {wanted}" for at, is_now, wanted in figures_of(page) if is_now != wanted] +
+    def wrong():
+        return [(at, is_now, wanted) for at, is_now, wanted in figures_of(page) if is_now != wanted != "unknown"]
+
+    text = pages[page]
+    for at, is_now, wanted in sorted(wrong(), reverse=True):
+        text = text[:at] + wanted + text[at + len(is_now):] if at else text
+    fix(page, text, request)
+    none([f"{place(at)}: {is_now} has to be {wanted} (what is measured stands in bench/last_run.txt and tests/times.txt)"
+          for at, is_now, wanted in wrong()] +
          [f"{place(at)}: no check knows the figure {it}" for at, it in unknown_in(page)])
 
 
@@ -249,23 +254,45 @@ def contracts():
     return "\n\n".join(parts) + "\n"
 
 
+def clauses_in(text):
+    """The clauses of contracts, without their names and comments."""
+    text = re.sub(r"//.*", "", text)
+    for it in re.finditer(r"\b(?:requires|ensures) (?:\w+ )?\{", text):
+        ends = itertools.accumulate((char == "{") - (char == "}") for char in text[it.end():])
+        yield text[it.end():it.end() + list(ends).index(-1)]
+
+
 def imports(text):
-    """The lines that bring the words of these contracts into a file, one a module."""
-    modules = {}
-    for source in sorted((ROOT / "crates/getopts/src").glob("*.rt")):
-        for module, names in re.findall(r"ghost use (Rattle[\w.]*)\.\{([^}]*)\};", source.read_text(encoding="utf-8")):
-            used = {name for name in re.split(r",\s*", names) if name.strip("◌") in re.findall(r"\w+|[^\w\s]+", text)}
-            modules.setdefault(module, set()).update(used)
-    return "".join(f"ghost use {module}.{{{', '.join(sorted(names))}}};\n" for module, names in sorted(modules.items()) if names)
+    """The lines that bring the words of the clauses into a file, one a module."""
+    words, modules, known = set(re.findall(r"\w+|[^\w\s]+", " ".join(clauses_in(text)))), {}, set()
+    for name, source in sorted(sources.items()):
+        for module, names in re.findall(r"ghost use (Rattle[\w.]*)\.\{([^}]*)\};", source if "/getopts/" in name else ""):
+            modules.setdefault(module, set()).update(re.split(r",\s*", names))
+    lines = []
+    for module, names in sorted(modules.items(), key=lambda it: (it[0].startswith("Rattle.std"), it[0])):
+        used = sorted(name for name in names - known if name.strip("◌") in words)
+        known |= names
+        lines += [f"ghost use {module}.{{{', '.join(used)}}};\n"] if used else []
+    return "".join(lines)
 
 
 def test_contracts(request):
     """CONTRACTS.md has the contract of each public function, as the sources have it."""
     wanted = re.sub(r"^```\w+\n.*?^```", lambda _: f"```text\n{contracts()}\n{imports(contracts())}```", pages[CONTRACTS], flags=re.M | re.S)
-    if request.config.getoption("--fix") and wanted != pages[CONTRACTS]:
-        (ROOT / CONTRACTS).write_text(wanted, encoding="utf-8")
-        pages[CONTRACTS] = wanted
-    assert pages[CONTRACTS] == wanted, "pytest tests/test_pages.py --fix writes it anew"
+    fix(CONTRACTS, wanted, request)
+    assert pages[CONTRACTS] == wanted, ANEW
+
+
+# Those that wait for a caller.
+UNCITED = {"lines_again", "ReadsOnce-unsigned", "IsReadAs-one", "IsReadAs-not_both", "IsReadAs-weaker", "HasReading-known"}
+
+
+def test_offered_lemmas_are_cited():
+    """Each lemma that CONTRACTS offers is named outside its own lines."""
+    offered = set(re.findall(r"`([\w-]+)`", re.search(r"\*\*Lemmas to cite\*\*.*?\n\n", pages[CONTRACTS], re.S)[0]))
+    text = "\n".join(read(name) for name in tracked if name.endswith((".rt", ".antt")))
+    none(f"nothing cites {name}" for name in sorted(offered - UNCITED)
+         if not re.search(rf"^(?!(?:  )?(?:pub )?{name} ).*(?<![\w-]){name}(?![\w-])", text, re.M))
 
 
 # ---- promises
@@ -315,12 +342,20 @@ def test_definitions_are_in_the_grammar(crate):
     none(lacking)
 
 
-def test_edits_are_in_the_proofs():
-    none(edit for edit in sorted(edits) if f"`{edit}`" not in pages["docs/PROOFS.md"])
+def test_wrong_bodies(request):
+    """PROOFS has each public edit with the function that it turns, by modules."""
+    modules, page, head = {}, "docs/PROOFS.md", "| module | wrong bodies, each with its function |\n|---|---|\n"
+    for name in sorted(edits):
+        module, function = re.search(r"^fn: ([a-z_:]+)::((?:[A-Z]\w*::)?\w+)$", edits[name], re.M).groups()
+        modules.setdefault(module, []).append(f"`{os.path.basename(name)[:-5]}` (`{function}`)")
+    rows = [f"| `{module}` | {', '.join(bodies)} |\n" for module, bodies in sorted(modules.items())]
+    wanted = re.sub(rf"(?<={re.escape(head)})(\|.*\n)*", "".join(rows), pages[page], count=1)
+    fix(page, wanted, request)
+    assert pages[page] == wanted, ANEW
 
 
 # Names of the toolchain, of Rust and of Debian's packages.
-OTHERS = """Send Sync unicode-width x86-64-v2 POSIXLY_CORRECT optind IFS copied-
+OTHERS = """Send Sync unicode-width x86-64-v2 POSIXLY_CORRECT optind IFS BASH_ENV copied-
     librust-clap-dev librust-lexopt-dev librust-pico-args-dev librust-unicode-width-dev"""
 
 
@@ -332,13 +367,14 @@ def words():
         if re.search(r"\.(rt|antt|rs|c|h|cpp|sh|py|edit|toml|txt|ini|rows)$|/stdin$|^crates.txt$|^HANDLES$", name):
             text = read(name)
             found |= set(re.findall(r"[\w+-]+", text)) | set(re.findall(r"\w+", text))
-    return found
+    return found if shutil.which("rt") else found | set(re.findall(r"logic `(\w+)`", pages["README.md"]))
 
 
 @pytest.mark.parametrize("page", pages)
 def test_names_and_links(page):
-    """What a page names in backquotes exists, as a word of the sources or a file; so does what it links to."""
-    failures = []
+    """What a page names in backquotes exists, as a word of the sources or a file; so does what it links to. The folder
+    of the library is copied alone, so its pages link to nothing outside it."""
+    failures, copied = [], "crates/getopts/"
     prose = re.sub(r"^```.*?^```", "", pages[page], flags=re.M | re.S)
     for span in sorted(set(re.findall(r"`([A-Za-z_][\w-]*)`", prose))):
         failures += [] if span in words() else [f"nothing is called {span}"]
@@ -352,6 +388,7 @@ def test_names_and_links(page):
     for target, heading in re.findall(r"\]\(([^)#]*)#?([^)]*)\)", prose):
         there = os.path.normpath(os.path.join(os.path.dirname(page), target)) if target else page
         failures += [] if "://" in target or (ROOT / there).exists() else [f"there is no {target}"]
+        failures += [f"{target} isn't copied"] if page.startswith(copied) and not there.startswith(copied) else []
         headings = re.findall(r"^#+ (.*)", pages.get(there, ""), re.M)
         anchors = [re.sub(r"[^\w -]", "", it).lower().replace(" ", "-") for it in headings]
         failures += [] if not heading or heading in anchors else [f"{target} has no heading {heading}"]
@@ -371,6 +408,12 @@ def test_no_module_uses_one_that_uses_it(crate):
 
 
 # ---- form
+
+def test_layout():
+    files = [name for name in tracked if name.endswith((".rt", ".antt"))]
+    said, status = answer(kit() / "bin/rattle", "fmt", "--check", *files, cwd=ROOT)
+    assert status == 0, f"'rt fmt' in the crate:\n{said.decode()}"
+
 
 def test_shell_scripts():
     need("shellcheck")

@@ -116,14 +116,8 @@ fn lists_grow_or_stay() {
     };
     assert_eq!(each_refused(full, |l| l.try_push(7), is(&[3, 1, 2, 7])), 1);
     assert_eq!(each_refused(full, |l| l.try_grow(9), is(&[3, 1, 2])), 1);
-    assert_eq!(
-        each_refused(full, |l| l.try_grow_exact(9), is(&[3, 1, 2])),
-        1
-    );
-    assert_eq!(
-        each_refused(full, |l| l.try_sort_by(i32::cmp), is(&[1, 2, 3])),
-        0
-    );
+    assert_eq!(each_refused(full, |l| l.try_grow_exact(9), is(&[3, 1, 2])), 1);
+    assert_eq!(each_refused(full, |l| l.try_sort_by(i32::cmp), is(&[1, 2, 3])), 0);
     assert_eq!(each_refused_of(&full(), |l| l.try_clone()), 1);
     let texts = ["a", "", "b"].map(String::from).to_vec();
     assert_eq!(each_refused_of(&texts, |l| l.try_clone()), 3);
@@ -177,17 +171,7 @@ fn options(more: usize) -> Options {
     options
 }
 
-const WORDS: [&str; 9] = [
-    "-vofile",
-    "free",
-    "-La",
-    "-L",
-    "bcd",
-    "--color=auto",
-    "--",
-    "-x",
-    "y",
-];
+const WORDS: [&str; 9] = ["-vofile", "free", "-La", "-L", "bcd", "--color=auto", "--", "-x", "y"];
 
 fn matches() -> Matches {
     options(0).parse_words(Global, &WORDS).unwrap()
@@ -207,20 +191,15 @@ fn each_refused_request_of_reading_is_told() {
         let options = options(more);
         assert!(each_refused_of(&options, |o| of_memory(o.parse_words(Global, &WORDS))) > 8);
         assert!(
-            each_refused_of(&options, |o| of_memory(
-                o.parse(Global, WORDS.iter().copied())
-            )) > 8
+            each_refused_of(&options, |o| of_memory(o.parse(Global, WORDS.iter().copied()))) > 8
         );
         assert!(
-            each_refused_of(&options, |o| of_memory(
-                o.parse_ignoring_counts(Global, &WORDS)
-            )) > 8
+            each_refused_of(&options, |o| of_memory(o.parse_ignoring_counts(Global, &WORDS))) > 8
         );
         assert!(each_refused_of(&options, |o| of_memory(o.canonical_words(Global, &WORDS))) > 8);
         assert!(
-            each_refused_of(&options, |o| of_memory(
-                o.canonical(Global, WORDS.iter().copied())
-            )) > 8
+            each_refused_of(&options, |o| of_memory(o.canonical(Global, WORDS.iter().copied())))
+                > 8
         );
     }
     let many = ["-vofile", "free"].repeat(2000);
@@ -231,18 +210,10 @@ fn each_refused_request_of_reading_is_told() {
 #[test]
 fn refused_words_are_told_or_memory_is() {
     let options = options(0);
-    for (word, wanted) in [
-        ("-ox", "-o"),
-        ("--nope", "nope"),
-        ("-v=", "="),
-        ("--verbose=x", "verbose"),
-        ("-o", "o"),
-    ] {
-        let words = if word == "-ox" {
-            vec!["-ox", "-ox"]
-        } else {
-            vec![word]
-        };
+    for (word, wanted) in
+        [("-ox", "-o"), ("--nope", "nope"), ("-v=", "="), ("--verbose=x", "verbose"), ("-o", "o")]
+    {
+        let words = if word == "-ox" { vec!["-ox", "-ox"] } else { vec![word] };
         let refused = std::cell::RefCell::new(0);
         for granted in 0.. {
             GRANTED.with(|state| state.set(Some((granted, false))));
@@ -250,10 +221,7 @@ fn refused_words_are_told_or_memory_is() {
             GRANTED.with(|state| state.set(None));
             if !matches!(fail, Fail::OutOfMemory) {
                 let text = fail.to_string();
-                assert!(
-                    text.contains(if word == "-ox" { "output" } else { wanted }),
-                    "{text}"
-                );
+                assert!(text.contains(if word == "-ox" { "output" } else { wanted }), "{text}");
                 assert_eq!(each_refused_of(&fail, |fail| fail.try_clone()), 1);
                 break;
             }
@@ -276,11 +244,7 @@ fn each_refused_request_of_declaring_leaves_the_options() {
             |o| add(o),
             |seen, failed| {
                 *seen
-                    == if failed {
-                        before.try_clone().unwrap()
-                    } else {
-                        after.try_clone().unwrap()
-                    }
+                    == if failed { before.try_clone().unwrap() } else { after.try_clone().unwrap() }
             },
         );
         assert!(refused > 0);
@@ -294,18 +258,12 @@ fn each_refused_request_of_usage_and_copies_is_told() {
     assert!(each_refused_of(&options, |o| o.short_usage(Global, "program")) > 0);
     assert!(each_refused_of(&options, |o| o.usage_rows(Global)) > 7);
     assert!(
-        each_refused_of(&options, |o| o.usage_with_format(Global, |rows| {
-            Ok(rows.last().unwrap_or_default())
-        })) > 7
+        each_refused_of(&options, |o| o
+            .usage_with_format(Global, |rows| { Ok(rows.last().unwrap_or_default()) }))
+            > 7
     );
     assert!(each_refused_of(&options, |o| o.try_clone()) > 1);
-    assert!(
-        each_refused_of(&(), |()| each_split_within(
-            Global,
-            "Mary had a little lamb",
-            10
-        )) > 2
-    );
+    assert!(each_refused_of(&(), |()| each_split_within(Global, "Mary had a little lamb", 10)) > 2);
 }
 
 #[test]
@@ -315,22 +273,10 @@ fn each_refused_request_of_asking_is_told() {
     assert!(each_refused_of(&matches, |m| m.try_clone()) > 7);
     assert!(matches.try_clone() == Ok(self::matches()));
     assert_eq!(each_refused_of(&matches, |m| m.opt_str(Global, "o")), 1);
-    assert_eq!(
-        each_refused_of(&matches, |m| m.opt_default(Global, "c", "never")),
-        1
-    );
+    assert_eq!(each_refused_of(&matches, |m| m.opt_default(Global, "c", "never")), 1);
     assert_eq!(each_refused_of(&matches, |m| m.opts_str(Global, &names)), 1);
-    assert_eq!(
-        each_refused_of(&matches, |m| m.opts_str_first(Global, &["o", "L"])),
-        1
-    );
-    assert_eq!(
-        each_refused_of(&matches, |m| m.opt_positions(Global, "L")),
-        1
-    );
+    assert_eq!(each_refused_of(&matches, |m| m.opts_str_first(Global, &["o", "L"])), 1);
+    assert_eq!(each_refused_of(&matches, |m| m.opt_positions(Global, "L")), 1);
     assert_eq!(each_refused_of(&matches, |m| m.opt_strs(Global, "L")), 3);
-    assert_eq!(
-        each_refused_of(&matches, |m| m.opt_strs_pos(Global, "L")),
-        3
-    );
+    assert_eq!(each_refused_of(&matches, |m| m.opt_strs_pos(Global, "L")), 3);
 }

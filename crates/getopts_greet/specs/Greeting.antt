@@ -1,16 +1,19 @@
 -- The greeter's options, and what a line asks for.
-use Rattle.std.specs.Prelude.{◌≡◌, ⊤, if◌then◌else◌, ℕ, false, List, [], ◌∷◌, codes}
+use Rattle.std.specs.Prelude.{◌≡◌, ⊤, if◌then◌else◌, ℕ, false, List, [], ◌∷◌, ◌++◌, codes}
 use Rattle.std.specs.Prelude.{Option, Some, None, Result, Ok, Err}
+use Rattle.std.specs.Option.{option_map}
 use Rattle.std.specs.Result.{result_map_both}
 use Rattle.std.specs.Str.Parse.{ParsesUnsigned}
 use Rattle.std.specs.String.{string_bytes}
 use Rattle.std.specs.declared.num.ParseIntError.{ParseIntError}
 use Rattle.getopts.specs.Accessors.{IsReadAs, first_value, found_of, is_present}
-use Rattle.getopts.specs.Fail.{Fault, Tells}
+use Rattle.getopts.specs.Fail.{Fault, fault_of}
 use Rattle.getopts.specs.Matches.{Matched}
 use Rattle.getopts.specs.Names.{Text}
 use Rattle.getopts.specs.Options.{Declared, group_of}
 use Rattle.getopts.specs.Results.{read_result, parse_result}
+use Rattle.getopts.specs.declared.fail.Fail.{Fail}
+use Rattle.getopts.specs.declared.fail.Fail.TheVariants as fail
 use Rattle.getopts.specs.declared.groups.HasArg.TheVariants.{No, Yes}
 use Rattle.getopts.specs.declared.groups.Occur.TheVariants.{Optional, Req}
 use Rattle.getopts.specs.declared.groups.ParsingStyle.TheVariants.{FloatingFrees}
@@ -31,6 +34,19 @@ greeter_options = record {
   style = FloatingFrees;
   long_only = false;
 }
+
+-- the greeter's help, written out
+abbrev pub greeter_help : Text
+greeter_help =
+    codes "Usage: getopts_greet [options]\n\nOptions:\n"
+    ++ (codes "    -n, --name NAME     greet NAME\n"
+    ++ (codes "    -t, --times NUMBER  greet NUMBER times\n"
+    ++ codes "    -h, --help          print this help\n"))
+
+-- why a line that the library refuses asks for nothing; out of memory is no fault of the line
+abbrev pub refusal_of : Fail → Refusal
+refusal_of fail.OutOfMemory = OutOfMemory
+refusal_of fail = Line fail
 
 -- A line's fault, or its matches, or none where it asks for help: then an option may be missing or come too
 -- often. The two results are those of the line with its counts ignored, and with them kept.
@@ -53,7 +69,7 @@ pub record IsGreetingOf (matches : Matched) (greeting : Greeting) : Type 0 where
 -- says nothing of the line.
 abbrev pub IsAskedBy : Result (Option Matched) Fault → Result Asked Refusal → Type 0
 IsAskedBy asked (Err OutOfMemory) = ⊤
-IsAskedBy asked (Err (Line fail)) = Tells fail (λ fault. asked ≡ Err fault)
+IsAskedBy asked (Err (Line fail)) = option_map Err (fault_of fail) ≡ Some asked
 IsAskedBy (Ok None) (Ok Help) = ⊤
 IsAskedBy (Ok (Some matches)) (Ok (Greet greeting)) = IsGreetingOf matches greeting
 IsAskedBy (Ok (Some matches)) (Err (Number error)) = IsReadAs {T = ℕ} (ParsesUnsigned 32 10)

@@ -2,12 +2,13 @@
 
 ghost use Rattle.std.specs.Prelude.{◌≡◌, map, IfOk, IfSome};
 ghost use Rattle.std.specs.Str.Parse.{ParsesUnsigned};
+ghost use Rattle.std.specs.String.{string_bytes};
 ghost use Rattle.getopts.specs.Accessors.{IsDefined, IsReadAs, first_value, found_of};
 ghost use Rattle.getopts.specs.Holds.{HoldDeclared};
 ghost use Rattle.getopts.specs.Gives.{GivesResult};
-ghost use Rattle.getopts_greet.specs.Greeting.{IsAskedBy, asked_result, greeter_options};
-ghost use Rattle.getopts_greet.specs.declared.greeting.Refusal.TheVariants.{Line, Number};
-ghost use Rattle.getopts_greet.specs.declared.greeting.Refusal.TheVariants.{OutOfMemory};
+ghost use Rattle.getopts_greet.specs.Greeting.{IsAskedBy, asked_result, greeter_help};
+ghost use Rattle.getopts_greet.specs.Greeting.{greeter_options, refusal_of};
+ghost use Rattle.getopts_greet.specs.declared.greeting.Refusal.TheVariants.{Number, OutOfMemory};
 
 use getopts::{Fail, Matches, Options};
 use std::alloc::{AllocError, Global};
@@ -38,10 +39,13 @@ pub enum Refusal {
 
 // For `?` after the calls that read a line.
 impl From<Fail> for Refusal {
-    ghost from_gives = { λ fail refusal. refusal ≡ Line fail };
+    ghost from_gives = { λ fail refusal. refusal ≡ refusal_of fail };
 
     fn from(fail: Fail) -> Refusal {
-        Refusal::Line(fail)
+        match fail {
+            Fail::OutOfMemory => Refusal::OutOfMemory,
+            fault => Refusal::Line(fault),
+        }
     }
 }
 
@@ -73,6 +77,14 @@ pub fn options(alloc: Global) -> Result<Options, AllocError>
         .optopt("t", "times", "greet NUMBER times", "NUMBER")?
         .optflag("h", "help", "print this help")?;
     Ok(options)
+}
+
+/// The greeter's help, which ends with a line end of its own.
+pub fn help_text(alloc: Global) -> Result<String, AllocError>
+    ensures { IfOk result (λ text. string_bytes text ≡ greeter_help) }
+{
+    let options = options(alloc)?;
+    options.usage(alloc, "Usage: getopts_greet [options]")
 }
 
 /// What a line asks for. Faults come first, then help, then what is missing.

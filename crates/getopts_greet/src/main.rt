@@ -3,8 +3,7 @@
 
 mod greeting;
 
-use getopts::Fail;
-use greeting::{Asked, Greeting, Refusal, options, read};
+use greeting::{Asked, Greeting, Refusal, help_text, read};
 use std::process::ExitCode;
 use std::{env, io};
 
@@ -37,10 +36,9 @@ fn words(rt: &HostRuntime) -> io::Result<Vec<String>> {
     Ok(words)
 }
 
-/// Prints the help, which ends with a line end of its own.
+/// Prints the help.
 fn help(rt: &HostRuntime) -> io::Result<u8> {
-    let text = options(rt.alloc())?.usage(rt.alloc(), "Usage: getopts_greet [options]")?;
-    print!(rt; "{text}")?;
+    rt.print(help_text(rt.alloc())?)?;
     Ok(0)
 }
 
@@ -55,7 +53,7 @@ fn greet(rt: &HostRuntime, greeting: &Greeting) -> io::Result<u8> {
 /// Prints why the words were refused.
 fn refuse(rt: &HostRuntime, refusal: &Refusal) -> io::Result<u8> {
     match refusal {
-        Refusal::Line(Fail::OutOfMemory) | Refusal::OutOfMemory => return Ok(FAILED),
+        Refusal::OutOfMemory => return Ok(FAILED),
         Refusal::Line(fail) => eprintln!(rt; "getopts_greet: {fail}")?,
         Refusal::Number(error) => eprintln!(rt; "getopts_greet: --times: {error}")?,
     }

@@ -13,7 +13,8 @@ use Rattle.getopts.specs.Results.{canonical_result, parse_result, read_result}
 use Rattle.getopts_shell.specs.Completion.{functions, stub}
 use Rattle.getopts_shell.specs.Program.{Answer, AnswersAlone, AnswersCounted, AnswersDeclared}
 use Rattle.getopts_shell.specs.Program.{AnswersFree, AnswersLine, AnswersOffer, AnswersOwn}
-use Rattle.getopts_shell.specs.Program.{AnswersAccepted, AnswersOrdered, AnswersRead, AnswersScript, AnswersTable, free_fault}
+use Rattle.getopts_shell.specs.Program.{AnswersAccepted, AnswersRead, AnswersScript, AnswersTable}
+use Rattle.getopts_shell.specs.Program.{free_fault}
 use Rattle.getopts_shell.specs.Program.{AnswersWords, Asked, IsAnswer, IsHelp, IsStatus, OneAnswer}
 use Rattle.getopts_shell.specs.Program.{PrintsHelp, Script, TellsOptions, asked_by, asked_fault}
 use Rattle.getopts.specs.Usage.{IsUsageText}
@@ -22,7 +23,7 @@ use Rattle.getopts_shell.specs.Program.{shown_options}
 use Rattle.getopts_shell.specs.Program.{help_code, is_alone, is_given, misused}
 use Rattle.getopts_shell.specs.Program.{no_completion, own_options, read_options}
 use Rattle.getopts_shell.specs.Program.{table_fault_line}
-use Rattle.getopts_shell.specs.Table.{Entry, TableFault, first_late, operands_in}
+use Rattle.getopts_shell.specs.Table.{Entry, TableFault, operands_in}
 use Rattle.getopts_shell.proofs.Only.{one_table, one_fault, no_fault}
 
 -- ---- statuses
@@ -178,18 +179,13 @@ by_completion : (fault : Text) (code : Option Text)
 by_completion fault (Some text) = is_done
 by_completion fault None = is_misused
 
-one_ordered : (script : Script) (table : Text) (words : List Text)
-    → IsOne (AnswersOrdered script table words)
-one_ordered script table words = one_option script.asked.complete
+one_declared : (script : Script) (table : Text) (words : List Text)
+    → IsOne (AnswersDeclared script table words)
+one_declared script table words = one_option script.asked.complete
     (one_option (asked_fault script.asked script.entries)
     (one_script script words) (λ fault. one_equal _ is_misused))
     (λ shell. one_equal _ (by_completion (no_completion shell).text
     (stub shell script.asked.stop script.asked.long_only script.name table)))
-
-one_declared : (script : Script) (table : Text) (words : List Text)
-    → IsOne (AnswersDeclared script table words)
-one_declared script table words = one_option (first_late [] script.operands)
-    (one_ordered script table words) (λ operand. one_equal _ is_misused)
 
 one_of_table : (asked : Asked) (name table : Text) (words : List Text)
     → IsOne (AnswersTable asked name table words)

@@ -8,7 +8,7 @@ use Rattle.getopts.specs.Canon.{Content, canonical_line, content_of}
 use Rattle.getopts.specs.Fail.{Fault, fault_text}
 use Rattle.getopts.specs.Matches.{Found, Matched, MatchedGroup, matched, matches_of}
 use Rattle.getopts.specs.Names.{Text, main_name}
-use Rattle.getopts.specs.Options.{Group, Declared, group_of, signatures_of, with_group}
+use Rattle.getopts.specs.Options.{Group, Declared, group_of, signatures_of}
 use Rattle.getopts.specs.Reading.{Occurrence, Reading}
 use Rattle.getopts.specs.Results.{line_result}
 use Rattle.getopts.specs.Only.{IsTheOnly}
@@ -30,11 +30,6 @@ program_groups =
 -- the program's options: its groups, in the default style and mode
 abbrev pub program_options : Declared
 program_options = record { groups = program_groups; style = FloatingFrees; long_only = false }
-
--- the options with these groups too, the last ones
-abbrev pub with_groups : Declared → List Group → Declared
-with_groups options [] = options
-with_groups options (group ∷ groups) = with_groups (with_group options group) groups
 
 -- the end of a line
 abbrev pub newline : Text
@@ -101,9 +96,19 @@ asks_help matches = is_present matches.groups (codes "help")
 abbrev pub help_brief : Text
 help_brief = codes "Usage: getopts_show [options] FILE"
 
--- the program's help: the usage text of its options, which is one alone
+-- the program's help, written out
+abbrev pub program_help : Text
+program_help =
+    codes "Usage: getopts_show [options] FILE\n\nOptions:\n"
+    ++ (codes "    -o, --output NAME   set output file name\n"
+    ++ (codes "    -h, --help          print this help menu\n"
+    ++ (codes "    -v, --verbose       say more\n"
+    ++ (codes "    -L DIR              add a folder\n"
+    ++ codes "    -c, --color [WHEN]  colour the output\n"))))
+
+-- the program's help: the usage text of its options, which is one alone, and is the one written out
 abbrev pub IsHelpText : Text → Type 0
-IsHelpText text = IsTheOnly (IsUsageText program_options help_brief) text
+IsHelpText text = IsTheOnly (IsUsageText program_options help_brief) text × (text ≡ program_help)
 
 -- the text of accepted words, by their reading and whether it asks for help: the program's help, or
 -- the text of the reading's matches and of its content

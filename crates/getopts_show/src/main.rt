@@ -10,7 +10,7 @@ mod words;
 use show::{NO_MEMORY, show};
 use std::io;
 use std::process::ExitCode;
-use words::{system_words, texts_of};
+use words::system_words;
 
 /// Shows the system's words, without the program's own name, on the standard output.
 fn main(rt: HostRuntime) -> ExitCode {
@@ -23,6 +23,5 @@ fn run(rt: &HostRuntime) -> io::Result<u8>
     ensures { IfOk result IsStatus }
 {
     let words = system_words(rt)?;
-    let texts = texts_of(rt.alloc(), &words)?;
-    Ok(show(rt.alloc(), &texts, &mut io::writer(rt)))
+    Ok(show(rt.alloc(), &words, &mut io::writer(rt)))
 }

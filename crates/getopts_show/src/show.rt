@@ -1,24 +1,26 @@
 //! The program's work over words and a writer.
 
-ghost use Rattle.std.specs.Prelude.{◌≡◌, ◌++◌, codes, true, false, map, IfOk, OnOk, Some};
+ghost use Rattle.std.specs.Prelude.{◌≡◌, ◌++◌, codes, true, false, map, IfOk, Ok, OnOk, Some};
 ghost use Rattle.std.specs.List.{flat_map};
 ghost use Rattle.std.specs.String.{string_bytes};
 ghost use Rattle.std.specs.Io.KnownBytes.{Appends};
 ghost use Rattle.getopts.specs.Accessors.{AreDefined, IsDefined, pairs_of, positions_of};
 ghost use Rattle.getopts.specs.Fail.{Fault, fault_of};
 ghost use Rattle.getopts.specs.Names.{texts};
-ghost use Rattle.std.specs.Prelude.{Ok};
+ghost use Rattle.getopts.specs.Options.{with_groups};
 ghost use Rattle.getopts.specs.Canon.{canonical_line, content_of};
 ghost use Rattle.getopts.specs.Reading.{Reading};
 ghost use Rattle.getopts.specs.Results.{line_result, parse_result};
-ghost use Rattle.getopts_show.specs.Program.{AreAccepted, IsProgramText, content_text};
+ghost use Rattle.getopts_show.specs.Program.{AreAccepted, IsHelpText, IsProgramText};
 ghost use Rattle.getopts_show.specs.Program.{HasProgramGroups, IsStatus, IsDone, ShowsText};
-ghost use Rattle.getopts_show.specs.Program.{asks_help, count_line, fault_line, matches_text};
+ghost use Rattle.getopts_show.specs.Program.{asks_help, content_text, count_line};
+ghost use Rattle.getopts_show.specs.Program.{fault_line, matches_text};
 ghost use Rattle.getopts_show.specs.Program.{named_lines, position_mark, program_groups};
-ghost use Rattle.getopts_show.specs.Program.{program_options, value_line, with_groups, word_line};
+ghost use Rattle.getopts_show.specs.Program.{program_options, value_line, word_line};
 
 use getopts::{Fail, Matches, Occurrences, Options};
 use std::alloc::{AllocError, Global};
+use std::convert::AsStr;
 use std::io;
 use std::io::Write;
 
@@ -54,10 +56,10 @@ struct Answer {
 /// words, also where they ask for help, the fault is shown, after the program's name, and the answer is
 /// 2. Where memory is refused nothing is written and the answer is 3, and where a write or the flush
 /// fails it is 4.
-pub fn show<W: Write>(alloc: Global, words: &[&str], out: &mut W) -> u8
+pub fn show<S: AsStr, W: Write>(alloc: Global, words: &[S], out: &mut W) -> u8
     ensures status { IsStatus result }
     ensures shown { IsDone result
-        → ShowsText (W.contents out.old) (W.contents out.new) (texts words.now) result }
+        → ShowsText (W.contents out.old) (W.contents out.new) (map S.text words.now) result }
     ensures nothing_written { result ≡ 3 → out.new ≡ out.old }
 {
     match answer_to(alloc, words) {
@@ -78,9 +80,9 @@ fn print<W: Write>(out: &mut W, text: &str) -> io::Result<()>
 }
 
 /// What the program says to words.
-fn answer_to(alloc: Global, words: &[&str]) -> Result<Answer, AllocError>
+fn answer_to<S: AsStr>(alloc: Global, words: &[S]) -> Result<Answer, AllocError>
     ensures { IfOk result (λ answer.
-        IsProgramText (texts words.now) (string_bytes answer.text) answer.status) }
+        IsProgramText (map S.text words.now) (string_bytes answer.text) answer.status) }
 {
     let options = program_options(alloc)?;
     match options.parse_words(alloc, words) {
@@ -97,35 +99,43 @@ fn answer_to(alloc: Global, words: &[&str]) -> Result<Answer, AllocError>
 
 /// The text of words that are accepted with these matches: the program's help where they ask for it,
 /// or else what they are.
-fn accepted_text(
+fn accepted_text<S: AsStr>(
     alloc: Global,
     options: &Options,
-    words: &[&str],
+    words: &[S],
     matches: &Matches,
 ) -> Result<String, AllocError>
     requires program { options.now ≡ program_options }
-    requires accepted { parse_result program_options (texts words.now) ≡ Ok matches.now }
-    ensures { IfOk result (λ text. IsProgramText (texts words.now) (string_bytes text) 0) }
+    requires accepted { parse_result program_options (map S.text words.now) ≡ Ok matches.now }
+    ensures { IfOk result (λ text. IsProgramText (map S.text words.now) (string_bytes text) 0) }
 {
     if matches.opt_present("help") {
-        options.usage(alloc, BRIEF)
+        help_text(alloc, options)
     } else {
         shown_text(alloc, options, words, matches)
     }
 }
 
+/// The program's help.
+fn help_text(alloc: Global, options: &Options) -> Result<String, AllocError>
+    requires { options.now ≡ program_options }
+    ensures { IfOk result (λ text. IsHelpText (string_bytes text)) }
+{
+    options.usage(alloc, BRIEF)
+}
+
 /// What words are that are accepted with these matches: the text of the matches, and the line of
 /// each word of the canonical line.
-fn shown_text(
+fn shown_text<S: AsStr>(
     alloc: Global,
     options: &Options,
-    words: &[&str],
+    words: &[S],
     matches: &Matches,
 ) -> Result<String, AllocError>
     requires program { options.now ≡ program_options }
-    requires accepted { parse_result program_options (texts words.now) ≡ Ok matches.now }
+    requires accepted { parse_result program_options (map S.text words.now) ≡ Ok matches.now }
     requires no_help { asks_help matches.now ≡ false }
-    ensures { IfOk result (λ text. IsProgramText (texts words.now) (string_bytes text) 0) }
+    ensures { IfOk result (λ text. IsProgramText (map S.text words.now) (string_bytes text) 0) }
 {
     let mut text = matches_text(alloc, matches)?;
     push_canonical(&mut text, alloc, options, words)?;
@@ -133,16 +143,16 @@ fn shown_text(
 }
 
 /// Adds the line of each word of the canonical line of accepted words.
-fn push_canonical(
+fn push_canonical<S: AsStr>(
     text: &mut String,
     alloc: Global,
     options: &Options,
-    words: &[&str],
+    words: &[S],
 ) -> Result<(), AllocError>
     requires program { options.now ≡ program_options }
-    requires accepted { AreAccepted (texts words.now) }
+    requires accepted { AreAccepted (map S.text words.now) }
     ensures { OnOk result ((reading : Reading)
-        → line_result program_options (texts words.now) ≡ Ok reading
+        → line_result program_options (map S.text words.now) ≡ Ok reading
         → string_bytes text.new
         ≡ string_bytes text.old ++ content_text (content_of program_options reading)) }
 {
@@ -152,15 +162,15 @@ fn push_canonical(
 
 /// The canonical line of accepted words. They have one, since no main name of the program's options
 /// holds `=`, and `canonical_words` refuses them only for want of memory.
-fn canonical_line(
+fn canonical_line<S: AsStr>(
     alloc: Global,
     options: &Options,
-    words: &[&str],
+    words: &[S],
 ) -> Result<Vec<String>, AllocError>
     requires program { options.now ≡ program_options }
-    requires accepted { AreAccepted (texts words.now) }
+    requires accepted { AreAccepted (map S.text words.now) }
     ensures { IfOk result (λ line. (reading : Reading)
-        → line_result program_options (texts words.now) ≡ Ok reading
+        → line_result program_options (map S.text words.now) ≡ Ok reading
         → map string_bytes line.items
         ≡ canonical_line program_groups (content_of program_options reading)) }
 {

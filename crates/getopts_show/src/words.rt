@@ -1,10 +1,6 @@
 //! The system's words, without the program's own name.
 
-ghost use Rattle.std.specs.Prelude.{◌≡◌, map, IfOk};
-ghost use Rattle.std.specs.String.{string_bytes};
-ghost use Rattle.getopts.specs.Names.{texts};
-
-use std::alloc::{AllocError, Global};
+use std::alloc::Global;
 use std::env::{Env, FillError};
 use std::{env, io};
 
@@ -45,15 +41,4 @@ pub(crate) fn system_words(rt: &HostRuntime) -> io::Result<Vec<String>> {
         words.push(word)?;
     }
     Ok(words)
-}
-
-/// The texts of words, in order.
-pub(crate) fn texts_of(alloc: Global, words: &[String]) -> Result<Vec<&str>, AllocError>
-    ensures { IfOk result (λ lent. texts lent.items ≡ map string_bytes words.now) }
-{
-    let mut texts = Vec::with_capacity(alloc, words.len())?;
-    for word in words {
-        texts.push(word.as_str())?;
-    }
-    Ok(texts)
 }

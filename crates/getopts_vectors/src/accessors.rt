@@ -5,10 +5,10 @@ ghost use Rattle.std.specs.String.{string_bytes};
 ghost use Rattle.getopts.specs.Accessors.{AreDefined, IsDefined};
 ghost use Rattle.getopts.specs.Names.{texts};
 
-use crate::form::{Answer, Field, field_at, lent};
+use crate::form::{Answer, Field, field_at};
 use crate::stop::{Stop, WRONG_FIELDS};
 use getopts::{Matches, Occurrences};
-use std::alloc::Global;
+use std::alloc::{AllocError, Global};
 
 /// Answers that words were accepted, as a line: where the words after `--` begin, and the free
 /// words.
@@ -207,6 +207,15 @@ fn any(alloc: Global, matches: &Matches, names: &[String], answer: &mut Answer) 
     } else {
         answer.field("undefined");
     }
+}
+
+/// Names that are lent, for the calls that take them so.
+fn lent<'n>(alloc: Global, names: &'n [String]) -> Result<Vec<&'n str>, AllocError> {
+    let mut lent = Vec::new(alloc);
+    for name in names {
+        lent.push(name.as_str())?;
+    }
+    Ok(lent)
 }
 
 /// Answers the same of a list in both its forms.

@@ -1,6 +1,6 @@
 //! The answers of options, of faults, and of the calls that need neither, each as its fields.
 
-use crate::form::{Answer, Field, field_at, is_taken, lent};
+use crate::form::{Answer, Field, field_at, is_taken};
 use crate::stop::{Stop, UNKNOWN_WORD, WRONG_FIELDS};
 use getopts::wrap::each_split_within;
 use getopts::{Fail, Options, names_lawful};
@@ -94,7 +94,7 @@ fn written(
 ) -> Result<Option<Vec<String>>, Fail> {
     match word {
         "canonical" => options.canonical(alloc, words.iter().map(|word| word.as_str())),
-        "canonical_words" => options.canonical_words(alloc, &lent(alloc, words)?),
+        "canonical_words" => options.canonical_words(alloc, words),
         _ => options.canonical(
             alloc,
             words.iter().map(|word| word.as_str()).filter(is_taken),

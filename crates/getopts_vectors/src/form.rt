@@ -326,15 +326,6 @@ pub fn field_at(fields: &[String], at: usize) -> &str {
     }
 }
 
-/// A list of words that are lent.
-pub fn lent<'w>(alloc: Global, words: &'w [String]) -> Result<Vec<&'w str>, AllocError> {
-    let mut lent = Vec::new(alloc);
-    for word in words {
-        lent.push(word.as_str())?;
-    }
-    Ok(lent)
-}
-
 /// Each word is taken: by this an iterator doesn't tell how many words it has.
 pub fn is_taken(_word: &&str) -> bool {
     true

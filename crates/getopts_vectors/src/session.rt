@@ -2,7 +2,7 @@
 
 ghost use Rattle.getopts.specs.Names.{AreLawful};
 
-use crate::form::{Answer, Field, field_at, is_taken, lent};
+use crate::form::{Answer, Field, field_at, is_taken};
 use crate::stop::{NO_CASE, Stop, UNLAWFUL_NAMES, WRONG_FIELDS};
 use crate::{accessors, asks};
 use getopts::{HasArg, Matches, Occur, Options, ParsingStyle, names_lawful};
@@ -265,8 +265,8 @@ fn read_by(alloc: Global, options: &Options, word: &str, words: &[String]) -> ge
             alloc,
             words.iter().map(|word| word.as_str()).filter(is_taken),
         ),
-        "parse_words" => options.parse_words(alloc, &lent(alloc, words)?),
-        _ => options.parse_ignoring_counts(alloc, &lent(alloc, words)?),
+        "parse_words" => options.parse_words(alloc, words),
+        _ => options.parse_ignoring_counts(alloc, words),
     }
 }
 

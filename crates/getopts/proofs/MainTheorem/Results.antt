@@ -214,9 +214,3 @@ pub made_of-ok : {X : Type 0} (make : Reading → X) (outcome : Result Reading F
     → (reading : Reading) × (outcome ≡ Ok reading) × (make reading ≡ x)
 made_of-ok make (Ok reading) x same = (reading, refl, cc)
 made_of-ok make (Err fault) x same = cc
-
--- and a fault is that of the line
-pub made_of-err : {X : Type 0} (make : Reading → X) (outcome : Result Reading Fault) (fault : Fault)
-    → made_of make outcome ≡ Err fault → outcome ≡ Err fault
-made_of-err make (Ok reading) fault same = cc
-made_of-err make (Err other) fault same = cc
