@@ -378,9 +378,9 @@ def test_names_and_links(page):
     prose = re.sub(r"^```.*?^```", "", pages[page], flags=re.M | re.S)
     for span in sorted(set(re.findall(r"`([A-Za-z_][\w-]*)`", prose))):
         failures += [] if span in words() else [f"nothing is called {span}"]
-    for owner, name in sorted(set(re.findall(r"`(\w+)::(\w+)", prose))):
-        told = rf"\b{owner}\b[\s\S]*\b(?:fn|mod|struct|enum) {name}\b"
-        failures += [] if any(re.search(told, text) for text in modules.values()) else [f"no {owner} has {name}"]
+    for owner, name in sorted(set(re.findall(r"`([A-Z]\w*)::(\w+)", prose))):
+        of_it = [text for text in modules.values() if re.search(rf"\bimpl\b.*\b{owner}\b", text)]
+        failures += [f"no {owner} has {name}"] if of_it and not re.search(rf"\bfn {name}\b", "\n".join(of_it)) else []
     for path in sorted(set(re.findall(r"`([\w./-]+\.(?:md|rt|antt|rs|c|h|sh|py|edit|txt))`", prose))):
         there = [path, os.path.normpath(os.path.join(os.path.dirname(page), path))]
         if not any(f"/{it}".endswith(f"/{end}") for it in tracked for end in there):
