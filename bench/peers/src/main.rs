@@ -28,7 +28,9 @@ fn main() -> ExitCode {
             ExitCode::SUCCESS
         }
         None => {
-            eprintln!("peers: arguments are PEER JOB ROWS [READY] TIMES, where the peer does the job");
+            eprintln!(
+                "peers: arguments are PEER JOB ROWS [READY] TIMES, where the peer does the job"
+            );
             ExitCode::from(2)
         }
     }
