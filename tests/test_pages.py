@@ -102,7 +102,7 @@ FIGURES = [
 NO_FIGURES = re.compile(r"""
     \bU\+\w+ | \b0\.2\.24\b | Apache-2\.0 | x86-64(-v2)?
     | 1,000\ words | 100,000\ words | 20\ options | 10\ words
-    | (32|64)\ bits | 54\ columns | 24\ (spaces|columns) | stop\ at\ 255 | 24\ bytes | 4\.2\ or\ later | C\+\+11 | Debian\ 12 | 80\ words | 200,000\ cases
+    | (32|64)\ bits | 54\ columns | 24\ (spaces|columns) | stop\ at\ 255 | 24\ bytes | 4\.2\ or\ later | bash\ before\ 4\.4 | C\+\+11 | Debian\ 12 | 80\ words | 200,000\ cases
 """, re.X)
 
 def table_figures(page):
