@@ -1,13 +1,12 @@
 -- What the words of a canonical line ask for is what its mentions ask for.
-use Rattle.std.proofs.Common.{◌≡◌, ◌++◌, ℕ, zero, suc, Bool, false, List, [], ◌∷◌, map, cond, codes}
+use Rattle.std.proofs.Common.{◌≡◌, ◌++◌, ℕ, zero, suc, false, List, [], ◌∷◌, map, cond}
 use Rattle.std.proofs.Common.{Option, Some, None, refl, subst, unwrap_or, ◌∙◌}
 use Rattle.std.specs.List.{AllByRecursion}
 use Rattle.std.specs.Option.{option_or}
 use Rattle.std.specs.Str.{bytes_eq}
-use Rattle.getopts.specs.Canon.{Content, IsPlain, canonical_word, main_at}
+use Rattle.getopts.specs.Canon.{canonical_word, main_at}
 use Rattle.getopts.specs.CanonAnswers.{IsWritten, IsUnwritable}
 use Rattle.getopts.specs.Names.{Text}
-use Rattle.getopts.specs.Options.{grammar_of}
 use Rattle.getopts.specs.Parse.{Reads}
 use Rattle.getopts.specs.Reading.{FitsKind, Mention, holds_equals, stop_word}
 use Rattle.getopts.specs.declared.groups.HasArg.{HasArg}
