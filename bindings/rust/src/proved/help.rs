@@ -3,8 +3,7 @@
 
 use crate::fallible::*;
 
-use super::groups::{Ends, FIRST_GROUPS, first_at, push_two, second_at};
-use super::groups::{Kinds, Signature, Signatures};
+use super::groups::{Ends, FIRST_GROUPS, Kinds, Signature, Signatures, first_at, push_two, second_at};
 use crate::alloc::{AllocError, Global};
 
 /// The bytes of the hints and descriptions of the first groups: so many need no second request.
