@@ -284,7 +284,8 @@ def test_contracts(request):
 
 
 # Those that wait for a caller.
-UNCITED = {"lines_again", "ReadsOnce-unsigned", "IsReadAs-one", "IsReadAs-not_both", "IsReadAs-weaker", "HasReading-known"}
+UNCITED = {"lines_again", "answer_again", "same_first_or", "ReadsOnce-unsigned", "IsReadAs-one", "IsReadAs-not_both",
+           "IsReadAs-weaker", "HasReading-known"}
 
 
 def test_offered_lemmas_are_cited():
