@@ -26,6 +26,7 @@ def read(name):
 tracked = all_tracked()
 pages = {name: read(name) for name in tracked if name.endswith(".md")}
 sources = {name: read(name) for name in tracked if re.match(r"crates/\w*/src/.*\.rt$", name)}
+modules = sources | {name: read(name) for name in tracked if re.match(r"bindings/.*\.rs$", name)}
 CALLING, CONTRACTS = (next(name for name in pages if name.endswith(end)) for end in ("CALLING.md", "CONTRACTS.md"))
 edits = {name: read(name) for name in tracked if name.endswith(".edit") and "/private/" not in name}
 ANEW = "'bash test.sh -k pages --fix' writes it anew"
@@ -377,6 +378,9 @@ def test_names_and_links(page):
     prose = re.sub(r"^```.*?^```", "", pages[page], flags=re.M | re.S)
     for span in sorted(set(re.findall(r"`([A-Za-z_][\w-]*)`", prose))):
         failures += [] if span in words() else [f"nothing is called {span}"]
+    for owner, name in sorted(set(re.findall(r"`([A-Z]\w*)::(\w+)", prose))):
+        of_it = [text for text in modules.values() if re.search(rf"\bimpl\b.*\b{owner}\b", text)]
+        failures += [f"no {owner} has {name}"] if of_it and not re.search(rf"\bfn {name}\b", "\n".join(of_it)) else []
     for path in sorted(set(re.findall(r"`([\w./-]+\.(?:md|rt|antt|rs|c|h|sh|py|edit|txt))`", prose))):
         there = [path, os.path.normpath(os.path.join(os.path.dirname(page), path))]
         if not any(f"/{it}".endswith(f"/{end}") for it in tracked for end in there):

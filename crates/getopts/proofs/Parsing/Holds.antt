@@ -1,8 +1,7 @@
 -- What accepted matches hold of the names that the options declare.
 use Rattle.std.proofs.Common.{◌≡◌, ◌==◌, ◌<◌, ◌+◌, ℕ, zero, suc, Bool, true, false, cond, List, []}
-use Rattle.std.proofs.Common.{◌∷◌, drop, length, map, slice_get, Option, Some}
-use Rattle.std.proofs.Common.{None, IfSome, IsSome, refl, ap, sym, subst, ◌∙◌, arith, add-zero}
-use Rattle.std.proofs.Common.{zero-add}
+use Rattle.std.proofs.Common.{◌∷◌, drop, length, map, slice_get, Option, Some, None, IfSome, IsSome}
+use Rattle.std.proofs.Common.{refl, ap, sym, subst, ◌∙◌, arith, add-zero, zero-add}
 use Rattle.std.specs.List.{AllByRecursion, filter}
 use Rattle.std.specs.Option.{option_map, option_map_or}
 use Rattle.std.proofs.lemmas.Bool.{eqb-true}
@@ -10,9 +9,8 @@ use Rattle.std.proofs.lemmas.Option.{option_and_then_some, same_Some}
 use Rattle.getopts.specs.Names.{Text, Names, resolution}
 use Rattle.getopts.specs.Options.{Signature, Group, Declared, names_of, signatures_of}
 use Rattle.getopts.specs.Options.{grammar_of, Declares, kind_of, occur_of}
-use Rattle.getopts.specs.Reading.{Occurrence, spelled_all, tail_words, occurrences_of}
-use Rattle.getopts.specs.Reading.{Tail, stop, FitsKind}
-use Rattle.getopts.specs.Reading.{stop_word, free_words, IsReading}
+use Rattle.getopts.specs.Reading.{Occurrence, spelled_all, tail_words, occurrences_of, Tail, stop}
+use Rattle.getopts.specs.Reading.{FitsKind, stop_word, free_words, IsReading}
 use Rattle.getopts.specs.Matches.{Found, Matched, MatchedGroup, found_at, matched, FitsCount}
 use Rattle.getopts.specs.Matches.{KeepsCounts}
 use Rattle.getopts.specs.Accessors.{IsDefined, place_of, found_of, found_in, first_value}

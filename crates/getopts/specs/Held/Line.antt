@@ -21,8 +21,7 @@ scanner_grammar scanner = grammar_of scanner.options.now
 -- the options of a scanner are declared, and its table is that of their names
 pub record IsLawfulScanner (scanner : Scanner) : Type 0 where
   pub declared : MayBeDeclared scanner.options.now.groups
-  pub table : IsTableOf (names_of scanner.options.now.groups) scanner.table.now.letters.items
-      scanner.table.now.words.items
+  pub table : IsTableOf (names_of scanner.options.now.groups) scanner.table.now
 
 -- the option that a name resolves to
 pub record IsNamedBy (grammar : Grammar) (name : Text) (option : Named) : Type 0 where
