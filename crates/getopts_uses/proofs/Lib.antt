@@ -1,1 +1,2 @@
 mod CompileLemmas
+mod LoudnessLemmas

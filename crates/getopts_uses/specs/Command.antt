@@ -1,36 +1,81 @@
--- A program with subcommands: its options, and the subcommand of a line.
-use Rattle.std.specs.Prelude.{◌≡◌, List, [], ◌∷◌, false, map, codes}
+-- A program with subcommands: its options and those of `add`, and what a line runs.
+use Rattle.std.specs.Prelude.{◌≡◌, ◌≢◌, ⊤, List, [], ◌∷◌, false, map, codes, Result, Ok, Err}
+use Rattle.std.specs.Option.{option_map}
 use Rattle.std.specs.String.{string_bytes}
-use Rattle.getopts.specs.Accessors.{is_present}
-use Rattle.getopts.specs.Holds.{StandBeforeFree}
+use Rattle.getopts.specs.Accessors.{first_value, found_of, is_present}
+use Rattle.getopts.specs.Fail.{Fault, Tells}
 use Rattle.getopts.specs.Matches.{Matched}
 use Rattle.getopts.specs.Names.{Text}
 use Rattle.getopts.specs.Options.{Declared, group_of}
-use Rattle.getopts.specs.Parse.{IsAccepted}
-use Rattle.getopts.specs.declared.groups.HasArg.TheVariants.{No}
+use Rattle.getopts.specs.Results.{parse_result}
+use Rattle.getopts.specs.declared.fail.Fail.{Fail}
+use Rattle.getopts.specs.declared.groups.HasArg.TheVariants.{No, Yes}
 use Rattle.getopts.specs.declared.groups.Occur.TheVariants.{Optional}
-use Rattle.getopts.specs.declared.groups.ParsingStyle.TheVariants.{StopAtFirstFree}
+use Rattle.getopts.specs.declared.groups.ParsingStyle.TheVariants.{FloatingFrees, StopAtFirstFree}
+use Rattle.getopts_uses.specs.Log.{IsLogBy, log_options}
+use Rattle.getopts_uses.specs.declared.add.Add.{Add}
 use Rattle.getopts_uses.specs.declared.subcommand.Command.{Command}
+use Rattle.getopts_uses.specs.declared.subcommand.Command.TheVariants as command
+use Rattle.getopts_uses.specs.declared.subcommand.Refusal.{Refusal}
+use Rattle.getopts_uses.specs.declared.subcommand.Refusal.TheVariants as refusal
+use Rattle.getopts_uses.specs.declared.subcommand.Run.{Run}
 
--- the program's options
-abbrev pub command_options : Declared
-command_options = record {
-  groups = group_of (codes "q") (codes "quiet") (codes "say less") [] No Optional ∷ [];
+-- the options before a subcommand
+abbrev pub global_options : Declared
+global_options = record {
+  groups =
+      group_of (codes "q") (codes "quiet") (codes "say less") [] No Optional
+      ∷ group_of (codes "C") (codes "folder") (codes "work in DIR") (codes "DIR") Yes Optional
+      ∷ [];
   style = StopAtFirstFree;
   long_only = false;
 }
 
--- The line's subcommand: its first free word, and the words after it. These end the line, and what stands before
--- them gives the same options alone.
-pub record IsCommandOf (words : List Text) (command : Command) : Type 0 where
-  pub matches : Matched
-  pub accepted : IsAccepted command_options words matches
-  pub quiet : command.quiet ≡ is_present matches.groups (codes "quiet")
-  pub free : matches.free ≡ string_bytes command.name ∷ map string_bytes command.words.items
-  pub last : StandBeforeFree command_options words matches
+-- the options of `add`
+abbrev pub add_options : Declared
+add_options = record {
+  groups = group_of (codes "f") (codes "force") (codes "add ignored files too") [] No Optional ∷ [];
+  style = FloatingFrees;
+  long_only = false;
+}
 
--- the line names no subcommand
-pub record NamesNone (words : List Text) : Type 0 where
-  pub matches : Matched
-  pub accepted : IsAccepted command_options words matches
-  pub free : matches.free ≡ []
+-- what a line of `add` asks for, or its fault
+abbrev pub IsAddBy : Result Matched Fault → Result Add Fail → Type 0
+IsAddBy line (Err fail) = Tells fail (λ fault. line ≡ Err fault)
+IsAddBy (Ok matches) (Ok add) = (add.force ≡ is_present matches.groups (codes "force"))
+    × (map string_bytes add.files.items ≡ matches.free)
+IsAddBy (Err fault) (Ok add) = ⊥
+
+-- The subcommand of a name, with what its own words ask for, or why there is none: a fault of these words, or an
+-- unknown name.
+abbrev pub IsCommandBy : Text → List Text → Result Command Refusal → Type 0
+IsCommandBy name words (Err refusal.OutOfMemory) = ⊤
+IsCommandBy name words (Ok (command.Add add)) =
+    (name ≡ codes "add") × IsAddBy (parse_result add_options words) (Ok add)
+IsCommandBy name words (Err (refusal.Add fail)) =
+    (name ≡ codes "add") × IsAddBy (parse_result add_options words) (Err fail)
+IsCommandBy name words (Ok (command.Log log)) =
+    (name ≡ codes "log") × IsLogBy (parse_result log_options words) (Ok log)
+IsCommandBy name words (Err (refusal.Log fail)) =
+    (name ≡ codes "log") × IsLogBy (parse_result log_options words) (Err fail)
+IsCommandBy name words (Err (refusal.Unknown text)) =
+    (string_bytes text ≡ name) × (name ≢ codes "add") × (name ≢ codes "log")
+IsCommandBy name words result = ⊥
+
+-- what matches with these free words run: the first is the subcommand's name, and the others are its own
+abbrev pub IsRunOf : Matched → List Text → Result Run Refusal → Type 0
+IsRunOf global free (Err refusal.OutOfMemory) = ⊤
+IsRunOf global [] (Err refusal.NoCommand) = ⊤
+IsRunOf global (name ∷ words) (Ok run) =
+    (run.quiet ≡ is_present global.groups (codes "quiet"))
+    × (option_map string_bytes run.folder ≡ first_value (found_of global.groups (codes "folder")))
+    × IsCommandBy name words (Ok run.command)
+IsRunOf global (name ∷ words) (Err refused) = IsCommandBy name words (Err refused)
+IsRunOf global [] result = ⊥
+
+-- what a line runs, or why it runs nothing
+abbrev pub IsRunBy : Result Matched Fault → Result Run Refusal → Type 0
+IsRunBy line (Err refusal.OutOfMemory) = ⊤
+IsRunBy line (Err (refusal.Line fail)) = Tells fail (λ fault. line ≡ Err fault)
+IsRunBy (Ok global) result = IsRunOf global global.free result
+IsRunBy (Err fault) result = ⊥

@@ -1,8 +1,10 @@
+pub mod Checked
 pub mod Command
 pub mod Compile
 pub mod Driver
 pub mod Log
 pub mod Logged
+pub mod Loudness
 pub mod Output
 pub mod Peek
 pub mod Wrapper

@@ -1,35 +1,60 @@
--- What a line says to the tool, however it was typed.
-use Rattle.std.specs.Prelude.{Bool, List, codes, Option, Result}
+-- A build tool: its options, and what a line says to it, however it was typed.
+use Rattle.std.specs.Prelude.{ℕ, Bool, List, [], ◌∷◌, false, map, length, codes, Option, Result}
+use Rattle.std.specs.Option.{option_map}
 use Rattle.std.specs.Result.{result_map_both}
-use Rattle.getopts.specs.Accessors.{first_value, first_value_or, found_of, is_present, values_of}
+use Rattle.std.specs.String.{string_bytes}
+use Rattle.getopts.specs.Accessors.{first_value, found_of, is_present, values_of}
 use Rattle.getopts.specs.Fail.{Fault}
 use Rattle.getopts.specs.Matches.{Matched}
 use Rattle.getopts.specs.Names.{Text}
+use Rattle.getopts.specs.Options.{Declared, group_of}
 use Rattle.getopts.specs.Results.{parse_result}
-use Rattle.getopts_uses.specs.Peek.{peek_options}
+use Rattle.getopts.specs.declared.groups.HasArg.TheVariants.{No, Yes}
+use Rattle.getopts.specs.declared.groups.Occur.TheVariants.{Optional, Multi}
+use Rattle.getopts.specs.declared.groups.ParsingStyle.TheVariants.{FloatingFrees}
+use Rattle.getopts_uses.specs.declared.logged.Build.{Build}
 
--- all that the tool asks of a line's matches
+-- the tool's options
+abbrev pub build_options : Declared
+build_options = record {
+  groups =
+      group_of (codes "j") (codes "jobs") (codes "run so many jobs") (codes "NUMBER") Yes Optional
+      ∷ group_of (codes "k") (codes "keep-going") (codes "go on after an error") [] No Optional
+      ∷ group_of (codes "v") (codes "verbose") (codes "say what is run") [] No Multi
+      ∷ group_of (codes "D") (codes "set") (codes "set a variable") (codes "NAME=VALUE") Yes Multi
+      ∷ [];
+  style = FloatingFrees;
+  long_only = false;
+}
+
+-- all that the tool asks of a line
 pub record Said : Type 0 where
-  pub help : Bool
-  pub version : Bool
-  pub lines : Option Text
-  pub reverse : Bool
-  pub wanted : List Text
-  pub color : Option Text
-  pub files : List Text
+  pub jobs : Option Text
+  pub keep_going : Bool
+  pub verbose : ℕ
+  pub sets : List Text
+  pub targets : List Text
 
 -- what matches say
 abbrev pub said_by : Matched → Said
 said_by matches = record {
-  help = is_present matches.groups (codes "help");
-  version = is_present matches.groups (codes "version");
-  lines = first_value (found_of matches.groups (codes "lines"));
-  reverse = is_present matches.groups (codes "reverse");
-  wanted = values_of (found_of matches.groups (codes "match"));
-  color = first_value_or (found_of matches.groups (codes "color")) (codes "always");
-  files = matches.free;
+  jobs = first_value (found_of matches.groups (codes "jobs"));
+  keep_going = is_present matches.groups (codes "keep-going");
+  verbose = length (found_of matches.groups (codes "verbose"));
+  sets = values_of (found_of matches.groups (codes "set"));
+  targets = matches.free;
+}
+
+-- what the tool has of a line
+abbrev pub said_of : Build → Said
+said_of build = record {
+  jobs = option_map string_bytes build.jobs;
+  keep_going = build.keep_going;
+  verbose = build.verbose;
+  sets = map string_bytes build.sets.items;
+  targets = map string_bytes build.targets.items;
 }
 
 -- what words say, or their fault
 abbrev pub said_result : List Text → Result Said Fault
-said_result words = result_map_both said_by (λ fault. fault) (parse_result peek_options words)
+said_result words = result_map_both said_by (λ fault. fault) (parse_result build_options words)

@@ -1,14 +1,21 @@
-//! A subcommand that declares its options by a table.
+//! The subcommand `log`, whose options stand in a table.
 
-ghost use Rattle.std.specs.Prelude.{◌≡◌, IfOk};
-ghost use Rattle.getopts.specs.Names.{texts};
-ghost use Rattle.getopts.specs.Gives.{GivesResult};
+ghost use Rattle.std.specs.Prelude.{◌≡◌, ◌++◌, map, IfOk, OnOk};
+ghost use Rattle.std.specs.String.{string_bytes};
 ghost use Rattle.getopts.specs.Results.{parse_result};
-ghost use Rattle.getopts_uses.specs.Log.{declared_by, log_options};
+ghost use Rattle.getopts_uses.specs.Log.{IsLogBy, group_of_row, log_options};
 
 use crate::row::Row;
-use getopts::{HasArg, Occur, Options};
+use getopts::{Fail, HasArg, Occur, Options};
 use std::alloc::{AllocError, Global};
+
+/// Which entries are shown.
+#[derive(Debug, Drop)]
+pub struct Log {
+    pub count: Option<String>,
+    pub texts: Vec<String>,
+    pub files: Vec<String>,
+}
 
 /// The options of `log`, as a table.
 const LOG: [Row<'static>; 2] = [
@@ -30,30 +37,38 @@ const LOG: [Row<'static>; 2] = [
     },
 ];
 
-/// The options of a table.
-pub fn options_by(alloc: Global, rows: &[Row<'_>]) -> Result<Options, AllocError>
-    ensures { IfOk result (λ options. options ≡ declared_by rows.now) }
+/// Adds the options of a table. Where the table is written out, what they are is computed: the checker takes seconds
+/// for ten rows, and minutes for thirty.
+pub fn add_rows(options: &mut Options, rows: &[Row<'_>]) -> Result<(), AllocError>
+    ensures { OnOk result (options.new ≡ record options.old {
+      groups = options.old.groups ++ map group_of_row rows.now;
+    }) }
 {
-    let mut options = Options::new(alloc);
     for row in rows {
         options.add_group(
             row.short, row.long, row.desc, row.hint, row.hasarg, row.occur,
         )?;
     }
-    Ok(options)
+    Ok(())
 }
 
 /// The options of `log`.
 fn options(alloc: Global) -> Result<Options, AllocError>
     ensures { IfOk result (λ options. options ≡ log_options) }
 {
-    options_by(alloc, &LOG)
+    let mut options = Options::new(alloc);
+    add_rows(&mut options, &LOG)?;
+    Ok(options)
 }
 
-/// What a line of `log` gives.
-pub fn read_log(alloc: Global, words: &[&str]) -> getopts::Result
-    ensures { GivesResult result (parse_result log_options (texts words.now)) }
+/// What the words after `log` ask for.
+pub fn read_log(alloc: Global, words: &[String]) -> Result<Log, Fail>
+    ensures { IsLogBy (parse_result log_options (map string_bytes words.now)) result }
 {
-    let options = options(alloc)?;
-    options.parse_words(alloc, words)
+    let matches = options(alloc)?.parse_words(alloc, words)?;
+    Ok(Log {
+        count: matches.opt_str(alloc, "max-count")?,
+        texts: matches.opt_strs(alloc, "grep")?,
+        files: matches.free,
+    })
 }

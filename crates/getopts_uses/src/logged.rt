@@ -1,25 +1,71 @@
-//! The line of a log: what the words ask for, in words that don't depend on how it was typed.
+//! A build tool that logs what it was asked for, in a line that asks for the same where it is read again.
 
-ghost use Rattle.std.specs.Prelude.{◌≡◌, map, IfOk, IfSome};
+ghost use Rattle.std.specs.Prelude.{◌≡◌, List, map, IfOk, IfSome};
 ghost use Rattle.std.specs.Option.{option_map};
 ghost use Rattle.std.specs.String.{string_bytes};
+ghost use Rattle.getopts.specs.CanonAnswers.{IsWritten};
 ghost use Rattle.getopts.specs.Gives.{GivesAs};
-ghost use Rattle.getopts.specs.Names.{texts};
+ghost use Rattle.getopts.specs.Names.{Text, texts};
 ghost use Rattle.getopts.specs.Results.{canonical_result};
-ghost use Rattle.getopts_uses.specs.Logged.{said_result};
-ghost use Rattle.getopts_uses.specs.Peek.{peek_options};
+ghost use Rattle.getopts_uses.specs.Logged.{build_options, said_of, said_result};
 
-use crate::peek::options;
-use getopts::Fail;
-use std::alloc::Global;
+use getopts::{Fail, Options, declared_options_keep_laws};
+use std::alloc::{AllocError, Global};
+use std::convert::AsStr;
 
-/// The canonical line of the words. Read again, it asks for the same. There is none only where an option
-/// that they give has a main name that holds `=`.
+/// What a line asks for.
+#[derive(Debug, Drop)]
+pub struct Build {
+    pub jobs: Option<String>,
+    pub keep_going: bool,
+    pub verbose: usize,
+    pub sets: Vec<String>,
+    pub targets: Vec<String>,
+}
+
+/// The tool's options.
+fn options(alloc: Global) -> Result<Options, AllocError>
+    ensures { IfOk result (λ options. options ≡ build_options) }
+{
+    let mut options = Options::new(alloc);
+    options
+        .optopt("j", "jobs", "run so many jobs", "NUMBER")?
+        .optflag("k", "keep-going", "go on after an error")?
+        .optflagmulti("v", "verbose", "say what is run")?
+        .optmulti("D", "set", "set a variable", "NAME=VALUE")?;
+    Ok(options)
+}
+
+/// What a line asks for: the words of a program, or a line of the log.
+pub fn read_build<S: AsStr>(alloc: Global, words: &[S]) -> Result<Build, Fail>
+    ensures { GivesAs said_of result (λ it. said_result (map S.text words.now) ≡ it) }
+{
+    let matches = options(alloc)?.parse_words(alloc, words)?;
+    Ok(Build {
+        jobs: matches.opt_str(alloc, "jobs")?,
+        keep_going: matches.opt_present("keep-going"),
+        verbose: matches.opt_count("verbose"),
+        sets: matches.opt_strs(alloc, "set")?,
+        targets: matches.free,
+    })
+}
+
+/// A canonical line says what its words say: a law to cite.
+fn lines_say_the_same()
+    ensures { (words line : List Text) → IsWritten build_options words line
+        → said_result line ≡ said_result words }
+{
+    declared_options_keep_laws();
+}
+
+/// The line of the log: the canonical line of the words. There is none only where an option that they give has
+/// a main name that holds `=`.
 pub fn log_line(alloc: Global, words: &[&str]) -> Result<Option<Vec<String>>, Fail>
     ensures logged { GivesAs (option_map (λ line. map string_bytes line.items)) result
-        (λ it. canonical_result peek_options (texts words.now) ≡ it) }
+        (λ it. canonical_result build_options (texts words.now) ≡ it) }
     ensures same { IfOk result (λ line. IfSome line (λ line.
         said_result (map string_bytes line.items) ≡ said_result (texts words.now))) }
 {
+    lines_say_the_same();
     options(alloc)?.canonical_words(alloc, words)
 }

@@ -6,12 +6,15 @@
 //! types, and faults under any format.
 #![tactic(auto)]
 
+mod add;
+mod checked;
 mod compile;
 mod driver;
 mod flag;
 mod lists;
 mod log;
 mod logged;
+mod loudness;
 mod output;
 mod peek;
 mod plugin;

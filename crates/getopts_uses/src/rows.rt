@@ -6,14 +6,15 @@ mod iterators;
 mod values;
 mod wrapped;
 
+use crate::checked::read_settings;
 use crate::compile::read_job;
 use crate::driver;
-use crate::log::read_log;
-use crate::logged::log_line;
+use crate::logged::{log_line, read_build};
+use crate::loudness::loudness_of;
 use crate::output::output_of;
 use crate::peek::{help_text, read_request};
 use crate::required::{input_of, input_options};
-use crate::subcommand::read_command;
+use crate::subcommand::read_run;
 use crate::wrapper::handed_on;
 use std::alloc::{AllocError, Global};
 use std::fmt::Debug;
@@ -42,6 +43,15 @@ pub fn push_row(alloc: Global, text: &mut String, row: &str) -> Result<(), Alloc
     }
 }
 
+/// Adds what the log's line of words asks for.
+fn push_replayed(alloc: Global, text: &mut String, words: &[&str]) -> Result<(), AllocError> {
+    match log_line(alloc, words) {
+        Ok(Some(line)) => push(text, read_build(alloc, &line)),
+        Ok(None) => writeln!(text, "no line"),
+        Err(fail) => writeln!(text, "{fail:?}"),
+    }
+}
+
 /// Adds what a caller returns for words.
 fn push_caller(
     alloc: Global,
@@ -53,10 +63,12 @@ fn push_caller(
         "peek" => push(text, read_request(alloc, words)),
         "peek_help" => push(text, help_text(alloc)),
         "logged" => push(text, log_line(alloc, words)),
+        "replayed" => push_replayed(alloc, text, words),
+        "checked" => push(text, read_settings(alloc, words)),
+        "loudness" => push(text, loudness_of(alloc, words)),
         "wrapper" => push(text, handed_on(alloc, words)),
         "compile" => push(text, read_job(alloc, words)),
-        "command" => push(text, read_command(alloc, words)),
-        "log" => push(text, read_log(alloc, words).map(|matches| matches.free)),
+        "command" => push(text, read_run(alloc, words)),
         "output" => push(text, output_of(alloc, words)),
         "driver" => push(text, driver::read_job(alloc, words)),
         "input" => push(text, input_of(alloc, &input_options(alloc)?, words)),

@@ -1,60 +1,112 @@
-//! A program with subcommands: the first free word names one, and the words after it are its own.
+//! A program with subcommands: the options before the subcommand are the program's, and those after it its own.
 
-ghost use Rattle.std.specs.Prelude.{◌≡◌, map, IfOk, IfErr, MatchOption};
+ghost use Rattle.std.specs.Prelude.{◌≡◌, map, IfOk, Ok, OnOk};
 ghost use Rattle.std.specs.String.{string_bytes};
-ghost use Rattle.getopts.specs.Fail.{Tells};
+ghost use Rattle.getopts.specs.Holds.{HoldGiven, StandBeforeFree};
+ghost use Rattle.getopts.specs.Matches.{Matched};
 ghost use Rattle.getopts.specs.Names.{texts};
-ghost use Rattle.getopts.specs.Parse.{IsRefused};
-ghost use Rattle.getopts_uses.specs.Command.{command_options, IsCommandOf, NamesNone};
+ghost use Rattle.getopts.specs.Results.{parse_result};
+ghost use Rattle.getopts_uses.specs.Command.{IsCommandBy, IsRunBy, IsRunOf, global_options};
+ghost use Rattle.getopts_uses.specs.declared.subcommand.Refusal.TheVariants.{Line, OutOfMemory};
 
-use getopts::{Fail, Options, ParsingStyle};
+use crate::add::{Add, read_add};
+use crate::log::{Log, read_log};
+use getopts::{Fail, Matches, Options, ParsingStyle};
 use std::alloc::{AllocError, Global};
 
-/// A subcommand, and the words that are handed on to it.
+/// What a line runs.
 #[derive(Debug, Drop)]
-pub struct Command {
+pub struct Run {
     pub quiet: bool,
-    pub name: String,
-    pub words: Vec<String>,
+    pub folder: Option<String>,
+    pub command: Command,
+}
+
+/// A subcommand, with what its own words ask for.
+#[derive(Debug, Drop)]
+pub enum Command {
+    Add(Add),
+    Log(Log),
+}
+
+/// Why a line runs nothing. The faults of a subcommand's words are told apart from those of the words before it.
+#[derive(Debug, Drop)]
+pub enum Refusal {
+    Line(Fail),
+    NoCommand,
+    Unknown(String),
+    Add(Fail),
+    Log(Fail),
+    OutOfMemory,
+}
+
+impl From<Fail> for Refusal {
+    ghost from_gives = { λ fail refusal. refusal ≡ Line fail };
+
+    fn from(fail: Fail) -> Refusal {
+        Refusal::Line(fail)
+    }
+}
+
+impl From<AllocError> for Refusal {
+    ghost from_gives = { λ _ refusal. refusal ≡ OutOfMemory };
+
+    fn from(_error: AllocError) -> Refusal {
+        Refusal::OutOfMemory
+    }
 }
 
 /// The options that stand before the subcommand.
 fn options(alloc: Global) -> Result<Options, AllocError>
-    ensures { IfOk result (λ options. options ≡ command_options) }
+    ensures { IfOk result (λ options. options ≡ global_options) }
 {
     let mut options = Options::new(alloc);
     options
         .optflag("q", "quiet", "say less")?
+        .optopt("C", "folder", "work in DIR", "DIR")?
         .parsing_style(ParsingStyle::StopAtFirstFree);
     Ok(options)
 }
 
-/// Copies of words.
-fn copied(alloc: Global, words: &[String]) -> Result<Vec<String>, AllocError>
-    ensures { IfOk result (λ copies. map string_bytes copies.items ≡ map string_bytes words.now) }
+/// What a line runs. The words before the subcommand give the same options alone, whatever comes after them.
+pub fn read_run(alloc: Global, words: &[&str]) -> Result<Run, Refusal>
+    ensures run { IsRunBy (parse_result global_options (texts words.now)) result }
+    ensures before { OnOk result ((global : Matched)
+        × (parse_result global_options (texts words.now) ≡ Ok global)
+        × StandBeforeFree global_options (texts words.now) global) }
 {
-    let mut copies = Vec::new(alloc);
-    for word in words {
-        copies.push(word.clone()?)?;
-    }
-    Ok(copies)
+    let matches = options(alloc)?.parse_words(alloc, words)?;
+    run_of(alloc, &matches)
 }
 
-/// The subcommand of a line, and the words that are handed on to it.
-pub fn read_command(alloc: Global, words: &[&str]) -> Result<Option<Command>, Fail>
-    ensures command { IfOk result (λ command.
-        MatchOption command (NamesNone (texts words.now)) (IsCommandOf (texts words.now))) }
-    ensures refused { IfErr result (λ fail.
-        Tells fail (IsRefused command_options (texts words.now))) }
+/// What a line with these matches runs.
+fn run_of(alloc: Global, matches: &Matches) -> Result<Run, Refusal>
+    requires { HoldGiven global_options matches.now.groups }
+    ensures { IsRunOf matches.now matches.now.free result }
 {
-    let options = options(alloc)?;
-    let matches = options.parse_words(alloc, words)?;
-    match matches.free.split_first() {
-        Some((name, rest)) => Ok(Some(Command {
-            quiet: matches.opt_present("quiet"),
-            name: name.clone()?,
-            words: copied(alloc, rest)?,
-        })),
-        None => Ok(None),
+    let Some((name, words)) = matches.free.split_first() else {
+        return Err(Refusal::NoCommand);
+    };
+    Ok(Run {
+        quiet: matches.opt_present("quiet"),
+        folder: matches.opt_str(alloc, "folder")?,
+        command: read_command(alloc, name.as_str(), words)?,
+    })
+}
+
+/// The subcommand of this name, with what its own words ask for.
+fn read_command(alloc: Global, name: &str, words: &[String]) -> Result<Command, Refusal>
+    ensures { IsCommandBy name.now (map string_bytes words.now) result }
+{
+    match name {
+        "add" => match read_add(alloc, words) {
+            Ok(add) => Ok(Command::Add(add)),
+            Err(fail) => Err(Refusal::Add(fail)),
+        },
+        "log" => match read_log(alloc, words) {
+            Ok(log) => Ok(Command::Log(log)),
+            Err(fail) => Err(Refusal::Log(fail)),
+        },
+        _ => Err(Refusal::Unknown(String::from_str(alloc, name)?)),
     }
 }

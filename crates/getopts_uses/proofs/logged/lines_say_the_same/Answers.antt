@@ -1,0 +1,24 @@
+-- A canonical line, read again, says the same.
+use Rattle.std.proofs.Common.{◌≡◌, codes, refl}
+use Rattle.getopts.specs.Matches.{Matched}
+use Rattle.getopts.specs.Theorem.{HoldSame}
+use Rattle.getopts.proofs.MainTheorem.Callers.{same_count, same_first, same_present, same_values}
+use Rattle.getopts.proofs.MainTheorem.Callers.{results_again, LinesReadAgain_lem, MayBeDeclared-plain}
+use Rattle.getopts_uses.specs.Logged.{build_options, said_by}
+use Rattle.getopts_uses.proofs.logged.lines_say_the_same.Goals as goal
+
+same_said : (m n : Matched) → HoldSame m n → said_by n ≡ said_by m
+same_said m n same = λ i. record {
+  jobs = same_first m n same (codes "jobs") i;
+  keep_going = same_present m n same (codes "keep-going") i;
+  verbose = same_count m n same (codes "verbose") i;
+  sets = same_values m n same (codes "set") i;
+  targets = same.free i;
+}
+
+pub returns : goal.returns
+returns c = λ words line written.
+    let may = MayBeDeclared-plain build_options refl in
+    let laws = c.declared_options_keep_laws.ensures.line_laws build_options may in
+    results_again said_by same_said build_options may (LinesReadAgain_lem build_options may laws)
+    words line written build_options.style build_options.long_only

@@ -1,0 +1,96 @@
+-- Values that are checked: a number within bounds, and a choice.
+use Rattle.std.specs.Prelude.{◌≡◌, ◌≤◌, ⊤, ℕ, if◌then◌else◌, false, [], ◌∷◌, map, codes}
+use Rattle.std.specs.Prelude.{Option, Some, None, Result, Ok, Err}
+use Rattle.std.specs.Option.{option_map}
+use Rattle.std.specs.Str.{bytes_eq}
+use Rattle.std.specs.Str.Parse.{ParsesUnsigned}
+use Rattle.std.specs.String.{string_bytes}
+use Rattle.std.specs.declared.num.ParseIntError.{ParseIntError}
+use Rattle.getopts.specs.Accessors.{first_value, found_of}
+use Rattle.getopts.specs.Fail.{Fault, fault_of}
+use Rattle.getopts.specs.Matches.{Matched}
+use Rattle.getopts.specs.Names.{Text}
+use Rattle.getopts.specs.Options.{Declared, group_of}
+use Rattle.getopts.specs.declared.fail.Fail.{Fail}
+use Rattle.getopts.specs.declared.fail.Fail.TheVariants as fail
+use Rattle.getopts.specs.declared.groups.HasArg.TheVariants.{Yes}
+use Rattle.getopts.specs.declared.groups.Occur.TheVariants.{Optional}
+use Rattle.getopts.specs.declared.groups.ParsingStyle.TheVariants.{FloatingFrees}
+use Rattle.getopts_uses.specs.declared.checked.Color.{Color}
+use Rattle.getopts_uses.specs.declared.checked.Color.TheVariants.{Auto, Always, Never}
+use Rattle.getopts_uses.specs.declared.checked.Refusal.{Refusal}
+use Rattle.getopts_uses.specs.declared.checked.Refusal.TheVariants as refusal
+use Rattle.getopts_uses.specs.declared.checked.Settings.{Settings}
+
+-- the options
+abbrev pub checked_options : Declared
+checked_options = record {
+  groups =
+      group_of (codes "j") (codes "jobs") (codes "run so many jobs, from 1 to 64") (codes "NUMBER") Yes Optional
+      ∷ group_of [] (codes "color") (codes "colour: auto, always or never") (codes "WHEN") Yes Optional
+      ∷ [];
+  style = FloatingFrees;
+  long_only = false;
+}
+
+-- a text is a number within these bounds
+abbrev pub IsWithin : ℕ → ℕ → Text → ℕ → Type 0
+IsWithin low high text number =
+    ParsesUnsigned {E = ParseIntError} 32 10 text (Ok number) × (low ≤ number) × (number ≤ high)
+
+-- the number of an option's value or its default, or the fault, which tells the option, the text and the bounds
+abbrev pub IsNumberBy : Text → ℕ → ℕ → ℕ → Option Text → Result ℕ Refusal → Type 0
+IsNumberBy option low high default text (Err refusal.OutOfMemory) = ⊤
+IsNumberBy option low high default None (Ok number) = number ≡ default
+IsNumberBy option low high default (Some text) (Ok number) = IsWithin low high text number
+IsNumberBy option low high default (Some text) (Err (refusal.Number told given least most)) =
+    (told.now ≡ option) × (string_bytes given ≡ text) × (least ≡ low) × (most ≡ high)
+    × ((number : ℕ) → ¬ (IsWithin low high text number))
+IsNumberBy option low high default text result = ⊥
+
+-- the choice that a word names
+abbrev pub color_named : Text → Option Color
+color_named word =
+    if bytes_eq word (codes "auto") then Some Auto
+    else (if bytes_eq word (codes "always") then Some Always
+    else (if bytes_eq word (codes "never") then Some Never else None))
+
+-- the choice of an option's value or `auto`, or the fault, which tells the option and the text
+abbrev pub IsColorBy : Text → Option Text → Result Color Refusal → Type 0
+IsColorBy option text (Err refusal.OutOfMemory) = ⊤
+IsColorBy option None (Ok color) = color ≡ Auto
+IsColorBy option (Some word) (Ok color) = color_named word ≡ Some color
+IsColorBy option (Some word) (Err (refusal.Choice told given)) =
+    (told.now ≡ option) × (string_bytes given ≡ word) × (color_named word ≡ None)
+IsColorBy option word result = ⊥
+
+-- an option's value
+abbrev pub value_of : Matched → Text → Option Text
+value_of matches name = first_value (found_of matches.groups name)
+
+-- the number of jobs that matches give: from 1 to 64, and 1 where they give none
+abbrev pub AreJobsOf : Matched → Result ℕ Refusal → Type 0
+AreJobsOf matches jobs = IsNumberBy (codes "jobs") 1 64 1 (value_of matches (codes "jobs")) jobs
+
+-- when matches ask to colour
+abbrev pub IsColorOf : Matched → Result Color Refusal → Type 0
+IsColorOf matches color = IsColorBy (codes "color") (value_of matches (codes "color")) color
+
+-- why a line that the library refuses sets nothing; out of memory is no fault of the line
+abbrev pub refusal_of : Fail → Refusal
+refusal_of fail.OutOfMemory = refusal.OutOfMemory
+refusal_of fail = refusal.Line fail
+
+-- What a line sets, or why it sets nothing: its fault, a number that isn't within bounds, or, where the number is,
+-- a word that is no choice.
+abbrev pub IsSettingsBy : Result Matched Fault → Result Settings Refusal → Type 0
+IsSettingsBy line (Err refusal.OutOfMemory) = ⊤
+IsSettingsBy line (Err (refusal.Line fail)) = option_map Err (fault_of fail) ≡ Some line
+IsSettingsBy (Ok matches) (Ok settings) =
+    AreJobsOf matches (Ok settings.jobs) × IsColorOf matches (Ok settings.color)
+    × (map string_bytes settings.files.items ≡ matches.free)
+IsSettingsBy (Ok matches) (Err (refusal.Number told given low high)) =
+    AreJobsOf matches (Err (refusal.Number told given low high))
+IsSettingsBy (Ok matches) (Err (refusal.Choice told given)) =
+    ((jobs : ℕ) × AreJobsOf matches (Ok jobs)) × IsColorOf matches (Err (refusal.Choice told given))
+IsSettingsBy (Err fault) result = ⊥

@@ -1,0 +1,167 @@
+//! Values that are checked: a number within bounds, and a choice, each with a default.
+
+ghost use Rattle.std.specs.Prelude.{◌≡◌, IfOk};
+ghost use Rattle.std.specs.Option.{option_copied};
+ghost use Rattle.std.specs.Str.Parse.{ParsesUnsigned};
+ghost use Rattle.getopts.specs.Accessors.{IsDefined, first_value, found_of};
+ghost use Rattle.getopts.specs.Names.{texts};
+ghost use Rattle.getopts.specs.Results.{parse_result};
+ghost use Rattle.getopts_uses.specs.Checked.{IsColorBy, IsNumberBy, IsSettingsBy, checked_options};
+ghost use Rattle.getopts_uses.specs.Checked.{color_named, refusal_of};
+ghost use Rattle.getopts_uses.specs.declared.checked.Refusal.TheVariants.{OutOfMemory};
+
+use getopts::{Fail, Matches, Options};
+use std::alloc::{AllocError, Global};
+use std::num::ParseIntError;
+
+/// What a line sets.
+#[derive(Debug, Drop)]
+pub struct Settings {
+    pub jobs: u32,
+    pub color: Color,
+    pub files: Vec<String>,
+}
+
+/// When to colour.
+#[derive(Clone, Copy, Debug)]
+pub enum Color {
+    Auto,
+    Always,
+    Never,
+}
+
+/// Why a line sets nothing.
+#[derive(Debug, Drop)]
+pub enum Refusal {
+    Line(Fail),
+    /// The option's text is no number from `low` to `high`.
+    Number {
+        option: &'static str,
+        text: String,
+        low: u32,
+        high: u32,
+    },
+    /// The option's text is none of its words.
+    Choice {
+        option: &'static str,
+        text: String,
+    },
+    OutOfMemory,
+}
+
+impl From<Fail> for Refusal {
+    ghost from_gives = { λ fail refusal. refusal ≡ refusal_of fail };
+
+    fn from(fail: Fail) -> Refusal {
+        match fail {
+            Fail::OutOfMemory => Refusal::OutOfMemory,
+            fault => Refusal::Line(fault),
+        }
+    }
+}
+
+impl From<AllocError> for Refusal {
+    ghost from_gives = { λ _ refusal. refusal ≡ OutOfMemory };
+
+    fn from(_error: AllocError) -> Refusal {
+        Refusal::OutOfMemory
+    }
+}
+
+/// The options.
+fn options(alloc: Global) -> Result<Options, AllocError>
+    ensures { IfOk result (λ options. options ≡ checked_options) }
+{
+    let mut options = Options::new(alloc);
+    options
+        .optopt("j", "jobs", "run so many jobs, from 1 to 64", "NUMBER")?
+        .optopt("", "color", "colour: auto, always or never", "WHEN")?;
+    Ok(options)
+}
+
+/// What a line sets.
+pub fn read_settings(alloc: Global, words: &[&str]) -> Result<Settings, Refusal>
+    ensures { IsSettingsBy (parse_result checked_options (texts words.now)) result }
+{
+    let matches = options(alloc)?.parse_words(alloc, words)?;
+    Ok(Settings {
+        jobs: number_of(alloc, &matches, "jobs", 1, 64, 1)?,
+        color: color_of(alloc, &matches, "color")?,
+        files: matches.free,
+    })
+}
+
+/// An option's value, lent, if it has one.
+fn value_of<'m>(matches: &'m Matches, option: &str) -> Option<&'m str>
+    requires { IsDefined matches.now.groups option.now }
+    ensures { option_copied result ≡ first_value (found_of matches.now.groups option.now) }
+{
+    let place = matches.opt_place(option)?;
+    match matches.occurrences_at(place).get(0) {
+        Some((_, value)) => value,
+        None => None,
+    }
+}
+
+/// An option's number from `low` to `high`, or the default where it isn't given.
+fn number_of(
+    alloc: Global,
+    matches: &Matches,
+    option: &'static str,
+    low: u32,
+    high: u32,
+    default: u32,
+) -> Result<u32, Refusal>
+    requires { IsDefined matches.now.groups option.now }
+    ensures { IsNumberBy option.now low high default
+        (first_value (found_of matches.now.groups option.now)) result }
+{
+    let Some(text) = value_of(matches, option) else {
+        return Ok(default);
+    };
+    match read_number(text) {
+        Ok(number) if low <= number && number <= high => Ok(number),
+        _ => Err(Refusal::Number {
+            option,
+            text: String::from_str(alloc, text)?,
+            low,
+            high,
+        }),
+    }
+}
+
+/// The number that a text is.
+fn read_number(text: &str) -> Result<u32, ParseIntError>
+    ensures { ParsesUnsigned 32 10 text.now result }
+{
+    text.parse()
+}
+
+/// An option's choice, or `auto` where it isn't given.
+fn color_of(alloc: Global, matches: &Matches, option: &'static str) -> Result<Color, Refusal>
+    requires { IsDefined matches.now.groups option.now }
+    ensures { IsColorBy option.now (first_value (found_of matches.now.groups option.now)) result }
+{
+    let Some(text) = value_of(matches, option) else {
+        return Ok(Color::Auto);
+    };
+    match color_named(text) {
+        Some(color) => Ok(color),
+        None => Err(Refusal::Choice {
+            option,
+            text: String::from_str(alloc, text)?,
+        }),
+    }
+}
+
+/// The choice that a word names.
+fn color_named(word: &str) -> Option<Color>
+    ensures { result ≡ color_named word.now }
+{
+    match word {
+        "auto" => Some(Color::Auto),
+        "always" => Some(Color::Always),
+        "never" => Some(Color::Never),
+        _ => None,
+    }
+}
