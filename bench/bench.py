@@ -6,7 +6,7 @@ usage: bench.py OUT [--getopts FOLDER] [JOB..]      prints the tables of all job
        bench.py --rows LINE                         prints the rows of a line
        bench.py --shell [PROGRAM]                   prints the instructions of getopts_shell, getopt(1) and true
 
-OUT is a folder outside the repository, where the peers' program is built. FOLDER has the Rust crate getopts; without it
+OUT is a folder outside the repository, where the peers' programs are built. FOLDER has the Rust crate getopts; without it
 cargo takes the crate from the public registry. The variable OURS names a built getopts_bench; without it `rt run` proves
 and builds one.
 
@@ -15,8 +15,10 @@ at once). The number of turns is put last: what B turns take more than A turns i
 the turns isn't counted.
 """
 
+import concurrent.futures
 import os
 import platform
+import random
 import re
 import shutil
 import subprocess
@@ -31,7 +33,7 @@ TOOLS = {"instructions": ("--tool=callgrind --callgrind-out-file=/dev/null", r"C
 
 # How many turns of a line are taken from how many, where these are no 100 and 300. Where a turn takes no memory, it is as
 # long from the first on.
-TURNS = {"long": (5, 15), "many": (5, 15), "many11": (5, 15), "equal": (0, 1), "4000": (0, 1)}
+TURNS = {"long": (2, 6), "many": (2, 6), "many11": (2, 6), "files": (1, 2), "equal": (0, 1), "4000": (0, 1)}
 
 
 def turn_of(job):
@@ -40,14 +42,18 @@ def turn_of(job):
     return work or (job if job in ("equal", "usage") else "whole"), line, *TURNS.get(line, (100, 300))
 
 
-JOBS = {job: turn_of(job) for job in """small read-small canonical-small copied-small typical read-typical long read-long
-    canonical-long copied-long many read-many canonical-many copied-many many11 front read-front asked-front none equal usage
-    defined-4000""".split()}
+JOBS = {job: turn_of(job) for job in """small read-small canonical-small copied-small os-small typical read-typical
+    copied-typical long read-long canonical-long copied-long os-long many read-many canonical-many copied-many many11 front
+    read-front asked-front none rustc sub60 files equal usage defined-4000""".split()}
 # Of these the most bytes held at once are counted.
 MEMORY = [("peak", "The most bytes held at once for reading 100,000 words, above the words and the options",
            {"memory": ("read", "memory", 0, 1)}),
-          ("peak", "Bytes that matches of 20 options hold, whose descriptions have 1,000 bytes each",
-           {"held": ("held", "held", 10, 110)})]
+          ("peak", "Bytes that matches hold",
+           {"held-small": ("held", "small", 10, 110), "held-long": ("held", "long", 10, 110),
+            "held-described": ("held", "described", 10, 110)})]
+# The jobs of C, and the peers whose turn takes its words, so that copies are made of these before the turns.
+OF_C = ["small", "typical", "long", "none"]
+TAKING = ["lexopt", "pico-args", "clap"]
 
 
 def stored(line):
@@ -64,16 +70,30 @@ def long(rounds):
     return stored("small")[0], [word for at in range(rounds) for word in ("-v", f"-Ldir{at}", "--verbose", f"file{at}")]
 
 
+def shuffled(options):
+    """The options in an order that isn't that of their names, and is the same at each run."""
+    return random.Random(1).sample(options, len(options))
+
+
 def many(front):
     options, words = [], []
     for at in range(200):
         name = f"{front}{at:03}"
         options.append(("optmulti", "", name, "d", "H") if at % 2 else ("optflagmulti", "", name, "d"))
         words += [f"--{name}=value{at}" if at % 2 else f"--{name}", f"file{at}"]
-    return options, words
+    return shuffled(options), words
 
 
-def held():
+def sub60():
+    names = [f"{front}{noun}" for front in ("", "no-", "max-", "show-", "skip-", "log-")
+             for noun in "color depth files index level lines merge order paths width".split()]
+    options = [("optmulti", "", name, "d", "H") if name[:4] in ("max-", "log-") else ("optflagmulti", "", name, "d")
+               for name in names]
+    words = "--color --no-index --max-depth 3 --show-paths --log-files=log.txt --skip-merge src tests".split()
+    return shuffled(options), words
+
+
+def described():
     options, words = stored("typical")
     return [[*option[:3], "d" * 1000, *option[4:]] for option in options], words
 
@@ -81,18 +101,42 @@ def held():
 # The lines that are made: their options and their words.
 LINES = {
     "long": lambda: long(250), "memory": lambda: long(25_000),
-    "many": lambda: many("name"), "many11": lambda: many("the-name"), "held": held,
+    "files": lambda: (stored("small")[0], [f"src/file{at:05}.rs" for at in range(100_000)]),
+    "many": lambda: many("name"), "many11": lambda: many("the-name"), "sub60": sub60, "described": described,
     "equal": lambda: (flags([*(("", f"n{at:04}") for at in range(998)), ("a", ""), ("b", "")]),
                       ["-ab"] * 1000 + ["-ba"] * 1000),
-    "4000": lambda: (flags(("", f"n{at:04}") for at in range(4000)), []),
+    "4000": lambda: (shuffled(flags(("", f"n{at:04}") for at in range(4000))), []),
 }
+
+
+def parts(line):
+    """The options of a line and its words."""
+    return LINES.get(line, lambda: stored(line))()
 
 
 def rows(line):
     """The rows of a line, as getopts_bench and the peers read them."""
-    options, words = LINES.get(line, lambda: stored(line))()
+    options, words = parts(line)
     said = [*options, ("words", str(len(words))), *(("word", word) for word in words)]
     return "".join("\t".join(row) + "\n" for row in said)
+
+
+def lexopt_line(line):
+    """The options of a line as the peer lexopt has them. What has one value at most on the line is an `Option`."""
+    options, words = parts(line)
+    text = f'    "{line}" {{\n'
+    for at, (call, short, long, *_) in enumerate(options):
+        times = sum(word.split("=")[0] == f"--{long}" or bool(short) and word.startswith(f"-{short}") for word in words)
+        held = "usize" if call == "optflagmulti" else "Vec<String>" if times > 1 else "Option<String>"
+        names = [f"Short('{short}')"] * bool(short) + [f'Long("{long}")'] * bool(long)
+        text += f"        option{at}: {held} = {' | '.join(names)},\n"
+    return text + "    }\n"
+
+
+def lexopt_lines():
+    """The lines that are read whole, as the peer lexopt has them."""
+    lines = dict.fromkeys(line for work, line, *_ in JOBS.values() if work == "whole")
+    return f"lines! {{\n{''.join(lexopt_line(line) for line in lines)}}}\n"
 
 
 def stop(why):
@@ -121,51 +165,65 @@ def sum_of(words):
 
 def built(out, getopts):
     """The programs by their columns, each as its words."""
-    for tool in ("cargo", "valgrind", os.environ.get("OURS", "rt")):
+    for tool in ("cargo", "cc", "valgrind", os.environ.get("OURS", "rt")):
         shutil.which(tool) or stop(f"there is no {tool}")
     build = HERE.parent / "tests/differential/build.sh"
-    subprocess.run(["bash", build, HERE / "peers", out / "peers", *([getopts] if getopts else [])], check=True)
-    subprocess.run(["bash", build, HERE / "peers", out / "over_ours", HERE.parent / "bindings/rust"], check=True)
+    for name, crate, flags in (("peers", getopts, ""), ("over_ours", HERE.parent / "bindings/rust/getopts", " --features over_ours")):
+        (out / name / "src").mkdir(parents=True, exist_ok=True)
+        (out / name / "src/lines.rs").write_text(lexopt_lines(), encoding="utf-8")
+        subprocess.run(["bash", build, HERE / "peers", out / name, *([crate] if crate else [])], check=True,
+                       env={**os.environ, "CARGO_FLAGS": os.environ.get("CARGO_FLAGS", "") + flags})
     if "OURS" not in os.environ:
         print("bench.py: proves and builds getopts_bench, some minutes where nothing is kept ..", file=sys.stderr)
         subprocess.run(["rt", "run", "--", "whole", CRATE / "data/small.rows", "1"], cwd=CRATE, check=True,
                        stdout=subprocess.DEVNULL)
     peers, ours = (out / f"{name}/target/release/peers" for name in ("peers", "over_ours"))
     return {"this library": [os.environ.get("OURS", CRATE / "out/getopts_bench")], "Rust crate": [peers, "getopts"],
-            "bindings/rust": [ours, "getopts"], "lexopt": [peers, "lexopt"], "pico-args": [peers, "pico-args"],
-            "clap": [peers, "clap"]}
+            "bindings/rust": [ours, "getopts"], **{name: [peers, name] for name in TAKING}}
+
+
+def built_of_c(out):
+    """The programs in C by their columns."""
+    subprocess.run(["sh", HERE.parent / "bindings/c/install.sh", out / "c"], check=True, stdout=subprocess.DEVNULL)
+    subprocess.run(["cc", "-O2", HERE / "c_peers.c", "-I", out / "c/include", out / "c/lib/libgetopts.a", "-o", out / "c_peers"],
+                   check=True)
+    return {"bindings/c": [out / "c_peers", "getopts"], **{name: [out / "c_peers", name] for name in ("getopt_long", "argp")}}
 
 
 def row(out, programs, what, job, work, line, few, more):
-    """A row of a table, with a star where a peer's sum of one turn isn't that of this library."""
+    """A row of a table, with a star where the sum of one turn isn't that of the first program that does the job."""
     file = out / f"{line}.rows"
     file.write_text(rows(line), encoding="utf-8")
-    cells, ours = [], None
-    for column, program in programs.items():
-        words = [*program, work, file]
-        total = sum_of(words)
-        ours = total if column == "this library" else ours
-        cells.append("-" if total is None else f"{of_a_turn(what, few, more, words)}{'*' * (total != ours)}")
+    calls = [[*program, work, file, *([more] if column in TAKING else [])] for column, program in programs.items()]
+    sums = [sum_of(words) for words in calls]
+    first = next((total for total in sums if total), None)
+
+    def cell(words, total):
+        return "-" if total is None else f"{of_a_turn(what, few, more, words)}{'*' * (total != first)}"
+
+    with concurrent.futures.ThreadPoolExecutor(os.cpu_count()) as pool:
+        cells = pool.map(cell, calls, sums)
     print(f"{job:<16} " + " ".join(f"{cell:>14}" for cell in cells), flush=True)
 
 
 def tables(out, getopts, asked):
     out = Path(out).resolve()
     out.mkdir(parents=True, exist_ok=True)
-    programs = built(out, getopts)
+    programs, of_c = built(out, getopts), built_of_c(out)
     lock = (out / "peers/Cargo.lock").read_text()
     versions = re.findall(r'^name = "(getopts|lexopt|pico-args|clap|unicode-width)"\nversion = "(.*)"', lock, re.M)
     said = [subprocess.check_output([tool, "--version"], text=True).strip() for tool in ("valgrind", "rustc")]
-    print("# " + ", ".join([*(" ".join(it) for it in versions), *said]))
-    head = f"{'job':<16} " + " ".join(f"{column:>14}" for column in programs)
-    for what, title, jobs in (("instructions", "Instructions of one turn", JOBS),
-                              ("requests", "Requests for memory of one turn", JOBS), *MEMORY):
+    print("# " + ", ".join([*(" ".join(it) for it in versions), *said, "glibc " + platform.libc_ver()[1]]))
+    for what, title, jobs, columns in (("instructions", "Instructions of one turn", JOBS, programs),
+                                       ("instructions", "Instructions of one turn in C", {job: JOBS[job] for job in OF_C}, of_c),
+                                       ("requests", "Requests for memory of one turn", JOBS, programs),
+                                       *((*table, programs) for table in MEMORY)):
         chosen = [job for job in jobs if not asked or job in asked]
         if chosen:
-            print(f"\n{title}\n{head}")
+            print(f"\n{title}\n{'job':<16} " + " ".join(f"{column:>14}" for column in columns))
         for job in chosen:
-            row(out, programs, what, job, *jobs[job])
-    print("\n* its sum isn't this library's")
+            row(out, columns, what, job, *jobs[job])
+    print("\n* its sum isn't that of the first column")
 
 
 def shell(program=HERE.parent / f"bindings/shell/{platform.machine()}/getopts_shell"):

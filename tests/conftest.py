@@ -23,12 +23,6 @@ ROWS = [VECTORS / f"data/{name}.rows" for name in ("rules", "recorded")]
 # Lines that each door's example has to answer as getopts_show does.
 LINES = ["--output=x.txt --verbose in.txt", "-vvLd -La -Lb -c auto -o x.txt f -- g -v", "-v --help", "--nope", "-o",
          "-o a -o b", "--verbose=x", "", "-c", "--output= é --color=日本"]
-# The package of Debian 12 that has a tool, where its name is another.
-PACKAGES = {"cc": "gcc", "clang++": "clang", "nm": "binutils", "ar": "binutils", "readelf": "binutils", "as": "binutils",
-            "ld": "binutils", "objcopy": "binutils", "musl-gcc": "musl-tools", "qemu-aarch64": "qemu-user",
-            "aarch64-linux-gnu-gcc": "gcc-aarch64-linux-gnu libc6-dev-arm64-cross", "node": "nodejs", "wine": "wine64",
-            "i686-linux-gnu-gcc": "gcc-i686-linux-gnu libc6-dev-i386-cross", "man": "man-db", "groff": "groff-base",
-            "x86_64-w64-mingw32-gcc": "gcc-mingw-w64-x86-64", "ksh93": "ksh93u+m", "busybox": "busybox-static"}
 
 
 def pytest_addoption(parser):
@@ -70,10 +64,10 @@ def crate(request):
 
 
 def need(*tools):
-    """Skips a test where one of its tools isn't there, and says which package has it."""
+    """Skips a test where one of its tools isn't there."""
     for tool in tools:
         if not shutil.which(str(tool)):
-            pytest.skip(f"there is no {tool}: apt-get install {PACKAGES.get(str(tool), tool)}")
+            pytest.skip(f"there is no {tool}: see CONTRIBUTING.md")
 
 
 def run(*words, status=0, env=None, **how):
@@ -97,14 +91,26 @@ def script(path, text):
     return path
 
 
+def note_sums(log):
+    """Notes the sum of each library's sources, by which `rt check` knows what is proved: `rt ci` leaves libraries without."""
+    sys.path.insert(0, str(kit() / "bin"))
+    import rtlib
+    for crate in rtlib.crates_below(str(ROOT)):
+        Path(f"{log}.{crate.name}").write_text(crate.stamp())
+
+
 def wait_for(*crates):
-    """Where test.sh runs `rt ci` beside the tests: waits until it has proved these crates, or took them over."""
+    """Where test.sh runs `rt ci` beside the tests: waits until it has proved these crates, or took them over. A library
+    that it left gets its sum, so that no later check proves it again."""
     log = Path(os.environ.get("CI_LOG", "/nowhere"))
     for crate in crates:
         while log.exists() and not re.search(rf"^rt: {crate} (proved$|is kept: )", log.read_text(errors="replace"), re.M):
             if Path(f"{log}.ended").exists():
                 pytest.fail(f"{crate} isn't proved")
             time.sleep(1)
+        noted, library = Path(f"{log}.{crate}"), ROOT / f"crates/{crate}/out/rlib"
+        if noted.exists() and library.exists() and library.stat().st_mtime > noted.stat().st_mtime:
+            shutil.copy(noted, library / "stamp")
 
 
 def program(crate):

@@ -35,18 +35,26 @@ TARGETS = {
 UNWINDS = {target for target in TARGETS if "linux" in target}
 
 
-def offline():
-    """What cargo is told so that it takes Debian's crates, where unicode-width is installed."""
+def offline(registry=REGISTRY):
+    """What cargo is told so that it takes Debian's crates, or those of a folder, where unicode-width is installed."""
     if not list(REGISTRY.glob("unicode-width-*")):
         return []
     return ["--offline", "--config", 'source.crates-io.replace-with="debian"',
-            "--config", f'source.debian.directory="{REGISTRY}"']
+            "--config", f'source.debian.directory="{registry}"']
 
 
-def cargo(folder, *words, env=None):
+def cargo(folder, *words, env=None, registry=REGISTRY):
     """Runs the cargo on the path in a folder, and returns what it wrote."""
     need("cargo", "cc")
-    return run("cargo", words[0], *offline(), *words[1:], cwd=folder, env=env)
+    return run("cargo", words[0], *offline(registry), *words[1:], cwd=folder, env=env)
+
+
+def committed(clone):
+    """Makes a repository of a folder."""
+    need("git")
+    for words in (["init", "-q"], ["add", "-A"], ["-c", "user.name=a", "-c", "user.email=a@b", "commit", "-q", "-m", "a"]):
+        run("git", *words, cwd=clone)
+    return f"file://{clone}"
 
 
 def runner(target, room):

@@ -12,7 +12,7 @@ WITHIN = 0.02
 MOST = 38_000
 
 
-@pytest.mark.parametrize("job", ["small", "typical", "long", "many", "usage"])
+@pytest.mark.parametrize("job", ["small", "typical", "long", "many", "rustc", "usage"])
 def test_near_its_record(job, bench, tmp_path):
     need("valgrind")
     work, line, few, more = bench_py.JOBS[job]

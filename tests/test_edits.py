@@ -14,12 +14,10 @@ beside those of a third. The edits in private/ turn bodies that no public clause
 import itertools
 import os
 import re
-import shutil
 
 import pytest
 from conftest import ROOT, answer, copy_tree, kit, wait_for
 
-EDITS = sorted(path for path in (ROOT / "tests/must-fail").rglob("*.edit"))
 LIBRARIES = ["getopts", "getopts_bytes"]
 # Programs whose modules are tried in another, which has no module of the same name.
 GUESTS = {"getopts_greet": "getopts_uses", "getopts_show": "getopts_uses"}
@@ -37,19 +35,12 @@ class Edit:
         self.path, self.variant, self.name = path, variant, path.stem + (":right" if variant == "right" else "")
         self.crate = path.relative_to(ROOT / "tests/must-fail").parts[0]
         self.host = GUESTS.get(self.crate, self.crate)
-        self.pairs, self.function, file, texts = [], "", "", {}
-        for line in [*path.read_text(encoding="utf-8").splitlines(), "end:"]:
-            kind, _, rest = line.partition(":")
-            rest = rest.removeprefix(" ")
-            if "new" in texts and kind not in ("new", "right"):
-                self.pairs.append((file, {kind: "\n".join(lines) for kind, lines in texts.items()}))
-                texts = {}
-            if kind == "fn":
-                self.function = rest.replace(self.crate, self.host, 1)
-            elif kind == "file":
-                file = rest
-            elif kind in ("old", "new", "right"):
-                texts.setdefault(kind, []).append(rest)
+        text, file, self.pairs = path.read_text(encoding="utf-8") + "\n", "", []
+        self.function = re.search("^fn: (.*)", text, re.M)[1].replace(self.crate, self.host, 1)
+        for it in re.finditer(r"^(?:file: (.*)|((?:old:.*\n)+)((?:new:.*\n)+)((?:right:.*\n)*))", text, re.M):
+            file, lines = it[1] or file, zip(("old", "new", "right"), it.groups()[1:])
+            texts = {kind: re.sub(r"^\w+: ?", "", block[:-1], flags=re.M) for kind, block in lines if block}
+            self.pairs += [(file, texts)] if texts else []
 
     def texts(self, kind):
         return "\n".join(texts.get(kind, "") for _, texts in self.pairs)
@@ -64,8 +55,8 @@ class Edit:
         return files
 
 
-ALL = [Edit(path, variant) for path in EDITS
-       for variant in (("new", "right") if re.search("^right:", path.read_text(encoding="utf-8"), re.M) else ("new",))]
+ALL = [Edit(path, variant) for path in sorted((ROOT / "tests/must-fail").rglob("*.edit")) for variant in ("new", "right")
+       if variant == "new" or "\nright:" in path.read_text(encoding="utf-8")]
 
 
 def named(functions, text):
@@ -87,7 +78,7 @@ class Copies:
     """The edits of a crate as copies of their functions, in its folder."""
 
     def __init__(self, folder):
-        self.folder, self.files, self.imports, self.more, self.count = folder, {}, {}, {}, 0
+        self.folder, self.files, self.count = folder, {}, 0
 
     def text(self, file):
         return self.files.setdefault(file, (self.folder / file).read_text(encoding="utf-8"))
@@ -109,16 +100,15 @@ class Copies:
         new = f"{path[-1]}_edit{self.count}"
         body = re.sub(rf"\bfn {path[-1]}\b", f"fn {new}", body, count=1)
         added = ["\n" + named(names, files[file][slice(*span(files[file], name))]) for name in helpers]
-        self.more.setdefault(file, []).append((path[-1], owner, body, added))
+        end = span(self.text(file), path[-1], owner)[1]
+        self.files[file] = "".join([self.files[file][:end], "\n", body, self.files[file][end:], *added])
         for other, text in files.items():
-            mine = self.text(other)
-            self.imports.setdefault(other, []).extend(
-                line for line in text.split("\n") if line.startswith("ghost use ") and line not in mine)
+            for line in set(re.findall("^ghost use .*", text, re.M)) - set((self.folder / other).read_text().split("\n")):
+                module = re.escape(line.partition("{")[0])
+                self.files[other] = re.sub(rf"^{module}\{{.*", line, self.text(other), flags=re.M)
             for name in re.findall(r"^pub\(crate\) fn (\w+)\(", text, re.M):
-                self.files[other] = re.sub(rf"^fn {name}\(", f"pub(crate) fn {name}(", self.files[other], flags=re.M)
-        self.copy_proofs(path, new)
-        if edit.variant == "new":
-            self.keep_unoffered(path, new)
+                self.files[other] = re.sub(rf"^fn {name}\(", f"pub(crate) fn {name}(", self.text(other), flags=re.M)
+        self.copy_proofs(path, new, edit.variant)
         return "::".join([edit.host, *path[:-1], new])
 
     def put_in_place(self, edit):
@@ -127,32 +117,19 @@ class Copies:
             self.files[file] = self.text(file).replace(texts["old"], texts.get(edit.variant, texts["new"]))
         return edit.function
 
-    def copy_proofs(self, path, new):
+    def copy_proofs(self, path, new, variant):
+        """Copies a function's proof files. Where a wrong body has none, one with an error of its own stands in for the file
+        that rattle would offer, for which it reads all again."""
         source, to = (self.folder.joinpath("proofs", *path[:-1], name) for name in (path[-1], new))
-        if source.is_dir():
-            shutil.copytree(source, to)
-            for file in (file for file in to.rglob("*") if file.is_file()):
-                text, module = file.read_text(encoding="utf-8"), ".".join(["proofs", *path[:-1]])
-                file.write_text(text.replace(f"{module}.{path[-1]}.", f"{module}.{new}."), encoding="utf-8")
-
-    def keep_unoffered(self, path, new):
-        """Adds a proof file with an error of its own: with none, rattle reads all again to offer the file that is missing."""
-        folder = self.folder.joinpath("proofs", *path[:-1], new)
-        if not (folder / "Answers.antt").exists() and not (folder / "Proof.antt").exists():
-            folder.mkdir(parents=True, exist_ok=True)
-            (folder / "Answers.antt").write_text(UNOFFERED, encoding="utf-8")
-
-    def write(self):
-        for file, text in self.files.items():
-            for line in self.imports.get(file, ()):
-                module, more = re.match(r"ghost use ([\w.]+)\.\{(.*)\};", line).groups()
-                it = re.search(rf"^ghost use {re.escape(module)}\.\{{(.*)\}};", text, re.M)
-                names = list(dict.fromkeys(name.strip() for name in f"{it[1]},{more}".split(",")))
-                text = f"{text[:it.start()]}ghost use {module}.{{{', '.join(names)}}};{text[it.end():]}"
-            for name, owner, body, added in self.more.get(file, ()):
-                end = span(text, name, owner)[1]
-                text = text[:end] + "\n" + body + text[end:] + "".join(added)
-            (self.folder / file).write_text(text, encoding="utf-8")
+        module, texts = ".".join(["proofs", *path[:-1]]), {}
+        for file in source.rglob("*.antt"):
+            text = file.read_text(encoding="utf-8")
+            texts[to / file.relative_to(source)] = text.replace(f"{module}.{path[-1]}.", f"{module}.{new}.")
+        if variant == "new" and not {to / "Answers.antt", to / "Proof.antt"} & texts.keys():
+            texts[to / "Answers.antt"] = UNOFFERED
+        for file, text in texts.items():
+            file.parent.mkdir(parents=True, exist_ok=True)
+            file.write_text(text, encoding="utf-8")
 
 
 def join(folder, guest):
@@ -167,15 +144,8 @@ def join(folder, guest):
         to.write_text(text.replace(f"Rattle.{guest.name}.", f"Rattle.{folder.name}."), encoding="utf-8")
 
 
-def check(folder, functions):
-    """What a check of these functions says."""
-    only = [word for function in functions for word in ("--only", function)]
-    said, _ = answer("rt", "check", "--jobs", os.environ.get("JOBS", "1"), *only, cwd=folder)
-    return said.decode(errors="replace")
-
-
 def verdict(said, function):
-    """`proved`, `refused`, or why a check doesn't say which."""
+    """`proved`, `refused`, `let through` where only its own false file fails, or why a check doesn't say which."""
     proof = "./proofs/" + function.partition("::")[2].replace("::", "/") + "/"
     lines = said.split("\n")
     own = next((line for line in lines if line.startswith(f"fn {function}: ")), "")
@@ -184,11 +154,13 @@ def verdict(said, function):
     if "no proof: " in own and "`search` did not prove" in own:
         return "refused"
     if own.startswith(f"fn {function}: not proved"):
-        if any(proof in line and ": error: " in line and OWN_ERROR not in line and not NAMES.search(line) for line in lines):
-            return "refused"
+        errors = [line for line in lines if proof in line and ": error: " in line and not NAMES.search(line)]
         notes = itertools.takewhile(lambda line: not line.startswith("fn "), reversed(lines[:lines.index(own)]))
-        if any(re.match(r"note: src/.*: it is not proved that ", line) for line in notes):
+        goals = [line for line in notes if re.match(r"note: src/.*: it is not proved that ", line)]
+        if goals or any(OWN_ERROR not in line for line in errors):
             return "refused"
+        if errors and own.endswith(": not proved"):
+            return "let through"
     return own or next((line for line in lines if ": error: " in line), said[-300:])
 
 
@@ -203,7 +175,7 @@ def verdicts(request, tmp_path_factory):
             found[host] = {}
             items = [item for item in request.session.items if item.name.startswith("test_edit[")]
             asked = [edit for edit in (item.callspec.params["edit"] for item in items)
-                     if edit.host == host and not passed_over(edit, request.config)]
+                     if edit.host == host and is_tried(edit, request.config)]
             found[host] = tried(asked, tmp_path_factory.mktemp(host))
         return found[host]
 
@@ -214,24 +186,27 @@ def tried(edits, room):
     host = edits[0].host
     below = [] if host in LIBRARIES else LIBRARIES
     wait_for(*below)
-    folder = copy_tree(room / "copy", *below) / "crates" / host
+    copy = copy_tree(room / "copy", *below)
+    folder, crates = copy / "crates" / host, copy / "crates.txt"
+    if not below:
+        # It uses no other of these crates, whatever is written there.
+        crates.write_text(re.sub(": getopts$", ":", crates.read_text(), flags=re.M))
     for crate in sorted({edit.crate for edit in edits} - {host}):
         join(folder, folder.parent / crate)
     copies = Copies(folder)
     functions = {edit: copies.add(edit) for edit in edits}
-    copies.write()
-    said = check(folder, functions.values())
+    for file, text in copies.files.items():
+        (folder / file).write_text(text, encoding="utf-8")
+    only = [word for function in functions.values() for word in ("--only", function)]
+    said = answer("rt", "check", "--jobs", os.environ.get("JOBS", "1"), *only, cwd=folder)[0].decode(errors="replace")
     (room / "said").write_text(said)
+    again = set(re.findall(r"^crate (\w+): ", said, re.M)) - {host}
+    assert not again or "CI_LOG" not in os.environ, f"proved again: {again}"
     return {edit: verdict(said, function) for edit, function in functions.items()}
 
 
-def passed_over(edit, config):
-    """Why an edit isn't tried."""
-    if config.getoption("--quick"):
-        return "edits: --quick proves nothing"
-    if "private" in edit.path.parts and not config.getoption("--many"):
-        return "edits of private bodies: --many tries them"
-    return None
+def is_tried(edit, config):
+    return not config.getoption("--quick") and ("private" not in edit.path.parts or config.getoption("--many"))
 
 
 def marks(edit):
@@ -242,8 +217,8 @@ def marks(edit):
 
 @pytest.mark.parametrize("edit", [pytest.param(edit, id=f"{edit.crate}-{edit.name}", marks=marks(edit)) for edit in ALL])
 def test_edit(edit, verdicts, request):
-    if why := passed_over(edit, request.config):
-        pytest.skip(why)
+    if not is_tried(edit, request.config):
+        pytest.skip("edits: --quick tries none, and those of private bodies --many alone")
     assert verdicts(edit.host).get(edit, "the check failed before") == ("proved" if edit.variant == "right" else "refused")
 
 

@@ -2,7 +2,7 @@
 that uses it, and scripts, Rust and manual pages are well formed.
 
 Each figure of ten or more on a page is counted, measured or recorded (FIGURES). With --fix those that differ are replaced,
-and CONTRACTS.md is written anew from the sources.
+and CONTRACTS.md and PROOFS' table of wrong bodies are written anew.
 """
 
 import functools
@@ -13,8 +13,9 @@ import re
 import shutil
 import textwrap
 
+import bench as bench_py
 import pytest
-from conftest import ROOT, need, run
+from conftest import ROOT, answer, kit, need, run
 from conftest import tracked as all_tracked
 
 
@@ -25,8 +26,10 @@ def read(name):
 tracked = all_tracked()
 pages = {name: read(name) for name in tracked if name.endswith(".md")}
 sources = {name: read(name) for name in tracked if re.match(r"crates/\w*/src/.*\.rt$", name)}
+modules = sources | {name: read(name) for name in tracked if re.match(r"bindings/.*\.rs$", name)}
 CALLING, CONTRACTS = (next(name for name in pages if name.endswith(end)) for end in ("CALLING.md", "CONTRACTS.md"))
-edits = {os.path.basename(name)[:-5] for name in tracked if name.endswith(".edit") and "/private/" not in name}
+edits = {name: read(name) for name in tracked if name.endswith(".edit") and "/private/" not in name}
+ANEW = "'bash test.sh -k pages --fix' writes it anew"
 
 
 def none(failures):
@@ -34,7 +37,17 @@ def none(failures):
     assert not failures, "\n".join(failures)
 
 
+def fix(page, text, request):
+    """With --fix, writes a page anew."""
+    if request.config.getoption("--fix") and text != pages[page]:
+        (ROOT / page).write_text(text, encoding="utf-8")
+        pages[page] = text
+
+
 # ---- figures
+
+INSTRUCTIONS = "Instructions of one turn"
+
 
 @functools.cache
 def tables():
@@ -51,9 +64,18 @@ def cell(title, job, column):
     return tables().get((title, job), {}).get(column, "0").rstrip("*")
 
 
-def share(job, library="this library"):
-    """What part of the Rust crate's instructions a library takes, in hundredths."""
-    return f"{100 * int(cell(INSTRUCTIONS, job, library)) / max(1, int(cell(INSTRUCTIONS, job, 'Rust crate'))):.0f}"
+def share(job):
+    """What part of the Rust crate's instructions the drop-in takes, in hundredths."""
+    return f"{100 * int(cell(INSTRUCTIONS, job, 'bindings/rust')) / max(1, int(cell(INSTRUCTIONS, job, 'Rust crate'))):.0f}"
+
+
+def ahead(column, title=INSTRUCTIONS, ours="bindings/rust"):
+    """On which jobs a peer takes fewer instructions than ours."""
+    both = {job: (int(cells[column].rstrip("*")), int(cells[ours].rstrip("*"))) for (kind, job), cells in tables().items()
+            if kind == title and "-" not in (cells[column], cells[ours])}
+    fewer = [f"`{job}`" for job, (peers, own) in both.items() if peers < own]
+    others = [f"`{job}`" for job, (peers, own) in both.items() if peers >= own]
+    return ", ".join(fewer) if len(fewer) <= len(others) else f"all but {', '.join(others)}"
 
 
 def megabytes(column):
@@ -72,38 +94,49 @@ def minutes(command):
 
 
 @functools.cache
-def logic():
-    """The sum of the logic that the toolchain proves with."""
-    return run("rt", "version")[0].split()[-1] if shutil.which("rt") else "unknown"
+def toolchain():
+    """The toolchain's name, and the sum of the logic that it proves with."""
+    name, _, logic = run("rt", "version")[0].split() if shutil.which("rt") else ["unknown"] * 3
+    return [name, logic]
 
 
-INSTRUCTIONS = "Instructions of one turn"
+HELD = "Bytes that matches hold"
 PEAK = "The most bytes held at once for reading 100,000 words, above the words and the options"
 # The figures that stand in no table of jobs: a page, a pattern whose groups are figures, and what each has to be.
 FIGURES = [
     ("README.md", r"\| ([\d,]+) named wrong bodies", lambda: [str(len(edits))]),
-    ("README.md", r"logic `(\w+)`", lambda: [logic()]),
+    ("README.md", r"toolchain \(([\w-]+), logic `(\w+)`", toolchain),
     ("README.md", r"`\(cd crates/getopts && rt lib\)` .* \| ([^|]*) \| ([^|]*) \|", lambda: minutes("rt lib")),
     ("README.md", r"`bash test.sh` .* \| ([^|]*) \| ([^|]*) \|", lambda: minutes("bash test.sh")),
-    ("README.md", r"program takes (\d+) % of the Rust crate's .* and (\d+) %",
-     lambda: [share("small"), share("long")]),
-    ("README.md", r"it takes (\d+) % and (\d+) %", lambda: [share("copied-small"), share("copied-long")]),
     ("README.md", r"takes (\d+) % of the instructions of the crate .* and (\d+) %",
-     lambda: [share("small", "bindings/rust"), share("long", "bindings/rust")]),
+     lambda: [share("copied-small"), share("copied-long")]),
     ("tests/differential/README.md", r"first ([\d,]+) of seed 1",
      lambda: [f"{int(re.search(r'choose 1 (.*?) ', read('tests/differential/record.sh'))[1]):,}"]),
     *((f"bindings/{folder}/README.md", r"Rust ([\d.]+) or later",
        lambda folder=folder: re.findall(r'rust-version = "(.*)"', read(f"bindings/{folder}/Cargo.toml")))
       for folder in ("rust", "c", "shell")),
+    ("bindings/c/README.md", r"grows by (\d+) KB", lambda: re.findall(r"grows by (\d+) KB", read("bindings/c/getopts.h"))),
     ("bench/README.md", r"holds is ([\d.]+) MB here, ([\d.]+) MB in the Rust\s+crate and ([\d.]+) MB",
      lambda: [megabytes("this library"), megabytes("Rust crate"), megabytes("bindings/rust")]),
+    *(("README.md", rf"`{line}`: ([\d,]+) options, ([\d,]+) ", lambda line=line: [f"{len(part):,}" for part in bench_py.parts(line)])
+      for line in ("small", "typical", "rustc", "sub60", "long", "files")),
+    ("bench/README.md", r"`files`: ([\d,]+) file names", lambda: [f"{len(bench_py.parts('files')[1]):,}"]),
+    ("bench/README.md", r"`sub60`: ([\d,]+) options", lambda: [str(len(bench_py.parts("sub60")[0]))]),
+    ("bench/README.md", r"`many`: ([\d,]+) options", lambda: [str(len(bench_py.parts("many")[0]))]),
+    *(("bench/README.md", rf"\n- {name} on (.*)\n", lambda of=of: [ahead(*of)]) for name, of in {
+        "`lexopt`": ["lexopt"], "`pico-args`": ["pico-args"], "the Rust crate": ["Rust crate"],
+        "`getopt_long`": ["getopt_long", f"{INSTRUCTIONS} in C", "bindings/c"],
+        "`argp`": ["argp", f"{INSTRUCTIONS} in C", "bindings/c"]}.items()),
+    *(("bench/README.md", rf"{words} ([\d,]+) and ([\d,]+)", lambda line=line: [
+        f"{int(cell(HELD, f'held-{line}', column)):,}" for column in ("this library", "Rust crate")])
+      for line, words in {"small": "of `small`", "long": "1,000 words", "described": "descriptions"}.items()),
 ]
 
 # What is no figure: versions, rules of the language, the jobs of the bench and the sizes of tests.
 NO_FIGURES = re.compile(r"""
-    \bU\+\w+ | \b0\.2\.24\b | Apache-2\.0 | x86-64(-v2)?
+    \bU\+\w+ | \b0\.2\.24\b | \d{4}-\d\d-\d\d | Apache-2\.0 | x86-64(-v2)?
     | 1,000\ words | 100,000\ words | 20\ options | 10\ words
-    | (32|64)\ bits | 54\ columns | 24\ (spaces|columns) | stop\ at\ 255 | 24\ bytes | 4\.2\ or\ later | C\+\+11 | Debian\ 12 | 80\ words | 200,000\ cases
+    | (32|64)\ bits | 54\ columns | 24\ (spaces|columns) | stop\ at\ 255 | 24\ bytes | 4\.2\ or\ later | before\ 4\.4 | C\+\+11 | Debian\ 12 | 80\ words | 200,000\ cases
 """, re.X)
 
 def table_figures(page):
@@ -142,25 +175,20 @@ def unknown_in(page):
             yield it.start(), it[0]
 
 
-def put_in(page):
-    """Puts what each figure of a page has to be in the place of what it is."""
-    text = pages[page]
-    for at, is_now, wanted in sorted(figures_of(page), reverse=True):
-        if at:
-            text = text[:at] + wanted + text[at + len(is_now):]
-    if text != pages[page]:
-        (ROOT / page).write_text(text, encoding="utf-8")
-        pages[page] = text
-
-
 @pytest.mark.parametrize("page", pages)
 def test_figures(page, request):
     def place(at):
         return f"{page}:{pages[page].count(chr(10), 0, at) + 1}"
 
-    if request.config.getoption("--fix"):
-        put_in(page)
-    none([f"{place(at)}: {is_now} has to be {wanted}" for at, is_now, wanted in figures_of(page) if is_now != wanted] +
+    def wrong():
+        return [(at, is_now, wanted) for at, is_now, wanted in figures_of(page) if is_now != wanted != "unknown"]
+
+    text = pages[page]
+    for at, is_now, wanted in sorted(wrong(), reverse=True):
+        text = text[:at] + wanted + text[at + len(is_now):] if at else text
+    fix(page, text, request)
+    none([f"{place(at)}: {is_now} has to be {wanted} (what is measured stands in bench/last_run.txt and tests/times.txt)"
+          for at, is_now, wanted in wrong()] +
          [f"{place(at)}: no check knows the figure {it}" for at, it in unknown_in(page)])
 
 
@@ -251,10 +279,21 @@ def imports(text):
 def test_contracts(request):
     """CONTRACTS.md has the contract of each public function, as the sources have it."""
     wanted = re.sub(r"^```\w+\n.*?^```", lambda _: f"```text\n{contracts()}\n{imports(contracts())}```", pages[CONTRACTS], flags=re.M | re.S)
-    if request.config.getoption("--fix") and wanted != pages[CONTRACTS]:
-        (ROOT / CONTRACTS).write_text(wanted, encoding="utf-8")
-        pages[CONTRACTS] = wanted
-    assert pages[CONTRACTS] == wanted, "pytest tests/test_pages.py --fix writes it anew"
+    fix(CONTRACTS, wanted, request)
+    assert pages[CONTRACTS] == wanted, ANEW
+
+
+# Those that wait for a caller.
+UNCITED = {"lines_again", "answer_again", "same_first_or", "ReadsOnce-unsigned", "IsReadAs-one", "IsReadAs-not_both",
+           "IsReadAs-weaker", "HasReading-known"}
+
+
+def test_offered_lemmas_are_cited():
+    """Each lemma that CONTRACTS offers is named outside its own lines."""
+    offered = set(re.findall(r"`([\w-]+)`", re.search(r"\*\*Lemmas to cite\*\*.*?\n\n", pages[CONTRACTS], re.S)[0]))
+    text = "\n".join(read(name) for name in tracked if name.endswith((".rt", ".antt")))
+    none(f"nothing cites {name}" for name in sorted(offered - UNCITED)
+         if not re.search(rf"^(?!(?:  )?(?:pub )?{name} ).*(?<![\w-]){name}(?![\w-])", text, re.M))
 
 
 # ---- promises
@@ -304,24 +343,32 @@ def test_definitions_are_in_the_grammar(crate):
     none(lacking)
 
 
-def test_edits_are_in_the_proofs():
-    none(edit for edit in sorted(edits) if f"`{edit}`" not in pages["docs/PROOFS.md"])
+def test_wrong_bodies(request):
+    """PROOFS has each public edit with the function that it turns, by modules."""
+    modules, page, head = {}, "docs/PROOFS.md", "| module | wrong bodies, each with its function |\n|---|---|\n"
+    for name in sorted(edits):
+        module, function = re.search(r"^fn: ([a-z_:]+)::((?:[A-Z]\w*::)?\w+)$", edits[name], re.M).groups()
+        modules.setdefault(module, []).append(f"`{os.path.basename(name)[:-5]}` (`{function}`)")
+    rows = [f"| `{module}` | {', '.join(bodies)} |\n" for module, bodies in sorted(modules.items())]
+    wanted = re.sub(rf"(?<={re.escape(head)})(\|.*\n)*", "".join(rows), pages[page], count=1)
+    fix(page, wanted, request)
+    assert pages[page] == wanted, ANEW
 
 
 # Names of the toolchain, of Rust and of Debian's packages.
-OTHERS = """Send Sync unicode-width x86-64-v2 POSIXLY_CORRECT optind IFS copied-
+OTHERS = """Send Sync unicode-width x86-64-v2 POSIXLY_CORRECT optind IFS BASH_ENV copied-
     librust-clap-dev librust-lexopt-dev librust-pico-args-dev librust-unicode-width-dev"""
 
 
 @functools.cache
 def words():
     """The words of the sources, and the names of files."""
-    found = set(OTHERS.split()) | {logic()} | {part for name in tracked for part in re.split(r"[/.]", name)}
+    found = set(OTHERS.split()) | set(toolchain()) | {part for name in tracked for part in re.split(r"[/.]", name)}
     for name in tracked:
         if re.search(r"\.(rt|antt|rs|c|h|cpp|sh|py|edit|toml|txt|ini|rows)$|/stdin$|^crates.txt$|^HANDLES$", name):
             text = read(name)
             found |= set(re.findall(r"[\w+-]+", text)) | set(re.findall(r"\w+", text))
-    return found
+    return found if shutil.which("rt") else found | set(re.findall(r"logic `(\w+)`", pages["README.md"]))
 
 
 @pytest.mark.parametrize("page", pages)
@@ -332,6 +379,9 @@ def test_names_and_links(page):
     prose = re.sub(r"^```.*?^```", "", pages[page], flags=re.M | re.S)
     for span in sorted(set(re.findall(r"`([A-Za-z_][\w-]*)`", prose))):
         failures += [] if span in words() else [f"nothing is called {span}"]
+    for owner, name in sorted(set(re.findall(r"`([A-Z]\w*)::(\w+)", prose))):
+        of_it = [text for text in modules.values() if re.search(rf"\bimpl\b.*\b{owner}\b", text)]
+        failures += [f"no {owner} has {name}"] if of_it and not re.search(rf"\bfn {name}\b", "\n".join(of_it)) else []
     for path in sorted(set(re.findall(r"`([\w./-]+\.(?:md|rt|antt|rs|c|h|sh|py|edit|txt))`", prose))):
         there = [path, os.path.normpath(os.path.join(os.path.dirname(page), path))]
         if not any(f"/{it}".endswith(f"/{end}") for it in tracked for end in there):
@@ -359,6 +409,12 @@ def test_no_module_uses_one_that_uses_it(crate):
 
 
 # ---- form
+
+def test_layout():
+    files = [name for name in tracked if name.endswith((".rt", ".antt"))]
+    said, status = answer(kit() / "bin/rattle", "fmt", "--check", *files, cwd=ROOT)
+    assert status == 0, f"'rt fmt' in the crate:\n{said.decode()}"
+
 
 def test_shell_scripts():
     need("shellcheck")

@@ -10,7 +10,7 @@ from pathlib import Path
 
 import pytest
 from conftest import LINES, ROOT, ROWS, answer, run
-from targets import TARGETS, UNWINDS, cargo, cargo_for, copied, runner
+from targets import REGISTRY, TARGETS, UNWINDS, cargo, cargo_for, committed, copied, offline, runner
 
 RUST = ROOT / "bindings/rust"
 TWIN = ROOT / "tests/differential/twin"
@@ -60,23 +60,20 @@ def reader(tmp_path):
 
 @pytest.mark.parametrize("plant", sorted(path.stem for path in (ROOT / "tests/eraser").glob("*.plant")))
 def test_readers_stop(plant, reader, tmp_path):
-    """Each is Rattle, or was taken for it, and means something else once it is erased: both readers stop at it."""
+    """Each is of Rattle, or was taken for it, and means something else once it is erased: both readers stop at it."""
     eraser, source = reader
-    text, rust = (ROOT / f"tests/eraser/{plant}.plant").read_text().split("// ---- what is left of it\n")
-    laws = plant.endswith("laws")
-    (source / ("laws.rt" if laws else "lib.rt")).write_text(text)
-    if laws:
-        (source / "lib.rt").write_text("mod laws;\n")
-    assert "erase.py: crates/getopts/src/" in run(sys.executable, eraser, status=1)[1]
-    (tmp_path / "left").mkdir()
-    (tmp_path / "left/mod.rs").write_text(rust)
-    said, status = same_tokens(source, tmp_path / "left")
+    text = (ROOT / f"tests/eraser/{plant}.plant").read_text()
+    file = next((name for name in ("laws", "lib") if plant.endswith(name)), "names")
+    (source / "lib.rt").write_text(f"mod {file};\n")
+    (source / f"{file}.rt").write_text(text)
+    assert f"erase.py: crates/getopts/src/{file}.rt:" in run(sys.executable, eraser, status=1)[1]
+    said, status = same_tokens(source, source)
     assert status == 1 and b"it may mean something else in Rust" in said
 
 
 @pytest.mark.parametrize("file, right, wrong, why", [
     ("row.rt", "const MARGIN: usize = 24", "const MARGIN: usize ≡ 24", "'≡': it isn't Rust"),
-    ("table.rt", "let Table { entries: _ } = self;", "let _ = self;",
+    ("index.rt", "let Index { groups: _, held: _ } = self;", "let _ = self;",
      "'Drop': its impl does more than to take a value apart"),
     ("names.rt", "    short.len()", "    (short.len()", "'}': it closes nothing")])
 def test_eraser_stops(file, right, wrong, why, reader):
@@ -94,7 +91,8 @@ def folder(tmp_path_factory):
     return copied(tmp_path_factory.mktemp("rust"), "bindings/rust") / "bindings/rust"
 
 
-@pytest.mark.parametrize("features", [["--features", "proved"], ["--no-default-features", "--tests"]])
+@pytest.mark.parametrize("features", [["--features", "proved"], ["--no-default-features", "--tests"],
+                                      ["--features", "bare", "--doc"]])
 def test_crate(folder, features):
     cargo(folder, "test", *features)
 
@@ -105,7 +103,7 @@ def test_no_warning(folder, features):
 
 
 def test_lints(folder):
-    cargo(folder, "clippy", "--all-targets", "--features", "proved canonical", "--", "-D", "warnings")
+    cargo(folder, "clippy", "--all-targets", "--features", "proved", "--", "-D", "warnings")
     cargo(folder, "clippy", "--features", "bare", "--", "-D", "warnings")
 
 
@@ -118,13 +116,34 @@ def test_documentation(folder):
             example = line.startswith("    /// ```") or example and not line.startswith(("    }", "impl"))
 
 
-def test_package(folder):
+def test_package(folder, tmp_path):
+    """Both packages are built from what would be uploaded. No registry is asked."""
     names = cargo(folder, "package", "--allow-dirty", "--list")[0].split()
     assert set("README.md LICENSE-MIT LICENSE-APACHE NOTICE src/proved/mod.rs src/bytes/mod.rs".split()) <= set(names)
     for name in set(names) - {"Cargo.lock", "Cargo.toml.orig", ".cargo_vcs_info.json"}:
         (RUST / name).read_text(encoding="utf-8")
     tree = cargo(folder, "tree", "--edges", "normal", "--prefix", "none")[0].splitlines()
-    assert {line.split()[0] for line in tree} == {"getopts", "unicode-width"}
+    assert {line.split()[0] for line in tree} == {"proved-getopts", "unicode-width"}
+    cargo(folder, "package", "--allow-dirty")
+    for crate in REGISTRY.glob("unicode-width-*"):
+        (tmp_path / crate.name).symlink_to(crate)
+    shutil.unpack_archive(folder / "target/package/proved-getopts-0.2.24.crate", tmp_path, "gztar")
+    (tmp_path / "proved-getopts-0.2.24/.cargo-checksum.json").write_text('{"files": {}}')
+    if offline():
+        cargo(folder / "getopts", "package", "--allow-dirty", registry=tmp_path)
+
+
+def test_git(tmp_path):
+    """Of a repository a new program takes one package, and one that uses the crate getopts the other, by a patch."""
+    url = committed(copied(tmp_path / "clone", "bindings") / "bindings")
+    (tmp_path / "src").mkdir()
+    (tmp_path / "src/main.rs").write_text("fn main() { let _: proved::Options = getopts::Options::new(); }\n")
+    (tmp_path / "Cargo.toml").write_text(f"""package = {{ name = "program", version = "0.0.0", edition = "2021" }}
+dependencies.getopts = "0.2"
+dependencies.proved = {{ package = "proved-getopts", git = "{url}" }}
+patch.crates-io.getopts = {{ git = "{url}" }}
+""")
+    run("cargo", "run", *offline()[1:], cwd=tmp_path, env={"CARGO_HOME": str(tmp_path / "home")})
 
 
 @pytest.fixture(scope="module")
@@ -141,14 +160,14 @@ def test_example_answers_as_getopts_show(line, example, show):
 # ---- beside the crate getopts 0.2.24
 
 def twin_over(room, over, edit=None):
-    """A copy of tests/differential's program over a copy of a crate."""
-    ignored = shutil.ignore_patterns("target", "Cargo.lock")
+    """A copy of tests/differential's program over a copy of a crate, of ours by the package that stands in for it."""
+    ignored, place = shutil.ignore_patterns("target", "Cargo.lock"), "../crate/getopts" if over == RUST else "../crate"
     for source, to in ((TWIN, "twin"), (over, "crate")):
         shutil.copytree(source, room / to, ignore=ignored)
     if edit:
         edited(room / "crate/src" / edit[0], *edit[1:])
     with open(room / "twin/Cargo.toml", "a") as file:
-        file.write('\n[patch.crates-io]\ngetopts = { path = "../crate" }\n')
+        file.write(f'\n[patch.crates-io]\ngetopts = {{ path = "{place}" }}\n')
     return room / "twin"
 
 

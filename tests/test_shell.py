@@ -9,12 +9,13 @@ import re
 import shlex
 import shutil
 import subprocess
+import tempfile
 from pathlib import Path
 
 import pytest
 from conftest import MACHINE, ROOT, answer, need, rows_in, run, script
 from shell import lines, tables
-from targets import cargo, cargo_for, copied, offline, runner
+from targets import cargo, cargo_for, committed, copied, offline, runner
 
 SHELL = ROOT / "bindings/shell"
 SHELLS = ["dash", "bash", "bash --posix", "zsh", "ksh93", "mksh", "yash", "busybox sh"]
@@ -44,13 +45,10 @@ def by_qemu(tmp_path_factory):
 @pytest.fixture(scope="session")
 def by_cargo(tmp_path_factory):
     """The program that cargo installs from a clone."""
-    need("cargo", "cc", "git")
+    need("cargo", "cc")
     room = tmp_path_factory.mktemp("cargo")
-    clone = copied(room, "bindings/rust", "bindings/shell") / "bindings"
-    for words in (["init", "-q"], ["add", "-A"], ["-c", "user.name=a", "-c", "user.email=a@b", "commit", "-q", "-m", "a"]):
-        run("git", *words, cwd=clone)
-    registry = [word for word in offline() if word != "--offline"]
-    run("cargo", "install", *registry, "--quiet", "--git", f"file://{clone}", "--root", room / "root", "getopts_shell")
+    clone = committed(copied(room, "bindings/rust", "bindings/shell") / "bindings")
+    run("cargo", "install", *offline()[1:], "--quiet", "--git", clone, "--root", room / "root", "getopts_shell")
     return room / "root/bin/getopts_shell"
 
 
@@ -132,6 +130,19 @@ def test_help_and_faults_are_those_without_variables(program, own, words):
 @HERE
 def test_tables_with_one_byte_changed(program, cases):
     tables.changed_tables(program, cases(2_000))
+
+
+@HERE
+def test_tables_of_operands(program):
+    tables.operand_tables(program)
+
+
+@HERE
+def test_closed_streams(program):
+    """What can't be written is told by the proved program; Rust's library opens /dev/null before one by cargo begins."""
+    by_rust = program.parent.name == "bin-by_cargo"
+    for words, status, closed in (["--version"], 0, 1), (["n", "[-a]", "-b"], 2, 2), (["n"], 5, 2):
+        assert answer("sh", "-c", f'exec getopts_shell "$@" {closed}>&-', "sh", *words) == (b"", status if by_rust else 4)
 
 
 def by_getopt(options, words):
@@ -222,6 +233,69 @@ def test_sentence_of_the_page(program, one_shell, row):
     assert subprocess.run([*one_shell, "-c", script], capture_output=True).stdout == out.encode()
 
 
+@pytest.fixture
+def open_room():
+    """A folder that every user may read and write."""
+    with tempfile.TemporaryDirectory() as room:
+        os.chmod(room, 0o777)
+        yield Path(room)
+
+
+def limited(program, room, *words, **env):
+    """What words write where this program is called getopts_shell, and how many processes came of them: with thirty at a
+    time at most, of a user of their own, and all ended after five seconds."""
+    need("unshare", "setpriv", "prlimit")
+    if os.getuid() != 0:
+        pytest.skip("only the system administrator may limit another user's processes")
+    shutil.copy2(program, room / "getopts_shell")
+    user = 100_000 + os.getpid()
+    counted = """timeout -s KILL 5 "$@"; printf '\\0'; sh -c 'echo $$'; :"""
+    wrote, _ = run("unshare", "--pid", "--fork", "--kill-child=KILL", "setpriv", f"--reuid={user}", f"--regid={user}",
+                   "--clear-groups", "prlimit", "--nproc=30", "sh", "-c", counted, "sh", *words,
+                   cwd=room, env={"PATH": f"{room}:{os.environ['PATH']}", **env})
+    wrote, _, count = wrote.rpartition("\0")
+    return wrote, int(count)
+
+
+# What a script may set before it reads its options, and the shells that fork without end by that alone.
+SETTINGS = {"set -eu": [], "set -fx": [], "set -v": [], "IFS=-_o2": [], "PS4='$(date)'; set -x": ["yash"],
+            "trap 'date >/dev/null' CHLD": ["dash", "mksh", "yash", "busybox"]}
+
+
+@HERE
+@pytest.mark.parametrize("setting", SETTINGS)
+def test_setting(program, one_shell, open_room, setting):
+    """A script reads the same after it, by a few processes."""
+    if one_shell[0] in SETTINGS[setting]:
+        pytest.skip(f"{one_shell[0]} forks without end by that alone")
+    (open_room / "script").write_text(f"""{setting}
+code=$(getopts_shell --variables o_ n "[-v]  say more
+[-L DIR]..  a folder" -v -L 1 -L '2 3' "a b") || exit
+eval "$code"
+printf '%s|' "$o_v" "$o_L" "$1"
+""")
+    wrote, count = limited(program, open_room, *one_shell, "script")
+    assert wrote == "1|'1' '2 3'|a b|" and count < 25
+
+
+@HERE
+@pytest.mark.parametrize("where", ["its name", "BASH_ENV", ".zshenv"])
+def test_script_that_calls_itself(program, open_room, where):
+    """As the page says, a script does so without end that is called getopts_shell, and so does one whose shell reads the
+    line of its completion wherever it starts."""
+    shell = {"BASH_ENV": "bash", ".zshenv": "zsh"}.get(where, "sh")
+    need(shell)
+    text = f"""#!/usr/bin/env {shell}
+if [ "${{1-}}" = --completion ]; then exec getopts_shell --complete "$2" backup '[-v]  say more'; fi
+code=$(getopts_shell backup '[-v]  say more' "$@") || exit
+"""
+    script(open_room / "backup", text)
+    (open_room / ".zshenv").write_text(f'eval "$(backup --completion {shell})"\n')
+    env = {} if where == "its name" else {"BASH_ENV": f"{open_room}/.zshenv", "ZDOTDIR": str(open_room)}
+    _, count = limited(program if env else open_room / "backup", open_room, "backup", **env)
+    assert count > 25
+
+
 @pytest.mark.parametrize("words", ["-vi a x", "--input=a -v -- -v", "--help", "-x", "--completion fish"])
 def test_with_nothing_but_busybox(words, carried, tmp_path):
     """In a root that has busybox, the program and a script, the script does what it does here."""
@@ -261,6 +335,8 @@ def test_install(carried, tmp_path):
     install("a prefix", CDPATH=f"/:{SHELL}")
     assert (tmp_path / "a prefix/bin/getopts_shell").read_bytes() == carried.read_bytes()
     assert (tmp_path / "a prefix/share/man/man1/getopts_shell.1").is_file()
+    licences = {"LICENSE-musl", "LICENSE-MIT", "LICENSE-APACHE", "NOTICE"}
+    assert set(os.listdir(tmp_path / "a prefix/share/doc/getopts_shell")) == licences
     for machine in ("x86_64", "aarch64"):
         install("/usr", DESTDIR="stage", MACHINE=machine)
         there = SHELL / machine / "getopts_shell"
@@ -281,6 +357,9 @@ def test_install(carried, tmp_path):
     (tmp_path / "bsd/uname").chmod(0o755)
     install("other", status=1, PATH=f"{tmp_path}/bsd:{os.environ['PATH']}")
     (tmp_path / "bsd/uname").unlink()
+    (tmp_path / "link").symlink_to(SHELL / "install.sh")
+    assert "not by a link" in run("sh", tmp_path / "link", "other", status=1)[1]
+    (tmp_path / "link").unlink()
     install("--uninstall", "a prefix")
     install("--uninstall", "/usr", DESTDIR="stage/")
     assert not [path for path in tmp_path.rglob("*") if not path.is_dir()]

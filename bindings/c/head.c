@@ -50,7 +50,7 @@ static int run(struct getopts *options, int count, char **words) {
 
 int main(int argc, char **argv) {
     struct getopts *options = getopts_new(table, GETOPTS_ORDINARY);
-    int status = options != NULL ? run(options, argc - 1, argv + 1) : 3;
+    int status = run(options, argc - 1, argv + 1);
     getopts_delete(options);
     return status;
 }

@@ -3,11 +3,12 @@
 #
 #     bindings/c/install.sh [--uninstall] PREFIX
 #
-# - PREFIX/lib: libgetopts.a, and on Linux libgetopts.so, which both export the functions of getopts.h alone
+# - PREFIX/lib: libgetopts.a, also named libgetopts-static.a, and on Linux libgetopts.so; both export the functions of
+#   getopts.h alone
 # - PREFIX/include: getopts.h
 # - PREFIX/lib/pkgconfig: getopts.pc, and getopts-static.pc for a program that holds the library itself
-# - PREFIX/share/man/man3: getopts.3, also by the name of each function
-# - PREFIX/share/doc/getopts: README.md, head.c and the licences
+# - PREFIX/share/man/man3: getopts.3, made of getopts.h, also by the name of each function
+# - PREFIX/share/doc/getopts: README.md, head.c, order.c and the licences
 #
 # It needs cargo with Rust 1.68 or later, a C compiler and binutils, and runs by any POSIX shell, also busybox's (where
 # that has an ar of its own, as Debian's, with AR=/usr/bin/ar). It takes unicode-width from Debian's
@@ -42,8 +43,12 @@ absolute() {
     esac | sed 's,//*$,,'
 }
 prefix=$(absolute "$1")
-case $prefix in
-*[\"\$\#\\]*) fail "pkg-config reads \", \$, # and \\ in a prefix otherwise: name one without them" ;;
+line_end='
+'
+case $1$prefix in
+*"$line_end"*) fail "pkg-config doesn't read a prefix with a line end: name one without" ;;
+*[[:space:]]) fail "pkg-config doesn't read a blank at the end of a prefix: name one without" ;;
+*[\"\$\#\\:]*) fail "pkg-config and paths read \", \$, #, \\ and : in a prefix otherwise: name one without them" ;;
 esac
 to=$(absolute "${DESTDIR:-/}")$prefix
 
@@ -54,7 +59,7 @@ shared=libgetopts.so.$version
 functions=$(sed -n 's/^[a-z].*[ *]\(getopts_[a-z_]*\)(.*/\1/p' "$here/getopts.h")
 
 # What goes into share/doc/getopts, by its place from here.
-documents="README.md head.c ../../LICENSE-MIT ../../LICENSE-APACHE ../../NOTICE"
+documents="README.md head.c order.c ../../LICENSE-MIT ../../LICENSE-APACHE ../../NOTICE"
 
 # Removes the shared libraries of all versions with the first number of this one.
 remove_versions() {
@@ -68,7 +73,8 @@ remove_versions() {
 
 if [ -n "$remove" ]; then
     rm -f "$to/include/getopts.h" "$to/lib/libgetopts.a" "$to/lib/libgetopts.so" "$to/lib/$soname" \
-        "$to/lib/pkgconfig/getopts.pc" "$to/lib/pkgconfig/getopts-static.pc" "$to/share/man/man3/getopts.3"
+        "$to/lib/libgetopts-static.a" "$to/lib/pkgconfig/getopts.pc" "$to/lib/pkgconfig/getopts-static.pc" \
+        "$to/share/man/man3/getopts.3"
     remove_versions
     for function in $functions; do
         rm -f "$to/share/man/man3/$function.3"
@@ -131,6 +137,7 @@ Cflags: "-I\${includedir}"
 END
 }
 
+awk -f "$here/man.awk" "$here/getopts.h" "$here/getopts.h" >"$room/getopts.3"
 remove_versions
 case $($cc -dumpmachine) in
 *linux*)
@@ -159,13 +166,15 @@ case $($cc -dumpmachine) in
     put "$room/getopts.pc" lib/pkgconfig/getopts.pc
     ;;
 esac
+# By a name that no shared library has. CMake would put the path of an archive before what asks for it.
 # shellcheck disable=SC2016
-describe '"${libdir}/libgetopts.a"' >"$room/getopts-static.pc"
+describe '"-L${libdir}" -lgetopts-static' >"$room/getopts-static.pc"
 echo '.so man3/getopts.3' >"$room/page.3"
 put "$built" lib/libgetopts.a
+ln -sf libgetopts.a "$to/lib/libgetopts-static.a"
 put "$room/getopts-static.pc" lib/pkgconfig/getopts-static.pc
 put "$here/getopts.h" include/getopts.h
-put "$here/getopts.3" share/man/man3/getopts.3
+put "$room/getopts.3" share/man/man3/getopts.3
 for function in $functions; do
     put "$room/page.3" "share/man/man3/$function.3"
 done

@@ -68,7 +68,7 @@ int main(int argc, char **argv) {
     static char room[BUFSIZ];
     setvbuf(stdout, room, _IOFBF, sizeof room);
     struct getopts *options = getopts_new(table, GETOPTS_ORDINARY);
-    int status = options != NULL ? answer(options, argc - 1, argv + 1) : 3;
+    int status = answer(options, argc - 1, argv + 1);
     getopts_delete(options);
     return status;
 }

@@ -21,8 +21,21 @@ and the word. What is marked by * means nothing when a program runs, and is dele
     generics  < .. >, where Drop* may stand as a bound
     attribute #[derive(..)], in which Drop* may stand | #[tactic(..)]* | those of ATTRIBUTES
 
-A module of laws has functions that return nothing and lend all that they take, and is left out. The names of Rust that
-a source uses are in SAME and IMPORTS: each means in Rust what Rattle's contract of it says, which is trusted.
+A module of laws has functions that return nothing and lend all that they take, and is left out.
+
+Of a body it reads no types. It stops at a call or a name that no list has: those of Rust are in SAME, OF_TYPES and
+IMPORTS, and each means in Rust what Rattle's contract of it says, which is trusted. And it stops at what both languages
+accept and Rust does otherwise, as Rattle's guides list it; `tests/eraser` has each:
+
+    a range with no end, which Rust takes past the last number; `S { a, ..v[1] }`, of which Rust looks at `v[1]`; what a
+    type takes, or has room for; `as usize` on 32 bits; a sort by no order; clones as items, and `write!` to a text,
+    which fail in Rattle; a method that is Rust's and asks for memory; a type, an import or a path of another meaning;
+    a `drop` that does something; a trait, and a bound of an impl, by which a call may pick another function
+
+The rest of those lists can't stand here. Errors of `anyhow`, threads, channels, `once` and `empty`, and a bound by
+`Index` need an import. Macros, and `stringify!`, aren't among the calls; `try_from` is no name. No `drop` does anything,
+so it doesn't matter when temporaries and parts of a pattern are dropped (the packages are of edition 2021, Rattle is as
+2024), nor whether a pattern of `self` drops it. What overflows on 32 bits alone is tested, not proved.
 
 It renames by the tables below; no source has a name of those that it gives. `same_tokens.py` checks what it wrote, and
 shares neither code nor tables with it.
@@ -35,7 +48,8 @@ import sys
 from pathlib import Path
 
 TOP = Path(__file__).resolve().parents[2]
-RUSTFMT = ["rustfmt", "--edition", "2021", "--config", "style_edition=2024,reorder_imports=false"]
+LAYOUT = "style_edition=2024,reorder_imports=false,use_small_heuristics=Default"
+RUSTFMT = ["rustfmt", "--edition", "2021", "--config", LAYOUT]
 
 # Rattle's calls that may be refused memory, by those of `fallible.rs`.
 CALLS = {name: f"try_{name}" for name in "push push_str sort_by extend_from_slice clone".split()} | {
@@ -74,13 +88,13 @@ IMPORTS = set("""std::alloc std::cmp::Ordering std::convert::AsStr std::env std:
 SAME = set("""all alloc allocator any arg as_bytes as_slice as_str binary_search_by binary_search_by_key
     capacity chars checked_add clone cmp contains count dedup_by encode_utf8 ends_with enumerate
     extend_from_slice first flush format get into_iter is_ascii is_ascii_alphanumeric is_ascii_digit is_empty
-    is_none is_some iter iter_mut kind len len_utf8 lines map_or matches max min next ok_or parse position push push_reserved
-    push_str reserve reserve_exact resize rev rsplit_once saturating_add saturating_mul saturating_sub size_hint
+    is_some iter iter_mut kind len len_utf8 lines map_or matches max min next ok_or parse position push push_reserved
+    push_str reserve reserve_exact resize rsplit_once saturating_add saturating_mul saturating_sub size_hint
     sort_by split split_at split_at_mut split_once split_whitespace starts_with stderr strip_prefix strip_suffix
     then_some trim_ascii truncate unreachable unwrap_or vec width write writeln Err FnMut Ok Some bytes""".split())
 # Those of them that are called of a type, as in `u32::from(..)`.
 OF_TYPES = set("""Error::from String::new String::from_str String::with_capacity Vec::new Vec::with_capacity
-    ExitCode::from char::from_u32 io::writer str::from_utf8 u32::from u32::from_be_bytes u64::from_be_bytes""".split())
+    ExitCode::from char::from_u32 io::writer str::from_utf8 u32::from u32::from_be_bytes""".split())
 
 TOKEN = re.compile(
     r"""(?P<lead>(?:\s+|//[^\n]*)*)
@@ -97,6 +111,15 @@ KEYWORDS = set("""as break const continue crate else enum fn for if impl in let 
     return self struct super type use while""".split())
 # The names that renaming gives, which no source may have.
 GIVEN = re.compile(r"try_\w+|of_capacity|copy_of|TryClone|trimmed_ascii")
+# Types of Rust, which no source may define: renaming takes their calls for Rust's.
+RUSTS = set("""bool char f32 f64 i8 i16 i32 i64 i128 isize str u8 u16 u32 u64 u128 usize String Vec Option Some None
+    Ok Err Box Clone Copy Default Drop Eq Iterator IntoIterator Ord PartialEq PartialOrd ToString alloc core std""".split())
+# Methods of Rust's types that ask for memory, which no source may define: a call by the name may be Rust's.
+ASKING = set("""append collect concat extend insert insert_str into_boxed_slice into_boxed_str join repeat replace
+    resize_with shrink_to shrink_to_fit sort sort_by_cached_key sort_by_key splice split_off to_lowercase to_owned
+    to_string to_uppercase to_vec""".split())
+# What a list is sorted by: orders, as its contract says.
+ORDERS = ("|entry, other| entry.order(signatures, other))", "|letter, other| letter.short.cmp(&other.short))")
 
 
 class NotRust(Exception):
@@ -140,6 +163,10 @@ class Eraser:
 
     def has(self, at, pattern):
         return [token.text for token in self.tokens[at : at + len(words(pattern))]] == words(pattern)
+
+    def next(self, sign, at):
+        """The place of the next sign like this, from a place on."""
+        return next((place for place in range(at, len(self.tokens)) if self.text(place) == sign), at)
 
     def close(self, at):
         """The place after the bracket that closes the one at a place."""
@@ -362,7 +389,7 @@ class Eraser:
         self.at = self.after(self.at)
         tree = "".join(token.text for token in self.tokens[start : self.at - 1])
         path, _, names = tree.partition("::{")
-        if tree.startswith(("std::", "core::", "alloc::")):
+        if tree.startswith("std::"):
             every = [f"{path}::{name}" for name in names.rstrip("}").split(",")] if names else [path]
             for one in every:
                 if not any(one == known or one.startswith(known + "::") for known in IMPORTS):
@@ -370,6 +397,8 @@ class Eraser:
 
     def implementation(self, start):
         self.generics()
+        if any(self.has(at, ":") for at in range(start, self.at)):
+            self.stop(start, "Rust may not see that a type meets the bound")
         trait = self.text(self.at) if self.has(self.at + 1, "for") else ""
         if trait not in ("Model", "Drop"):
             self.past("{")
@@ -415,21 +444,68 @@ class Eraser:
                 self.stop(at, "it begins a block comment")
             if GIVEN.fullmatch(token.text):
                 self.stop(at, "it is a name that renaming gives")
+            self.form(at, token.text)
         at = 0
         while at < len(self.tokens):
             at = self.close(at) if self.text(at) in BRACKETS else at + 1
         self.at = 0
         self.items(one)
+        self.dots()
 
-    def calls(self, known, values):
+    def form(self, at, text):
+        """Stops at what Rattle and Rust read apart."""
+        before = self.text(at - 1)
+        if text in RUSTS and before in ("struct", "enum", "type", "trait", "mod", "const", "fn"):
+            self.stop(at, "Rust has this name")
+        if text == "capacity" and not self.has(at - 4, "self.records.capacity()"):
+            self.stop(at, "it is another number in Rust: in its one place it only says how much to reserve")
+        if self.has(at, "as usize") or self.has(at, "as isize"):
+            self.stop(at, "where numbers have 32 bits it loses some")
+        if self.has(at, "crate::") and self.file.stem in ("lib", "main"):
+            self.stop(at, "its module is another one's there")
+        if self.has(at, ".sort_by(") and not any(self.has(at + 3, order) for order in ORDERS):
+            self.stop(at + 1, "Rust may panic where this is no order")
+
+    def dots(self):
+        """Stops at a range with no end that isn't an index, which goes on past the last number in Rust, and at `..` of
+        a record that more than names follow, which Rust looks at even if nothing is taken of it."""
+        opened = []
+        for at, token in enumerate(self.tokens):
+            if token.text in BRACKETS:
+                opened.append(at)
+            elif token.text in BRACKETS.values():
+                opened.pop()
+            before, after = self.text(at - 1), self.text(at + 2)
+            if not self.has(at, "..") or before == ".":
+                continue
+            of = self.text(opened[-1] - 1) if after == "]" else ""
+            index = re.match(r"\w|[)\]?]", of) and of not in KEYWORDS
+            if before not in set("{([,@|=>&") and after in set(")}],;{") and not index:
+                self.stop(at, "a range has to have an end")
+            if before in set(",{") and after not in set(")}],"):
+                end = next(end for end in range(at + 2, len(self.tokens)) if not re.match(r"[*.\w]", self.text(end)))
+                if self.text(end) != "}":
+                    self.stop(at, "names alone may stand in what a record is made of")
+
+    def calls(self, known, values, methods, same):
         """Stops at calls and names of functions that aren't of this repository, and aren't known of Rust."""
         imported = 0
+        shows = all(
+            self.has(at - 3, "write!(f,") or self.has(at, "f: &mut fmt::Formatter<W>")
+            for at in range(len(self.tokens)) if self.text(at) == "f"
+        )
         for at, token in enumerate(self.tokens):
             text, after = token.text, self.text(at + 1)
             if token.strange:
                 self.stop(at, "it isn't Rust")
             if text == "use":
                 imported = self.after(at)
+                if self.text(at + 1) not in known | {"crate", "super", "std", "unicode_width"}:
+                    self.stop(at + 1, "no crate of this name is known")
+            if text == "as" and at < imported:
+                self.stop(at, "what is imported keeps its name")
+            if text in ("std", "core") and at >= imported and not self.has(at, "std::result::Result<"):
+                self.stop(at, "what Rust has is imported")
             named = self.text(at - 1) == "fn" or self.has(at - 2, "#[") or at < imported
             if not re.fullmatch(r"[A-Za-z_]\w*", text) or text in KEYWORDS or named:
                 continue
@@ -437,11 +513,12 @@ class Eraser:
             called = after == "(" or macro or self.has(at + 1, "::<")
             if self.has(at - 2, "::") and (called or text[0].islower()) and not self.has(at + 1, "::"):
                 of = self.text(at - 3)
-                ours = text in known and (of in known or of in ("crate", "super", ">"))
+                ours = text in known and (of in known or of in ("crate", "super"))
                 if not ours and f"{of}::{text}" not in OF_TYPES:
                     self.stop(at, f"{of}::{text} isn't among the calls that may be used")
-            elif called and text not in SAME and (macro or text not in known):
-                if macro or self.text(at - 1) == "." or text not in values:
+            elif called and text not in same and not (shows and self.has(at, "write!(f,")):
+                by = self.text(at - 1) == "."
+                if macro or text not in (methods if by else known | values):
                     self.stop(at, "it isn't among the calls that may be used")
 
     def rename(self, names):
@@ -470,16 +547,20 @@ def read(path, one="item"):
 
 def defined(eraser):
     """The names that a file defines, of functions, types, variants and modules; and of what may hold a function."""
-    text, names, values = eraser.text, {"Self"}, set()
+    text, names, values, methods = eraser.text, {"Self"}, set(), set()
     for at in range(len(eraser.tokens)):
+        if text(at - 1) == "fn" and "self" in [text(place) for place in range(at, eraser.close(eraser.next("(", at)))]:
+            methods.add(text(at))
+            if text(at) in ASKING:
+                eraser.stop(at, "Rust's types have a method of this name")
         if text(at - 1) in ("fn", "struct", "enum", "type", "const", "mod"):
             names.add(text(at))
         if text(at - 1) in ("let", "mut") or text(at + 1) == ":" and text(at + 2) != ":":
             values.add(text(at))
         if text(at) == "enum":
-            body = next(place for place in range(at, len(eraser.tokens)) if text(place) == "{")
+            body = eraser.next("{", at)
             names |= {text(place) for place in range(body, eraser.close(body)) if text(place)[:1].isupper()}
-    return names, values
+    return names, values, methods
 
 
 def rust_of(path, eraser, module, names):
@@ -487,9 +568,9 @@ def rust_of(path, eraser, module, names):
     for at, token in enumerate(eraser.tokens):
         if token.text == "in" and eraser.text(at - 2) == "!" and eraser.text(at - 3) != "text":
             eraser.stop(at, "no macro of this name takes an allocator")
-    text = "".join(token.lead + token.text for token in eraser.tokens)
     # What is shown is Rattle, which Rust's tests of examples wouldn't compile.
-    text = re.sub(r"(//[/!] ```)\n((?:.*\n)*?.*//[/!] ```\n)", r"\1text\n\2", text)
+    shown = functools.partial(re.sub, r"(//[/!] ```)\n((?:.*\n)*?.*//[/!] ```\n)", r"\1text\n\2")
+    text = "".join(shown(token.lead) + token.text for token in eraser.tokens)
     head = f"// What bindings/rust/erase.py leaves of {path.relative_to(TOP)}: change that file, not this one.\n"
     docs, rest = re.fullmatch(r"((?://![^\n]*\n)*)\n*((?:.|\n)*)", text).groups()
     imports = f"use crate::{module}::*;\n\n" if called else ""
@@ -501,17 +582,19 @@ def rust_of(path, eraser, module, names):
 
 def sources():
     """The files of each crate, read, and the names that all of them define."""
-    crates, known, values = {}, set(CRATES), set()
+    crates, known, values, methods = {}, set(CRATES), set(), set()
     for name in CRATES:
         paths = sorted((TOP / "crates" / name / "src").glob("*.rt"))
         laws = [read(path, "law") for path in paths if path.stem == "laws"]
         crates[name] = {path: read(path) for path in paths if path.stem != "laws"}
         for eraser in [*crates[name].values(), *laws]:
-            names, held = defined(eraser)
-            known, values = known | names, values | held
-    for files in crates.values():
+            names, held, called = defined(eraser)
+            known, values, methods = known | names, values | held, methods | called
+    for name, files in crates.items():
+        # What `host.rs` has the library doesn't call: `write!` is there for `f` of `Display` alone.
+        same = SAME - (set() if CRATES[name][2] is HOST else {call.rstrip("!") for call in HOST})
         for eraser in files.values():
-            eraser.calls(known, values)
+            eraser.calls(known, values, methods, same)
     return crates
 
 

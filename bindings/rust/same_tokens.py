@@ -5,7 +5,8 @@
 
 The tokens of FOLDER/X.rs have to be those of SOURCE/X.rt in order, but for the renames below and for constructs that
 mean nothing when a program runs: each begins with a word of `WHOLE`, and goes to the end that stands beside it.
-Comments, white space and a comma before a bracket that closes aren't looked at. A source may hold nothing that Rattle
+Comments, white space, a comma before a bracket that closes and the brackets of an arm with one expression aren't looked
+at. A source may hold nothing that Rattle
 and Rust read apart (`odd`).
 """
 
@@ -16,7 +17,7 @@ from pathlib import Path
 # What begins a construct, and what ends it: brackets that close, or a sign outside brackets.
 WHOLE = [(r"(requires|ensures)( \w+)? {", "}"), (r"ghost", ";,"), (r"impl (< .*? > )?(Model|Drop) for .*? {", "}")]
 WHOLE += [(r"# (! )?\[ (tactic|derive \( Drop \) \])", "]"), (r"use std :: marker :: Model", ";")]
-WHOLE += [(r"(mod laws|pub use laws)", ";"), (r"[+:,] Drop(?= [>,)])", ""), (r"Drop ,", ""), (r",(?= \))", ",")]
+WHOLE += [(r"(mod laws|pub use laws)", ";"), (r"[+:,] Drop(?= [>,)])", ""), (r"Drop ,", "")]
 CALLS = "push push_str sort_by clone extend_from_slice".split()
 RENAMED = {word: "try_" + word for word in CALLS}
 RENAMED |= {"reserve": "try_grow", "reserve_exact": "try_grow_exact", "with_capacity": "of_capacity"}
@@ -33,7 +34,7 @@ HOST = {"resize": "try_resize", "trim_ascii": "trimmed_ascii", "str :: from_utf8
 HOST |= {"format !": "text !", "write !": "add !", "writeln !": "add_line !", "fn main": "pub fn main"}
 HOST |= {f"std :: {name}": f"crate :: host :: {name}" for name in ("alloc", "env", "io")} | {"crate ::": "super ::"}
 HOST |= {"getopts ::": "crate :: getopts ::", "getopts_bytes ::": ":: getopts :: bytes ::"}
-TOKEN = r"""//.*|r#"[\s\S]*?"#|b?"(?:\\[\s\S]|[^"\\])*"|b?'(?:\\.[^']*|[^\\'])'|'\w+|\w+|::|\S"""
+TOKEN = r"""//.*|b?r"[^"]*"|b?r#"[\s\S]*?"#|b?"(?:\\[\s\S]|[^"\\])*"|b?'(?:\\.[^']*|[^\\'])'|'\w+|\w+|::|\S"""
 
 
 # Words that Rust and Rattle read apart, or that no source needs.
@@ -42,13 +43,13 @@ ODD |= {"of_capacity", "copy_of", "TryClone", "trimmed_ascii"}
 # What stands behind a sign in an attribute, what is derived, and what is imported of Rust.
 DERIVED = r"derive \( ((Clone|Copy|Debug|PartialEq|Eq|Drop) (, )?)+\)"
 SIGNED = rf"# (! )?\[ (inline|cold|must_use|tactic|{DERIVED})"
-TAKEN = r"use (?!std)|use std :: (alloc|cmp|convert|env|error|fmt|io|marker|process|str|vec) "
+TAKEN = r"use (crate|super|unicode_width) ::|use std :: (alloc|cmp|convert|env|error|fmt|io|marker|process|str|vec) "
 # Calls of Rust that no source defines.
 CALLED = set("""all alloc allocator any arg as_bytes as_slice as_str binary_search_by binary_search_by_key bytes
     capacity chars checked_add clone cmp contains count dedup_by encode_utf8 ends_with enumerate
     extend_from_slice first flush from from_be_bytes from_str from_u32 from_utf8 get into_iter is_ascii
-    is_ascii_alphanumeric is_ascii_digit is_empty is_none is_some iter iter_mut kind len len_utf8 lines map_or max min
-    next new ok_or parse position push push_reserved push_str reserve reserve_exact resize rev rsplit_once saturating_add
+    is_ascii_alphanumeric is_ascii_digit is_empty is_some iter iter_mut kind len len_utf8 lines map_or max min
+    next new ok_or parse position push push_reserved push_str reserve reserve_exact resize rsplit_once saturating_add
     saturating_mul saturating_sub size_hint sort_by split split_at split_at_mut split_once split_whitespace
     starts_with stderr strip_prefix strip_suffix then_some trim_ascii truncate unwrap_or width with_capacity
     write writer Err FnMut Ok Some format matches unreachable vec writeln inline derive cfg tactic if in let for
@@ -69,29 +70,62 @@ def end_of(source, at, end):
     return len(source)
 
 
-def odd(path, defined):
+# What they read apart: names of Rust's, methods that ask for memory there, numbers of 32 bits, a record of more than
+# names, what a type has, a bound that only Rattle may meet, an import by another name, and what is sorted by no order.
+NAMES = "(bool|char|str|[iuf]\\d+|[iu]size|String|Vec|Option|Some|None|Ok|Err|Box|Clone|Copy|Default|Drop|Eq|Iterator"
+NAMES += "|IntoIterator|Ord|PartialEq|PartialOrd|ToString|alloc|core|std)"
+ASKING = "(append|collect|concat|extend|insert|insert_str|into_boxed_(slice|str)|join|repeat|replace|resize_with"
+ASKING += "|shrink_to|shrink_to_fit|sort|sort_by_(cached_)?key|splice|split_off|to_(lowercase|owned|string|uppercase|vec))"
+ORDERS = "[|] entry , other [|] entry . order \\( signatures , other \\) \\)"
+ORDERS += "|[|] letter , other [|] letter . short . cmp \\( & other . short \\) \\)"
+APART = rf"(struct|enum|type|trait|mod|const|fn) {NAMES} |fn {ASKING} (< [^(]* )?\( (& )?('\w+ )?(mut )?self "
+APART += r"|as [iu]size |[,{] \. \. (?!([*] )?\w+( \. \w+)* }|[)}\],] )|> :: |/ [*]|mod \w+ [{]"
+APART += rf"|impl < [^>]* : (?!Drop >)|use [^;]* as |\. sort_by \( (?!{ORDERS})"
+DROP = r"Drop for \w+ (< [^>]*> )?{ fn drop \( self \) { let \w+ { (\w+ : _ ,? ?)*} = self ; } }"
+# What the library doesn't call: nobody is told there where memory is refused.
+HOSTS = r"(resize|trim_ascii) \(|(format|writeln) !|write ! \( (?!f ,)"
+
+
+def has_no_end(words, at, before):
+    """Whether a range that isn't an index has no end here: Rust takes it past the last number."""
+    if words[at] == "[" and (not re.match(r"\w|[)\]?]", before) or before in ("in", "return", "else", "match")):
+        end = end_of(words, at, "]")
+        return words[end - 3 : end - 1] == [".", "."] and words[end - 4] not in "[,@"
+    return re.match(r"\. \. [)},;{]", " ".join(words[at : at + 3])) and before not in "([{,@|=>&."
+
+
+def odd(path, defined, methods, heads, library):
     """What a source holds that Rattle and Rust may read apart, if it does."""
-    words, at = re.findall(TOKEN, path.read_text(encoding="utf-8")), 0
+    words, commented, at = [], set(), 0
+    for word in re.findall(TOKEN, path.read_text(encoding="utf-8")):
+        words += [word] if word[:2] != "//" else []
+        commented |= {len(words)} if word[:2] == "//" else set()
     while at < len(words):
         word, ahead, before = words[at], " ".join(words[at : at + 40]) + " ", words[at - 1] if at else ";"
         behind = " ".join(words[max(0, at - 12) : at])
         bound = before in "+:" and re.match("Drop [,>]", ahead) or re.match("Drop for", ahead)
         called = re.match(r"[A-Za-z_]\w* (\(|! [^=]|:: <)", ahead) and before != "fn"
+        shown = behind.endswith("write ! (") or ahead.startswith("f : & mut fmt :: Formatter <")
         if (
-            word in ODD or word.startswith("try_") or re.match(r"/ [*]|mod \w+ [{]", ahead)
+            word in ODD or word.startswith("try_") or re.match(APART, ahead) or has_no_end(words, at, before)
+            or library and (re.match(HOSTS, ahead) or word == "f" and "write" in words and not shown)
+            or word == "capacity" and not behind.endswith(" self . records .")
+            or word == "std" and before != "use" and not ahead.startswith("std :: result :: Result <")
+            or path.stem in ("lib", "main") and re.match("crate ::", ahead)
             or word == "#" and not re.match(SIGNED, ahead)
-            or word == "use" and not re.match(TAKEN, ahead)
-            or word == "ghost" and before not in "; { } , ]".split() and before[:2] != "//"
+            or word == "use" and not (re.match(TAKEN, ahead) or words[at + 1] in heads)
+            or word == "ghost" and before not in "; { } , ]"
+            or re.match("Drop for", ahead) and not re.match(DROP, " ".join(words[at : at + 200]))
             or word == "Drop" and not bound and not re.search(r"derive \([\w ,]*$", behind)
-            or called and word not in CALLED and word not in defined
+            or called and word not in CALLED and word not in (methods if before == "." else defined)
         ):
             return ahead
         whole = next((end for start, end in WHOLE[:2] if re.match(start + r"(?!\w)", ahead)), "")
         whole = "]" if re.match(r"# (! )?\[ tactic", ahead) else whole
         end = end_of(words, at, whole) if whole else at + 1
-        logic = words[at:end] if whole and whole != "]" else []
-        hidden = any(word[:2] == "//" or word.lstrip("b")[:1] == "'" for word in logic)
-        if hidden or re.search("- -|[{] -|- }", " ".join(logic)):
+        logic = range(at + 1, end) if whole and whole != "]" else []
+        hidden = any(place in commented or words[place].lstrip("b")[:1] == "'" for place in logic)
+        if hidden or re.search("- -|[{] -|- }", " ".join(words[place] for place in logic)):
             return ahead
         at = end
     if path.stem == "laws" and re.search(r"\) - >| (mut|impl|struct|enum|const|type) ", " ".join(words)):
@@ -101,7 +135,7 @@ def odd(path, defined):
 
 def differs(source, rust, names, imports):
     """The place in the source where the two are no longer the same, if there is one."""
-    at = to = 0
+    at, to, arms = 0, 0, set()
     if rust[: len(imports)] == imports:
         to = len(imports)
     while at < len(source):
@@ -118,6 +152,13 @@ def differs(source, rust, names, imports):
                 at = end_of(source, at, whole[1]) if whole[1] else at + 2
             elif rust[to : to + 1] == [","] and rust[to + 1] in ")]}":
                 to += 1
+            elif source[at] == "," and source[at + 1] in ")]}":
+                at += 1
+            elif source[at - 2 : at + 1] == ["=", ">", "{"]:
+                arms.add(end_of(source, at, "}") - 1)
+                at += 1
+            elif at in arms:
+                at, to = at + 1, to + (rust[to] == ",")
             else:
                 return at
     return None if to == len(rust) else at
@@ -135,10 +176,12 @@ def main(source, folder):
     text = " ".join(" ".join(tokens(path)) for path in every)
     defined = set(re.findall(r"(?:fn|struct|type|const|let|let mut) (\w+)", text))
     defined |= set(re.findall(r"(\w+) : [^:]", text))
+    methods = set(re.findall(r"fn (\w+) (?:< [^(]* )?\( (?:& )?(?:'\w+ )?(?:mut )?self", text))
+    heads = {"getopts", "getopts_bytes", *re.findall(r"mod (\w+) ;", text)}
     for body in re.findall(r"enum \w+ (?:< .*? > )?{(.*?)}", text):
         defined |= set(re.findall(r"[A-Z]\w*", body))
     for path in sorted(Path(source).glob("*.rt")):
-        if what := odd(path, defined):
+        if what := odd(path, defined, methods, heads, library):
             wrong += 1
             print(f"{path}: it may mean something else in Rust at '{what}'")
     for path in paths:

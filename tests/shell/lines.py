@@ -18,8 +18,7 @@ PIECES = [(50, lambda rng: rng.choice(SPECIAL)), (20, lambda rng: chr(rng.randra
           (2, lambda rng: chr(rng.randrange(0x10FF80, 0x110000))),
           (2, lambda rng: os.fsdecode(bytes([rng.randrange(0x80, 0x100)])))]
 # How an option is written by how often it may come, and what that is to the second reader.
-COUNTS = {"once": ("{}", "req"), "may": ("[{}]", "multi"), "many": ("[{}]..", "multi"),
-          "alone": ("[{}]!", "multi")}
+COUNTS = {"once": ("{}", "req"), "may": ("[{}]", "multi"), "many": ("[{}]..", "multi"), "alone": ("[{}]!", "multi")}
 
 
 def text_of(rng):
@@ -39,6 +38,14 @@ def table_of(rng, alone):
         rest = rng.choice(["no", "yes", "yes", "maybe"]), rng.choice(["once", "may", "may", "may", "many"])
         options.append(names + (("no", "alone") if rng.random() < alone else rest))
     return options
+
+
+def operands_of(rng, count):
+    """Lines of operands that so many free words fit, or none."""
+    needed = rng.randrange(count + 1)
+    first = [f"FILE{place}" for place in range(needed)]
+    rest = [f"[FILE{place}]" for place in range(needed, count + rng.randrange(2))]
+    return rng.choice([[], first + rest, first + ["[MORE].."], [*first[1:], "ONE..."] if first else rest])
 
 
 def written(options):
@@ -81,8 +88,7 @@ def case_of(rng, alone=0.1):
         parts = [[text_of(rng)] for _ in range(rng.randrange(3))]
         for option in options:
             # One that is required may lack where another stands alone.
-            many = rng.choice([0, 0, 1, 2, 3])
-            times = {"once": rng.choice([0, 1, 1, 1]), "may": rng.randrange(2)}.get(option[3], many)
+            times = rng.choice([0, 1, 1, 1] if option[3] == "once" else [0, 0, 1, 2, 3])
             parts += [spelled(rng, option) for _ in range(times)]
         rng.shuffle(parts)
         words = []
@@ -111,8 +117,9 @@ def random_scripts(program, way, count):
         options, words, given, free = case_of(rng)
         prefix = rng.choice(["opt_", "x", "_", "Opt9"])
         own = {"words": [], "variables": ["-V", prefix], "arrays": ["-A", "-V", prefix]}[way]
-        code, errors = run(program, *own, "try", written(options), *words)
-        assert not errors, f"random line {number}: {written(options)!r} {words!r}: {errors}"
+        table = "\n".join([written(options), *operands_of(rng, len(free))])
+        code, errors = run(program, *own, "try", table, *words)
+        assert not errors, f"random line {number}: {table!r} {words!r}: {errors}"
         codes.append(code)
         script = [f"code=$(cat code.{number}) || exit\neval \"$code\"\nprintf '%s\\0' \"$#\" \"$@\""]
         line = canonical(options, given, free) if way == "words" else free

@@ -2,12 +2,13 @@
 
 use crate::input::{Input, Named};
 use clap::{Arg, ArgAction, ArgMatches, Command};
+use std::ffi::OsString;
 
 const FREE: &str = "free";
 
 /// Declares the options, reads the words, and adds up each count and value and the free words.
-pub fn turn(input: &Input) -> usize {
-    let matches = command(&input.options).get_matches_from(&input.words);
+pub fn turn(input: &Input, words: Vec<OsString>) -> usize {
+    let matches = command(&input.options).get_matches_from(words);
     let mut sum = lengths(&matches, FREE).sum::<usize>();
     for option in &input.options {
         if option.is_flag() {

@@ -9,8 +9,12 @@ const BRIEF: &str = "Usage: getopts_show [options] FILE";
 
 /// The sum of a job's turns.
 pub fn run(job: &str, input: &Input, times: usize) -> Option<usize> {
-    if job == "whole" || job == "copied" {
-        return Some(whole(input, times));
+    match job {
+        "whole" => return Some(whole(input, times, taken)),
+        "copied" => return Some(whole(input, times, copied)),
+        #[cfg(feature = "over_ours")]
+        "os" => return Some(over_ours::os(input, times)),
+        _ => {}
     }
     let options = declared(&input.options);
     match job {
@@ -24,7 +28,7 @@ pub fn run(job: &str, input: &Input, times: usize) -> Option<usize> {
     }
 }
 
-fn whole(input: &Input, times: usize) -> usize {
+fn whole(input: &Input, times: usize, taken: impl Fn(&Matches, &[Named]) -> usize) -> usize {
     turns(times, || {
         let matches = matches_of(&declared(&input.options), &input.words);
         taken(&matches, &input.options)
@@ -75,8 +79,8 @@ fn matches_of(options: &Options, words: &[String]) -> Matches {
     options.parse(words).expect("the line is accepted")
 }
 
-/// What matches give, added up.
-fn taken(matches: &Matches, named: &[Named]) -> usize {
+/// What matches give, added up, by calls that copy the values.
+fn copied(matches: &Matches, named: &[Named]) -> usize {
     let mut sum = total_length(&matches.free);
     for option in named {
         let name = option.main();
@@ -85,6 +89,46 @@ fn taken(matches: &Matches, named: &[Named]) -> usize {
     sum
 }
 
+/// The Rust crate has no calls that lend the values.
+#[cfg(not(feature = "over_ours"))]
+use copied as taken;
+#[cfg(feature = "over_ours")]
+use over_ours::taken;
+
 fn total_length(texts: &[String]) -> usize {
     texts.iter().map(String::len).sum()
+}
+
+/// What stands in for the Rust crate alone has.
+#[cfg(feature = "over_ours")]
+mod over_ours {
+    use super::{declared, total_length, turns};
+    use crate::input::{Input, Named};
+    use getopts::Matches;
+
+    /// What matches give, added up, by a call that lends the values.
+    pub fn taken(matches: &Matches, named: &[Named]) -> usize {
+        let mut sum = total_length(&matches.free);
+        for option in named {
+            for (_, value) in matches.occurrences(option.main()) {
+                sum += 1 + value.map_or(0, str::len);
+            }
+        }
+        sum
+    }
+
+    /// Turns that declare the options, read the words as words of any bytes, and take what they give.
+    pub fn os(input: &Input, times: usize) -> usize {
+        let words = input.owned_words();
+        turns(times, || {
+            let matches = declared(&input.options).parse_os(&words).expect("the line is accepted");
+            let mut sum = matches.free.iter().map(|word| word.len()).sum();
+            for option in &input.options {
+                for (_, value) in matches.occurrences(option.main()) {
+                    sum += 1 + value.map_or(0, |value| value.len());
+                }
+            }
+            sum
+        })
+    }
 }

@@ -1,5 +1,7 @@
 //! What the jobs declare and read: the same rows as `getopts_bench` reads.
 
+use std::ffi::OsString;
+
 /// The call that declares an option.
 #[derive(Clone, Copy, PartialEq)]
 pub enum Kind {
@@ -79,5 +81,10 @@ impl Input {
             }
         }
         Some(input)
+    }
+
+    /// The words, for a peer that takes them.
+    pub fn owned_words(&self) -> Vec<OsString> {
+        self.words.iter().map(OsString::from).collect()
     }
 }

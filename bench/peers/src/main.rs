@@ -1,10 +1,13 @@
 //! Runs the jobs of `getopts_bench` on other libraries, and prints the same sums.
 //!
-//! usage: peers PEER JOB ROWS TIMES
+//! usage: peers PEER JOB ROWS [READY] TIMES
 //!
 //! PEER is `getopts` (the Rust crate, or what stands in for it), `lexopt`, `pico-args` or `clap`. The jobs and
 //! the rows are those of `getopts_bench`: `whole` of each peer, and of `getopts` the others too, but for
-//! `canonical`, which the crate has not. The status is 2 where the peer doesn't do the job.
+//! `canonical`, which the crate has not. What stands in for it has also `os`, which is `whole` by `parse_os`.
+//!
+//! The peers but `getopts` take their words. Of these READY copies are made before the first turn, at least TIMES,
+//! so that no turn makes words. The status is 2 where the peer doesn't do the job.
 
 mod clap_peer;
 mod getopts_peer;
@@ -13,6 +16,8 @@ mod lexopt_peer;
 mod pico_peer;
 
 use input::Input;
+use std::ffi::OsString;
+use std::path::Path;
 use std::process::ExitCode;
 
 fn main() -> ExitCode {
@@ -23,7 +28,9 @@ fn main() -> ExitCode {
             ExitCode::SUCCESS
         }
         None => {
-            eprintln!("peers: arguments are PEER JOB ROWS TIMES, where the peer does the job");
+            eprintln!(
+                "peers: arguments are PEER JOB ROWS [READY] TIMES, where the peer does the job"
+            );
             ExitCode::from(2)
         }
     }
@@ -31,18 +38,25 @@ fn main() -> ExitCode {
 
 /// The sum of the job that the words name.
 fn sum_of(words: &[String]) -> Option<usize> {
-    let [peer, job, rows, times] = words else {
+    let [peer, job, rows, ready @ .., times] = words else {
         return None;
     };
-    let input = Input::of(rows)?;
-    let times = times.parse().ok()?;
-    match (peer.as_str(), job.as_str()) {
-        ("getopts", _) => getopts_peer::run(job, &input, times),
-        ("lexopt", "whole") => Some(turns(times, || lexopt_peer::turn(&input))),
-        ("pico-args", "whole") => Some(turns(times, || pico_peer::turn(&input))),
-        ("clap", "whole") => Some(turns(times, || clap_peer::turn(&input))),
-        _ => None,
+    let (input, times) = (Input::of(rows)?, times.parse().ok()?);
+    if peer == "getopts" {
+        return getopts_peer::run(job, &input, times);
     }
+    let [ready] = ready else {
+        return None;
+    };
+    let mut copies = vec![input.owned_words(); ready.parse().ok()?];
+    let line = Path::new(rows).file_stem()?.to_str()?;
+    let turn: Box<dyn Fn(Vec<OsString>) -> usize> = match (peer.as_str(), job.as_str()) {
+        ("lexopt", "whole") => Box::new(lexopt_peer::turn_of(line)?),
+        ("pico-args", "whole") => Box::new(|words| pico_peer::turn(&input, words)),
+        ("clap", "whole") => Box::new(|words| clap_peer::turn(&input, words)),
+        _ => return None,
+    };
+    Some(turns(times, || turn(copies.pop().expect("there is a copy for each turn"))))
 }
 
 /// The sum of what the turns give. The sum wraps.

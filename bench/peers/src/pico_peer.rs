@@ -5,8 +5,7 @@ use pico_args::Arguments;
 use std::ffi::OsString;
 
 /// Takes each count and value and the free words, and adds them up.
-pub fn turn(input: &Input) -> usize {
-    let words: Vec<OsString> = input.words.iter().map(OsString::from).collect();
+pub fn turn(input: &Input, words: Vec<OsString>) -> usize {
     let mut arguments = Arguments::from_vec(words);
     let mut sum = 0;
     for option in &input.options {

@@ -3,7 +3,8 @@
 #![allow(unsafe_code)]
 #![deny(unsafe_op_in_unsafe_fn)]
 
-use crate::options::Getopts;
+use crate::options::{Getopts, OUT_OF_MEMORY};
+use crate::reading::Reading;
 use crate::{NO_MEMORY, OK, Refused, Status};
 use core::alloc::{GlobalAlloc, Layout};
 use core::ffi::{c_int, c_long, c_uint};
@@ -204,7 +205,7 @@ unsafe extern "C" fn getopts_delete(options: *mut Getopts) {
     }
 }
 
-// What follows is given options that `getopts_new` made and that weren't deleted, and texts that end with a zero byte.
+// What follows is given options that `getopts_new` returned, NULL or not deleted, and texts that end with a zero byte.
 
 #[no_mangle]
 unsafe extern "C" fn getopts_read(
@@ -212,6 +213,9 @@ unsafe extern "C" fn getopts_read(
     count: c_int,
     words: *const Text,
 ) -> Status {
+    if options.is_null() {
+        return NO_MEMORY;
+    }
     // SAFETY: as above. The words may be those that were read before: they aren't looked at when those go.
     unsafe {
         let read = (*options).read(Words::of(count, words));
@@ -221,12 +225,13 @@ unsafe extern "C" fn getopts_read(
 
 #[no_mangle]
 unsafe extern "C" fn getopts_canonical(
-    options: &Getopts,
+    options: Option<&Getopts>,
     count: c_int,
     words: *const Text,
     line: &mut *mut *mut u8,
 ) -> Status {
     *line = ptr::null_mut();
+    let Some(options) = options else { return NO_MEMORY };
     // SAFETY: as above.
     match options.canonical(unsafe { Words::of(count, words) }) {
         Ok(Some((texts, count))) => *line = line_of(&texts, count),
@@ -237,40 +242,50 @@ unsafe extern "C" fn getopts_canonical(
 }
 
 #[no_mangle]
-extern "C" fn getopts_message(options: &Getopts) -> Text {
-    options.message
+extern "C" fn getopts_message(options: Option<&Getopts>) -> Text {
+    options.map_or(OUT_OF_MEMORY.as_ptr(), |options| options.message)
+}
+
+// SAFETY: its pointers are to texts of its own, which stay as they are until it goes.
+unsafe impl Sync for Reading {}
+
+/// What options read last: nothing where they are NULL.
+#[inline]
+fn reading(options: Option<&Getopts>) -> &Reading {
+    static NOTHING: Reading = Reading::nothing();
+    options.map_or(&NOTHING, |options| &options.reading)
 }
 
 #[no_mangle]
-unsafe extern "C" fn getopts_defined(options: &Getopts, name: Text) -> bool {
+unsafe extern "C" fn getopts_defined(options: Option<&Getopts>, name: Text) -> bool {
     // SAFETY: as above, and below.
-    options.reading.is_defined(unsafe { bytes(name) })
+    reading(options).is_defined(unsafe { bytes(name) })
 }
 
 #[no_mangle]
-unsafe extern "C" fn getopts_count(options: &Getopts, name: Text) -> usize {
-    options.reading.count(unsafe { bytes(name) })
+unsafe extern "C" fn getopts_count(options: Option<&Getopts>, name: Text) -> usize {
+    reading(options).count(unsafe { bytes(name) })
 }
 
 #[no_mangle]
-unsafe extern "C" fn getopts_position(options: &Getopts, name: Text, nth: usize) -> c_int {
-    let position = options.reading.position(unsafe { bytes(name) }, nth);
+unsafe extern "C" fn getopts_position(options: Option<&Getopts>, name: Text, nth: usize) -> c_int {
+    let position = reading(options).position(unsafe { bytes(name) }, nth);
     position.map_or(-1, |position| position as c_int)
 }
 
 #[no_mangle]
-unsafe extern "C" fn getopts_value(options: &Getopts, name: Text, nth: usize) -> Text {
-    options.reading.value(unsafe { bytes(name) }, nth)
+unsafe extern "C" fn getopts_value(options: Option<&Getopts>, name: Text, nth: usize) -> Text {
+    reading(options).value(unsafe { bytes(name) }, nth)
 }
 
 #[no_mangle]
-unsafe extern "C" fn getopts_values(options: &Getopts, name: Text) -> *const Text {
-    options.reading.values(unsafe { bytes(name) })
+unsafe extern "C" fn getopts_values(options: Option<&Getopts>, name: Text) -> *const Text {
+    reading(options).values(unsafe { bytes(name) })
 }
 
 #[no_mangle]
 unsafe extern "C" fn getopts_long_value(
-    options: &Getopts,
+    options: Option<&Getopts>,
     name: Text,
     nth: usize,
     value: *mut c_long,
@@ -287,27 +302,32 @@ unsafe extern "C" fn getopts_long_value(
 }
 
 #[no_mangle]
-extern "C" fn getopts_free_count(options: &Getopts) -> c_int {
-    options.reading.free_count() as c_int
+extern "C" fn getopts_free_count(options: Option<&Getopts>) -> c_int {
+    reading(options).free_count() as c_int
 }
 
 #[no_mangle]
-extern "C" fn getopts_free_words(options: &Getopts) -> *const Text {
-    options.reading.free_words()
+extern "C" fn getopts_free_words(options: Option<&Getopts>) -> *const Text {
+    reading(options).free_words()
 }
 
 #[no_mangle]
-extern "C" fn getopts_trailing_start(options: &Getopts) -> c_int {
-    let start = options.reading.trailing_start();
+extern "C" fn getopts_trailing_start(options: Option<&Getopts>) -> c_int {
+    let start = reading(options).trailing_start();
     start.map_or(-1, |start| start as c_int)
 }
 
 #[no_mangle]
-unsafe extern "C" fn getopts_usage(options: &Getopts, brief: Text) -> *mut u8 {
-    given_away(options.usage(unsafe { bytes(brief) }, true))
+unsafe extern "C" fn getopts_usage(options: Option<&Getopts>, brief: Text) -> *mut u8 {
+    given_away(options.and_then(|options| options.usage(unsafe { bytes(brief) }, true)))
 }
 
 #[no_mangle]
-unsafe extern "C" fn getopts_short_usage(options: &Getopts, program: Text) -> *mut u8 {
-    given_away(options.usage(unsafe { bytes(program) }, false))
+unsafe extern "C" fn getopts_short_usage(options: Option<&Getopts>, program: Text) -> *mut u8 {
+    given_away(options.and_then(|options| options.usage(unsafe { bytes(program) }, false)))
+}
+
+#[no_mangle]
+extern "C" fn getopts_version() -> Text {
+    concat!(env!("CARGO_PKG_VERSION"), "\0").as_ptr()
 }

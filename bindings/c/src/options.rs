@@ -23,7 +23,7 @@ pub struct Getopts {
 
 const NOTHING: &str = "\0";
 const NULL_WORD: &str = "a word is NULL\0";
-const OUT_OF_MEMORY: &str = "Out of memory\0";
+pub const OUT_OF_MEMORY: &str = "Out of memory\0";
 
 impl Getopts {
     #[inline]
@@ -31,7 +31,7 @@ impl Getopts {
         let mut options = Options::new(Global);
         let (groups, wrong) = table::declare(&mut options, rows, modes)?;
         let message = wrong.as_ref().map_or(NOTHING.as_ptr(), |wrong| wrong.as_ptr());
-        let reading = Reading::default();
+        let reading = Reading::nothing();
         Ok(Getopts { options, groups, wrong, message, reading })
     }
 

@@ -10,7 +10,6 @@ use library::fallible::{TryList, Vec};
 use library::proved::{Fail, Matches, Occurrences};
 
 /// What words gave: nothing where they weren't read.
-#[derive(Default)]
 pub struct Reading {
     matches: Option<Matches>,
     /// The message if there is one, the values and the free words, each with a zero byte after it.
@@ -26,6 +25,10 @@ pub struct Reading {
 static NONE: usize = 0;
 
 impl Reading {
+    pub const fn nothing() -> Reading {
+        Reading { matches: None, texts: Vec::new(), lists: Vec::new(), starts: Vec::new() }
+    }
+
     /// What words gave that so many options were read by, and the message of a fault.
     pub fn of(
         matches: Option<Matches>,
@@ -33,7 +36,7 @@ impl Reading {
         groups: usize,
         of: &Texts<'_>,
     ) -> Granted<Reading> {
-        let mut reading = Reading::default();
+        let mut reading = Reading::nothing();
         let parts = fault.map_or([""; 3], parts_of);
         let message = parts.map(str::len).iter().sum::<usize>() + 1;
         reading.texts.try_grow_exact(of.bytes.saturating_add(message))?;

@@ -10,6 +10,8 @@
 #define LEN_38 "12345678901234567890123456789012345678"
 #define KINDS ": it has one of GETOPTS_NO, YES and MAYBE, and one of GETOPTS_OPTIONAL, REQ and MULTI"
 
+_Static_assert(sizeof(enum getopts_kind) == 4 && sizeof(enum getopts_modes) == 4, "as the library has them");
+
 static int failed;
 
 static void expect(bool holds, const char *what) {
@@ -115,6 +117,22 @@ static void null_is_bad(void) {
     free(usage);
     getopts_delete(none);
     getopts_delete(options);
+}
+
+/* Each call on options that couldn't be made. */
+static void no_options_is_no_memory(void) {
+    char *words[] = { "-v", NULL }, **line = words;
+    long value = 42;
+    expect(getopts_read(NULL, 1, words) == GETOPTS_NO_MEMORY, "a reading by no options");
+    expect(strcmp(getopts_message(NULL), "Out of memory") == 0, "its message");
+    expect(getopts_canonical(NULL, 1, words, &line) == GETOPTS_NO_MEMORY && line == NULL, "a line by no options");
+    expect(getopts_usage(NULL, "brief") == NULL && getopts_short_usage(NULL, "program") == NULL, "a usage of none");
+    expect(!getopts_defined(NULL, "v") && getopts_count(NULL, "v") == 0, "a name of no options");
+    expect(getopts_position(NULL, "v", 0) == -1 && getopts_value(NULL, "v", GETOPTS_LAST) == NULL, "what it was given");
+    expect(getopts_values(NULL, "v")[0] == NULL && getopts_free_words(NULL)[0] == NULL, "lists of none");
+    expect(getopts_long_value(NULL, "v", 0, &value) && value == 42, "a number of none");
+    expect(getopts_free_count(NULL) == 0 && getopts_trailing_start(NULL) == -1, "free words of none");
+    getopts_delete(NULL);
 }
 
 /* A kind that was left out is that of a plain flag. */
@@ -265,12 +283,14 @@ int main(void) {
     wrong_rows_are_named();
     modes_are_checked();
     null_is_bad();
+    no_options_is_no_memory();
     no_kind_is_a_flag();
     counts_are_no_reason_to_forget();
     all_texts_stay();
     numbers_are_checked();
     bytes_come_back();
     values_are_listed();
+    expect(strcmp(getopts_version(), GETOPTS_VERSION) == 0, "one version");
     if (!failed)
         printf("all as getopts.h says\n");
     return failed;

@@ -1,4 +1,7 @@
-/* Random tables and words, half of them broken, and what getopts.h promises of each: random COUNT. */
+/* Random tables and words, half of them broken, and what getopts.h promises of each: random COUNT.
+ *
+ * With REFUSES each call is made while malloc refuses one request after the other, once that request alone, and once that
+ * one and all after it. It is linked with --wrap for malloc, realloc and free. */
 #include "../getopts.h"
 
 #include <stdint.h>
@@ -11,7 +14,7 @@ static int failed;
 
 static size_t below(size_t count) {
     state ^= state << 13, state ^= state >> 7, state ^= state << 17;
-    return (size_t)(state >> 16) % count;
+    return (size_t)((state >> 16) % count);
 }
 
 static void expect(bool holds, const char *what) {
@@ -19,12 +22,16 @@ static void expect(bool holds, const char *what) {
         printf("FAILED: %s\n", what);
 }
 
+#define TEN "0123456789"
+#define HUNDRED TEN TEN TEN TEN TEN TEN TEN TEN TEN TEN
+
 /* The first six are right in most places. */
 static const char *const texts[] = {
     "", "a", "b", "ab", "verbose", "\u00e9", NULL, "\xff", "\xc3", "a\xff", "\xed\xa0\x80", "\u65e5", "\xf4\x8f\xbf\xbf",
 };
 static const char *const parts[] = {
     "-", "--", "a", "b", "ab", "verbose", "=", "x", "", "\u00e9", "\xff", "\xf4\x8f\xbf\xbf", "\xe6\x97", "-a", "--ab=",
+    HUNDRED HUNDRED HUNDRED HUNDRED HUNDRED,
 };
 enum { TEXTS = sizeof texts / sizeof *texts, PARTS = sizeof parts / sizeof *parts, ROWS = 6, WORDS = 20 };
 
@@ -83,6 +90,107 @@ static int read_line(struct getopts *options, const struct getopts_option *table
     return status;
 }
 
+#ifdef REFUSES
+void *__real_malloc(size_t size);
+void *__real_realloc(void *block, size_t size);
+void __real_free(void *block);
+void *__wrap_malloc(size_t size);
+void *__wrap_realloc(void *block, size_t size);
+void __wrap_free(void *block);
+
+/* Which request is refused, 0 for none, and whether those after it too; how many came, and were refused; blocks in use. */
+static struct {
+    size_t at, requests, refused, blocks, runs;
+    bool on;
+} heap;
+
+static bool refuses(void) {
+    heap.requests++;
+    bool refused = heap.at > 0 && (heap.requests == heap.at || (heap.on && heap.requests > heap.at));
+    heap.refused += refused;
+    return refused;
+}
+
+void *__wrap_malloc(size_t size) {
+    void *block = refuses() ? NULL : __real_malloc(size);
+    heap.blocks += block != NULL;
+    return block;
+}
+
+void *__wrap_realloc(void *block, size_t size) {
+    bool is_new = block == NULL;
+    block = refuses() ? NULL : __real_realloc(block, size);
+    heap.blocks += is_new && block != NULL;
+    return block;
+}
+
+void __wrap_free(void *block) {
+    heap.blocks -= block != NULL;
+    __real_free(block);
+}
+
+static void mix(uint64_t *sum, const char *text) {
+    for (*sum = *sum * 31 + 7; text != NULL && *text != '\0'; text++)
+        *sum = *sum * 31 + (unsigned char)*text;
+}
+
+/* All that is told of what was read, as one number. */
+static uint64_t told(const struct getopts *options, const struct getopts_option *table) {
+    uint64_t sum = (uint64_t)getopts_trailing_start(options);
+    for (const struct getopts_option *row = table; row->short_name != NULL || row->long_name != NULL; row++) {
+        const char *name = row->short_name != NULL && row->short_name[0] != '\0' ? row->short_name : row->long_name;
+        for (size_t nth = 0; nth < getopts_count(options, name); nth++) {
+            mix(&sum, getopts_value(options, name, nth));
+            sum += (uint64_t)getopts_position(options, name, nth);
+        }
+    }
+    for (char *const *word = getopts_free_words(options); *word != NULL; word++)
+        mix(&sum, *word);
+    return sum;
+}
+
+static int of_text(char *text) {
+    free(text);
+    return text != NULL ? GETOPTS_OK : GETOPTS_NO_MEMORY;
+}
+
+/* A call of five, and its status. */
+static int call(int which, struct getopts *options, const struct getopts_option *table, size_t count, char **words) {
+    char **line = NULL;
+    if (which == 0) {
+        struct getopts *other = getopts_new(table, GETOPTS_ORDINARY);
+        getopts_delete(other);
+        return other != NULL ? GETOPTS_OK : GETOPTS_NO_MEMORY;
+    }
+    if (which == 1)
+        return getopts_read(options, (int)count, words);
+    if (which > 2)
+        return of_text((which == 3 ? getopts_usage : getopts_short_usage)(options, "brief"));
+    int status = getopts_canonical(options, (int)count, words, &line);
+    free(line);
+    return status;
+}
+
+/* A call with a refusal says so, leaves no block, and loses nothing of what was read before: the first half. */
+static void refused(struct getopts *options, const struct getopts_option *table, size_t count, char **words) {
+    for (int which = 0; which < 5; which++)
+        for (int on = 0; on < 2; on++)
+            for (size_t at = 1; at == 1 || heap.refused > 0; at++, heap.runs += heap.refused > 0) {
+                getopts_read(options, (int)count / 2, words);
+                size_t blocks = heap.blocks;
+                uint64_t before = told(options, table);
+                heap.at = at, heap.on = on == 1, heap.requests = heap.refused = 0;
+                int status = call(which, options, table, count, words);
+                heap.at = 0;
+                if (heap.refused == 0)
+                    continue;
+                expect(status == GETOPTS_NO_MEMORY && heap.blocks == blocks, "it says so and leaves no block");
+                expect(told(options, table) == before, "what was read before stays");
+                expect(which != 1 || strcmp(getopts_message(options), "Out of memory") == 0, "its message");
+            }
+}
+#endif
+
 int main(int argc, char **argv) {
     long count = argc > 1 ? strtol(argv[1], NULL, 10) : 1000;
     size_t wrong = 0, statuses[GETOPTS_BAD + 1] = { 0 };
@@ -104,7 +212,8 @@ int main(int argc, char **argv) {
         }
         struct getopts *options = getopts_new(table, (enum getopts_modes)(16 * below(4)));
         expect(options != NULL && (getopts_message(options)[0] == '\0') == right, "a message if the table is wrong");
-        char room[WORDS][64], *words[WORDS + 1] = { NULL };
+        static char room[WORDS][4096];
+        char *words[WORDS + 1] = { NULL };
         size_t len = below(WORDS + 1);
         for (size_t word = 0; word < len; word++) {
             words[word] = room[word];
@@ -115,11 +224,18 @@ int main(int argc, char **argv) {
         int status = read_line(options, table, len, words);
         expect((status == GETOPTS_BAD) == !right, "bad if the table is wrong");
         statuses[status]++;
+#ifdef REFUSES
+        refused(options, table, len, words);
+#endif
         wrong += !right;
         getopts_delete(options);
     }
     for (int status = GETOPTS_OK; status <= GETOPTS_BAD; status++)
         expect(statuses[status] > 0 || status == GETOPTS_NO_MEMORY, "each status comes");
     printf("%ld tables, %zu wrong; %zu lines accepted\n", count, wrong, statuses[GETOPTS_OK]);
+#ifdef REFUSES
+    printf("%zu requests refused\n", heap.runs);
+    expect(heap.runs > 100 && heap.blocks == 0, "requests are refused, and none is left");
+#endif
     return failed > 0;
 }

@@ -1,8 +1,5 @@
-/* Asks getopts.h what rows ask, and compares its answers with those beside them: rows ROWS.
- *
- * The form of ROWS is that of crates/getopts_vectors: the lines of an answer come below its question, each after
- * "> ", and a line "| TEXT" goes on with the one above it, by TEXT and a line end. What the layer doesn't have is
- * passed over and counted. */
+/* Asks getopts.h what rows ask, in the form of crates/getopts_vectors: rows ROWS ANSWERS. It writes each row that it
+ * answers, and then the answer. What the library for C doesn't have is passed over. */
 #include "../getopts.h"
 
 #include <stdio.h>
@@ -60,35 +57,6 @@ static void optional(struct text *text, const char *value) {
     add(&field_text, '\0');
     field(text, field_text.bytes);
     free(field_text.bytes);
-}
-
-/* A file's lines, and the next of them. */
-struct lines {
-    char *text, *next;
-};
-
-static struct lines lines_of(const char *name) {
-    struct text text = { 0 };
-    FILE *file = fopen(name, "rb");
-    if (file == NULL) {
-        perror(name);
-        exit(2);
-    }
-    for (int byte; (byte = getc(file)) != EOF;)
-        add(&text, (char)byte);
-    fclose(file);
-    add(&text, '\0');
-    return (struct lines){ text.bytes, text.bytes };
-}
-
-/* The next line where it begins with this, and else NULL. */
-static char *line_with(struct lines *lines, const char *start) {
-    char *line = lines->next, *end = strchr(line, '\n');
-    if (end == NULL || strncmp(line, start, strlen(start)) != 0)
-        return NULL;
-    *end = '\0';
-    lines->next = end + 1;
-    return line;
 }
 
 /* What a case has declared, and what its words gave. */
@@ -177,7 +145,7 @@ static bool declares(void) {
         modes = (modes & GETOPTS_LONG_ONLY) | (strcmp(fields[1], "stop") == 0 ? GETOPTS_STOP : 0);
     else if (strcmp(fields[0], "mode") == 0)
         modes = (modes & GETOPTS_STOP) | (strcmp(fields[1], "long-only") == 0 ? GETOPTS_LONG_ONLY : 0);
-    else if (strcmp(fields[0], "anew") == 0)
+    else if (strcmp(fields[0], "case") == 0 || strcmp(fields[0], "anew") == 0)
         anew();
     else
         return strcmp(fields[0], "keep") == 0;
@@ -317,12 +285,7 @@ static bool answers(void) {
     for (size_t nth = 0; nth < sizeof of_names / sizeof *of_names; nth++)
         of_name = of_name || strcmp(fields[0], of_names[nth]) == 0;
     answer.len = 0;
-    if (strcmp(fields[0], "case") == 0) {
-        anew();
-        add_all(&answer, "case");
-        field(&answer, fields[1]);
-        add(&answer, '\n');
-    } else if (strcmp(fields[0], "words") == 0) {
+    if (strcmp(fields[0], "words") == 0) {
         words(false);
     } else if (strcmp(fields[0], "ignoring_counts") == 0) {
         words(true);
@@ -338,41 +301,23 @@ static bool answers(void) {
 }
 
 int main(int argc, char **argv) {
-    struct lines rows = lines_of(argc > 1 ? argv[1] : "/dev/stdin");
-    struct text wanted = { 0 };
-    size_t cases = 0, same = 0, passed = 0, differ = 0;
-    for (char *line; (line = line_with(&rows, "")) != NULL;) {
-        if (line[0] == '\0' || line[0] == '#')
-            continue;
-        split(line);
-        if (declares())
-            continue;
-        bool is_case = strcmp(fields[0], "case") == 0, can = answers();
-        wanted.len = 0;
-        for (char *next; (next = line_with(&rows, "> ")) != NULL;) {
-            add_all(&wanted, next + 2);
-            while ((next = line_with(&rows, "|")) != NULL) {
-                add_all(&wanted, next + (next[1] == ' ' ? 2 : 1));
-                add_all(&wanted, "\\n");
-            }
-            add(&wanted, '\n');
-        }
-        cases += is_case;
-        if (is_case && wanted.len == 0)
-            continue;
-        if (!can) {
-            passed++;
-        } else if (wanted.len == answer.len && memcmp(wanted.bytes, answer.bytes, answer.len) == 0) {
-            same += !is_case;
-        } else if (++differ <= 10) {
-            printf("%s of case %zu\n  wanted %.*s  not    %.*s", fields[0], cases, (int)wanted.len,
-                wanted.bytes, (int)answer.len, answer.bytes);
-        }
+    struct text rows = { 0 };
+    FILE *file = argc == 3 ? fopen(argv[1], "rb") : NULL;
+    if (file == NULL || freopen(argv[2], "wb", stdout) == NULL)
+        return 2;
+    for (int byte; (byte = getc(file)) != EOF;)
+        add(&rows, (char)byte);
+    fclose(file);
+    add(&rows, '\0');
+    for (char *row = strtok(rows.bytes, "\n"); row != NULL; row = strtok(NULL, "\n")) {
+        char *line = copy(row);
+        split(row);
+        if (!declares() && answers())
+            printf("%s\n%.*s", line, (int)answer.len, answer.bytes);
+        free(line);
     }
-    printf("%zu cases, %zu answers alike, %zu differ, %zu passed over\n", cases, same, differ, passed);
     anew();
     free(answer.bytes);
-    free(wanted.bytes);
-    free(rows.text);
-    return differ > 0 || same == 0;
+    free(rows.bytes);
+    return fclose(stdout) != 0;
 }

@@ -63,10 +63,7 @@ pub struct Opt<'a>(pub Group<'a>);
 impl Debug for Opt<'_> {
     fn fmt(&self, f: &mut Formatter<'_>) -> Result {
         let (group, names) = (&self.0, self.0.names);
-        let alias = Opt(Group {
-            names: [names[0], ""],
-            ..*group
-        });
+        let alias = Opt(Group { names: [names[0], ""], ..*group });
         let has_alias = names.iter().all(|name| !name.is_empty());
         f.debug_struct("Opt")
             .field("name", &Name(names))
@@ -91,11 +88,11 @@ impl Debug for Name<'_> {
 }
 
 /// What an occurrence of an option gave: a value, or none.
-pub struct Given<'a>(pub Option<&'a str>);
+pub struct Given<V>(pub Option<V>);
 
-impl Debug for Given<'_> {
+impl<V: Debug> Debug for Given<V> {
     fn fmt(&self, f: &mut Formatter<'_>) -> Result {
-        match self.0 {
+        match &self.0 {
             Some(value) => f.debug_tuple("Val").field(&value).finish(),
             None => f.write_str("Given"),
         }

@@ -4,6 +4,7 @@
 //! help:
 //!
 //! ```
+//! # #[cfg(not(feature = "bare"))] {
 //! use getopts::Options;
 //!
 //! let mut options = Options::new();
@@ -16,13 +17,29 @@
 //! assert_eq!(matches.opt_count("v"), 2);
 //! assert_eq!(matches.free, ["in.txt"]);
 //! assert!(options.usage("Usage: copy FILE").contains("-o, --output NAME"));
+//! # }
 //! ```
 //!
 //! A program's own words are `std::env::args_os().skip(1)`: the first is the program's name. `std::env::args()` panics where
 //! a word isn't UTF-8; `parse` refuses such a word, and `parse_os` reads it.
 //!
 //! `README.md` says what differs from the crate, what is proved and what it costs. The feature `proved` makes the proved
-//! source itself public, for who wants calls that report refused memory.
+//! source itself public, and `bare` leaves that alone. Its calls are handed the allocator, and report refused memory:
+//!
+//! ```
+//! # #[cfg(any(feature = "proved", feature = "bare"))] {
+//! use getopts::alloc::Global;
+//! use getopts::proved::{Fail, Options};
+//!
+//! fn output(words: &[&str]) -> Result<Option<String>, Fail> {
+//!     let mut options = Options::new(Global);
+//!     options.optopt("o", "output", "set the output file", "NAME")?;
+//!     let matches = options.parse_words(Global, words)?;
+//!     Ok(matches.opt_str(Global, "output")?)
+//! }
+//! assert_eq!(output(&["-ofile"]).unwrap().unwrap(), "file");
+//! # }
+//! ```
 #![cfg_attr(feature = "bare", no_std)]
 #![forbid(unsafe_code)]
 #![warn(missing_docs)]
@@ -72,6 +89,6 @@ pub use os::OsMatches;
 pub use proved::{HasArg, Occur, ParsingStyle};
 
 /// The examples of the README are tested.
-#[cfg(doctest)]
+#[cfg(all(doctest, not(feature = "bare")))]
 #[doc = include_str!("../README.md")]
 struct Readme;

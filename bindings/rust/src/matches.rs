@@ -42,11 +42,7 @@ impl Eq for Matches {}
 impl Matches {
     #[inline]
     pub(crate) fn of(proved: proved::Matches) -> Matches {
-        Matches {
-            free: proved.free,
-            held: proved.held,
-            trailing_start: proved.trailing_start,
-        }
+        Matches { free: proved.free, held: proved.held, trailing_start: proved.trailing_start }
     }
 
     /// The place of the option that has a name.
@@ -59,16 +55,36 @@ impl Matches {
     }
 
     #[inline]
-    fn given(&self, name: &str) -> Occurrences<'_> {
-        self.held.occurrences_at(self.place(name))
+    pub(crate) fn given_at(&self, place: usize) -> Occurrences<'_> {
+        self.held.occurrences_at(place)
     }
 
-    /// What each option was given with.
-    pub(crate) fn every_option(
+    #[inline]
+    fn given(&self, name: &str) -> Occurrences<'_> {
+        self.given_at(self.place(name))
+    }
+
+    /// What is made of each option that was given.
+    pub(crate) fn of_each<I: IntoIterator, T>(
         &self,
-    ) -> impl Iterator<Item = impl Iterator<Item = (usize, Option<&str>)> + '_> + '_ {
+        given_at: impl Fn(usize) -> I,
+        each: impl Fn(I::Item) -> T,
+    ) -> Vec<Vec<T>> {
         let places = 0..self.held.signatures().len();
-        places.map(|place| self.held.occurrences_at(place).into_iter())
+        let given = places.map(|place| given_at(place).into_iter().map(&each).collect());
+        given.collect()
+    }
+
+    /// Prints matches with these free words and occurrences.
+    pub(crate) fn show<V: fmt::Debug, I: IntoIterator<Item = (usize, Option<V>)>>(
+        &self,
+        mut shown: fmt::DebugStruct<'_, '_>,
+        free: &dyn fmt::Debug,
+        given_at: impl Fn(usize) -> I,
+    ) -> fmt::Result {
+        let vals = self.of_each(given_at, |(position, value)| (position, debug::Given(value)));
+        shown.field("opts", &debug::opts_of(&self.held)).field("vals", &vals);
+        shown.field("free", free).field("args_end", &self.free_trailing_start()).finish()
     }
 
     /// The value of an option's first occurrence, lent. The crate getopts has no such call.
@@ -96,6 +112,7 @@ impl Matches {
     ///
     /// # Panics
     /// Where no option has the name.
+    #[inline]
     pub fn values(&self, name: &str) -> impl Iterator<Item = &str> + '_ {
         self.occurrences(name).filter_map(|(_, value)| value)
     }
@@ -112,6 +129,7 @@ impl Matches {
     ///
     /// # Panics
     /// Where no option has the name.
+    #[inline]
     pub fn occurrences(&self, name: &str) -> impl Iterator<Item = (usize, Option<&str>)> + '_ {
         self.given(name).into_iter()
     }
@@ -198,9 +216,7 @@ impl Matches {
     where
         C::Item: AsRef<str>,
     {
-        names
-            .into_iter()
-            .any(|name| self.opt_present(name.as_ref()))
+        names.into_iter().any(|name| self.opt_present(name.as_ref()))
     }
 
     /// The value for the first name in the list whose option's first occurrence has one.
@@ -234,9 +250,7 @@ impl Matches {
     where
         C::Item: AsRef<str>,
     {
-        names
-            .into_iter()
-            .find_map(|name| self.opt_str(name.as_ref()))
+        names.into_iter().find_map(|name| self.opt_str(name.as_ref()))
     }
 
     /// The values of an option's occurrences, in the order of the line.
@@ -356,17 +370,6 @@ impl Matches {
 
 impl fmt::Debug for Matches {
     fn fmt(&self, f: &mut fmt::Formatter<'_>) -> fmt::Result {
-        let opts = debug::opts_of(&self.held);
-        let given = |(position, value)| (position, debug::Given(value));
-        let vals: Vec<Vec<_>> = self
-            .every_option()
-            .map(|given_of| given_of.map(given).collect())
-            .collect();
-        f.debug_struct("Matches")
-            .field("opts", &opts)
-            .field("vals", &vals)
-            .field("free", &self.free)
-            .field("args_end", &self.free_trailing_start())
-            .finish()
+        self.show(f.debug_struct("Matches"), &self.free, |place| self.given_at(place))
     }
 }

@@ -25,10 +25,7 @@ impl Default for Options {
 
 impl Clone for Options {
     fn clone(&self) -> Options {
-        Options {
-            proved: granted(self.proved.try_clone()),
-            nameless: self.nameless.clone(),
-        }
+        Options { proved: granted(self.proved.try_clone()), nameless: self.nameless.clone() }
     }
 }
 
@@ -37,16 +34,7 @@ impl fmt::Debug for Options {
         let mut shown = groups_of(&self.proved);
         for &(place, [ref hint, ref desc], hasarg, occur) in &self.nameless {
             let names = ["", ""];
-            shown.insert(
-                place,
-                Group {
-                    names,
-                    hint,
-                    desc,
-                    hasarg,
-                    occur,
-                },
-            );
+            shown.insert(place, Group { names, hint, desc, hasarg, occur });
         }
         f.debug_struct("Options")
             .field("grps", &shown)
@@ -56,17 +44,84 @@ impl fmt::Debug for Options {
     }
 }
 
-/// Puts the texts of words into a list that has a place for each. The first that isn't UTF-8 is refused.
+/// So many words take no list, where they are this small.
+const FEW: usize = 16;
+const SMALL: usize = 64;
+/// The most room that a list begins with: an iterator may give fewer items than it promises.
+const FIRST_ROOM: usize = 1024;
+
+/// What is made of the texts of words, or where a word has none, of that word and of all.
 #[inline]
-fn put_texts<'a, A: AsRef<OsStr> + 'a>(
-    words: &mut [&'a str],
-    args: impl Iterator<Item = &'a A>,
-) -> std::result::Result<(), Fail> {
-    for (word, arg) in words.iter_mut().zip(args) {
-        let arg = arg.as_ref();
-        *word = arg
-            .to_str()
-            .ok_or_else(|| Fail::UnrecognizedOption(format!("{arg:?}")))?;
+pub(crate) fn read_words<A: AsRef<OsStr>, T>(
+    words: impl Iterator<Item = A>,
+    text_of: impl Fn(&OsStr) -> Option<&str>,
+    ask: impl FnOnce(&[&str]) -> T,
+    otherwise: impl FnOnce(&OsStr, &mut dyn Iterator<Item = &OsStr>) -> T,
+) -> T {
+    if std::mem::size_of::<A>() > SMALL {
+        read_list(None, words, text_of, ask, otherwise)
+    } else {
+        read_few(words, text_of, ask, otherwise)
+    }
+}
+
+/// By no list. Of larger items this would take too much of a thread's stack.
+fn read_few<A: AsRef<OsStr>, T>(
+    mut words: impl Iterator<Item = A>,
+    text_of: impl Fn(&OsStr) -> Option<&str>,
+    ask: impl FnOnce(&[&str]) -> T,
+    otherwise: impl FnOnce(&OsStr, &mut dyn Iterator<Item = &OsStr>) -> T,
+) -> T {
+    let (mut first, mut few) = (<[Option<A>; FEW]>::default(), 0);
+    while few < FEW {
+        first[few] = words.next();
+        if first[few].is_none() {
+            break;
+        }
+        few += 1;
+    }
+    if few == FEW {
+        return read_list(first.into_iter().flatten(), words, text_of, ask, otherwise);
+    }
+    let (words, mut texts) = (|| first[..few].iter().flatten().map(A::as_ref), [""; FEW]);
+    match put_texts(&mut texts[..few], words(), text_of) {
+        Ok(()) => ask(&texts[..few]),
+        Err(word) => otherwise(word, &mut words()),
+    }
+}
+
+/// By a list.
+fn read_list<A: AsRef<OsStr>, T>(
+    first: impl IntoIterator<Item = A>,
+    others: impl Iterator<Item = A>,
+    text_of: impl Fn(&OsStr) -> Option<&str>,
+    ask: impl FnOnce(&[&str]) -> T,
+    otherwise: impl FnOnce(&OsStr, &mut dyn Iterator<Item = &OsStr>) -> T,
+) -> T {
+    let promised = others.size_hint().0;
+    let mut all = Vec::with_capacity(FEW + promised.min(FIRST_ROOM));
+    all.extend(first);
+    if promised <= FIRST_ROOM {
+        all.extend(others);
+    } else {
+        others.for_each(|word| all.push(word));
+    }
+    let mut texts = vec![""; all.len()];
+    match put_texts(&mut texts, all.iter().map(A::as_ref), text_of) {
+        Ok(()) => ask(&texts),
+        Err(word) => otherwise(word, &mut all.iter().map(A::as_ref)),
+    }
+}
+
+/// Puts the texts of words into a list that has a place for each, up to the first that has none.
+#[inline]
+fn put_texts<'a>(
+    texts: &mut [&'a str],
+    words: impl Iterator<Item = &'a OsStr>,
+    text_of: impl Fn(&OsStr) -> Option<&str>,
+) -> std::result::Result<(), &'a OsStr> {
+    for (text, word) in texts.iter_mut().zip(words) {
+        *text = text_of(word).ok_or(word)?;
     }
     Ok(())
 }
@@ -79,10 +134,7 @@ impl Options {
     /// assert_eq!(options.parse(["in.txt"]).unwrap().free, ["in.txt"]);
     /// ```
     pub fn new() -> Options {
-        Options {
-            proved: proved::Options::new(Global),
-            nameless: Vec::new(),
-        }
+        Options { proved: proved::Options::new(Global), nameless: Vec::new() }
     }
 
     /// Sets what the first free word does to the words after it.
@@ -98,7 +150,8 @@ impl Options {
         self
     }
 
-    /// Sets whether a long name follows one dash or two, and no short names are joined in a word.
+    /// Sets whether a long name follows one dash or two, and no short names are joined in a word: short options stand
+    /// alone, so neither `-vv` nor `-ofile` is read.
     ///
     /// ```
     /// let mut options = getopts::Options::new();
@@ -313,30 +366,12 @@ impl Options {
         C::Item: AsRef<OsStr>,
     {
         let options = self.named();
-        // Few words take no list.
-        let (mut args, mut first) = (args.into_iter(), <[Option<C::Item>; 16]>::default());
-        let mut few = 0;
-        while few < first.len() {
-            first[few] = args.next();
-            if first[few].is_none() {
-                break;
-            }
-            few += 1;
-        }
-        let (mut texts, mut all, mut many);
-        let words = if few < first.len() {
-            texts = [""; 16];
-            put_texts(&mut texts[..few], first[..few].iter().flatten())?;
-            &texts[..few]
-        } else {
-            all = Vec::with_capacity(first.len().saturating_add(args.size_hint().0));
-            all.extend(first.into_iter().flatten());
-            all.extend(args);
-            many = vec![""; all.len()];
-            put_texts(&mut many, all.iter())?;
-            &many[..]
-        };
-        Ok(ask(options, words)?)
+        read_words(
+            args.into_iter(),
+            OsStr::to_str,
+            |texts| Ok(ask(options, texts)?),
+            |word, _| Err(Fail::UnrecognizedOption(format!("{word:?}"))),
+        )
     }
 
     /// Writes an accepted line again with main names alone: `--main` or `--main=value` for each option

@@ -2,16 +2,18 @@
 
 use crate::bytes::{plain_text, push_bytes, push_text};
 use crate::fail::granted;
-use crate::options::{parse_texts, read_texts};
+use crate::options::{parse_texts, read_texts, read_words};
 use crate::{Fail, Matches, Options, proved};
 use std::borrow::Cow;
 use std::ffi::{OsStr, OsString};
+use std::fmt;
 use std::result::Result;
+use std::str::FromStr;
 
 /// What an accepted line of words of any bytes gave.
 ///
 /// A call that takes a name panics where no option has it, but for `opt_defined`.
-#[derive(Clone, Debug, PartialEq, Eq)]
+#[derive(Clone, PartialEq, Eq)]
 pub struct OsMatches {
     /// The free words, in the order of the line.
     pub free: Vec<OsString>,
@@ -82,18 +84,21 @@ impl Options {
     where
         C::Item: AsRef<OsStr>,
     {
-        let args: Vec<C::Item> = args.into_iter().collect();
-        let (mut texts, mut marked) = (Vec::with_capacity(args.len()), false);
-        for arg in &args {
-            let text = text_of(arg.as_ref())?;
-            marked |= matches!(text, Cow::Owned(_));
-            texts.push(text);
-        }
-        let words: Vec<&str> = texts.iter().map(|text| &**text).collect();
-        match ask(self.named(), &words) {
+        let options = self.named();
+        let answer = |texts: &[&str], marked| match ask(options, texts) {
             Ok(proved) => Ok(OsMatches::of(Matches::of(proved), marked)),
             Err(fail) => Err(shown(fail.into())),
-        }
+        };
+        read_words(
+            args.into_iter(),
+            plain,
+            |texts| answer(texts, false),
+            |_, words| {
+                let texts = words.map(text_of).collect::<Result<Vec<_>, _>>()?;
+                let texts: Vec<&str> = texts.iter().map(|text| &**text).collect();
+                answer(&texts, true)
+            },
+        )
     }
 }
 
@@ -101,14 +106,16 @@ impl OsMatches {
     fn of(mut matches: Matches, marked: bool) -> OsMatches {
         let free = std::mem::take(&mut matches.free);
         let values = if marked {
-            let every = matches.every_option();
-            let values = every.map(|given| given.map(|(_, value)| value.map(os_of)).collect());
-            values.collect()
+            matches.of_each(|place| matches.given_at(place), |(_, value)| value.map(os_of))
         } else {
             Vec::new()
         };
         OsMatches {
-            free: free.into_iter().map(free_word).collect(),
+            free: if marked {
+                free.iter().map(|text| os_of(text)).collect()
+            } else {
+                free.into_iter().map(OsString::from).collect()
+            },
             matches,
             values,
         }
@@ -133,9 +140,6 @@ impl OsMatches {
     /// options.optflag("q", "quiet", "say less");
     /// assert!(options.parse_os(["-q"]).unwrap().opt_present("quiet"));
     /// ```
-    ///
-    /// # Panics
-    /// Where no option has the name.
     pub fn opt_present(&self, name: &str) -> bool {
         self.matches.opt_present(name)
     }
@@ -147,9 +151,6 @@ impl OsMatches {
     /// options.optflagmulti("v", "verbose", "say more");
     /// assert_eq!(options.parse_os(["-vv", "--verbose"]).unwrap().opt_count("v"), 3);
     /// ```
-    ///
-    /// # Panics
-    /// Where no option has the name.
     pub fn opt_count(&self, name: &str) -> usize {
         self.matches.opt_count(name)
     }
@@ -162,9 +163,6 @@ impl OsMatches {
     /// let matches = options.parse_os(["-v", "-o", "x", "-vv"]).unwrap();
     /// assert_eq!(matches.opt_positions("v"), [0, 3, 3]);
     /// ```
-    ///
-    /// # Panics
-    /// Where no option has the name.
     pub fn opt_positions(&self, name: &str) -> Vec<usize> {
         self.matches.opt_positions(name)
     }
@@ -176,9 +174,7 @@ impl OsMatches {
     /// options.optopt("o", "output", "set the output file", "NAME");
     /// assert_eq!(options.parse_os(["-ofile"]).unwrap().value("output").unwrap(), "file");
     /// ```
-    ///
-    /// # Panics
-    /// Where no option has the name.
+    #[inline]
     pub fn value(&self, name: &str) -> Option<&OsStr> {
         self.occurrences(name).next()?.1
     }
@@ -191,9 +187,7 @@ impl OsMatches {
     /// let matches = options.parse_os(["-La", "-L", "b"]).unwrap();
     /// assert!(matches.values("L").eq(["a", "b"]));
     /// ```
-    ///
-    /// # Panics
-    /// Where no option has the name.
+    #[inline]
     pub fn values(&self, name: &str) -> impl Iterator<Item = &OsStr> + '_ {
         self.occurrences(name).filter_map(|(_, value)| value)
     }
@@ -206,16 +200,51 @@ impl OsMatches {
     /// let matches = options.parse_os(["in.txt", "--color"]).unwrap();
     /// assert_eq!(matches.occurrences("c").next(), Some((1, None)));
     /// ```
-    ///
-    /// # Panics
-    /// Where no option has the name.
+    #[inline]
     pub fn occurrences(&self, name: &str) -> impl Iterator<Item = (usize, Option<&OsStr>)> + '_ {
-        let held = self.values.get(self.matches.place(name));
-        let given = self.matches.occurrences(name).enumerate();
+        self.given_at(self.matches.place(name))
+    }
+
+    #[inline]
+    fn given_at(&self, place: usize) -> impl Iterator<Item = (usize, Option<&OsStr>)> + '_ {
+        let held = self.values.get(place);
+        let given = self.matches.given_at(place).into_iter().enumerate();
         given.map(move |(nth, (position, text))| match held {
             Some(values) => (position, values[nth].as_deref()),
             None => (position, text.map(OsStr::new)),
         })
+    }
+
+    /// The value of an option's first occurrence, or `def` where that has none. `None` where the option wasn't given.
+    ///
+    /// ```
+    /// let mut options = getopts::Options::new();
+    /// options.optflagopt("c", "color", "colour the output", "WHEN");
+    /// let matches = options.parse_os(["--color"]).unwrap();
+    /// assert_eq!(matches.opt_default("color", "auto").unwrap(), "auto");
+    /// ```
+    pub fn opt_default<'a>(
+        &'a self,
+        name: &str,
+        def: &'a (impl AsRef<OsStr> + ?Sized),
+    ) -> Option<&'a OsStr> {
+        let (_, value) = self.occurrences(name).next()?;
+        Some(value.unwrap_or(def.as_ref()))
+    }
+
+    /// The value of an option's first occurrence, read as a `T`.
+    ///
+    /// ```
+    /// let mut options = getopts::Options::new();
+    /// options.optopt("n", "", "", "N");
+    /// assert_eq!(options.parse_os(["-n", "7"]).unwrap().opt_get::<u8>("n"), Ok(Some(7)));
+    /// ```
+    ///
+    /// # Errors
+    /// Where the value can't be read as a `T`, with the error of `T`, or with none where the value isn't UTF-8.
+    pub fn opt_get<T: FromStr>(&self, name: &str) -> Result<Option<T>, Option<T::Err>> {
+        let read = |value: &OsStr| value.to_str().ok_or(None)?.parse().map_err(Some);
+        self.value(name).map(read).transpose()
     }
 
     /// Where the words after `--` begin among the free words.
@@ -229,11 +258,25 @@ impl OsMatches {
     }
 }
 
+impl fmt::Debug for OsMatches {
+    fn fmt(&self, f: &mut fmt::Formatter<'_>) -> fmt::Result {
+        let (shown, free) = (f.debug_struct("OsMatches"), &self.free);
+        self.matches.show(shown, free, |place| self.given_at(place))
+    }
+}
+
+/// The text of a word that is itself, as ASCII is.
+#[inline]
+fn plain(word: &OsStr) -> Option<&str> {
+    let is_plain = |text: &&str| text.is_ascii() || plain_text(text.as_bytes()).is_some();
+    word.to_str().filter(is_plain)
+}
+
 /// The text of a word: itself, or by marks.
 fn text_of(word: &OsStr) -> Result<Cow<'_, str>, Fail> {
-    match word.to_str() {
-        Some(text) if plain_text(text.as_bytes()).is_some() => Ok(Cow::Borrowed(text)),
-        _ => {
+    match plain(word) {
+        Some(text) => Ok(Cow::Borrowed(text)),
+        None => {
             let mut text = String::new();
             granted(push_text(&mut text, &bytes_of(word)?));
             Ok(Cow::Owned(text))
@@ -246,13 +289,6 @@ fn os_of(text: &str) -> OsString {
     let mut bytes = Vec::new();
     granted(push_bytes(&mut bytes, text));
     word_of(bytes)
-}
-
-fn free_word(text: String) -> OsString {
-    match plain_text(text.as_bytes()) {
-        Some(_) => OsString::from(text),
-        None => os_of(&text),
-    }
 }
 
 /// A fault whose name has U+FFFD for what is no text.
@@ -291,11 +327,7 @@ fn bytes_of(word: &OsStr) -> Result<Cow<'_, [u8]>, Fail> {
             Ok(character) => bytes.extend(character.encode_utf8(&mut [0; 4]).bytes()),
             Err(half) => {
                 let half = half.unpaired_surrogate();
-                bytes.extend([
-                    0xED,
-                    0x80 | (half >> 6 & 0x3F) as u8,
-                    0x80 | (half & 0x3F) as u8,
-                ]);
+                bytes.extend([0xED, 0x80 | (half >> 6 & 0x3F) as u8, 0x80 | (half & 0x3F) as u8]);
             }
         }
     }

@@ -47,10 +47,7 @@ fn matches_read_as_the_crates() {
 #[test]
 fn a_nameless_option_reads_as_the_crates() {
     let mut options = Options::new();
-    options
-        .optflag("", "", "none")
-        .optflag("a", "", "")
-        .optopt("", "", "", "X");
+    options.optflag("", "", "none").optflag("a", "", "").optopt("", "", "", "X");
     assert_eq!(
         format!("{options:?}"),
         "Options { grps: [OptGroup { short_name: \"\", long_name: \"\", hint: \"\", desc: \"none\", hasarg: No, \

@@ -5,10 +5,14 @@ use std::ffi::{OsStr, OsString};
 
 fn options() -> Options {
     let mut options = Options::new();
-    options
-        .optopt("o", "output", "", "NAME")
-        .optflagmulti("v", "verbose", "")
-        .opt("c", "color", "", "WHEN", HasArg::Maybe, Occur::Multi);
+    options.optopt("o", "output", "", "NAME").optflagmulti("v", "verbose", "").opt(
+        "c",
+        "color",
+        "",
+        "WHEN",
+        HasArg::Maybe,
+        Occur::Multi,
+    );
     options
 }
 
@@ -40,9 +44,7 @@ fn odd() -> Vec<OsString> {
             &[0xDFFF, 0xD800, 0x3D, 0xD801],
             &[0xD83D, 0xDE00],
         ];
-        words
-            .map(std::os::windows::ffi::OsStringExt::from_wide)
-            .to_vec()
+        words.map(std::os::windows::ffi::OsStringExt::from_wide).to_vec()
     }
     #[cfg(not(any(unix, windows)))]
     {
@@ -72,33 +74,37 @@ fn words_of_any_bytes_come_back() {
         assert!(matches.values("c").eq([&*word]));
         assert!(matches.occurrences("c").eq([(1, Some(&*word)), (3, None)]));
         assert_eq!(matches.free, std::slice::from_ref(&word));
-        assert_eq!(
-            (matches.opt_count("v"), matches.opt_positions("v")),
-            (1, vec![2])
-        );
+        assert_eq!((matches.opt_count("v"), matches.opt_positions("v")), (1, vec![2]));
         assert_eq!(matches.free_trailing_start(), Some(0));
         assert_eq!(matches, matches.clone());
         assert!(!matches.opt_defined("x") && matches.opt_present("color"));
+        assert_eq!(matches.opt_default("c", "auto"), Some(&*word));
+        let read = matches.opt_get::<String>("o");
+        assert_eq!(read, word.to_str().map(|text| Some(text.into())).ok_or(None));
+        // What stands for a byte is not printed.
+        assert!(format!("{matches:?}").contains(&format!("vals: [[(0, Val({word:?}))]")));
+        assert!(format!("{matches:?}").contains(&format!("free: [{word:?}]")));
     }
 }
 
 #[test]
 fn texts_are_read_as_by_parse() {
     let words = ["-oé", "--verbose", "日本", "-c", "--", "-x"];
-    let (texts, matches) = (
-        options().parse(words).unwrap(),
-        options().parse_os(words).unwrap(),
-    );
+    let (texts, matches) = (options().parse(words).unwrap(), options().parse_os(words).unwrap());
     for name in ["o", "verbose", "c"] {
         assert_eq!(texts.opt_count(name), matches.opt_count(name));
         assert!(texts.values(name).map(OsStr::new).eq(matches.values(name)));
         assert_eq!(texts.opt_positions(name), matches.opt_positions(name));
     }
     assert!(texts.free.iter().map(OsStr::new).eq(&matches.free));
-    assert_eq!(
-        options().parse_os(["-x"]).unwrap_err(),
-        Fail::UnrecognizedOption("x".into())
-    );
+    assert_eq!(format!("{matches:?}"), format!("Os{texts:?}"));
+    let given = (matches.opt_default("c", "auto"), matches.opt_default("verbose", "x"));
+    assert_eq!(given, (Some("auto".as_ref()), Some("x".as_ref())));
+    let none = options().parse_os(["-o7"]).unwrap();
+    assert_eq!((none.opt_default("c", "auto"), none.opt_get::<u8>("c")), (None, Ok(None)));
+    assert_eq!((none.opt_get::<u8>("o"), none.opt_get("o")), (Ok(Some(7)), Ok(Some('7'))));
+    assert!(matches!(none.opt_get::<bool>("o"), Err(Some(_))));
+    assert_eq!(options().parse_os(["-x"]).unwrap_err(), Fail::UnrecognizedOption("x".into()));
 }
 
 #[test]
@@ -124,19 +130,13 @@ fn a_name_with_what_stands_for_a_byte_is_found_by_parse_alone() {
 
 #[test]
 fn values_are_lent() {
-    let matches = options()
-        .parse(["-oa", "--color=", "x", "-c", "y", "-c"])
-        .unwrap();
+    let matches = options().parse(["-oa", "--color=", "x", "-c", "y", "-c"]).unwrap();
     assert_eq!(
         (matches.value("o"), matches.value("c"), matches.value("v")),
         (Some("a"), Some(""), None)
     );
     assert!(matches.values("c").eq(["", "y"]));
-    assert!(
-        matches
-            .occurrences("c")
-            .eq([(1, Some("")), (3, Some("y")), (5, None)])
-    );
+    assert!(matches.occurrences("c").eq([(1, Some("")), (3, Some("y")), (5, None)]));
 }
 
 #[test]
@@ -146,10 +146,7 @@ fn a_name_that_no_option_has_panics() {
     std::panic::set_hook(Box::new(|_| {}));
     let says = |call: &dyn Fn()| {
         let fault = std::panic::catch_unwind(std::panic::AssertUnwindSafe(call)).unwrap_err();
-        assert_eq!(
-            fault.downcast_ref::<String>().unwrap(),
-            "No option 'y' defined"
-        );
+        assert_eq!(fault.downcast_ref::<String>().unwrap(), "No option 'y' defined");
     };
     says(&|| assert!(matches.value("y").is_none()));
     says(&|| assert!(matches.values("y").next().is_none()));
@@ -157,6 +154,41 @@ fn a_name_that_no_option_has_panics() {
     says(&|| assert!(os.value("y").is_none()));
     says(&|| assert!(!os.opt_present("y")));
     says(&|| assert!(os.occurrences("y").next().is_none()));
+}
+
+/// Items of 200,000 bytes.
+struct Large([u8; 200_000]);
+
+impl AsRef<OsStr> for Large {
+    fn as_ref(&self) -> &OsStr {
+        std::str::from_utf8(&self.0[..3]).unwrap().as_ref()
+    }
+}
+
+/// Words from an iterator that promises too many.
+struct Promised<I>(I);
+
+impl<I: Iterator> Iterator for Promised<I> {
+    type Item = I::Item;
+    fn next(&mut self) -> Option<I::Item> {
+        self.0.next()
+    }
+    fn size_hint(&self) -> (usize, Option<usize>) {
+        (usize::MAX, None)
+    }
+}
+
+#[test]
+fn any_items_are_read() {
+    for count in [0, 1, 15, 16, 17, 20, 2_000] {
+        let words = || Promised(std::iter::repeat("x").take(count));
+        assert_eq!(options().parse(words()).unwrap().free, vec!["x"; count]);
+        assert_eq!(options().parse_os(words()).unwrap().free, vec!["x"; count]);
+    }
+    let large = || (0..20).map(|_| Large([b'x'; 200_000]));
+    assert_eq!(options().parse(large()).unwrap().free, ["xxx"; 20]);
+    assert_eq!(options().parse_os(large()).unwrap().free, ["xxx"; 20]);
+    assert_eq!(options().canonical(large()).unwrap().unwrap().len(), 21);
 }
 
 #[test]

@@ -116,14 +116,8 @@ fn lists_grow_or_stay() {
     };
     assert_eq!(each_refused(full, |l| l.try_push(7), is(&[3, 1, 2, 7])), 1);
     assert_eq!(each_refused(full, |l| l.try_grow(9), is(&[3, 1, 2])), 1);
-    assert_eq!(
-        each_refused(full, |l| l.try_grow_exact(9), is(&[3, 1, 2])),
-        1
-    );
-    assert_eq!(
-        each_refused(full, |l| l.try_sort_by(i32::cmp), is(&[1, 2, 3])),
-        0
-    );
+    assert_eq!(each_refused(full, |l| l.try_grow_exact(9), is(&[3, 1, 2])), 1);
+    assert_eq!(each_refused(full, |l| l.try_sort_by(i32::cmp), is(&[1, 2, 3])), 0);
     assert_eq!(each_refused_of(&full(), |l| l.try_clone()), 1);
     let texts = ["a", "", "b"].map(String::from).to_vec();
     assert_eq!(each_refused_of(&texts, |l| l.try_clone()), 3);
@@ -177,51 +171,33 @@ fn options(more: usize) -> Options {
     options
 }
 
-const WORDS: [&str; 9] = [
-    "-vofile",
-    "free",
-    "-La",
-    "-L",
-    "bcd",
-    "--color=auto",
-    "--",
-    "-x",
-    "y",
-];
+const WORDS: [&str; 9] = ["-vofile", "free", "-La", "-L", "bcd", "--color=auto", "--", "-x", "y"];
 
 fn matches() -> Matches {
     options(0).parse_words(Global, &WORDS).unwrap()
 }
 
-/// Whether a refusal is told as one of memory.
-fn of_memory<T>(result: Result<T, Fail>) -> Result<T, Fail> {
-    if let Err(fail) = &result {
-        assert!(matches!(fail, Fail::OutOfMemory));
-    }
-    result
+/// Each refused request of reading is told as one of memory.
+fn told<T>(options: &Options, read: impl Fn(&Options) -> Result<T, Fail>) {
+    let of_memory =
+        |result: &Result<T, Fail>| !matches!(result, Err(fail) if *fail != Fail::OutOfMemory);
+    let refused = each_refused_of(options, |options| {
+        let result = read(options);
+        assert!(of_memory(&result));
+        result
+    });
+    assert!(refused > 8);
 }
 
 #[test]
 fn each_refused_request_of_reading_is_told() {
     for more in [0, 30] {
         let options = options(more);
-        assert!(each_refused_of(&options, |o| of_memory(o.parse_words(Global, &WORDS))) > 8);
-        assert!(
-            each_refused_of(&options, |o| of_memory(
-                o.parse(Global, WORDS.iter().copied())
-            )) > 8
-        );
-        assert!(
-            each_refused_of(&options, |o| of_memory(
-                o.parse_ignoring_counts(Global, &WORDS)
-            )) > 8
-        );
-        assert!(each_refused_of(&options, |o| of_memory(o.canonical_words(Global, &WORDS))) > 8);
-        assert!(
-            each_refused_of(&options, |o| of_memory(
-                o.canonical(Global, WORDS.iter().copied())
-            )) > 8
-        );
+        told(&options, |o| o.parse_words(Global, &WORDS));
+        told(&options, |o| o.parse(Global, WORDS.iter().copied()));
+        told(&options, |o| o.parse_ignoring_counts(Global, &WORDS));
+        told(&options, |o| o.canonical_words(Global, &WORDS));
+        told(&options, |o| o.canonical(Global, WORDS.iter().copied()));
     }
     let many = ["-vofile", "free"].repeat(2000);
     let floating = options(0).parse_ignoring_counts(Global, &many).unwrap();
@@ -231,35 +207,24 @@ fn each_refused_request_of_reading_is_told() {
 #[test]
 fn refused_words_are_told_or_memory_is() {
     let options = options(0);
-    for (word, wanted) in [
-        ("-ox", "-o"),
+    for (line, wanted) in [
+        ("-ox -ox", "output"),
         ("--nope", "nope"),
         ("-v=", "="),
         ("--verbose=x", "verbose"),
         ("-o", "o"),
     ] {
-        let words = if word == "-ox" {
-            vec!["-ox", "-ox"]
-        } else {
-            vec![word]
-        };
-        let refused = std::cell::RefCell::new(0);
+        let words: Vec<&str> = line.split(' ').collect();
         for granted in 0.. {
             GRANTED.with(|state| state.set(Some((granted, false))));
             let fail = options.parse_words(Global, &words).unwrap_err();
             GRANTED.with(|state| state.set(None));
             if !matches!(fail, Fail::OutOfMemory) {
-                let text = fail.to_string();
-                assert!(
-                    text.contains(if word == "-ox" { "output" } else { wanted }),
-                    "{text}"
-                );
+                assert!(granted > 0 && fail.to_string().contains(wanted), "{fail}");
                 assert_eq!(each_refused_of(&fail, |fail| fail.try_clone()), 1);
                 break;
             }
-            *refused.borrow_mut() += 1;
         }
-        assert!(*refused.borrow() > 0);
     }
 }
 
@@ -276,11 +241,7 @@ fn each_refused_request_of_declaring_leaves_the_options() {
             |o| add(o),
             |seen, failed| {
                 *seen
-                    == if failed {
-                        before.try_clone().unwrap()
-                    } else {
-                        after.try_clone().unwrap()
-                    }
+                    == if failed { before.try_clone().unwrap() } else { after.try_clone().unwrap() }
             },
         );
         assert!(refused > 0);
@@ -294,18 +255,12 @@ fn each_refused_request_of_usage_and_copies_is_told() {
     assert!(each_refused_of(&options, |o| o.short_usage(Global, "program")) > 0);
     assert!(each_refused_of(&options, |o| o.usage_rows(Global)) > 7);
     assert!(
-        each_refused_of(&options, |o| o.usage_with_format(Global, |rows| {
-            Ok(rows.last().unwrap_or_default())
-        })) > 7
+        each_refused_of(&options, |o| o
+            .usage_with_format(Global, |rows| { Ok(rows.last().unwrap_or_default()) }))
+            > 7
     );
     assert!(each_refused_of(&options, |o| o.try_clone()) > 1);
-    assert!(
-        each_refused_of(&(), |()| each_split_within(
-            Global,
-            "Mary had a little lamb",
-            10
-        )) > 2
-    );
+    assert!(each_refused_of(&(), |()| each_split_within(Global, "Mary had a little lamb", 10)) > 2);
 }
 
 #[test]
@@ -315,22 +270,10 @@ fn each_refused_request_of_asking_is_told() {
     assert!(each_refused_of(&matches, |m| m.try_clone()) > 7);
     assert!(matches.try_clone() == Ok(self::matches()));
     assert_eq!(each_refused_of(&matches, |m| m.opt_str(Global, "o")), 1);
-    assert_eq!(
-        each_refused_of(&matches, |m| m.opt_default(Global, "c", "never")),
-        1
-    );
+    assert_eq!(each_refused_of(&matches, |m| m.opt_default(Global, "c", "never")), 1);
     assert_eq!(each_refused_of(&matches, |m| m.opts_str(Global, &names)), 1);
-    assert_eq!(
-        each_refused_of(&matches, |m| m.opts_str_first(Global, &["o", "L"])),
-        1
-    );
-    assert_eq!(
-        each_refused_of(&matches, |m| m.opt_positions(Global, "L")),
-        1
-    );
+    assert_eq!(each_refused_of(&matches, |m| m.opts_str_first(Global, &["o", "L"])), 1);
+    assert_eq!(each_refused_of(&matches, |m| m.opt_positions(Global, "L")), 1);
     assert_eq!(each_refused_of(&matches, |m| m.opt_strs(Global, "L")), 3);
-    assert_eq!(
-        each_refused_of(&matches, |m| m.opt_strs_pos(Global, "L")),
-        3
-    );
+    assert_eq!(each_refused_of(&matches, |m| m.opt_strs_pos(Global, "L")), 3);
 }

@@ -1,5 +1,5 @@
 -- What the results as functions have to be, and what calls return by them.
-use Rattle.std.specs.Prelude.{◌≡◌, List, Option, Result, Ok, Err, MatchResult}
+use Rattle.std.specs.Prelude.{◌≡◌, List, Result, Ok, Err, MatchResult}
 use Rattle.getopts.specs.Only.{IsTheOnly}
 use Rattle.getopts.specs.Names.{Text}
 use Rattle.getopts.specs.Options.{Declared}

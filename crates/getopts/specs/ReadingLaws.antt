@@ -181,7 +181,3 @@ pub record PositionsAreWords (grammar : Grammar) : Type 0 where
 abbrev pub HavePositionsBelow : ℕ → List MatchedGroup → Type 0
 HavePositionsBelow count groups =
     AllByRecursion (λ group. AllByRecursion (λ found. found.position < count) group.found) groups
-
--- the words end in these
-abbrev pub EndIn : List Text → List Text → Type 0
-EndIn words last = (front : List Text) × (words ≡ front ++ last)

@@ -1,19 +1,18 @@
 //! Option groups: their kinds, and the names and kinds of many held together.
 
 ghost use Rattle.std.specs.Prelude.{◌≡◌, ◌++◌, ◌∷◌, [], Some, ◌+◌, ◌*◌, ◌≤◌, ◌<◌, ◌^◌, length};
-ghost use Rattle.std.specs.Prelude.{not, slice_get, OnOk, OnErr};
+ghost use Rattle.std.specs.Prelude.{slice_get, OnOk, OnErr};
 ghost use Rattle.std.specs.Option.{option_map};
 ghost use Rattle.std.specs.String.{string_bytes, string_len, string_capacity};
 ghost use Rattle.std.specs.Cmp.Lexicographic.{pointwise};
 ghost use Rattle.std.specs.Cmp.Rules.{comparing};
 ghost use Rattle.std.proofs.Common.{rules};
-ghost use Rattle.getopts.specs.Names.{AreLawful, is_empty, main_name};
+ghost use Rattle.getopts.specs.Names.{AreLawful, IsLawfullyNamed, main_name};
 ghost use Rattle.getopts.specs.Held.Groups.{signature_view, names_view, names_in, signature_with};
 ghost use Rattle.getopts.specs.Held.Groups.{AreLawfulSignatures, HasKeys, AreEndsOf, StandAt, two_at};
-ghost use Rattle.getopts.specs.Held.Names.{key_of, short_code};
 ghost use Rattle.getopts.specs.Held.Names.{names_at, HaveNamesOfBytes};
 
-use crate::names::{Names, is_of_bytes, key_of, short_byte};
+use crate::names::{NO_BYTE, Names, is_of_bytes, key_of, short_byte};
 use std::alloc::{AllocError, Global};
 use std::marker::Model;
 
@@ -107,14 +106,14 @@ pub(crate) struct Ends {
 /// A group among others: where its names stand in the text of all names, what they are looked up by, and
 /// its kinds.
 #[derive(Debug, Clone, Copy)]
-struct SignatureRecord {
-    names: Ends,
+pub(crate) struct SignatureRecord {
+    pub names: Ends,
     /// The key of the main name.
-    key: u64,
+    pub key: u64,
     /// The byte of the short name, or `NO_BYTE`.
-    short: u16,
-    has_long: bool,
-    kinds: Kinds,
+    pub short: u16,
+    pub has_long: bool,
+    pub kinds: Kinds,
 }
 
 impl PartialEq for SignatureRecord {
@@ -237,20 +236,36 @@ impl Signatures {
         self.records.len()
     }
 
-    /// The groups may be declared: a law to cite, of which nothing is left once built.
+    /// The groups may be declared, and each name is of bytes: laws to cite, of which nothing is left once
+    /// built.
     pub(crate) fn are_lawful(&self)
-        ensures { AreLawfulSignatures self.now }
+        ensures lawful { AreLawfulSignatures self.now }
+        ensures bytes { HaveNamesOfBytes (names_in self.now) }
     {
-        let _records = &self.records;
+        is_of_bytes(&self.text);
     }
 
-    /// The kinds of the group at a place.
+    /// What is held of the group at a place.
     #[inline(always)]
-    pub(crate) fn kinds_at(&self, place: usize) -> Kinds
+    pub(crate) fn record(&self, place: usize) -> SignatureRecord
         requires { place < length self.now }
-        ensures { Some result ≡ option_map kinds_of (slice_get self.now place) }
+        ensures keys { HasKeys result (names_at (names_in self.now) place) }
+        ensures kinds { Some result.kinds ≡ option_map kinds_of (slice_get self.now place) }
+        ensures lawful { IsLawfullyNamed (names_at (names_in self.now) place) }
     {
-        self.record(place).kinds
+        self.records[place]
+    }
+
+    /// How many groups have a short name. It only says how much to reserve: a wrong number would cost memory
+    /// alone.
+    pub(crate) fn short_names(&self) -> usize {
+        let mut short_names: usize = 0;
+        for record in &self.records {
+            if record.short < NO_BYTE {
+                short_names = short_names.saturating_add(1);
+            }
+        }
+        short_names
     }
 
     /// The short name of the group at a place.
@@ -271,43 +286,6 @@ impl Signatures {
         second_at(&self.text, self.records[place].names)
     }
 
-    /// What is held of the group at a place.
-    #[inline(always)]
-    fn record(&self, place: usize) -> SignatureRecord
-        requires { place < length self.now }
-        ensures keys { HasKeys result (names_at (names_in self.now) place) }
-        ensures kinds { Some result.kinds ≡ option_map kinds_of (slice_get self.now place) }
-    {
-        self.records[place]
-    }
-
-    /// The key of the main name of the group at a place.
-    #[inline(always)]
-    pub(crate) fn key_at(&self, place: usize) -> u64
-        requires { place < length self.now }
-        ensures { result ≡ key_of (main_name (names_at (names_in self.now) place)) }
-    {
-        self.record(place).key
-    }
-
-    /// The byte of the short name of the group at a place, or `NO_BYTE`.
-    #[inline(always)]
-    pub(crate) fn short_at(&self, place: usize) -> u16
-        requires { place < length self.now }
-        ensures { result ≡ short_code (names_at (names_in self.now) place).short }
-    {
-        self.record(place).short
-    }
-
-    /// Whether the group at a place has a long name.
-    #[inline(always)]
-    pub(crate) fn has_long(&self, place: usize) -> bool
-        requires { place < length self.now }
-        ensures { result ≡ not (is_empty (names_at (names_in self.now) place).long) }
-    {
-        self.record(place).has_long
-    }
-
     /// The two names of the group at a place.
     #[inline]
     pub(crate) fn names(&self, place: usize) -> Names<'_>
@@ -326,7 +304,7 @@ impl Signatures {
         requires { place < length self.now }
         ensures { result.now ≡ main_name (names_at (names_in self.now) place) }
     {
-        if self.has_long(place) {
+        if self.record(place).has_long {
             self.long(place)
         } else {
             self.short(place)
@@ -345,13 +323,6 @@ impl Signatures {
         }
     }
 
-    /// Each name is of bytes: a law to cite, of which nothing is left once built.
-    pub(crate) fn are_of_bytes(&self)
-        ensures { HaveNamesOfBytes (names_in self.now) }
-    {
-        is_of_bytes(&self.text);
-    }
-
     /// What reading asks of the group at a place.
     #[inline(always)]
     pub(crate) fn get(&self, place: usize) -> Signature<'_>
@@ -360,7 +331,7 @@ impl Signatures {
     {
         Signature {
             names: self.names(place),
-            kinds: self.kinds_at(place),
+            kinds: self.record(place).kinds,
         }
     }
 

@@ -232,21 +232,20 @@ impl<'m> Occurrences<'m> {
     pub fn get(&self, nth: usize) -> Option<(usize, Option<&'m str>)>
         ensures { option_map held_found result ≡ slice_get self.now nth }
     {
-        if nth < self.len() {
-            Some(self.at(nth))
-        } else {
-            None
+        if nth >= self.len() {
+            return None;
         }
+        let occurrence = self.at(nth);
+        Some((occurrence.position, occurrence.value))
     }
 
-    /// The position and the value of one that is there.
+    /// One that is there.
     #[inline]
-    fn at(&self, nth: usize) -> (usize, Option<&'m str>)
+    fn at(&self, nth: usize) -> Occurrence<'m>
         requires { nth < length self.now }
-        ensures { slice_get self.now nth ≡ Some (held_found result) }
+        ensures { slice_get self.now nth ≡ Some (held_found (result.position, result.value)) }
     {
-        let occurrence = self.found.at(self.places[nth]);
-        (occurrence.position, occurrence.value)
+        self.found.at(self.places[nth])
     }
 
     pub(crate) fn positions(&self, alloc: Global) -> Result<Vec<usize>, AllocError>
@@ -254,7 +253,7 @@ impl<'m> Occurrences<'m> {
     {
         let mut positions = Vec::with_capacity(alloc, self.len())?;
         for nth in 0..self.len() {
-            positions.push(self.at(nth).0)?;
+            positions.push(self.at(nth).position)?;
         }
         Ok(positions)
     }
@@ -264,7 +263,7 @@ impl<'m> Occurrences<'m> {
     {
         let mut values = Vec::new(alloc);
         for nth in 0..self.len() {
-            if let (_, Some(value)) = self.at(nth) {
+            if let Some(value) = self.at(nth).value {
                 values.push(String::from_str(alloc, value)?)?;
             }
         }
@@ -276,8 +275,9 @@ impl<'m> Occurrences<'m> {
     {
         let mut pairs = Vec::new(alloc);
         for nth in 0..self.len() {
-            if let (position, Some(value)) = self.at(nth) {
-                pairs.push((position, String::from_str(alloc, value)?))?;
+            let occurrence = self.at(nth);
+            if let Some(value) = occurrence.value {
+                pairs.push((occurrence.position, String::from_str(alloc, value)?))?;
             }
         }
         Ok(pairs)
@@ -362,6 +362,6 @@ impl<'m> Iterator for OccurrencesIter<'m> {
         }
         let occurrence = self.occurrences.at(self.next);
         self.next += 1;
-        Some(occurrence)
+        Some((occurrence.position, occurrence.value))
     }
 }

@@ -111,7 +111,11 @@ impl Options {
 
     /// Reads a line, and checks its counts.
     #[inline(always)]
-    pub(crate) fn accepted_line<S: AsStr>(&self, alloc: Global, words: &[S]) -> Result<ReadLine, Fail>
+    pub(crate) fn accepted_line<S: AsStr>(
+        &self,
+        alloc: Global,
+        words: &[S],
+    ) -> Result<ReadLine, Fail>
         ensures accepted { IfOk result (IsAcceptedLine self.now (map S.text words.now)) }
         ensures refused { IfErr result (λ fail. Tells fail
             (IsRefused self.now (map S.text words.now))) }
@@ -171,7 +175,7 @@ fn check_counts(alloc: Global, signatures: &Signatures, read: &ReadLine) -> Resu
 {
     for place in 0..signatures.len() {
         let count = read.index.count(place);
-        if !fits_count(signatures.kinds_at(place).occurrence, count) {
+        if !fits_count(signatures.record(place).kinds.occurrence, count) {
             return Err(count_fault(alloc, signatures.main(place), count));
         }
     }

@@ -90,6 +90,20 @@ pub(crate) struct Scanner<'o> {
     pub table: &'o Table,
 }
 
+/// The option that a name resolves to: the place of its group, and whether it takes an argument.
+#[derive(Clone, Copy)]
+pub(crate) struct Named {
+    pub place: usize,
+    pub kind: HasArg,
+}
+
+/// The value that an option takes, if any, and how many of the words after its own that uses.
+#[derive(Clone, Copy)]
+struct Argument<'w> {
+    value: Option<&'w str>,
+    used: usize,
+}
+
 /// What a word is to a line.
 #[derive(Clone, Copy)]
 pub(crate) enum Shape<'w> {
@@ -189,49 +203,44 @@ fn first_character(text: &str) -> &str
     }
 }
 
-/// The value of an option of kind Yes or Maybe in a cluster, by the rest of its word and the words
-/// after that, and how many of those it uses.
+/// What an option of kind Yes or Maybe takes in a cluster, by the rest of its word and the words after that.
 fn ending<'w, S: AsStr>(
     alloc: Global,
     kind: HasArg,
     name: &str,
     rest: &'w str,
     after: &'w [S],
-) -> Result<(Option<&'w str>, usize), Fail>
+) -> Result<Argument<'w>, Fail>
     requires { kind ≢ HasArg.No }
-    ensures ok { IfOk result (λ found. Chooses
-        (chosen_end kind name.now rest.now (map S.text after.now)) (option_copied found.0) found.1) }
+    ensures ok { IfOk result (λ end. Chooses
+        (chosen_end kind name.now rest.now (map S.text after.now)) (option_copied end.value) end.used) }
     ensures err { IfErr result (λ fail. Tells fail (λ fault.
         chosen_end kind name.now rest.now (map S.text after.now) ≡ Err fault)) }
 {
-    if !rest.is_empty() {
-        return Ok((Some(rest), 0));
-    }
-    match after.first() {
-        Some(word) if kind == HasArg::Yes || !is_dashed(word.as_str()) => {
-            Ok((Some(word.as_str()), 1))
-        }
-        None if kind == HasArg::Yes => Err(Fail::argument_missing(alloc, name)),
-        _ => Ok((None, 0)),
-    }
+    let (value, used) = match after.first() {
+        _ if !rest.is_empty() => (Some(rest), 0),
+        Some(word) if kind == HasArg::Yes || !is_dashed(word.as_str()) => (Some(word.as_str()), 1),
+        None if kind == HasArg::Yes => return Err(Fail::argument_missing(alloc, name)),
+        _ => (None, 0),
+    };
+    Ok(Argument { value, used })
 }
 
 impl<'o> Scanner<'o> {
-    ghost use Rattle.getopts.specs.Held.Line.{scanner_grammar, IsLawfulScanner, HasShape};
-    ghost use Rattle.getopts.specs.Held.Line.{ReadsLine};
+    ghost use Rattle.getopts.specs.Held.Line.{scanner_grammar, IsLawfulScanner, IsNamedBy, HasShape};
+    ghost use Rattle.getopts.specs.Held.Line.{ReadsLine, IsEmptyLine};
     ghost use Rattle.getopts.specs.Turn.{faults, long_turn, cluster_turn, AddsItem};
 
-    /// The place and the kind of argument of the option that a name resolves to.
-    fn option(&self, name: &str) -> Option<(usize, HasArg)>
+    /// The option that a name resolves to.
+    fn option(&self, name: &str) -> Option<Named>
         requires { IsLawfulScanner self.now }
         ensures { let grammar = scanner_grammar self.now in
-            MatchOption result (grammar.kind name.now ≡ None)
-            (λ option. (grammar.place name.now ≡ Some option.0)
-            × (grammar.kind name.now ≡ Some option.1)) }
+            MatchOption result (grammar.kind name.now ≡ None) (IsNamedBy grammar name.now) }
     {
         let signatures = self.options.signatures();
         let place = self.table.resolve(signatures, name)?;
-        Some((place, signatures.kinds_at(place).kind))
+        let kind = signatures.record(place).kinds.kind;
+        Some(Named { place, kind })
     }
 
     /// Reads an item in long form, by its text after the dashes and the words after its first. Adds
@@ -254,11 +263,11 @@ impl<'o> Scanner<'o> {
             long_turn grammar dashes text.now (map S.text after.now) ≡ faults fault)) }
     {
         let (name, argument) = name_and_argument(text);
-        let (group, kind) = match self.option(name) {
+        let option = match self.option(name) {
             Some(option) => option,
             None => return Err(Fail::unrecognized_option(alloc, name)),
         };
-        let (value, used) = match (kind, argument) {
+        let (value, used) = match (option.kind, argument) {
             (HasArg::No, None) => (None, 0),
             (HasArg::No, Some(_)) => return Err(Fail::unexpected_argument(alloc, name)),
             (HasArg::Yes, None) => match after.first() {
@@ -268,19 +277,17 @@ impl<'o> Scanner<'o> {
             (HasArg::Yes, Some(value)) => (Some(value), 0),
             (HasArg::Maybe, argument) => (argument, 0),
         };
-        found.push(group, position, value)?;
+        found.push(option.place, position, value)?;
         Ok(used)
     }
 
-    /// The place and the kind of argument of the option that a byte in a cluster names; only names of one
-    /// byte resolve there, and one that isn't ASCII is no text.
+    /// The option that a byte in a cluster names; only names of one byte resolve there, and one that isn't
+    /// ASCII is no text.
     #[inline(always)]
-    fn option_at(&self, byte: u8) -> Option<(usize, HasArg)>
+    fn option_at(&self, byte: u8) -> Option<Named>
         requires { IsLawfulScanner self.now }
         ensures option { let grammar = scanner_grammar self.now in
-            MatchOption result (grammar.kind (byte ∷ []) ≡ None)
-            (λ option. (grammar.place (byte ∷ []) ≡ Some option.0)
-            × (grammar.kind (byte ∷ []) ≡ Some option.1)) }
+            MatchOption result (grammar.kind (byte ∷ []) ≡ None) (IsNamedBy grammar (byte ∷ [])) }
         ensures ascii { OnSome result (byte < 128) }
     {
         if !byte.is_ascii() {
@@ -288,7 +295,8 @@ impl<'o> Scanner<'o> {
         }
         let signatures = self.options.signatures();
         let place = self.table.resolve_byte(signatures, byte)?;
-        Some((place, signatures.kinds_at(place).kind))
+        let kind = signatures.record(place).kinds.kind;
+        Some(Named { place, kind })
     }
 
     /// Reads a cluster, by its text after the dash and the words after its first. Adds its occurrences,
@@ -316,12 +324,17 @@ impl<'o> Scanner<'o> {
                     let name = first_character(&text[at..]);
                     return Err(Fail::unrecognized_option(alloc, name));
                 }
-                Some((group, HasArg::No)) => found.push(group, position, None)?,
-                Some((group, kind)) => {
+                Some(
+                    Named {
+                        place,
+                        kind: HasArg::No,
+                    },
+                ) => found.push(place, position, None)?,
+                Some(Named { place, kind }) => {
                     let name = &text[at..at + 1];
-                    let (value, used) = ending(alloc, kind, name, &text[at + 1..], after)?;
-                    found.push(group, position, value)?;
-                    return Ok(used);
+                    let argument = ending(alloc, kind, name, &text[at + 1..], after)?;
+                    found.push(place, position, argument.value)?;
+                    return Ok(argument.used);
                 }
             }
         }
@@ -354,8 +367,23 @@ impl<'o> Scanner<'o> {
         ensures err { IfErr result (λ fail. Tells fail
             (IsScanFault (scanner_grammar self.now) (map S.text words.now))) }
     {
-        let stops = self.options.style() == ParsingStyle::StopAtFirstFree;
         let mut line = Line::with_capacity(alloc, words.len().min(FIRST_ROOM))?;
+        self.scan_into(alloc, words, &mut line)?;
+        Ok(line)
+    }
+
+    /// Reads a line into one that gives nothing yet.
+    #[inline(always)]
+    fn scan_into<S: AsStr>(&self, alloc: Global, words: &[S], line: &mut Line) -> Result<(), Fail>
+        requires lawful { IsLawfulScanner self.now }
+        requires texts { AreTexts (map S.text words.now) }
+        requires empty { IsEmptyLine line.old }
+        ensures ok { OnOk result
+            (ReadsLine (scanner_grammar self.now) (map S.text words.now) line.new) }
+        ensures err { IfErr result (λ fail. Tells fail
+            (IsScanFault (scanner_grammar self.now) (map S.text words.now))) }
+    {
+        let stops = self.options.style() == ParsingStyle::StopAtFirstFree;
         line.reserve(words, stops)?;
         let mut at = 0;
         'items: while at < words.len() {
@@ -365,7 +393,7 @@ impl<'o> Scanner<'o> {
                 Shape::Free => {
                     if stops {
                         push_copies(alloc, &mut line.free, &words[at..])?;
-                        return Ok(line);
+                        return Ok(());
                     }
                     push_copy(alloc, &mut line.free, word)?;
                     at + 1
@@ -373,7 +401,7 @@ impl<'o> Scanner<'o> {
                 Shape::Stop => {
                     line.trailing_start = (!after.is_empty()).then_some(line.free.len());
                     push_copies(alloc, &mut line.free, after)?;
-                    return Ok(line);
+                    return Ok(());
                 }
                 Shape::Long(text) => at + 1 + self.long(alloc, text, after, at, &mut line.found)?,
                 Shape::Cluster(text) => {
@@ -381,6 +409,6 @@ impl<'o> Scanner<'o> {
                 }
             };
         }
-        Ok(line)
+        Ok(())
     }
 }

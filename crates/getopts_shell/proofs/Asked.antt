@@ -16,9 +16,9 @@ use Rattle.getopts.specs.Results.{parse_result, read_result, reading_result, unl
 use Rattle.getopts.specs.Results.{with_counts_kept}
 use Rattle.getopts.specs.declared.groups.Occur.{Occur}
 use Rattle.getopts.proofs.MainTheorem.Results.{made_of-ok}
-use Rattle.getopts_shell.specs.Held.{group_of_row, groups_of, held_signatures}
+use Rattle.getopts_shell.specs.Held.{entry_of_row, groups_of, held_signatures}
 use Rattle.getopts_shell.specs.Program.{Asked, asked_fault}
-use Rattle.getopts_shell.specs.Table.{Entry}
+use Rattle.getopts_shell.specs.Table.{Entry, group_of_entry, occurrence_of}
 use Rattle.getopts_shell.specs.Variables.{Given, HaveOwnVariables, SetsVariables, VariableFault}
 use Rattle.getopts_shell.specs.Variables.{first_fault, given_from, is_prefix}
 use Rattle.getopts_shell.specs.declared.row.Row.{Row}
@@ -102,26 +102,27 @@ pub counts_from : (groups : List MatchedGroup) (rows : List Row) (place : ℕ) (
     → held_signatures groups ≡ signatures_of (groups_of rows) → place < length rows → row
     ≡ get_or rows place row
     → is_none (first_count_fault (drop place groups))
-    ≡ (fits_count row.occurrence (length (found_in groups place))
+    ≡ (fits_count (occurrence_of false row.often) (length (found_in groups place))
     && is_none (first_count_fault (drop (place + 1) groups)))
 counts_from groups rows place row same below row_is =
     by_place groups rows place same below row_is
-    ∙ ap (λ (n : ℕ). fits_count row.occurrence (length (found_in groups place))
+    ∙ ap (λ (n : ℕ). fits_count (occurrence_of false row.often) (length (found_in groups place))
     && is_none (first_count_fault (drop n groups))) (sym (add-one place))
   where
     by_place : (groups : List MatchedGroup) (rows : List Row) (place : ℕ)
         → held_signatures groups ≡ signatures_of (groups_of rows) → place < length rows → row
         ≡ get_or rows place row
         → is_none (first_count_fault (drop place groups))
-        ≡ (fits_count row.occurrence (length (found_in groups place))
+        ≡ (fits_count (occurrence_of false row.often) (length (found_in groups place))
         && is_none (first_count_fault (drop (suc place) groups)))
     by_place groups [] place same below row_is = absurd (omega arith)
     by_place [] (other ∷ rows) place same below row_is = cc
     by_place (group ∷ groups) (other ∷ rows) zero same below row_is =
-        let is : group.signature ≡ (group_of_row other).signature = cc in
+        let is : group.signature ≡ (group_of_entry false (entry_of_row other)).signature = cc in
         let same_row : row ≡ other = row_is in
-        let occurrence : group.signature.occurrence ≡ row.occurrence =
-        ap (λ (s : Signature). s.occurrence) is ∙ sym (ap (λ (r : Row). r.occurrence) same_row) in
+        let occurrence : group.signature.occurrence ≡ occurrence_of false row.often =
+        ap (λ (s : Signature). s.occurrence) is
+        ∙ sym (ap (λ (r : Row). occurrence_of false r.often) same_row) in
         by_test (fits_count group.signature.occurrence (length group.found))
         ∙ ap (λ (o : Occur). fits_count o (length group.found)
         && is_none (first_count_fault groups)) occurrence

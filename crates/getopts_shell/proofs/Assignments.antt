@@ -17,7 +17,7 @@ use Rattle.getopts.specs.Accessors.{each_value, found_in}
 use Rattle.getopts.specs.Matches.{Found, MatchedGroup}
 use Rattle.getopts.specs.Names.{Text, main_name}
 use Rattle.getopts.specs.Wrap.{parting}
-use Rattle.getopts_shell.specs.Held.{entries_of, entry_of_row, group_of_row}
+use Rattle.getopts_shell.specs.Held.{entries_of, entry_of_row}
 use Rattle.getopts_shell.specs.Quote.{quoted, quoted_words, replaced, spaced}
 use Rattle.getopts_shell.specs.Table.{Entry}
 use Rattle.getopts_shell.specs.Variables.{any_has_variable, first_fault, given_from}
@@ -150,12 +150,12 @@ same_front (byte ∷ front) name other =
 -- whether a row makes the variable of an entry
 pub any_variable : (prefix : Text) (rows : List Row) (entry : Entry)
     → any_has_variable prefix (entries_of rows) entry
-    ≡ list_any (λ row. bytes_eq (map variable_byte (main_name (group_of_row row).signature.names))
-    (map variable_byte (main_name entry.signature.names))) rows
+    ≡ list_any (λ row. bytes_eq (map variable_byte (main_name (entry_of_row row).names))
+    (map variable_byte (main_name entry.names))) rows
 any_variable prefix [] entry = refl
 any_variable prefix (row ∷ rows) entry =
     rw (
-      same_front prefix _ (map variable_byte (main_name entry.signature.names)),
+      same_front prefix _ (map variable_byte (main_name entry.names)),
       any_variable prefix rows entry,
     ) refl
 

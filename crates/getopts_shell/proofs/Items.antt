@@ -9,15 +9,13 @@ use Rattle.std.specs.Option.{option_map_or, unwrap_or}
 use Rattle.std.proofs.lemmas.Bool.Decides.{nat_tests}
 use Rattle.std.proofs.lemmas.List.{append_cancel_right}
 use Rattle.getopts.specs.Names.{Text, Names, is_empty}
-use Rattle.getopts.specs.Options.{Signature}
 use Rattle.getopts.specs.declared.groups.HasArg.{HasArg}
 use Rattle.getopts.specs.declared.groups.HasArg.TheVariants.{Yes, No, Maybe}
-use Rattle.getopts.specs.declared.groups.Occur.{Occur}
 use Rattle.getopts_shell.specs.Table.{is_name, is_hint, names_text, MayBeNames, AreNames}
 use Rattle.getopts_shell.specs.Table.{IsArgument}
 use Rattle.getopts_shell.specs.Table.{HasParts, IsBracketed, bare, bracketed, IsItem, end_means}
 use Rattle.getopts_shell.specs.Table.{begins_name, fits, is_hint_byte}
-use Rattle.getopts_shell.specs.declared.row.Mark.{Mark}
+use Rattle.getopts_shell.specs.declared.row.Often.{Often}
 use Rattle.std.specs.Str.Pattern.{RFindsChar}
 use Rattle.std.proofs.lemmas.List.Elements.{All-from_get_or, recursion_from_All}
 use Rattle.std.proofs.lemmas.Str.Pattern.{NoCharPasses-char, drop_at_char}
@@ -37,30 +35,15 @@ no_bracket (byte ∷ rest) none = λ is. none rest (ap (λ (b : ℕ). b ∷ rest
 never : {X : Type 0} (x : X) → None ≡ Some x → ⊥
 never x is = cc
 
--- what an end may mean
-abbrev meaning : Occur → Mark → Option (Occur × Mark)
-meaning occurrence mark = Some (occurrence, mark)
-
--- the parts of meanings that are the same
-same_parts : (occurrence another : Occur) (mark behind : Mark) → meaning another behind
-    ≡ meaning occurrence mark
-    → (another ≡ occurrence) × (behind ≡ mark)
-same_parts occurrence another mark behind is =
-    let pair : Occur × Mark = (occurrence, mark) in (
-      ap (λ (o : Option (Occur × Mark)). (unwrap_or o pair).0) is,
-      ap (λ (o : Option (Occur × Mark)). (unwrap_or o pair).1) is,
-    )
-
 -- an end holds no `]`
-closed : (end : Text) (occurrence : Occur) (mark : Mark) → end_means end ≡ Some (occurrence, mark)
+closed : (end : Text) (often : Often) → end_means end ≡ Some often
     → AllByRecursion (λ (byte : ℕ). byte ≢ 93) end
-closed [] occurrence mark means = tt
-closed (a ∷ []) occurrence mark means = (grind (arith, nat_tests), tt)
-closed (a ∷ b ∷ []) occurrence mark means =
-    (grind (arith, nat_tests), (grind (arith, nat_tests), tt))
-closed (a ∷ b ∷ c ∷ []) occurrence mark means =
+closed [] often means = tt
+closed (a ∷ []) often means = (grind (arith, nat_tests), tt)
+closed (a ∷ b ∷ []) often means = (grind (arith, nat_tests), (grind (arith, nat_tests), tt))
+closed (a ∷ b ∷ c ∷ []) often means =
     (grind (arith, nat_tests), (grind (arith, nat_tests), (grind (arith, nat_tests), tt)))
-closed (a ∷ b ∷ c ∷ d ∷ more) occurrence mark means = absurd (grind (arith, nat_tests))
+closed (a ∷ b ∷ c ∷ d ∷ more) often means = absurd (grind (arith, nat_tests))
 
 -- where a text is cut at its last `]`
 pub last_close : (text : Text) (result : Option (Bor Text × Bor Text))
@@ -108,48 +91,44 @@ one_cut (byte ∷ front) (first ∷ other) back after none also same =
 -- a text that begins with `[` and has no `]` after it has no brackets
 pub none_closed : (text opened : Text) → text ≡ 91 ∷ opened
     → AllByRecursion (λ (byte : ℕ). byte ≢ 93) opened
-    → (inside : Text) (occurrence : Occur) (mark : Mark)
-    → ¬ (IsBracketed text inside occurrence mark)
-none_closed text opened opens none inside occurrence mark (bare is plain) =
+    → (inside : Text) (often : Often) → ¬ (IsBracketed text inside often)
+none_closed text opened opens none inside often (bare is plain) =
     plain (ap (λ (t : Text). slice_index t 0) opens)
-none_closed text opened opens none inside occurrence mark (bracketed end _ _ is means) =
+none_closed text opened opens none inside often (bracketed end _ is means) =
     let same : 91 ∷ opened ≡ 91 ∷ (inside ++ 93 ∷ end) = sym opens ∙ is in
     no_close opened inside end none cc
 
 -- nor has one whose end means nothing
 pub none_meant : (text opened before end : Text) → text ≡ 91 ∷ opened → opened ≡ before ++ 93 ∷ end
     → AllByRecursion (λ (byte : ℕ). byte ≢ 93) end → end_means end ≡ None
-    → (inside : Text) (occurrence : Occur) (mark : Mark)
-    → ¬ (IsBracketed text inside occurrence mark)
-none_meant text opened before end opens parts none means inside occurrence mark (bare is plain) =
+    → (inside : Text) (often : Often) → ¬ (IsBracketed text inside often)
+none_meant text opened before end opens parts none means inside often (bare is plain) =
     plain (ap (λ (t : Text). slice_index t 0) opens)
-none_meant text opened before end opens parts none means inside occurrence mark
-    (bracketed other _ _ is also) =
+none_meant text opened before end opens parts none means inside often (bracketed other _ is also) =
     let whole : 91 ∷ (before ++ 93 ∷ end) ≡ 91 ∷ (inside ++ 93 ∷ other) =
     ap (λ (t : Text). 91 ∷ t) (sym parts) ∙ sym opens ∙ is in
-    let same = one_cut before inside end other none (closed other occurrence mark also) cc in
-    never (occurrence, mark) (sym means ∙ ap end_means (sym same.1) ∙ also)
+    let same = one_cut before inside end other none (closed other often also) cc in
+    never often (sym means ∙ ap end_means (sym same.1) ∙ also)
 
--- a text is in the brackets of one occurrence, with one mark and one inside
-pub one_bracketed : (text inside other : Text) (occurrence another : Occur) (mark behind : Mark)
-    → IsBracketed text inside occurrence mark → IsBracketed text other another behind
-    → (other ≡ inside) × (another ≡ occurrence) × (behind ≡ mark)
-one_bracketed text inside other occurrence another mark behind (bare is plain) (bare also simple) =
-    (sym also ∙ is, refl, refl)
-one_bracketed text inside other occurrence another mark behind (bare is plain)
-    (bracketed end _ _ also means) =
+-- a text is in brackets that say one thing, with one inside
+pub one_bracketed : (text inside other : Text) (often another : Often)
+    → IsBracketed text inside often → IsBracketed text other another
+    → (other ≡ inside) × (another ≡ often)
+one_bracketed text inside other often another (bare is plain) (bare also simple) =
+    (sym also ∙ is, refl)
+one_bracketed text inside other often another (bare is plain) (bracketed end _ also means) =
     absurd (plain (ap (λ (t : Text). slice_index t 0) also))
-one_bracketed text inside other occurrence another mark behind (bracketed end _ _ is means)
-    (bare also plain) =
+one_bracketed text inside other often another (bracketed end _ is means) (bare also plain) =
     absurd (plain (ap (λ (t : Text). slice_index t 0) is))
-one_bracketed text inside other occurrence another mark behind (bracketed end _ _ is means)
-    (bracketed after _ _ also other_means) =
+one_bracketed text inside other often another (bracketed end _ is means)
+    (bracketed after _ also other_means) =
     let whole : 91 ∷ (inside ++ 93 ∷ end) ≡ 91 ∷ (other ++ 93 ∷ after) = sym is ∙ also in
-    let same = one_cut inside other end after (closed end occurrence mark means)
-    (closed after another behind other_means) cc in
-    let parts = same_parts occurrence another mark behind
-    (sym other_means ∙ ap end_means same.1 ∙ means) in
-    (same.0, parts.0, parts.1)
+    let same = one_cut inside other end after (closed end often means)
+    (closed after another other_means) cc in (
+      same.0,
+      ap (λ (o : Option Often). unwrap_or o often)
+          (sym other_means ∙ ap end_means same.1 ∙ means),
+    )
 
 -- ---- parts
 
@@ -371,56 +350,54 @@ one_argument Maybe Yes hint other (Some text) is also =
 
 -- ---- items
 
--- the parts of an item, and its mark, are those that are found
-same_parts_found : (text inside names : Text) (occurrence : Occur) (mark : Mark)
-    (argument : Option Text) → IsBracketed text inside occurrence mark
-    → HasParts inside names argument
-    → (known : Signature) (hint : Text) (behind : Mark) (is : IsItem text known hint behind)
-    → (is.names ≡ names) × (is.argument ≡ argument) × (behind ≡ mark)
-same_parts_found text inside names occurrence mark argument brackets parts known hint behind is =
-    let same = one_bracketed text inside is.inside occurrence known.occurrence mark behind brackets
-    is.brackets in
+-- the parts of an item, and how often it may come, are those that are found
+same_parts_found : (text inside names : Text) (often : Often) (argument : Option Text)
+    → IsBracketed text inside often → HasParts inside names argument
+    → (own : Names) (kind : HasArg) (another : Often) (hint : Text)
+    (is : IsItem text own kind another hint)
+    → (is.names ≡ names) × (is.argument ≡ argument) × (another ≡ often)
+same_parts_found text inside names often argument brackets parts own kind another hint is =
+    let same = one_bracketed text inside is.inside often another brackets is.brackets in
     let pair = one_pair inside names is.names argument is.argument parts
     (subst (λ (t : Text). HasParts t is.names is.argument) same.0 is.parts) in
-    (pair.0, pair.1, same.2)
+    (pair.0, pair.1, same.1)
 
 -- without names there is no item
-pub no_names_none : (text inside names : Text) (occurrence : Occur) (mark : Mark)
-    (argument : Option Text)
-    → IsBracketed text inside occurrence mark → HasParts inside names argument
+pub no_names_none : (text inside names : Text) (often : Often) (argument : Option Text)
+    → IsBracketed text inside often → HasParts inside names argument
     → ((are : Names) → ¬ (AreNames are names))
-    → (known : Signature) (hint : Text) (behind : Mark) → ¬ (IsItem text known hint behind)
-no_names_none text inside names occurrence mark argument brackets parts none known hint behind is =
-    let same = same_parts_found text inside names occurrence mark argument brackets parts known hint
-    behind is in
-    none known.names (subst (AreNames known.names) same.0 is.names_are)
+    → (own : Names) (kind : HasArg) (another : Often) (hint : Text)
+    → ¬ (IsItem text own kind another hint)
+no_names_none text inside names often argument brackets parts none own kind another hint is =
+    let same = same_parts_found text inside names often argument brackets parts own kind another
+    hint is in
+    none own (subst (AreNames own) same.0 is.names_are)
 
 -- nor where what stands for its argument is none
-pub no_argument_none : (text inside names : Text) (occurrence : Occur) (mark : Mark)
-    (argument : Option Text)
-    → IsBracketed text inside occurrence mark → HasParts inside names argument
+pub no_argument_none : (text inside names : Text) (often : Often) (argument : Option Text)
+    → IsBracketed text inside often → HasParts inside names argument
     → ((kind : HasArg) (hint : Text) → ¬ (IsArgument kind hint argument))
-    → (known : Signature) (hint : Text) (behind : Mark) → ¬ (IsItem text known hint behind)
-no_argument_none text inside names occurrence mark argument brackets parts none known hint behind
-    is =
-    let same = same_parts_found text inside names occurrence mark argument brackets parts known hint
-    behind is in
-    none known.kind hint (subst (IsArgument known.kind hint) same.1 is.argument_is)
+    → (own : Names) (kind : HasArg) (another : Often) (hint : Text)
+    → ¬ (IsItem text own kind another hint)
+no_argument_none text inside names often argument brackets parts none own kind another hint is =
+    let same = same_parts_found text inside names often argument brackets parts own kind another
+    hint is in
+    none kind hint (subst (IsArgument kind hint) same.1 is.argument_is)
 
--- nor where its argument doesn't fit the mark
-pub no_fit_none : (text inside names : Text) (occurrence : Occur) (mark : Mark)
-    (argument : Option Text)
-    (kind : HasArg) (its_hint : Text) → IsBracketed text inside occurrence mark
-    → HasParts inside names argument → IsArgument kind its_hint argument → fits mark kind ≡ false
-    → (known : Signature) (hint : Text) (behind : Mark) → ¬ (IsItem text known hint behind)
-no_fit_none text inside names occurrence mark argument kind its_hint brackets parts argument_is
-    no_fit known hint behind is =
-    let same = same_parts_found text inside names occurrence mark argument brackets parts known hint
-    behind is in
-    let one = one_argument kind known.kind its_hint hint argument argument_is
-    (subst (IsArgument known.kind hint) same.1 is.argument_is) in
-    let both : false ≡ true = sym no_fit ∙ ap (λ (k : HasArg). fits mark k) (sym one.0)
-    ∙ ap (λ (m : Mark). fits m known.kind) (sym same.2) ∙ is.fits_kind in
+-- nor where its argument doesn't fit how often it may come
+pub no_fit_none : (text inside names : Text) (often : Often) (argument : Option Text)
+    (kind : HasArg) (its_hint : Text) → IsBracketed text inside often
+    → HasParts inside names argument → IsArgument kind its_hint argument → fits often kind ≡ false
+    → (own : Names) (other : HasArg) (another : Often) (hint : Text)
+    → ¬ (IsItem text own other another hint)
+no_fit_none text inside names often argument kind its_hint brackets parts argument_is no_fit own
+    other another hint is =
+    let same = same_parts_found text inside names often argument brackets parts own other another
+    hint is in
+    let one = one_argument kind other its_hint hint argument argument_is
+    (subst (IsArgument other hint) same.1 is.argument_is) in
+    let both : false ≡ true = sym no_fit ∙ ap (λ (k : HasArg). fits often k) (sym one.0)
+    ∙ ap (λ (o : Often). fits o other) (sym same.2) ∙ is.fits_kind in
     cc
 
 -- a kind and a hint that are found are the argument's

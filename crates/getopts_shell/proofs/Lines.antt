@@ -4,14 +4,14 @@ use Rattle.std.proofs.Common.{take, drop}
 use Rattle.std.proofs.Common.{get_or}
 use Rattle.std.proofs.Common.{map, refl, sym, ap, ◌∙◌, arith}
 use Rattle.std.specs.Prelude.{◌&&◌, if◌then◌else◌, not}
-use Rattle.std.specs.Prelude.{◌||◌, ◌==◌, IfSome, Option, Some, None, slice_index, min, ◌-◌, ◌^◌}
+use Rattle.std.specs.Prelude.{OnOk, Result, Ok, Err, ◌||◌, ◌==◌, IfSome, Option, Some, None, slice_index, min, ◌-◌, ◌^◌}
 use Rattle.std.specs.List.{list_any}
 use Rattle.std.specs.Option.{option_to_list}
 use Rattle.std.proofs.Common.{append-nil, append_assoc, subst, length-append}
 use Rattle.std.proofs.lemmas.List.{take-append-drop}
 use Rattle.std.proofs.lemmas.List.{at_drop_more}
-use Rattle.getopts.specs.Names.{Text, is_empty}
-use Rattle.getopts.specs.Options.{Signature}
+use Rattle.getopts.specs.Names.{Names, Text, is_empty}
+use Rattle.getopts.specs.declared.groups.HasArg.{HasArg}
 use Rattle.getopts.specs.Wrap.{lines_of}
 use Rattle.getopts_shell.specs.Held.{TellsFault}
 use Rattle.getopts_shell.specs.declared.table.TableError.{TableError}
@@ -22,10 +22,10 @@ use Rattle.getopts_shell.specs.Table.{after_blanks, trimmed, before_gap, from_ga
 use Rattle.getopts_shell.specs.Table.{Entry, is_passed, IsItem, DeclaresEntry, Declares}
 use Rattle.getopts_shell.specs.Table.{Operand, is_operand, is_skipped, item_of, operand_at}
 use Rattle.getopts_shell.specs.Table.{operands_after}
-use Rattle.getopts_shell.specs.declared.row.Mark.{Mark}
-use Rattle.getopts_shell.specs.Table.{DeclareEntries, HaveNewNames, DeclareOptions, TableFault}
-use Rattle.getopts_shell.specs.Table.{line_number, name_again}
-use Rattle.getopts_shell.specs.Table.{IsLineFault, IsTableFault, no_option, none}
+use Rattle.getopts_shell.specs.declared.row.Often.{Often}
+use Rattle.getopts_shell.specs.Table.{DeclareEntries, DeclareOptions, EachAfter, IsLineFault}
+use Rattle.getopts_shell.specs.Table.{IsTableFault, TableFault, line_number, may_follow}
+use Rattle.getopts_shell.specs.Table.{name_again, no_option, none}
 
 -- a test of what is made of elements
 pub list_any_map : {X Y : Type 0} (p : Y → Bool) (f : X → Y) (xs : List X)
@@ -99,26 +99,31 @@ declares_operand number line text item rest description text_is there item_is re
           ∙ rw (description_is, rest_is, item_is, text_is) refl,
     )
 
--- one line more
-pub operands_push : (before : ℕ) (lines : List Text) (line : Text) (number : ℕ)
+-- those of a line among lines
+pub operands_around : (before : ℕ) (lines : List Text) (line : Text) (more : List Text) (number : ℕ)
     → number ≡ line_number (before + length lines)
-    → operands_after before (lines ++ line ∷ [])
-    ≡ operands_after before lines ++ option_to_list (operand_at number line)
-operands_push before [] line number number_is =
-    append-nil (option_to_list (operand_at (line_number before) line))
-    ∙ ap (λ (n : ℕ). option_to_list (operand_at n line)) (sym (number_is ∙ omega arith))
-operands_push before (first ∷ lines) line number number_is =
-    ap (λ (more : List Operand). option_to_list (operand_at (line_number before) first) ++ more)
-    (operands_push (before + 1) lines line number (number_is ∙ omega arith))
+    → operands_after before (lines ++ line ∷ more)
+    ≡ operands_after before lines ++ (option_to_list (operand_at number line)
+    ++ operands_after (before + length lines + 1) more)
+operands_around before [] line more number number_is =
+    ap (λ (n : ℕ). option_to_list (operand_at n line) ++ operands_after (before + 1) more)
+    (sym (number_is ∙ omega arith))
+    ∙ ap (λ (n : ℕ). option_to_list (operand_at number line) ++ operands_after n more) (omega arith)
+operands_around before (first ∷ lines) line more number number_is =
+    ap (λ (others : List Operand). option_to_list (operand_at (line_number before) first) ++ others)
+    (operands_around (before + 1) lines line more number (number_is ∙ omega arith)
+    ∙ ap (λ (n : ℕ). operands_after (before + 1) lines ++ (option_to_list (operand_at number line)
+    ++ operands_after n more)) (omega arith))
     ∙ sym (append_assoc (option_to_list (operand_at (line_number before) first))
-    (operands_after (before + 1) lines) (option_to_list (operand_at number line)))
+    (operands_after (before + 1) lines) _)
 
 -- a line that isn't passed over and has an option declares it
 pub declares_entry : (number : ℕ) (line text item rest description : Text) (entry : Entry)
     → entry.line ≡ number → text ≡ trimmed line → skips text ≡ false
     → item ≡ trimmed (before_gap text) → is_operand item ≡ false → rest ≡ from_gap text
     → description ≡ trimmed rest
-    → entry.description ≡ description → IsItem item entry.signature entry.hint entry.mark
+    → entry.description ≡ description
+    → IsItem item entry.names entry.kind entry.often entry.hint
     → DeclaresEntry number line entry
 declares_entry number line text item rest description entry number_is text_is there item_is plain
     rest_is description_is is of_item =
@@ -130,17 +135,19 @@ declares_entry number line text item rest description entry number_is text_is th
     }
 
 -- a line that isn't passed over and has no option has a fault
-pub faulty_line : (line text item : Text) (number : ℕ) (entries : List Entry) → text ≡ trimmed line
+pub faulty_line : (line text item : Text) (number : ℕ) (entries : List Entry)
+    (operands : List Operand) → text ≡ trimmed line
     → skips text ≡ false → item ≡ trimmed (before_gap text) → is_operand item ≡ false
-    → ((known : Signature) (hint : Text) (mark : Mark) → ¬ (IsItem item known hint mark))
-    → IsLineFault number entries line (no_option number item)
-faulty_line line text item number entries text_is there item_is plain none_of =
+    → ((names : Names) (kind : HasArg) (often : Often) (hint : Text)
+    → ¬ (IsItem item names kind often hint))
+    → IsLineFault number entries operands line (no_option number item)
+faulty_line line text item number entries operands text_is there item_is plain none_of =
     rw (item_is, text_is) (none declares_not)
   where
     declares_not : (declared : Option Entry) → ¬ (Declares number line declared)
     declares_not None is = let both : true ≡ false =
         sym is ∙ passed_not line text item text_is there item_is plain in cc
-    declares_not (Some entry) is = none_of entry.signature entry.hint entry.mark
+    declares_not (Some entry) is = none_of entry.names entry.kind entry.often entry.hint
         (rw (item_is, text_is) is.item)
 
 -- ---- lines, one after the other
@@ -167,32 +174,31 @@ places (first ∷ before) [] after rest x y same = earlier before cc
 places (first ∷ before) (other ∷ others) after rest x y same =
     one_further before others x y first other (cc) (places before others after rest x y (cc))
 
--- with one more entry, of which no name stands there
-new_names-push : (entries : List Entry) (entry : Entry) → HaveNewNames entries
-    → name_again entries entry ≡ None
-    → HaveNewNames (entries ++ entry ∷ [])
-new_names-push entries entry new not_again before after other is =
-    by_place (places entries before [] after entry other is)
+-- with one more of which this is so
+each_push : {X : Type 0} (Is : List X → X → Type 0) (xs : List X) (x : X) → EachAfter Is xs
+    → Is xs x → EachAfter Is (xs ++ x ∷ [])
+each_push {X} Is xs x each is before after other parts =
+    by_place (places xs before [] after x other parts)
   where
-    by_place : Places entries before entry other → name_again before other ≡ None
-    by_place (here before_is other_is) = rw (before_is, other_is) not_again
+    by_place : Places xs before x other → Is before other
+    by_place (here before_is other_is) = rw (before_is, other_is) is
     by_place (later more before_is) =
         absurd (omega (
           arith,
-          ap length is,
+          ap length parts,
           ap length before_is,
-          length-append entries (entry ∷ []),
+          length-append xs (x ∷ []),
           length-append before (other ∷ after),
-          length-append entries (entry ∷ more),
+          length-append xs (x ∷ more),
         ))
-    by_place (earlier more entries_are) = new before more other entries_are
+    by_place (earlier more xs_are) = each before more other xs_are
 
 -- and with what one more line declares
-new_names-append : (entries : List Entry) (declared : Option Entry) → HaveNewNames entries
-    → IfSome declared (λ entry. name_again entries entry ≡ None)
-    → HaveNewNames (entries ++ option_to_list declared)
-new_names-append entries None new not_again = subst HaveNewNames (sym (append-nil entries)) new
-new_names-append entries (Some entry) new not_again = new_names-push entries entry new not_again
+each_append : {X : Type 0} (Is : List X → X → Type 0) (xs : List X) (declared : Option X)
+    → EachAfter Is xs → IfSome declared (λ x. Is xs x)
+    → EachAfter Is (xs ++ option_to_list declared)
+each_append Is xs None each is = subst (EachAfter Is) (sym (append-nil xs)) each
+each_append Is xs (Some x) each is = each_push Is xs x each is
 
 -- one more line
 one_more_line : (before : ℕ) (lines : List Text) (line : Text) (number : ℕ) (entries : List Entry)
@@ -220,24 +226,22 @@ pub record LinesSoFar (lines : List Text) (number : ℕ) (entries : List Entry) 
   pub number_is : number ≡ min (length lines) (2 ^ 64 - 1)
   pub declared : DeclareOptions lines entries
 
--- the lines so far, with one more
-pub next_line : (lines : List Text) (line : Text) (number next : ℕ) (entries : List Entry)
-    (more : List Entry)
-    (declared : Option Entry) → LinesSoFar lines number entries → next
-    ≡ min (number + 1) (2 ^ 64 - 1)
-    → Declares next line declared → more ≡ entries ++ option_to_list declared
-    → IfSome declared (λ entry. name_again entries entry ≡ None)
-    → LinesSoFar (lines ++ line ∷ []) next more
-next_line lines line number next entries more declared so_far next_is is more_is new = record {
-  number_is = omega (arith, so_far.number_is, length-append lines (line ∷ []));
-  declared = rw more_is (record {
-    declared = one_more_line 0 lines line next entries declared so_far.declared.declared
-        (omega (arith, next_is, so_far.number_is)) is;
-    once = new_names-append entries declared so_far.declared.once new;
-  });
+-- before the first line
+each_none : {X : Type 0} (Is : List X → X → Type 0) → EachAfter Is []
+each_none Is before after x is =
+    absurd (omega (arith, ap length is, length-append before (x ∷ after)))
+
+pub no_lines : LinesSoFar [] 0 []
+no_lines = record {
+  number_is = omega arith;
+  declared = record {
+    declared = refl;
+    once = each_none (λ before entry. name_again before entry ≡ None);
+    in_order = each_none (λ before operand. may_follow before operand ≡ true);
+  };
 }
 
--- the operands of the lines so far, with those of one more
+-- the operands of the lines so far, with that of one more
 pub next_operands : (lines : List Text) (line : Text) (number next : ℕ) (entries : List Entry)
     (operands more : List Operand) → LinesSoFar lines number entries
     → next ≡ min (number + 1) (2 ^ 64 - 1)
@@ -245,7 +249,34 @@ pub next_operands : (lines : List Text) (line : Text) (number next : ℕ) (entri
     → operands ≡ operands_after 0 lines → more ≡ operands_after 0 (lines ++ line ∷ [])
 next_operands lines line number next entries operands more so_far next_is more_is is =
     more_is ∙ ap (λ (o : List Operand). o ++ option_to_list (operand_at next line)) is
-    ∙ sym (operands_push 0 lines line next (omega (arith, next_is, so_far.number_is)))
+    ∙ ap (λ (o : List Operand). operands_after 0 lines ++ o)
+    (sym (append-nil (option_to_list (operand_at next line))))
+    ∙ sym (operands_around 0 lines line [] next (omega (arith, next_is, so_far.number_is)))
+
+-- the lines so far, with one more
+pub next_line : (lines : List Text) (line : Text) (number next : ℕ) (entries more : List Entry)
+    (operands : List Operand) (declared : Option Entry) → LinesSoFar lines number entries
+    → next ≡ min (number + 1) (2 ^ 64 - 1)
+    → Declares next line declared → more ≡ entries ++ option_to_list declared
+    → IfSome declared (λ entry. name_again entries entry ≡ None)
+    → operands ≡ operands_after 0 lines
+    → IfSome (operand_at next line) (λ operand. may_follow operands operand ≡ true)
+    → LinesSoFar (lines ++ line ∷ []) next more
+next_line lines line number next entries more operands declared so_far next_is is more_is new
+    operands_are follows = record {
+      number_is = omega (arith, so_far.number_is, length-append lines (line ∷ []));
+      declared = rw more_is (record {
+        declared = one_more_line 0 lines line next entries declared so_far.declared.declared
+            (omega (arith, next_is, so_far.number_is)) is;
+        once = each_append (λ before entry. name_again before entry ≡ None) entries declared
+            so_far.declared.once new;
+        in_order = subst (EachAfter (λ before operand. may_follow before operand ≡ true))
+            (next_operands lines line number next entries (operands_after 0 lines) _ so_far next_is refl
+            refl)
+            (each_append (λ before operand. may_follow before operand ≡ true) (operands_after 0 lines)
+            (operand_at next line) so_far.declared.in_order (rw operands_are at follows));
+      });
+    }
 
 -- a list in three parts
 in_parts : (all : List Text) (n : ℕ) (x : Text) → n < length all → x ≡ get_or all n x
@@ -256,13 +287,15 @@ in_parts all n x below is =
 
 -- the fault of a line is the table's
 pub table_fault : (table : Text) (lines : List Text) (line : Text) (number next : ℕ)
-    (entries : List Entry)
+    (entries : List Entry) (operands : List Operand)
     (fault : TableFault) → lines ≡ take (length lines) (lines_of table)
     → length lines < length (lines_of table)
     → line ≡ get_or (lines_of table) (length lines) line
     → LinesSoFar lines number entries → next ≡ min (number + 1) (2 ^ 64 - 1)
-    → IsLineFault next entries line fault → IsTableFault table fault
-table_fault table lines line number next entries fault so_far_are below line_is so_far next_is is =
+    → operands ≡ operands_after 0 lines → IsLineFault next entries operands line fault
+    → IsTableFault table fault
+table_fault table lines line number next entries operands fault so_far_are below line_is so_far
+    next_is operands_are is =
     record {
       before = lines;
       line = line;
@@ -271,13 +304,20 @@ table_fault table lines line number next entries fault so_far_are below line_is 
           ∙ rw (← so_far_are) refl;
       entries = entries;
       declared = so_far.declared;
-      fault_at = subst (λ (n : ℕ). IsLineFault n entries line fault)
-          (next_is ∙ omega (arith, so_far.number_is)) is;
+      fault_at = subst (λ (n : ℕ). IsLineFault n entries (operands_after 0 lines) line fault)
+          (next_is ∙ omega (arith, so_far.number_is)) (rw operands_are at is);
     }
+
+-- two facts of what succeeds give a third
+pub ok_of_both : {T E P Q R : Type 0} (r : Result T E) → OnOk r P → OnOk r Q → (P → Q → R)
+    → OnOk r R
+ok_of_both (Ok value) is also gives = gives is also
+ok_of_both (Err error) is also gives = tt
 
 -- what an error tells meets what is weaker
 pub tells_weaker : (error : TableError) (P Q : TableFault → Type 0) → TellsFault error P
     → ((fault : TableFault) → P fault → Q fault) → TellsFault error Q
 tells_weaker (error.NoOption number item) P Q tells weaker = weaker _ tells
 tells_weaker (error.NameTwice number name) P Q tells weaker = weaker _ tells
+tells_weaker (error.LateOperand number item) P Q tells weaker = weaker _ tells
 tells_weaker error.OutOfMemory P Q tells weaker = tells

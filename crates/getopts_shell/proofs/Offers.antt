@@ -1,37 +1,36 @@
 -- What is offered at the last of words.
-use Rattle.std.proofs.Common.{◌≡◌, ◌<◌, ◌-◌, ℕ, zero, suc, List, [], ◌∷◌, Option, None, arith, ap}
-use Rattle.std.proofs.Common.{◌∙◌, get_or, length, sym, take}
-use Rattle.std.specs.Borrow.{Bor}
+use Rattle.std.proofs.Common.{◌≡◌, ◌<◌, ◌-◌, ℕ, List, [], Option, None, arith, ap, map}
+use Rattle.std.proofs.Common.{◌∙◌, get_or, length, string_bytes, sym, take}
+use Rattle.std.proofs.Common.{Global, String}
 use Rattle.std.specs.Prelude.{unwrap_or}
-use Rattle.std.proofs.lemmas.List.{length-map, take-map}
-use Rattle.getopts.specs.Names.{Text, texts}
+use Rattle.std.proofs.lemmas.List.{get_or-map, length-map, take-map}
+use Rattle.getopts.specs.Names.{Text}
 use Rattle.getopts.specs.Options.{Declared}
 use Rattle.getopts_shell.specs.Completion.{offer}
 use Rattle.getopts_shell.specs.Program.{last_word}
+use Rattle.getopts_shell.specs.Table.{Entry}
 use Rattle.getopts_shell.proofs.Assignments.{last_text}
 
 -- what is offered at the last of words
-pub at_last : (options : Declared) (words before : List (Bor Text)) (word other : Bor Text)
-    → (last : ℕ) (text : Text) → 0 < length words → last ≡ length words - 1
-    → before ≡ take last words → word ≡ get_or words last other
-    → text ≡ offer options (texts before) word.now
-    → text ≡ offer options (take (length (texts words) - 1) (texts words)) (last_word (texts words))
-at_last options words before word other last text some last_is before_is word_is is =
-    let count : length (texts words) ≡ length words = length-map words (λ word. word.now) in
-    let place : last ≡ length (texts words) - 1 = omega (arith, count, last_is) in
-    let front : texts before ≡ take (length (texts words) - 1) (texts words) =
-    ap texts before_is ∙ sym (take-map (λ word. word.now) last words)
-    ∙ ap (λ (n : ℕ). take n (texts words)) place in
-    let at : word.now ≡ last_word (texts words) =
-    word_at words last (omega (arith, last_is)) word_is
-    ∙ ap (λ (n : ℕ). get_or (texts words) n []) place
+pub at_last : (options : Declared) (entries : List Entry) (words before : List (String Global))
+    (word other : String Global) → (last : ℕ) (at : Text) (text : Text) → 0 < length words
+    → last ≡ length words - 1 → before ≡ take last words → word ≡ get_or words last other
+    → at ≡ string_bytes word → text ≡ offer options entries (map string_bytes before) at
+    → text ≡ offer options entries (take (length (map string_bytes words) - 1)
+    (map string_bytes words)) (last_word (map string_bytes words))
+at_last options entries words before word other last at text some last_is before_is word_is at_is
+    is =
+    let texts = map string_bytes words in
+    let count : length texts ≡ length words = length-map words string_bytes in
+    let place : last ≡ length texts - 1 = omega (arith, count, last_is) in
+    let front : map string_bytes before ≡ take (length texts - 1) texts =
+    ap (map string_bytes) before_is ∙ sym (take-map string_bytes last words)
+    ∙ ap (λ (n : ℕ). take n texts) place in
+    let at_last_place : at ≡ last_word texts =
+    at_is ∙ ap string_bytes word_is
+    ∙ sym (get_or-map string_bytes words last other [] (omega (arith, last_is)))
+    ∙ ap (λ (n : ℕ). get_or texts n []) place
     ∙ ap (λ (o : Option Text). unwrap_or o [])
-    (sym (last_text (texts words) None (omega (arith, count)))) in
-    is ∙ ap (λ (b : List Text). offer options b word.now) front
-    ∙ ap (λ (w : Text). offer options (take (length (texts words) - 1) (texts words)) w) at
-  where
-    word_at : (words : List (Bor Text)) (n : ℕ) → n < length words → word ≡ get_or words n other
-        → word.now ≡ get_or (texts words) n []
-    word_at [] n below is = absurd (omega arith)
-    word_at (first ∷ words) zero below is = ap (λ (w : Bor Text). w.now) is
-    word_at (first ∷ words) (suc n) below is = word_at words n (omega arith) is
+    (sym (last_text texts None (omega (arith, count)))) in
+    is ∙ ap (λ (b : List Text). offer options entries b at) front
+    ∙ ap (offer options entries (take (length texts - 1) texts)) at_last_place

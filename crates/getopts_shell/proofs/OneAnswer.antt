@@ -13,7 +13,8 @@ use Rattle.getopts.specs.Results.{canonical_result, parse_result, read_result}
 use Rattle.getopts_shell.specs.Completion.{functions, stub}
 use Rattle.getopts_shell.specs.Program.{Answer, AnswersAlone, AnswersCounted, AnswersDeclared}
 use Rattle.getopts_shell.specs.Program.{AnswersFree, AnswersLine, AnswersOffer, AnswersOwn}
-use Rattle.getopts_shell.specs.Program.{AnswersAccepted, AnswersOrdered, AnswersRead, AnswersScript, AnswersTable, free_fault}
+use Rattle.getopts_shell.specs.Program.{AnswersAccepted, AnswersRead, AnswersScript, AnswersTable}
+use Rattle.getopts_shell.specs.Program.{free_fault}
 use Rattle.getopts_shell.specs.Program.{AnswersWords, Asked, IsAnswer, IsHelp, IsStatus, OneAnswer}
 use Rattle.getopts_shell.specs.Program.{PrintsHelp, Script, TellsOptions, asked_by, asked_fault}
 use Rattle.getopts.specs.Usage.{IsUsageText}
@@ -22,7 +23,7 @@ use Rattle.getopts_shell.specs.Program.{shown_options}
 use Rattle.getopts_shell.specs.Program.{help_code, is_alone, is_given, misused}
 use Rattle.getopts_shell.specs.Program.{no_completion, own_options, read_options}
 use Rattle.getopts_shell.specs.Program.{table_fault_line}
-use Rattle.getopts_shell.specs.Table.{Entry, TableFault, first_late, operands_in}
+use Rattle.getopts_shell.specs.Table.{Entry, TableFault, operands_in}
 use Rattle.getopts_shell.proofs.Only.{one_table, one_fault, no_fault}
 
 -- ---- statuses
@@ -66,17 +67,6 @@ one_with one = record {
   by = λ answer is. one.by answer is.1;
 }
 
--- an answer that is made of the one text of which a fact is so
-one_made : {Fact : Text → Type 0} {Is : Text → Answer → Type 0}
-    → ((text other : Text) → Fact text → Fact other → other ≡ text)
-    → ((text : Text) → IsOne (Is text))
-    → IsOne (λ answer. (text : Text) × Fact text × Is text answer)
-one_made {Fact} {Is} same one = record {
-  only = λ answer other is also. (one is.0).only answer other is.2
-      (subst (λ (text : Text). Is text other) (same is.0 also.0 is.1 also.1) also.2);
-  by = λ answer is. (one is.0).by answer is.2;
-}
-
 one_bool : (test : Bool) {Then Else : Answer → Type 0} → IsOne Then → IsOne Else
     → IsOne (λ answer. MatchBool test (Then answer) (Else answer))
 one_bool true then else = then
@@ -109,9 +99,14 @@ only_help script help other is also =
     is.2 (subst (λ (rows : List Text). IsTheOnly (IsUsageText (shown_options script)
     (help_front (brief_text script) rows)) other) rows_same also.2)
 
+-- an answer that is made of the help
 one_help : (script : Script) {Is : Text → Answer → Type 0} → ((help : Text) → IsOne (Is help))
     → IsOne (λ answer. (help : Text) × IsHelp script help × Is help answer)
-one_help script one = one_made (only_help script) one
+one_help script {Is} one = record {
+  only = λ answer other is also. (one is.0).only answer other is.2
+      (subst (λ (text : Text). Is text other) (only_help script is.0 also.0 is.1 also.1) also.2);
+  by = λ answer is. (one is.0).by answer is.2;
+}
 
 one_tells : (script : Script) (prefix : Text) (options : List _) (free : List Text)
     → IsOne (TellsOptions script prefix options free)
@@ -178,18 +173,13 @@ by_completion : (fault : Text) (code : Option Text)
 by_completion fault (Some text) = is_done
 by_completion fault None = is_misused
 
-one_ordered : (script : Script) (table : Text) (words : List Text)
-    → IsOne (AnswersOrdered script table words)
-one_ordered script table words = one_option script.asked.complete
+one_declared : (script : Script) (table : Text) (words : List Text)
+    → IsOne (AnswersDeclared script table words)
+one_declared script table words = one_option script.asked.complete
     (one_option (asked_fault script.asked script.entries)
     (one_script script words) (λ fault. one_equal _ is_misused))
     (λ shell. one_equal _ (by_completion (no_completion shell).text
     (stub shell script.asked.stop script.asked.long_only script.name table)))
-
-one_declared : (script : Script) (table : Text) (words : List Text)
-    → IsOne (AnswersDeclared script table words)
-one_declared script table words = one_option (first_late [] script.operands)
-    (one_ordered script table words) (λ operand. one_equal _ is_misused)
 
 one_of_table : (asked : Asked) (name table : Text) (words : List Text)
     → IsOne (AnswersTable asked name table words)
@@ -230,8 +220,7 @@ one_free asked (name ∷ []) = one_equal _ is_misused
 one_free asked (name ∷ table ∷ words) = one_of_table asked name table words
 
 one_own : (own : Matched) → IsOne (AnswersOwn own)
-one_own own = one_bool (is_given own (codes "help"))
-    (one_made (only_text _) (λ help. one_equal _ is_done))
+one_own own = one_bool (is_given own (codes "help")) (one_equal _ is_done)
     (one_bool (is_given own (codes "version")) (one_equal _ is_done)
     (one_free (asked_by own) own.free))
 

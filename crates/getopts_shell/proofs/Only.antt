@@ -1,41 +1,48 @@
 -- A table declares one list of options at most, or has one fault.
 use Rattle.std.proofs.Common.{◌≡◌, ℕ, true, false, List, [], ◌∷◌, ◌++◌, length, Option, Some, None}
 use Rattle.std.proofs.Common.{refl, sym, ap, subst, ◌∙◌}
-use Rattle.std.proofs.Common.{append_assoc, arith, ◌+◌}
+use Rattle.std.proofs.Common.{append_assoc, arith, ◌+◌, Bool}
+use Rattle.std.specs.Prelude.{◌||◌, ◌&&◌, if◌then◌else◌, not}
 use Rattle.std.specs.Option.{option_to_list}
-use Rattle.getopts.specs.Names.{Text}
-use Rattle.getopts.specs.Options.{Signature}
+use Rattle.getopts.specs.Names.{Names, Text}
+use Rattle.getopts.specs.declared.groups.HasArg.{HasArg}
 use Rattle.getopts.specs.Wrap.{lines_of}
-use Rattle.getopts_shell.specs.Table.{AreNames, Entry, IsItem, HasParts, IsArgument}
-use Rattle.getopts_shell.specs.declared.row.Mark.{Mark}
+use Rattle.getopts_shell.specs.Table.{AreNames, Entry, IsItem, HasParts, IsArgument, is_operand}
+use Rattle.getopts_shell.specs.Table.{is_passed, is_skipped, item_of}
+use Rattle.getopts_shell.specs.declared.row.Often.{Often}
 use Rattle.getopts_shell.specs.Table.{Declares, DeclareEntries, DeclaresOptions}
 use Rattle.getopts_shell.specs.Table.{OneTableOneList, DeclareOptions, name_again, TableFault}
 use Rattle.getopts_shell.specs.Table.{name_twice}
-use Rattle.getopts_shell.specs.Table.{IsLineFault, none, twice, IsTableFault, line_number}
-use Rattle.getopts_shell.proofs.Lines.{Places, here, later, earlier, places}
+use Rattle.getopts_shell.specs.Table.{IsLineFault, IsTableFault, Operand, late, line_number}
+use Rattle.getopts_shell.specs.Table.{late_operand, none, operand_at, operands_after}
+use Rattle.getopts_shell.specs.Table.{twice}
+use Rattle.getopts_shell.proofs.Lines.{Places, here, later, earlier, operands_around, places}
 use Rattle.getopts_shell.proofs.Items.{one_bracketed, one_pair, one_names, one_argument}
 
 -- an item has one meaning
-one_item : (text : Text) (known other : Signature) (hint another : Text) (mark behind : Mark)
-    → IsItem text known hint mark → IsItem text other another behind
-    → (other ≡ known) × (another ≡ hint) × (behind ≡ mark)
-one_item text known other hint another mark behind is also =
-    let same = one_bracketed text is.inside also.inside known.occurrence other.occurrence mark
-    behind is.brackets
-    also.brackets in
+one_item : (text : Text) (own others : Names) (kind other : HasArg) (often another : Often)
+    (hint behind : Text) → IsItem text own kind often hint → IsItem text others other another behind
+    → (others ≡ own) × (other ≡ kind) × (another ≡ often) × (behind ≡ hint)
+one_item text own others kind other often another hint behind is also =
+    let same = one_bracketed text is.inside also.inside often another is.brackets also.brackets in
     let pair = one_pair is.inside is.names also.names is.argument also.argument is.parts
     (subst (λ (t : Text). HasParts t also.names also.argument) same.0 also.parts) in
-    let names = one_names known.names other.names is.names is.names_are
-    (subst (AreNames other.names) pair.0 also.names_are) in
-    let argument = one_argument known.kind other.kind hint another is.argument is.argument_is
-    (subst (λ (a : Option Text). IsArgument other.kind another a) pair.1 also.argument_is) in (
-      ap (λ n. record { names = n; kind = other.kind; occurrence = other.occurrence }) names
-          ∙ ap (λ k. record { names = known.names; kind = k; occurrence = other.occurrence })
-          argument.0
-          ∙ ap (λ o. record { names = known.names; kind = known.kind; occurrence = o }) same.1,
-      argument.1,
-      same.2,
-    )
+    let names = one_names own others is.names is.names_are
+    (subst (AreNames others) pair.0 also.names_are) in
+    let argument = one_argument kind other hint behind is.argument is.argument_is
+    (subst (λ (a : Option Text). IsArgument other behind a) pair.1 also.argument_is) in
+    (names, argument.0, same.1, argument.1)
+
+-- an entry of these parts
+abbrev made : ℕ → Names → HasArg → Often → Text → Text → Entry
+made line names kind often hint description = record {
+  line = line;
+  names = names;
+  kind = kind;
+  often = often;
+  hint = hint;
+  description = description;
+}
 
 -- a line declares one thing
 one_declared : (number : ℕ) (line : Text) (declared other : Option Entry)
@@ -46,25 +53,25 @@ one_declared number line None (Some entry) is also =
 one_declared number line (Some entry) None is also =
     let both : true ≡ false = sym also ∙ is.there in cc
 one_declared number line (Some entry) (Some other) is also =
-    let same = one_item _ entry.signature other.signature entry.hint other.hint entry.mark
-    other.mark is.item
-    also.item in
-    let make = λ (number : ℕ) (known : Signature) (hint description : Text) (mark : Mark).
-    let made : Entry = record {
-      line = number;
-      signature = known;
-      hint = hint;
-      description = description;
-      mark = mark;
-    } in made in
-    ap Some (
-    ap (λ (n : ℕ). make n other.signature other.hint other.description other.mark)
-    (also.number_is ∙ sym is.number_is)
-    ∙ ap (λ (k : Signature). make entry.line k other.hint other.description other.mark) same.0
-    ∙ ap (λ (h : Text). make entry.line entry.signature h other.description other.mark) same.1
-    ∙ ap (λ (d : Text). make entry.line entry.signature entry.hint d other.mark)
-    (also.description ∙ sym is.description)
-    ∙ ap (make entry.line entry.signature entry.hint entry.description) same.2)
+    let same = one_item _ entry.names other.names entry.kind other.kind entry.often other.often
+    entry.hint other.hint is.item also.item in
+    ap Some (one_entry entry other (also.number_is ∙ sym is.number_is) same.0 same.1 same.2 same.3
+    (also.description ∙ sym is.description))
+  where
+    one_entry : (entry other : Entry) → other.line ≡ entry.line → other.names ≡ entry.names
+        → other.kind ≡ entry.kind → other.often ≡ entry.often → other.hint ≡ entry.hint
+        → other.description ≡ entry.description → other ≡ entry
+    one_entry entry other line names kind often hint description =
+        ap (λ (l : ℕ). made l other.names other.kind other.often other.hint other.description) line
+        ∙ ap (λ (n : Names). made entry.line n other.kind other.often other.hint other.description)
+        names
+        ∙ ap (λ (k : HasArg). made entry.line entry.names k other.often other.hint
+        other.description) kind
+        ∙ ap (λ (o : Often). made entry.line entry.names entry.kind o other.hint other.description)
+        often
+        ∙ ap (λ (h : Text). made entry.line entry.names entry.kind entry.often h other.description)
+        hint
+        ∙ ap (made entry.line entry.names entry.kind entry.often entry.hint) description
 
 -- lines declare one list of entries
 one_entries : (before : ℕ) (lines : List Text) (entries others : List Entry)
@@ -114,13 +121,14 @@ declares_at count number (first ∷ before) after line entries all number_is is 
 no_fault_at : (before after : List Text) (line : Text) (entries all : List Entry)
     (fault : TableFault)
     → DeclareOptions before entries → DeclareOptions (before ++ line ∷ after) all
-    → ¬ (IsLineFault (line_number (length before)) entries line fault)
+    → ¬ (IsLineFault (line_number (length before)) entries (operands_after 0 before) line fault)
 no_fault_at before after line entries all fault so_far whole =
     by_line (declares_at 0 _ before after line entries all (omega arith) so_far.declared
     whole.declared)
   where
     by_line : {fault : TableFault} → DeclaresAt (line_number (length before)) line entries all
-        → ¬ (IsLineFault (line_number (length before)) entries line fault)
+        → ¬ (IsLineFault (line_number (length before)) entries (operands_after 0 before) line
+        fault)
     by_line (stands declared others declares all_is) (none no_declared) =
         no_declared declared declares
     by_line (stands None others declares all_is) (twice entry name of again) =
@@ -130,6 +138,12 @@ no_fault_at before after line entries all fault so_far whole =
         let entry_is : entry ≡ other = cc in
         let both : Some name ≡ None = sym again ∙ ap (name_again entries) entry_is
         ∙ whole.once entries others other all_is in cc
+    by_line _ (late operand is not_so) =
+        let both : false ≡ true = sym not_so ∙ whole.in_order (operands_after 0 before)
+        (operands_after (0 + length before + 1) after) operand
+        (operands_around 0 before line after (line_number (length before)) (omega arith)
+        ∙ ap (λ (declared : Option Operand). operands_after 0 before ++ (option_to_list declared
+        ++ operands_after (0 + length before + 1) after)) is) in cc
 
 -- a table that declares options has no fault
 pub no_fault : (table : Text) (entries : List Entry) (fault : TableFault)
@@ -139,15 +153,28 @@ no_fault table entries fault declares is =
     no_fault_at is.before is.after is.line is.entries entries fault is.declared
     (rw is.lines_are at declares) is.fault_at
 
+-- a line of an operand declares no option
+operand_passed : (number : ℕ) (line : Text) (operand : Operand)
+    → operand_at number line ≡ Some operand → is_passed line ≡ true
+operand_passed number line operand is = by_tests _ (is_skipped line) (is_operand (item_of line)) is
+  where
+    by_tests : (there : Operand) (skipped of_operand : Bool)
+        → (if not skipped && of_operand then Some there else None) ≡ Some operand
+        → (skipped || of_operand) ≡ true
+    by_tests there true of_operand is = refl
+    by_tests there false true is = refl
+    by_tests there false false is = absurd cc
+
 -- a line has one fault at most
-one_line_fault : (number : ℕ) (entries : List Entry) (line : Text) (fault other : TableFault)
-    → IsLineFault number entries line fault → IsLineFault number entries line other → other ≡ fault
-one_line_fault number entries line fault other (none is) (none also) = refl
-one_line_fault number entries line fault other (none is) (twice entry name of again) =
+one_line_fault : (number : ℕ) (entries : List Entry) (operands : List Operand) (line : Text)
+    (fault other : TableFault) → IsLineFault number entries operands line fault
+    → IsLineFault number entries operands line other → other ≡ fault
+one_line_fault number entries operands line fault other (none is) (none also) = refl
+one_line_fault number entries operands line fault other (none is) (twice entry name of again) =
     absurd (is (Some entry) of)
-one_line_fault number entries line fault other (twice entry name of again) (none is) =
+one_line_fault number entries operands line fault other (twice entry name of again) (none is) =
     absurd (is (Some entry) of)
-one_line_fault number entries line fault other (twice entry name of again)
+one_line_fault number entries operands line fault other (twice entry name of again)
     (twice also another of_also again_also) =
     let same = one_declared number line (Some entry) (Some also) of of_also in
     let entry_is : also ≡ entry = cc in
@@ -155,6 +182,21 @@ one_line_fault number entries line fault other (twice entry name of again)
     ∙ again in
     let name_is : another ≡ name = cc in
     ap (name_twice number) name_is
+one_line_fault number entries operands line fault other (late operand is not_so)
+    (late also at_also not_also) =
+    let same : Some also ≡ Some operand = sym at_also ∙ is in
+    let operand_is : also ≡ operand = cc in
+    ap (λ (o : Operand). late_operand number o.item) operand_is
+one_line_fault number entries operands line fault other (late operand is not_so) (none also) =
+    absurd (also None (operand_passed number line operand is))
+one_line_fault number entries operands line fault other (none is) (late operand at not_so) =
+    absurd (is None (operand_passed number line operand at))
+one_line_fault number entries operands line fault other (late operand is not_so)
+    (twice entry name of again) =
+    let both : true ≡ false = sym (operand_passed number line operand is) ∙ of.there in cc
+one_line_fault number entries operands line fault other (twice entry name of again)
+    (late operand at not_so) =
+    let both : true ≡ false = sym (operand_passed number line operand at) ∙ of.there in cc
 
 -- a table has one fault at most
 pub one_fault : (table : Text) (fault other : TableFault) → IsTableFault table fault
@@ -168,8 +210,8 @@ one_fault table fault other is also =
     by_place (here before_is line_is) =
         let entries_are = one_list is.before is.entries also.entries is.declared
         (rw before_is at also.declared) in
-        one_line_fault (line_number (length is.before)) is.entries is.line fault other is.fault_at
-        (rw (before_is, entries_are, line_is) at also.fault_at)
+        one_line_fault (line_number (length is.before)) is.entries (operands_after 0 is.before)
+        is.line fault other is.fault_at (rw (before_is, entries_are, line_is) at also.fault_at)
     by_place (later more others_are) =
         absurd (no_fault_at is.before more is.line is.entries also.entries fault is.declared
         (rw others_are at also.declared) is.fault_at)

@@ -5,11 +5,10 @@ use Rattle.std.proofs.Common.{arith}
 use Rattle.std.proofs.Math.ListN.{drop_of_length-le}
 use Rattle.std.proofs.Common.{◌-◌, append-nil, append_assoc, suc, zero}
 use Rattle.std.specs.Prelude.{◌||◌, codes, if◌then◌else◌, nat_lt}
-use Rattle.std.specs.List.{AllZip, flat_map, list_all}
+use Rattle.std.specs.List.{AllZip, flat_map}
 use Rattle.getopts.specs.Only.{IsTheOnly}
 use Rattle.getopts.specs.Usage.{next_row, spaces}
 use Rattle.getopts.proofs.Wrapping.Usage.{made_of_the_only}
-use Rattle.std.proofs.lemmas.List.Folds.{list_all-map}
 use Rattle.std.proofs.lemmas.List.{at_drop_more, length-map, length-take-le}
 use Rattle.std.proofs.lemmas.List.Concat.{flat_map-append}
 use Rattle.std.proofs.lemmas.List.{map-append, take_more}
@@ -19,31 +18,8 @@ use Rattle.getopts.specs.Names.{Text}
 use Rattle.getopts_shell.specs.Held.{operand_of, operands_of}
 use Rattle.getopts_shell.specs.Program.{IsOperandRow, free_fault, operand_fault, operand_head}
 use Rattle.getopts_shell.specs.Program.{help_front, unexpected}
-use Rattle.getopts_shell.specs.Table.{Operand, comes_before, first_late, may_repeat}
+use Rattle.getopts_shell.specs.Table.{Operand, may_repeat}
 use Rattle.getopts_shell.specs.declared.operand.Operand.{Operand as OperandHeld}
-
--- the first late operand from a place on
-pub late_from : (operands : List OperandHeld) (at : ℕ) (d : OperandHeld) (fits : Bool)
-    → at < length operands
-    → list_all (λ other. comes_before (operand_of (get_or operands at d)) (operand_of other))
-    (take at operands)
-    ≡ fits
-    → first_late (operands_of (take at operands)) (operands_of (drop at operands))
-    ≡ (if fits then first_late (operands_of (take (at + 1) operands))
-    (operands_of (drop (at + 1) operands)) else Some (operand_of (get_or operands at d)))
-late_from operands at d fits below fits_is =
-    let operand = get_or operands at d in
-    let rest = operands_of (drop (at + 1) operands) in
-    let before = operands_of (take at operands) in
-    ap (λ (more : List OperandHeld). first_late before (operands_of more))
-    (at_drop_more (λ (t : List OperandHeld). t) operands at d below)
-    ∙ ap (λ (b : Bool). if b then first_late (before ++ operand_of operand ∷ []) rest
-    else Some (operand_of operand))
-    (list_all-map (comes_before (operand_of operand)) operand_of (take at operands) ∙ fits_is)
-    ∙ ap (λ (so_far : List Operand). if fits then first_late so_far rest
-    else Some (operand_of operand))
-    (sym (map-append operand_of (take at operands) (operand ∷ []))
-    ∙ ap operands_of (sym (take_more operands at d below)))
 
 -- where a table has operands, the fault of free words is theirs
 pub fault_of_some : (operands : List OperandHeld) (free : List Text) → 0 < length operands

@@ -22,7 +22,8 @@ use Rattle.getopts_bytes.specs.Marks.{bytes_of}
 use Rattle.getopts_shell.specs.Program.{IsOneWord}
 use Rattle.getopts_shell.specs.Table.{Entry}
 use Rattle.getopts_shell.specs.Variables.{AreTextValues, CodeSetsVariables, found_in_bytes, Given}
-use Rattle.getopts_shell.specs.Variables.{given_alone, HaveOwnVariables, held_value, holds_all}
+use Rattle.getopts_shell.specs.Variables.{given_alone, HaveOwnVariables, held_value}
+use Rattle.getopts_shell.specs.Completion.{holds_all}
 use Rattle.getopts_shell.specs.Variables.{HoldTexts, in_bytes, is_variable, is_variable_byte}
 use Rattle.getopts_shell.specs.Variables.{line_code, many, once, one, option_code, SetsVariables}
 use Rattle.getopts_shell.specs.Variables.{SetsWords, texts_found, Value, value_line, variable_of}
@@ -160,7 +161,7 @@ codes_give prefix arrays (option ∷ options) make hold =
     let named = variable_gives name make.0 in
     append_gives (append_gives (ascii_gives (codes "\\unset -v ") refl)
     (append_gives named (append_gives (ascii_gives (codes "\n") refl)
-    (value_gives name arrays (holds_all option.entry) option.entry.signature.kind option.found
+    (value_gives name arrays (holds_all option.entry.often) option.entry.kind option.found
     named hold.0))))
     (codes_give prefix arrays options make.1 hold.1)
 
@@ -216,7 +217,7 @@ pub alone_holds_texts : (entries : List Entry) (alone : Entry)
     → HoldTexts (given_alone entries alone)
 alone_holds_texts [] alone = tt
 alone_holds_texts (entry ∷ entries) alone = (
-  bare_texts entry.signature.kind (holds_all entry) _,
+  bare_texts entry.kind (holds_all entry.often) _,
   alone_holds_texts entries alone,
 )
 

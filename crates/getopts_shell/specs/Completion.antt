@@ -9,16 +9,16 @@ use Rattle.getopts.specs.Accessors.{is_present}
 use Rattle.getopts.specs.Fail.{Fault}
 use Rattle.getopts.specs.Matches.{Matched, MatchedGroup}
 use Rattle.getopts.specs.Names.{Text, is_empty, main_name}
-use Rattle.getopts.specs.Options.{Group, Declared}
+use Rattle.getopts.specs.Options.{Declared}
 use Rattle.getopts.specs.Reading.{stop_word}
 use Rattle.getopts.specs.Results.{read_result}
 use Rattle.getopts.specs.declared.groups.HasArg.{HasArg}
 use Rattle.getopts.specs.declared.groups.HasArg.TheVariants.{No}
-use Rattle.getopts.specs.declared.groups.Occur.{Occur}
-use Rattle.getopts.specs.declared.groups.Occur.TheVariants.{Multi}
 use Rattle.getopts_shell.specs.declared.complete.TheConstants.{BASH, ZSH, FISH}
 use Rattle.getopts_shell.specs.Quote.{quoted_byte}
-use Rattle.getopts_shell.specs.Table.{is_long_name}
+use Rattle.getopts_shell.specs.Table.{Entry, is_long_name}
+use Rattle.getopts_shell.specs.declared.row.Often.{Often}
+use Rattle.getopts_shell.specs.declared.row.Often.TheVariants.{All}
 
 -- ---- which options may come
 
@@ -37,15 +37,14 @@ abbrev pub goes_on : Declared → List Text → Option (List MatchedGroup)
 goes_on options before =
     groups_after (read_result options (before ++ stop_word ∷ [] ∷ []))
 
--- whether an option may come any number of times
-abbrev pub is_multi : Occur → Bool
-is_multi Multi = true
-is_multi occurrence = false
+-- whether all values of an option count
+abbrev pub holds_all : Often → Bool
+holds_all All = true
+holds_all often = false
 
--- whether an option may come once more: it may come any number of times, or it wasn't given
-abbrev pub may_come : List MatchedGroup → Group → Bool
-may_come groups group =
-    is_multi group.signature.occurrence || not (is_present groups (main_name group.signature.names))
+-- whether an option is offered: it wasn't given, or all its values count
+abbrev pub may_come : List MatchedGroup → Entry → Bool
+may_come groups entry = holds_all entry.often || not (is_present groups (main_name entry.names))
 
 -- ---- what is offered
 
@@ -67,25 +66,24 @@ name_line word valued dashes name description =
 
 -- what is offered of an option: its long name after two dashes, in long-only mode also after one,
 -- and its short name
-abbrev pub option_lines : Bool → Text → Group → Text
-option_lines long_only word group =
-    name_line word (takes_argument group.signature.kind) (codes "--")
-    group.signature.names.long group.description
-    ++ (name_line word (takes_argument group.signature.kind) (codes "-")
-    (if long_only then group.signature.names.long else []) group.description
-    ++ name_line word (long_only && takes_argument group.signature.kind) (codes "-")
-    group.signature.names.short group.description)
+abbrev pub option_lines : Bool → Text → Entry → Text
+option_lines long_only word entry =
+    name_line word (takes_argument entry.kind) (codes "--") entry.names.long entry.description
+    ++ (name_line word (takes_argument entry.kind) (codes "-")
+    (if long_only then entry.names.long else []) entry.description
+    ++ name_line word (long_only && takes_argument entry.kind) (codes "-") entry.names.short
+    entry.description)
 
--- what is offered of the options that may come once more, in their order
-abbrev pub options_lines : List MatchedGroup → Bool → Text → List Group → Text
-options_lines groups long_only word options =
-    flat_map (option_lines long_only word) (filter (may_come groups) options)
+-- what is offered of the options that are offered, in their order
+abbrev pub options_lines : List MatchedGroup → Bool → Text → List Entry → Text
+options_lines groups long_only word entries =
+    flat_map (option_lines long_only word) (filter (may_come groups) entries)
 
--- what is offered at a word, after these words: options, where it begins with `-` and an option may
--- come; else files
-abbrev pub offer : Declared → List Text → Text → Text
-offer options before word =
-    option_map_or (λ groups. options_lines groups options.long_only word options.groups)
+-- what is offered at a word, after these words that are read by such options: options of a table
+-- with these entries, where it begins with `-` and an option may come; else files
+abbrev pub offer : Declared → List Entry → List Text → Text → Text
+offer options entries before word =
+    option_map_or (λ groups. options_lines groups options.long_only word entries)
     (if starts_with nat_eq word (codes "-") then goes_on options before else None)
     (codes "files\n")
 

@@ -1,17 +1,17 @@
 -- What the code holds, as the definitions see it.
-use Rattle.std.specs.Prelude.{Bool, if◌then◌else◌, ◌≡◌, ⊤, List, [], ◌∷◌, Option, Some, None, map}
+use Rattle.std.specs.Prelude.{false, ◌≡◌, ⊤, List, [], ◌∷◌, Option, Some, None, map}
 use Rattle.std.specs.Prelude.{MatchOption}
 use Rattle.std.specs.Option.{option_map}
 use Rattle.std.specs.String.{string_bytes}
 use Rattle.getopts.specs.Matches.{MatchedGroup, matched}
-use Rattle.getopts.specs.Options.{Declared, Group, Signature, group_of, signatures_of, with_group}
+use Rattle.getopts.specs.Options.{Declared, Group, Signature, signatures_of, with_group}
 use Rattle.getopts.specs.Reading.{Occurrence}
-use Rattle.getopts_shell.specs.Program.{Answer, Asked, OperandFault, missing, own_groups, read_groups}
+use Rattle.getopts_shell.specs.Program.{Answer, Asked, OperandFault, missing, own_groups}
 use Rattle.getopts_shell.specs.Program.{unexpected}
 use Rattle.getopts_shell.specs.Variables.{VariableFault, arrays_only, no_prefix, no_variable}
 use Rattle.getopts_shell.specs.Variables.{variable_twice}
-use Rattle.getopts_shell.specs.Table.{Entry, group_of_entry, shown_group, TableFault, no_option}
-use Rattle.getopts_shell.specs.Table.{Operand, name_twice}
+use Rattle.getopts_shell.specs.Table.{Entry, Operand, TableFault, groups_as, late_operand}
+use Rattle.getopts_shell.specs.Table.{name_twice, no_option}
 use Rattle.getopts_shell.specs.declared.script.Asked.{Asked as AskedHeld}
 use Rattle.getopts_shell.specs.declared.answer.Outcome.{Outcome}
 use Rattle.getopts_shell.specs.declared.operand.Operand.{Operand as OperandHeld}
@@ -23,19 +23,15 @@ use Rattle.getopts_shell.specs.declared.table.TableError.TheVariants as error
 use Rattle.getopts_shell.specs.declared.variables.VariableError.{VariableError}
 use Rattle.getopts_shell.specs.declared.variables.VariableError.TheVariants as variable
 
--- the group that a row is read by
-abbrev pub group_of_row : Row → Group
-group_of_row row = group_of row.short.now row.long.now row.description.now row.hint.now
-    row.kind row.occurrence
-
 -- the entry of a row
 abbrev pub entry_of_row : Row → Entry
 entry_of_row row = record {
   line = row.line;
-  signature = (group_of_row row).signature;
+  names = record { short = row.short.now; long = row.long.now };
+  kind = row.kind;
+  often = row.often;
   hint = row.hint.now;
   description = row.description.now;
-  mark = row.mark;
 }
 
 abbrev pub entries_of : List Row → List Entry
@@ -52,19 +48,15 @@ operand_of operand = record {
 abbrev pub operands_of : List OperandHeld → List Operand
 operands_of operands = map operand_of operands
 
--- the groups of rows
+-- the groups that rows are read by
 abbrev pub groups_of : List Row → List Group
-groups_of rows = read_groups (entries_of rows)
-
--- the groups of entries, as they are shown or as they are read
-abbrev pub groups_as : Bool → List Entry → List Group
-groups_as shown entries = map (λ entry. if shown then shown_group entry else group_of_entry entry)
-    entries
+groups_of rows = groups_as false (entries_of rows)
 
 -- the fault that an error of a table tells, unless it tells that memory was refused
 abbrev pub fault_told : TableError → Option TableFault
 fault_told (error.NoOption number item) = Some (no_option number item.now)
 fault_told (error.NameTwice number name) = Some (name_twice number name.now)
+fault_told (error.LateOperand number item) = Some (late_operand number item.now)
 fault_told error.OutOfMemory = None
 
 -- what an error of a table tells meets this

@@ -7,6 +7,6 @@ abbrev pub script_of : ScriptHeld → Script
 script_of script = record {
   asked = asked_of script.asked.now;
   name = script.name.now;
-  entries = entries_of script.rows.now;
-  operands = operands_of script.operands.now;
+  entries = entries_of script.table.now.rows.items;
+  operands = operands_of script.table.now.operands.items;
 }

@@ -25,16 +25,15 @@ use Rattle.getopts.specs.declared.groups.ParsingStyle.TheVariants.{FloatingFrees
 use Rattle.getopts_bytes.specs.Marks.{bytes_of}
 use Rattle.getopts_shell.specs.Completion.{functions, offer, stub, takes_argument}
 use Rattle.getopts_shell.specs.Quote.{quoted, shell_words}
-use Rattle.getopts_shell.specs.Table.{Entry, group_of_entry, shown_group, DeclaresOptions}
-use Rattle.getopts_shell.specs.Table.{Operand, before, first_late, is_needed, may_repeat}
-use Rattle.getopts_shell.specs.Table.{operands_in}
-use Rattle.getopts_shell.specs.Table.{IsTableFault, TableFault, no_option, name_twice, reason_of}
+use Rattle.getopts_shell.specs.Table.{Entry, DeclaresOptions, IsTableFault, Operand, TableFault}
+use Rattle.getopts_shell.specs.Table.{before, groups_as, is_needed, late_operand, may_repeat}
+use Rattle.getopts_shell.specs.Table.{name_twice, no_option, operands_in, reason_of}
 use Rattle.getopts_shell.specs.Variables.{HoldTexts, SetsVariables, SetsWords, Given, given_from}
 use Rattle.getopts_shell.specs.Variables.{given_alone, line_code, variables_code, VariableFault}
 use Rattle.getopts_shell.specs.Variables.{arrays_only, no_prefix, no_variable, prefix_fault}
 use Rattle.getopts_shell.specs.Variables.{variable_twice}
-use Rattle.getopts_shell.specs.declared.row.Mark.{Mark}
-use Rattle.getopts_shell.specs.declared.row.Mark.TheVariants.{Alone}
+use Rattle.getopts_shell.specs.declared.row.Often.{Often}
+use Rattle.getopts_shell.specs.declared.row.Often.TheVariants.{Alone}
 
 -- ---- the program's own options
 
@@ -64,6 +63,32 @@ own_groups =
 -- the program's own options: words from the first free one on are free
 abbrev pub own_options : Declared
 own_options = record { groups = own_groups; style = StopAtFirstFree; long_only = false }
+
+-- the line that the program's own help begins with, and that help
+abbrev pub own_brief : Text
+own_brief = codes "Usage: getopts_shell [options] NAME TABLE [WORD].."
+
+abbrev pub own_help : Text
+own_help = joined (codes "\n") (
+    own_brief
+    ∷ []
+    ∷ codes "Options:"
+    ∷ codes "    -b, --brief TEXT    begin the help with TEXT"
+    ∷ codes "    -s, --stop          leave all words from the first free one on free"
+    ∷ codes "    -l, --long-only     let long names follow one dash too"
+    ∷ codes "    -V, --variables PREFIX"
+    ∷ codes "                        set a variable for each option, named PREFIX and its"
+    ∷ codes "                        name"
+    ∷ codes "    -A, --arrays        with --variables, make an array of values"
+    ∷ codes "    -u, --usage         write the help of TABLE"
+    ∷ codes "    -c, --complete SHELL"
+    ∷ codes "                        write a completion script for bash, zsh or fish"
+    ∷ codes "        --complete-words SHELL"
+    ∷ codes "                        write what may come at the last WORD"
+    ∷ codes "    -h, --help          print this help"
+    ∷ codes "        --version       print the version"
+    ∷ []
+    ∷ [])
 
 -- whether matches have an option of this name
 abbrev pub is_given : Matched → Text → Bool
@@ -128,11 +153,8 @@ table_fault_line (no_option number item) =
     of_line number (item ++ (codes ": " ++ (reason_of item ++ codes "\n")))
 table_fault_line (name_twice number name) =
     of_line number (codes "the name '" ++ (name ++ codes "' stands in an earlier line\n"))
-
--- what is said of an operand that may not come after those before it
-abbrev pub late_line : Operand → Text
-late_line operand = of_line operand.line
-    (operand.item ++ codes ": nothing comes after dots, and nothing required after brackets\n")
+table_fault_line (late_operand number item) = of_line number
+    (item ++ codes ": nothing comes after dots, and nothing required after brackets\n")
 
 -- ---- a script
 
@@ -142,10 +164,6 @@ pub record Script : Type 0 where
   pub name : Text
   pub entries : List Entry
   pub operands : List Operand
-
--- the groups of entries, as words are read by them
-abbrev pub read_groups : List Entry → List Group
-read_groups entries = map group_of_entry entries
 
 -- options of these groups, in the style and the mode that are asked for
 abbrev pub options_in : Asked → List Group → Declared
@@ -157,10 +175,10 @@ options_in asked groups = record {
 
 -- the options that a script's words are read by, and those that its help shows
 abbrev pub read_options : Script → Declared
-read_options script = options_in script.asked (read_groups script.entries)
+read_options script = options_in script.asked (groups_as false script.entries)
 
 abbrev pub shown_options : Script → Declared
-shown_options script = options_in script.asked (map shown_group script.entries)
+shown_options script = options_in script.asked (groups_as true script.entries)
 
 -- the short usage of a script: its options, and its operands as they are written
 abbrev pub usage_line : Script → Text
@@ -229,9 +247,10 @@ free_fault operands free = operand_fault operands free
 
 -- the line of a fault of free words, after a name
 abbrev pub operand_fault_line : Text → OperandFault → Text
-operand_fault_line name (missing operand) = name ++ (codes ": " ++ (operand ++ codes " missing\n"))
+operand_fault_line name (missing operand) =
+    name ++ (codes ": Operand '" ++ (operand ++ codes "' missing\n"))
 operand_fault_line name (unexpected word) =
-    name ++ (codes ": unexpected word: '" ++ (word ++ codes "'\n"))
+    name ++ (codes ": Unexpected operand: '" ++ (word ++ codes "'\n"))
 
 -- a shell makes of this text in quotes one word, itself; and of the bytes of that the bytes of the
 -- text
@@ -245,25 +264,25 @@ help_code help = codes "\\printf %s " ++ (quoted help ++ codes "; \\exit\n")
 
 -- whether an entry is called `help`, and takes no argument
 abbrev pub is_help : Entry → Bool
-is_help entry = bytes_eq entry.signature.names.long (codes "help") && not (takes_argument entry.signature.kind)
+is_help entry = bytes_eq entry.names.long (codes "help") && not (takes_argument entry.kind)
 
 -- whether matches ask for help: they have the option `help`, and one of the entries is that
 abbrev pub asks_help : List Entry → Matched → Bool
 asks_help entries matches = list_any is_help entries && is_given matches (codes "help")
 
 -- whether an option stands alone
-abbrev pub stands_alone : Mark → Bool
+abbrev pub stands_alone : Often → Bool
 stands_alone Alone = true
-stands_alone mark = false
+stands_alone often = false
 
 -- whether the option of an entry does, and matches have it
 abbrev pub is_alone : Matched → Entry → Bool
 is_alone matches entry =
-    stands_alone entry.mark && is_given matches (main_name entry.signature.names)
+    stands_alone entry.often && is_given matches (main_name entry.names)
 
 -- the line of an option alone: its word by its main name, and the stop
 abbrev pub alone_line : Entry → List Text
-alone_line entry = (codes "--" ++ main_name entry.signature.names) ∷ stop_word ∷ []
+alone_line entry = (codes "--" ++ main_name entry.names) ∷ stop_word ∷ []
 
 -- why a name or a prefix makes no variable
 abbrev pub not_in_variables : Text
@@ -314,7 +333,8 @@ abbrev pub AnswersOffer : Script → Text → List Text → Answer → Type 0
 AnswersOffer script shell words answer = MatchOption (functions shell)
     (answer ≡ no_completion shell)
     (λ functions. answer
-    ≡ done (offer (read_options script) (take (length words - 1) words) (last_word words)))
+    ≡ done (offer (read_options script) script.entries (take (length words - 1) words)
+    (last_word words)))
 
 -- The code that sets variables for options and free words: a shell that runs it holds these; and
 -- the values are UTF-8, so one that runs its bytes holds their bytes.
@@ -378,18 +398,13 @@ AnswersScript script words answer = MatchBool script.asked.usage
     (MatchOption script.asked.complete_words (AnswersWords script words answer)
     (λ shell. AnswersOffer script shell words answer))
 
--- the answer where a table has these entries: the code that completes words, the fault of the
+-- the answer where a table declares these: the code that completes words, the fault of the
 -- variables, or the answer for the script
-abbrev pub AnswersOrdered : Script → Text → List Text → Answer → Type 0
-AnswersOrdered script table words answer = MatchOption script.asked.complete
+abbrev pub AnswersDeclared : Script → Text → List Text → Answer → Type 0
+AnswersDeclared script table words answer = MatchOption script.asked.complete
     (MatchOption (asked_fault script.asked script.entries)
     (AnswersScript script words answer) (λ fault. answer ≡ misused (variable_fault_line fault)))
     (λ shell. answer ≡ completion_answer script.asked shell script.name table)
-
--- the same, or that its operands stand in no order
-abbrev pub AnswersDeclared : Script → Text → List Text → Answer → Type 0
-AnswersDeclared script table words answer = MatchOption (first_late [] script.operands)
-    (AnswersOrdered script table words answer) (λ operand. answer ≡ misused (late_line operand))
 
 -- The answer to a script's name, its table and its words: the fault of the table, or what its
 -- entries give.
@@ -415,10 +430,7 @@ AnswersFree asked words answer =
 -- the answer to the program's own words with these matches: its help, its version, or what they ask
 -- for
 abbrev pub AnswersOwn : Matched → Answer → Type 0
-AnswersOwn own answer = MatchBool (is_given own (codes "help"))
-    ((help : Text) × IsTheOnly
-    (IsUsageText own_options (codes "Usage: getopts_shell [options] NAME TABLE [WORD]..")) help
-    × (answer ≡ done help))
+AnswersOwn own answer = MatchBool (is_given own (codes "help")) (answer ≡ done own_help)
     (MatchBool (is_given own (codes "version")) (answer ≡ done (codes "getopts_shell 0.2.24\n"))
     (AnswersFree (asked_by own) own.free answer))
 

@@ -2,7 +2,7 @@
 use Rattle.std.specs.Prelude.{◌≡◌, ◌≢◌, ◌==◌, ◌||◌, ◌&&◌, not, ℕ, ◌+◌, nat_lt, min, ◌-◌, ◌^◌, Bool}
 use Rattle.std.specs.Prelude.{true, false}
 use Rattle.std.specs.Prelude.{List, [], ◌∷◌, ◌++◌, Option, Some, None, codes, if◌then◌else◌}
-use Rattle.std.specs.Prelude.{slice_index, length}
+use Rattle.std.specs.Prelude.{slice_index, length, map}
 use Rattle.std.specs.Prelude.{drop, take, find}
 use Rattle.std.specs.Char.{is_ascii_alphanumeric, is_ascii_digit, is_ascii_uppercase}
 use Rattle.std.specs.Char.{is_ascii_whitespace}
@@ -12,7 +12,7 @@ use Rattle.std.specs.List.{prefix_len, starts_with, suffix_len}
 use Rattle.std.specs.Option.{option_map_or, option_to_list}
 use Rattle.std.specs.Str.{bytes_eq}
 use Rattle.getopts.specs.Names.{Text, Names, AreLawful, is_empty}
-use Rattle.getopts.specs.Options.{Group, Signature}
+use Rattle.getopts.specs.Options.{Group}
 use Rattle.getopts.specs.Reading.{begins_with_dash}
 use Rattle.getopts.specs.Wrap.{lines_of}
 use Rattle.getopts.specs.declared.groups.HasArg.{HasArg}
@@ -22,8 +22,8 @@ use Rattle.getopts.specs.declared.groups.Occur.TheVariants.{Req, Optional, Multi
 use Rattle.getopts_shell.specs.declared.item.TheConstants.{APART, BAR, BRACKETS, BYTES, COLON}
 use Rattle.getopts_shell.specs.declared.item.TheConstants.{DASHES, END, EQUALS, GAP, LETTER}
 use Rattle.getopts_shell.specs.declared.item.TheConstants.{LONG, MARK, ONE, OPEN, ORDER, SHORT, SPACE}
-use Rattle.getopts_shell.specs.declared.row.Mark.{Mark}
-use Rattle.getopts_shell.specs.declared.row.Mark.TheVariants.{Plain, Alone, Last}
+use Rattle.getopts_shell.specs.declared.row.Often.{Often}
+use Rattle.getopts_shell.specs.declared.row.Often.TheVariants.{Once, Last, All, Alone}
 
 -- ---- texts in parts
 
@@ -117,40 +117,39 @@ abbrev pub HasParts : Text → Text → Option Text → Type 0
 HasParts text names argument = AllByRecursion (λ byte. byte ≢ 32) names
     × (text ≡ names ++ option_map_or (λ argument. codes " " ++ argument) argument [])
 
--- what stands behind `]`, where the option may come any number of times: nothing, its last value
--- counts; two or three dots, all do; `!`, it stands alone
-abbrev pub end_means : Text → Option (Occur × Mark)
+-- what stands behind `]`: nothing, the last value counts; two or three dots, all do; `!`, the
+-- option stands alone
+abbrev pub end_means : Text → Option Often
 end_means end =
-    if is_empty end then Some (Multi, Last)
-    else (if bytes_eq end (codes "!") then Some (Optional, Alone)
-    else (if bytes_eq end (codes "..") || bytes_eq end (codes "...") then Some (Multi, Plain)
-    else None))
+    if is_empty end then Some Last
+    else (if bytes_eq end (codes "!") then Some Alone
+    else (if bytes_eq end (codes "..") || bytes_eq end (codes "...") then Some All else None))
 
--- A text with another inside, in no brackets where it is required, and else in `[` and `]`, and
--- what follows these.
-pub data IsBracketed (text inside : Text) : Occur → Mark → Type 0 where
-  bare : text ≡ inside → slice_index text 0 ≢ 91 → IsBracketed text inside Req Plain
-  bracketed : (end : Text) (occurrence : Occur) (mark : Mark)
-      → text ≡ codes "[" ++ (inside ++ (codes "]" ++ end)) → end_means end ≡ Some (occurrence, mark)
-      → IsBracketed text inside occurrence mark
+-- A text with another inside, in no brackets where it has to come once, and else in `[` and `]`,
+-- and what follows these.
+pub data IsBracketed (text inside : Text) : Often → Type 0 where
+  bare : text ≡ inside → slice_index text 0 ≢ 91 → IsBracketed text inside Once
+  bracketed : (end : Text) (often : Often) → text ≡ codes "[" ++ (inside ++ (codes "]" ++ end))
+      → end_means end ≡ Some often → IsBracketed text inside often
 
--- whether an option with a mark may be of a kind: one that stands alone takes no argument
-abbrev pub fits : Mark → HasArg → Bool
+-- whether an option that may come so often may be of a kind: one that stands alone takes no
+-- argument
+abbrev pub fits : Often → HasArg → Bool
 fits Alone Yes = false
 fits Alone Maybe = false
-fits mark kind = true
+fits often kind = true
 
--- An item: names, and perhaps an argument, in the brackets of an occurrence. An option that stands
--- alone takes no argument.
-pub record IsItem (text : Text) (known : Signature) (hint : Text) (mark : Mark) : Type 0 where
+-- An item: names, and perhaps an argument, in the brackets that say how often the option may come.
+pub record IsItem (text : Text) (own : Names) (kind : HasArg) (often : Often) (hint : Text)
+    : Type 0 where
   pub inside : Text
-  pub brackets : IsBracketed text inside known.occurrence mark
+  pub brackets : IsBracketed text inside often
   pub names : Text
   pub argument : Option Text
   pub parts : HasParts inside names argument
-  pub names_are : AreNames known.names names
-  pub argument_is : IsArgument known.kind hint argument
-  pub fits_kind : fits mark known.kind ≡ true
+  pub names_are : AreNames own names
+  pub argument_is : IsArgument kind hint argument
+  pub fits_kind : fits often kind ≡ true
 
 -- ---- operands
 
@@ -198,33 +197,39 @@ is_needed operand = not (slice_index operand.item 0 == 91)
 abbrev pub may_repeat : Operand → Bool
 may_repeat operand = holds 46 operand.item
 
--- An entry of a table: the number of its line, what is asked of its option, the hint, the
--- description, and the mark.
+-- An entry of a table: the number of its line, the names and the kind of its option, how often it
+-- may come, the hint, and the description.
 pub record Entry : Type 0 where
   pub line : ℕ
-  pub signature : Signature
+  pub names : Names
+  pub kind : HasArg
+  pub often : Often
   pub hint : Text
   pub description : Text
-  pub mark : Mark
 
--- the group that an entry is read by
-abbrev pub group_of_entry : Entry → Group
-group_of_entry entry =
-    record { signature = entry.signature; hint = entry.hint; description = entry.description }
+-- how often words may give an option; where it is shown in a help, one of which the last value
+-- counts stands in brackets alone
+abbrev pub occurrence_of : Bool → Often → Occur
+occurrence_of shown Once = Req
+occurrence_of shown All = Multi
+occurrence_of shown Alone = Optional
+occurrence_of shown Last = if shown then Optional else Multi
 
--- the group that a help shows: an option of which the last value counts stands in brackets alone
-abbrev pub shown_occurrence : Mark → Occur → Occur
-shown_occurrence Last occurrence = Optional
-shown_occurrence mark occurrence = occurrence
-
-abbrev pub shown_group : Entry → Group
-shown_group entry = record {
-  signature = record entry.signature {
-    occurrence = shown_occurrence entry.mark entry.signature.occurrence;
+-- the group that an entry is read by, or the one that a help shows
+abbrev pub group_of_entry : Bool → Entry → Group
+group_of_entry shown entry = record {
+  signature = record {
+    names = entry.names;
+    kind = entry.kind;
+    occurrence = occurrence_of shown entry.often;
   };
   hint = entry.hint;
   description = entry.description;
 }
+
+-- the groups of entries, as words are read by them, or as a help shows them
+abbrev pub groups_as : Bool → List Entry → List Group
+groups_as shown entries = map (group_of_entry shown) entries
 
 -- ---- lines
 
@@ -273,7 +278,7 @@ is_passed line = is_skipped line || is_operand (item_of line)
 pub record DeclaresEntry (number : ℕ) (line : Text) (entry : Entry) : Type 0 where
   pub number_is : entry.line ≡ number
   pub there : is_passed line ≡ false
-  pub item : IsItem (item_of line) entry.signature entry.hint entry.mark
+  pub item : IsItem (item_of line) entry.names entry.kind entry.often entry.hint
   pub description : entry.description ≡ trimmed (from_gap (trimmed line))
 
 -- what a line with this number declares: nothing, or an entry
@@ -320,32 +325,26 @@ comes_before operand other = not (may_repeat other) && (is_needed other || not (
 abbrev pub may_follow : List Operand → Operand → Bool
 may_follow before operand = list_all (comes_before operand) before
 
--- the first operand that may not come after those before it, where these stand before all
-abbrev pub first_late : List Operand → List Operand → Option Operand
-first_late before [] = None
-first_late before (operand ∷ more) =
-    if may_follow before operand then first_late (before ++ operand ∷ []) more else Some operand
-
 -- whether one of these entries has this name
 abbrev pub any_has_name : List Entry → Text → Bool
 any_has_name entries name = not (is_empty name)
-    && list_any (λ entry. bytes_eq entry.signature.names.short name
-    || bytes_eq entry.signature.names.long name) entries
+    && list_any (λ entry. bytes_eq entry.names.short name || bytes_eq entry.names.long name) entries
 
 -- the first of an entry's names that one of these entries has already
 abbrev pub name_again : List Entry → Entry → Option Text
 name_again entries entry =
-    find (any_has_name entries) (entry.signature.names.short ∷ entry.signature.names.long ∷ [])
+    find (any_has_name entries) (entry.names.short ∷ entry.names.long ∷ [])
 
--- no name stands twice: no entry has a name of one before it
-abbrev pub HaveNewNames : List Entry → Type 0
-HaveNewNames entries = (before after : List Entry) (entry : Entry)
-    → entries ≡ before ++ entry ∷ after → name_again before entry ≡ None
+-- this is so of each element with those before it
+abbrev pub EachAfter : {X : Type 0} → (List X → X → Type 0) → List X → Type 0
+EachAfter {X} Is xs = (before after : List X) (x : X) → xs ≡ before ++ x ∷ after → Is before x
 
--- Lines declare these options.
+-- Lines declare these options: no name stands twice, and the operands stand in order.
 pub record DeclareOptions (lines : List Text) (entries : List Entry) : Type 0 where
   pub declared : DeclareEntries 0 lines entries
-  pub once : HaveNewNames entries
+  pub once : EachAfter (λ before entry. name_again before entry ≡ None) entries
+  pub in_order : EachAfter (λ before operand. may_follow before operand ≡ true)
+      (operands_after 0 lines)
 
 -- the table declares these options
 abbrev pub DeclaresOptions : Text → List Entry → Type 0
@@ -381,7 +380,7 @@ reasons item =
     let long = (dashed names).long in
     (holds 91 item && not (holds 93 item), OPEN.now)
     ∷ (starts_with ◌==◌ (after 93 item) (codes " [-"), ONE.now)
-    ∷ (begins_name (unopened (after 32 item)), APART.now)
+    ∷ (begins_name (unopened (after 32 item)) || starts_with ◌==◌ (after 32 item) (codes "]"), APART.now)
     ∷ (holds 32 (after 93 item), GAP.now)
     ∷ (holds 32 (after 32 item), SPACE.now)
     ∷ (holds 61 names, EQUALS.now)
@@ -392,6 +391,7 @@ reasons item =
     ∷ (holds 124 names && not (starts_with ◌==◌ long (codes "--")), BAR.now)
     ∷ (starts_with ◌==◌ long (codes "---"), DASHES.now)
     ∷ (holds 124 long, ORDER.now)
+    ∷ (nat_lt 127 (slice_index short 1), LETTER.now)
     ∷ (nat_lt 2 (length short), SHORT.now)
     ∷ (not (is_name (drop 1 short)), LETTER.now)
     ∷ (not (is_empty long) && nat_lt (length long) 4, LONG.now)
@@ -412,15 +412,21 @@ reason_of item = option_map_or (λ reason. reason.1) (find (λ reason. reason.0)
 pub data TableFault : Type 0 where
   no_option : ℕ → Text → TableFault
   name_twice : ℕ → Text → TableFault
+  late_operand : ℕ → Text → TableFault
 
--- the fault of the line with this number, where the lines before it declare these entries: it
--- declares neither nothing nor an entry, or an entry with a name that stands there already
-pub data IsLineFault (number : ℕ) (entries : List Entry) (line : Text) : TableFault → Type 0 where
+-- the fault of the line with this number, where the lines before it declare these entries and
+-- operands: it declares neither nothing nor an entry, or an entry with a name that stands there
+-- already, or an operand that may not follow them
+pub data IsLineFault (number : ℕ) (entries : List Entry) (operands : List Operand) (line : Text)
+    : TableFault → Type 0 where
   none : ((declared : Option Entry) → ¬ (Declares number line declared))
-      → IsLineFault number entries line (no_option number (item_of line))
+      → IsLineFault number entries operands line (no_option number (item_of line))
   twice : (entry : Entry) (name : Text) → DeclaresEntry number line entry
       → name_again entries entry ≡ Some name
-      → IsLineFault number entries line (name_twice number name)
+      → IsLineFault number entries operands line (name_twice number name)
+  late : (operand : Operand) → operand_at number line ≡ Some operand
+      → may_follow operands operand ≡ false
+      → IsLineFault number entries operands line (late_operand number operand.item)
 
 -- the fault of a table: that of the first line that has one
 pub record IsTableFault (table : Text) (fault : TableFault) : Type 0 where
@@ -430,4 +436,5 @@ pub record IsTableFault (table : Text) (fault : TableFault) : Type 0 where
   pub lines_are : lines_of table ≡ before ++ line ∷ after
   pub entries : List Entry
   pub declared : DeclareOptions before entries
-  pub fault_at : IsLineFault (line_number (length before)) entries line fault
+  pub fault_at : IsLineFault (line_number (length before)) entries (operands_after 0 before) line
+      fault

@@ -12,9 +12,9 @@ use Rattle.getopts.specs.Names.{AreTexts, Text, is_empty, main_name}
 use Rattle.getopts.specs.declared.groups.HasArg.{HasArg}
 use Rattle.getopts.specs.declared.groups.HasArg.TheVariants.{No}
 use Rattle.getopts_bytes.specs.Marks.{bytes_of}
-use Rattle.getopts_shell.specs.Completion.{is_multi}
+use Rattle.getopts_shell.specs.Completion.{holds_all}
 use Rattle.getopts_shell.specs.Quote.{quoted, quoted_words, shell_words}
-use Rattle.getopts_shell.specs.Table.{Entry, shown_occurrence}
+use Rattle.getopts_shell.specs.Table.{Entry}
 use Rattle.getopts_shell.specs.declared.variables.Came.{Came}
 use Rattle.getopts_shell.specs.declared.variables.Came.TheVariants as came
 
@@ -98,7 +98,7 @@ variable prefix name = prefix ++ map variable_byte name
 
 -- the variable of an entry's option
 abbrev pub variable_of : Text → Entry → Text
-variable_of prefix entry = variable prefix (main_name entry.signature.names)
+variable_of prefix entry = variable prefix (main_name entry.names)
 
 -- whether one of these entries makes the variable that another makes
 abbrev pub any_has_variable : Text → List Entry → Entry → Bool
@@ -118,8 +118,8 @@ abbrev pub variable_fault : Text → List Entry → Entry → Option VariableFau
 variable_fault prefix before entry =
     if is_variable (variable_of prefix entry) then
     (if any_has_variable prefix before entry then Some
-    (variable_twice entry.line (main_name entry.signature.names)) else None)
-    else Some (no_variable entry.line (main_name entry.signature.names))
+    (variable_twice entry.line (main_name entry.names)) else None)
+    else Some (no_variable entry.line (main_name entry.names))
 
 -- the first fault of entries after others
 abbrev pub first_fault : Text → List Entry → List Entry → Option VariableFault
@@ -147,11 +147,6 @@ pub record Given : Type 0 where
   pub entry : Entry
   pub found : List Found
 
--- whether the variable of an entry's option holds all values: it may come any number of times, and
--- not only its last value counts
-abbrev pub holds_all : Entry → Bool
-holds_all entry = is_multi (shown_occurrence entry.mark entry.signature.occurrence)
-
 -- the options of a table as matches give them, where the first has this place
 abbrev pub given_from : ℕ → List Entry → List MatchedGroup → List Given
 given_from place [] held = []
@@ -165,8 +160,7 @@ once = record { position = 0; value = None } ∷ []
 -- what is found of an option where nothing is given but this one, once and without a value
 abbrev pub found_alone : Entry → Entry → List Found
 found_alone entry alone =
-    if bytes_eq (main_name entry.signature.names)
-    (main_name alone.signature.names) then once else []
+    if bytes_eq (main_name entry.names) (main_name alone.names) then once else []
 
 -- the options of a table where nothing else is given
 abbrev pub given_alone : List Entry → Entry → List Given
@@ -198,7 +192,7 @@ held_value arrays kind false founds = option_map one (last_or None (texts_found 
 -- what the variable of an option holds
 abbrev pub own_value : Bool → Given → Option Value
 own_value arrays option =
-    held_value arrays option.entry.signature.kind (holds_all option.entry) option.found
+    held_value arrays option.entry.kind (holds_all option.entry.often) option.found
 
 -- a shell where each option's variable has its value, or none, all other variables are as they
 -- were, and the words are the free words
@@ -246,9 +240,8 @@ AreTextValues kind true founds = AreTexts (texts_found founds)
 AreTextValues kind false founds = MatchOption (last_or None (texts_found founds)) ⊤ IsUtf8
 
 abbrev pub HoldTexts : List Given → Type 0
-HoldTexts options =
-    AllByRecursion (λ option. AreTextValues option.entry.signature.kind (holds_all option.entry)
-    option.found) options
+HoldTexts options = AllByRecursion
+    (λ option. AreTextValues option.entry.kind (holds_all option.entry.often) option.found) options
 
 -- A shell that runs the command holds these words; and one that runs its bytes holds the bytes of
 -- the words.

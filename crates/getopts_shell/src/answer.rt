@@ -8,17 +8,17 @@ ghost use Rattle.std.specs.List.{find, list_any};
 ghost use Rattle.std.specs.Str.{IsUtf8, bytes_eq};
 ghost use Rattle.std.specs.String.{string_bytes};
 ghost use Rattle.getopts.specs.Fail.{Fault, fault_of};
-ghost use Rattle.getopts.specs.Names.{AreTexts, Text, texts};
+ghost use Rattle.getopts.specs.Names.{AreTexts, Text};
 ghost use Rattle.getopts.specs.Options.{signatures_of};
 ghost use Rattle.getopts.specs.Results.{first_count_fault, fits_count, parse_result, read_result};
 ghost use Rattle.getopts_shell.specs.Completion.{offer, takes_argument};
 ghost use Rattle.getopts_shell.specs.Held.{HasOwnGroups, answer_of, asked_of, entries_of};
-ghost use Rattle.getopts_shell.specs.Held.{entry_of_row, fault_told, groups_as, groups_of};
-ghost use Rattle.getopts_shell.specs.Held.{held_signatures, operand_fault_told, operand_of};
-ghost use Rattle.getopts_shell.specs.Held.{operands_of, variable_fault_told, with_groups};
+ghost use Rattle.getopts_shell.specs.Held.{entry_of_row, fault_told, groups_of};
+ghost use Rattle.getopts_shell.specs.Held.{held_signatures, operand_fault_told, operands_of};
+ghost use Rattle.getopts_shell.specs.Held.{variable_fault_told, with_groups};
 ghost use Rattle.getopts_shell.specs.HeldScript.{script_of};
 ghost use Rattle.getopts_shell.specs.Program.{AnswersAccepted, AnswersAlone, AnswersCounted};
-ghost use Rattle.getopts_shell.specs.Program.{AnswersDeclared, AnswersOrdered, late_line};
+ghost use Rattle.getopts_shell.specs.Program.{AnswersDeclared};
 ghost use Rattle.getopts_shell.specs.Program.{operand_fault_line, refused_by, usage_line};
 ghost use Rattle.getopts_shell.specs.Program.{AnswersFree, AnswersLine, AnswersOffer, AnswersOwn};
 ghost use Rattle.getopts_shell.specs.Program.{AnswersRead, AnswersScript, AnswersTable};
@@ -31,20 +31,19 @@ ghost use Rattle.getopts_shell.specs.Program.{help_code, help_front, is_alone, l
 ghost use Rattle.getopts_shell.specs.Program.{no_completion, options_in, own_groups, own_options};
 ghost use Rattle.getopts_shell.specs.Program.{read_options, refused, shown_options, stands_alone};
 ghost use Rattle.getopts_shell.specs.Program.{table_fault_line, variable_fault_line};
-ghost use Rattle.getopts_shell.specs.Table.{TableFault, shown_occurrence};
+ghost use Rattle.getopts_shell.specs.Table.{TableFault, groups_as, occurrence_of};
 ghost use Rattle.getopts_shell.specs.Variables.{given_from, line_code};
 
 use crate::complete::{functions, is_given, offers, stub, takes_argument};
 use crate::item::reason_of;
-use crate::operand::{Operand, OperandError, first_late, free_error, push_operands, rows_of};
+use crate::operand::{OperandError, free_error, push_operands, rows_of};
 use crate::quote::{push_joined, push_line, push_quoted};
-use crate::row::{Mark, Row};
+use crate::row::{Often, Row};
 use crate::script::{Asked, Script};
-use crate::table::{TableError, declared_in};
+use crate::table::{Table, TableError, declared_in};
 use crate::variables::{
     VariableError, Variables, alone_code, main_name, variable_error, variables_code,
 };
-use crate::words::texts_of;
 use getopts::{Fail, Matches, Occur, Options, ParsingStyle, names_resolve};
 use getopts_bytes::push_bytes;
 use std::alloc::{AllocError, Global};
@@ -119,18 +118,18 @@ impl Outcome {
 /// - 4: a write or a flush failed, and what was written is a front of the text
 /// - 5: what is wrong with the call: its own words, an unknown shell, a missing table, or a line of
 ///   it
-pub fn answer<W: Write, E: Write>(alloc: Global, words: &[&str], out: &mut W, err: &mut E) -> u8
+pub fn answer<W: Write, E: Write>(alloc: Global, words: &[String], out: &mut W, err: &mut E) -> u8
     ensures status { IsStatus result }
     ensures shown { result ≡ 0
-        → ShowsAnswer (W.contents out.old) (W.contents out.new) (texts words.now) result }
+        → ShowsAnswer (W.contents out.old) (W.contents out.new) (map string_bytes words.now) result }
     ensures shown_only { result ≡ 0 → err.new ≡ err.old }
     ensures refused { (result ≡ 2) ⊎ (result ≡ 5)
-        → ShowsAnswer (E.contents err.old) (E.contents err.new) (texts words.now) result }
+        → ShowsAnswer (E.contents err.old) (E.contents err.new) (map string_bytes words.now) result }
     ensures refused_only { (result ≡ 2) ⊎ (result ≡ 5) → out.new ≡ out.old }
     ensures cut { result ≡ 4
-        → ShowsFront (W.contents out.old) (W.contents out.new) (texts words.now)
+        → ShowsFront (W.contents out.old) (W.contents out.new) (map string_bytes words.now)
         (λ status. status ≡ 0)
-        ⊎ ShowsFront (E.contents err.old) (E.contents err.new) (texts words.now)
+        ⊎ ShowsFront (E.contents err.old) (E.contents err.new) (map string_bytes words.now)
         (λ status. status ≢ 0) }
     ensures one_stream { (out.new ≡ out.old) ⊎ (err.new ≡ err.old) }
     ensures nothing_written { result ≡ 3 → (out.new ≡ out.old) × (err.new ≡ err.old) }
@@ -189,8 +188,8 @@ fn print<W: Write>(out: &mut W, bytes: &[u8]) -> io::Result<()>
 }
 
 /// What the program writes for words: the bytes of its answer's text.
-fn output_to(alloc: Global, words: &[&str]) -> Result<Output, AllocError>
-    ensures { IfOk result (λ output. IsOutput (texts words.now) output.bytes.items output.status) }
+fn output_to(alloc: Global, words: &[String]) -> Result<Output, AllocError>
+    ensures { IfOk result (λ output. IsOutput (map string_bytes words.now) output.bytes.items output.status) }
 {
     let outcome = answer_to(alloc, words)?;
     let mut bytes = Vec::with_capacity(alloc, outcome.text.len())?;
@@ -202,8 +201,8 @@ fn output_to(alloc: Global, words: &[&str]) -> Result<Output, AllocError>
 }
 
 /// What the program says to words.
-fn answer_to(alloc: Global, words: &[&str]) -> Result<Outcome, AllocError>
-    ensures { IfOk result (λ outcome. IsAnswer (texts words.now) (answer_of outcome)) }
+fn answer_to(alloc: Global, words: &[String]) -> Result<Outcome, AllocError>
+    ensures { IfOk result (λ outcome. IsAnswer (map string_bytes words.now) (answer_of outcome)) }
 {
     let options = own_options(alloc)?;
     match options.parse_words(alloc, words) {
@@ -283,8 +282,7 @@ fn own_answer(alloc: Global, options: &Options, own: &Matches) -> Result<Outcome
         return Ok(Outcome::done(String::from_str(alloc, VERSION)?));
     }
     let asked = asked_by(alloc, own)?;
-    let words = texts_of(alloc, &own.free)?;
-    free_answer(alloc, &asked, &words)
+    free_answer(alloc, &asked, &own.free)
 }
 
 /// What the program's own words ask for, where they are accepted with these matches.
@@ -305,12 +303,14 @@ fn asked_by(alloc: Global, own: &Matches) -> Result<Asked, AllocError>
 }
 
 /// The answer to the free words of the program's own: a script's name, its table and its words.
-fn free_answer(alloc: Global, asked: &Asked, words: &[&str]) -> Result<Outcome, AllocError>
-    ensures { IfOk result (λ outcome. AnswersFree (asked_of asked.now) (texts words.now)
+fn free_answer(alloc: Global, asked: &Asked, words: &[String]) -> Result<Outcome, AllocError>
+    ensures { IfOk result (λ outcome. AnswersFree (asked_of asked.now) (map string_bytes words.now)
         (answer_of outcome)) }
 {
     match words {
-        [name, table, words @ ..] => table_answer(alloc, asked, name, table, words),
+        [name, table, words @ ..] => {
+            table_answer(alloc, asked, name.as_str(), table.as_str(), words)
+        }
         _ => Ok(Outcome::misused(String::from_str(alloc, NEEDED)?)),
     }
 }
@@ -321,89 +321,48 @@ fn table_answer(
     asked: &Asked,
     name: &str,
     table: &str,
-    words: &[&str],
+    words: &[String],
 ) -> Result<Outcome, AllocError>
     ensures { IfOk result (λ outcome.
-        AnswersTable (asked_of asked.now) name.now table.now (texts words.now)
+        AnswersTable (asked_of asked.now) name.now table.now (map string_bytes words.now)
         (answer_of outcome)) }
 {
     match declared_in(alloc, table) {
-        Ok((rows, operands)) => {
-            declared_answer(alloc, asked, name, table, &rows, &operands, words)
-        }
+        Ok(declared) => declared_answer(alloc, asked, name, table, &declared, words),
         Err(error) => Ok(Outcome::misused(table_refusal(alloc, error)?)),
     }
 }
 
-/// The answer where a table has these rows and operands: that the operands stand in no order, or
-/// what it is else.
+/// The answer where a table declares these: the code that completes words, the fault of the
+/// variables, or the answer for the script.
 fn declared_answer(
     alloc: Global,
     asked: &Asked,
     name: &str,
-    table: &str,
-    rows: &[Row<'_>],
-    operands: &[Operand<'_>],
-    words: &[&str],
+    text: &str,
+    table: &Table<'_>,
+    words: &[String],
 ) -> Result<Outcome, AllocError>
     ensures { IfOk result (λ outcome. AnswersDeclared
         record {
           asked = asked_of asked.now;
           name = name.now;
-          entries = entries_of rows.now;
-          operands = operands_of operands.now;
+          entries = entries_of table.now.rows.items;
+          operands = operands_of table.now.operands.items;
         }
-        table.now (texts words.now) (answer_of outcome)) }
-{
-    match first_late(operands) {
-        Some(operand) => Ok(Outcome::misused(late_line(alloc, operand)?)),
-        None => ordered_answer(alloc, asked, name, table, rows, operands, words),
-    }
-}
-
-/// What is said of an operand that may not come after those before it.
-fn late_line(alloc: Global, operand: Operand<'_>) -> Result<String, AllocError>
-    ensures { IfOk result (λ text. string_bytes text ≡ late_line (operand_of operand.entry)) }
-{
-    let Operand { line, item, .. } = operand;
-    format!(in alloc;
-        "getopts_shell: line {line} of the options: \
-         {item}: nothing comes after dots, and nothing required after brackets\n"
-    )
-}
-
-/// The answer where the operands of a table stand in order: the code that completes words, the
-/// fault of the variables, or the answer for the script.
-fn ordered_answer(
-    alloc: Global,
-    asked: &Asked,
-    name: &str,
-    table: &str,
-    rows: &[Row<'_>],
-    operands: &[Operand<'_>],
-    words: &[&str],
-) -> Result<Outcome, AllocError>
-    ensures { IfOk result (λ outcome. AnswersOrdered
-        record {
-          asked = asked_of asked.now;
-          name = name.now;
-          entries = entries_of rows.now;
-          operands = operands_of operands.now;
-        }
-        table.now (texts words.now) (answer_of outcome)) }
+        text.now (map string_bytes words.now) (answer_of outcome)) }
 {
     if let Some(shell) = &asked.complete {
-        return completion_answer(alloc, asked, shell.as_str(), name, table);
+        return completion_answer(alloc, asked, shell.as_str(), name, text);
     }
-    if let Some(error) = asked_error(asked, rows) {
+    if let Some(error) = asked_error(asked, &table.rows) {
         return Ok(Outcome::misused(variable_refusal(alloc, error)?));
     }
-    let options = options_of(alloc, asked, rows, false)?;
+    let options = options_of(alloc, asked, &table.rows, false)?;
     let script = Script {
         asked,
         name,
-        rows,
-        operands,
+        table,
         options: &options,
     };
     script_answer(alloc, script, words)
@@ -422,6 +381,10 @@ fn table_refusal(alloc: Global, error: TableError<'_>) -> Result<String, AllocEr
         TableError::NameTwice(number, name) => format!(in alloc;
             "getopts_shell: line {number} of the options: \
              the name '{name}' stands in an earlier line\n"
+        ),
+        TableError::LateOperand(number, item) => format!(in alloc;
+            "getopts_shell: line {number} of the options: \
+             {item}: nothing comes after dots, and nothing required after brackets\n"
         ),
         TableError::OutOfMemory => Err(AllocError),
     }
@@ -490,36 +453,33 @@ fn add_rows(options: &mut Options, rows: &[Row<'_>], shown: bool) -> Result<(), 
         }) }
 {
     for row in rows {
-        let occurrence = if shown {
-            shown_occurrence(row.mark, row.occurrence)
-        } else {
-            row.occurrence
-        };
         options.add_group(
             row.short,
             row.long,
             row.description,
             row.hint,
             row.kind,
-            occurrence,
+            occurrence_of(shown, row.often),
         )?;
     }
     Ok(())
 }
 
-/// How often an option may come, as a help shows it.
-fn shown_occurrence(mark: Mark, occurrence: Occur) -> Occur
-    ensures { result ≡ shown_occurrence mark occurrence }
+/// How often words may give an option, or how often its help says.
+fn occurrence_of(shown: bool, often: Often) -> Occur
+    ensures { result ≡ occurrence_of shown often }
 {
-    match mark {
-        Mark::Last => Occur::Optional,
-        _ => occurrence,
+    match often {
+        Often::Once => Occur::Req,
+        Often::All => Occur::Multi,
+        Often::Alone => Occur::Optional,
+        Often::Last => { if shown { Occur::Optional } else { Occur::Multi } }
     }
 }
 
 /// The answer for a script and its words.
-fn script_answer(alloc: Global, script: Script<'_>, words: &[&str]) -> Result<Outcome, AllocError>
-    ensures { IfOk result (λ outcome. AnswersScript (script_of script.entry) (texts words.now)
+fn script_answer(alloc: Global, script: Script<'_>, words: &[String]) -> Result<Outcome, AllocError>
+    ensures { IfOk result (λ outcome. AnswersScript (script_of script.entry) (map string_bytes words.now)
         (answer_of outcome)) }
 {
     if script.asked.usage {
@@ -535,7 +495,7 @@ fn script_answer(alloc: Global, script: Script<'_>, words: &[&str]) -> Result<Ou
 fn shown_options(alloc: Global, script: Script<'_>) -> Result<Options, AllocError>
     ensures { IfOk result (λ options. options ≡ shown_options (script_of script.entry)) }
 {
-    options_of(alloc, script.asked, script.rows, true)
+    options_of(alloc, script.asked, &script.table.rows, true)
 }
 
 /// The text that the help of a script begins with.
@@ -555,7 +515,11 @@ fn usage_line(alloc: Global, script: Script<'_>, shown: &Options) -> Result<Stri
     ensures { IfOk result (λ text. string_bytes text ≡ usage_line (script_of script.entry)) }
 {
     let mut text = shown.short_usage(alloc, script.name)?;
-    push_operands(&mut text, !script.rows.is_empty(), script.operands)?;
+    push_operands(
+        &mut text,
+        !script.table.rows.is_empty(),
+        &script.table.operands,
+    )?;
     Ok(text)
 }
 
@@ -565,7 +529,7 @@ fn help_of(alloc: Global, script: Script<'_>) -> Result<String, AllocError>
 {
     let shown = shown_options(alloc, script)?;
     let brief = brief_text(alloc, script, &shown)?;
-    let rows = rows_of(alloc, script.operands)?;
+    let rows = rows_of(alloc, &script.table.operands)?;
     let front = help_front(brief, &rows)?;
     shown.usage(alloc, front.as_str())
 }
@@ -616,10 +580,10 @@ fn offer_answer(
     alloc: Global,
     shell: &str,
     script: Script<'_>,
-    words: &[&str],
+    words: &[String],
 ) -> Result<Outcome, AllocError>
     ensures { IfOk result (λ outcome.
-        AnswersOffer (script_of script.entry) shell.now (texts words.now) (answer_of outcome)) }
+        AnswersOffer (script_of script.entry) shell.now (map string_bytes words.now) (answer_of outcome)) }
 {
     match functions(shell) {
         Some(_) => Ok(Outcome::done(last_offers(alloc, script, words)?)),
@@ -628,24 +592,32 @@ fn offer_answer(
 }
 
 /// What may come at the last word.
-fn last_offers(alloc: Global, script: Script<'_>, words: &[&str]) -> Result<String, AllocError>
+fn last_offers(alloc: Global, script: Script<'_>, words: &[String]) -> Result<String, AllocError>
     ensures { IfOk result (λ text. string_bytes text ≡ offer (read_options (script_of script.entry))
-        (take (length (texts words.now) - 1) (texts words.now)) (last_word (texts words.now))) }
+        (script_of script.entry).entries (take (length (map string_bytes words.now) - 1) (map string_bytes words.now))
+        (last_word (map string_bytes words.now))) }
 {
     let options = script.options;
     let long_only = script.asked.long_only;
     let count = words.len();
     if count == 0 {
-        return offers(alloc, options, long_only, script.rows, words, "");
+        return offers(alloc, options, long_only, &script.table.rows, words, "");
     }
     let before = &words[..count - 1];
-    let word = words[count - 1];
-    offers(alloc, options, long_only, script.rows, before, word)
+    let word = &words[count - 1];
+    offers(
+        alloc,
+        options,
+        long_only,
+        &script.table.rows,
+        before,
+        word.as_str(),
+    )
 }
 
 /// The answer to the words of a script. They are read once, whatever their counts.
-fn words_answer(alloc: Global, script: Script<'_>, words: &[&str]) -> Result<Outcome, AllocError>
-    ensures { IfOk result (λ outcome. AnswersWords (script_of script.entry) (texts words.now)
+fn words_answer(alloc: Global, script: Script<'_>, words: &[String]) -> Result<Outcome, AllocError>
+    ensures { IfOk result (λ outcome. AnswersWords (script_of script.entry) (map string_bytes words.now)
         (answer_of outcome)) }
 {
     match script.options.parse_ignoring_counts(alloc, words) {
@@ -659,17 +631,17 @@ fn words_answer(alloc: Global, script: Script<'_>, words: &[&str]) -> Result<Out
 fn read_answer(
     alloc: Global,
     script: Script<'_>,
-    words: &[&str],
+    words: &[String],
     matches: &Matches,
 ) -> Result<Outcome, AllocError>
-    requires { read_result (read_options (script_of script)) (texts words.now) ≡ Ok matches.now }
+    requires { read_result (read_options (script_of script)) (map string_bytes words.now) ≡ Ok matches.now }
     ensures { IfOk result (λ outcome.
-        AnswersRead (script_of script.entry) (texts words.now) matches.now (answer_of outcome)) }
+        AnswersRead (script_of script.entry) (map string_bytes words.now) matches.now (answer_of outcome)) }
 {
-    if asks_help(script.rows, matches) {
+    if asks_help(&script.table.rows, matches) {
         return Ok(Outcome::done(help_code(alloc, script)?));
     }
-    match first_alone(script.rows, matches) {
+    match first_alone(&script.table.rows, matches) {
         Some(row) => alone_answer(alloc, script, row),
         None => counted_answer(alloc, script, words, matches),
     }
@@ -691,11 +663,11 @@ fn offers_help(rows: &[Row<'_>]) -> bool
         .any(|row| row.long == "help" && !takes_argument(row.kind))
 }
 
-/// Whether an option with this mark stands alone.
-fn stands_alone(mark: Mark) -> bool
-    ensures { result ≡ stands_alone mark }
+/// Whether an option that may come so often stands alone.
+fn stands_alone(often: Often) -> bool
+    ensures { result ≡ stands_alone often }
 {
-    matches!(mark, Mark::Alone)
+    matches!(often, Often::Alone)
 }
 
 /// The first row that stands alone and is given by matches.
@@ -715,7 +687,7 @@ fn first_alone<'t>(rows: &[Row<'t>], matches: &Matches) -> Option<Row<'t>>
 fn is_alone(row: Row<'_>, matches: &Matches) -> bool
     ensures { result ≡ is_alone matches.now (entry_of_row row.entry) }
 {
-    stands_alone(row.mark) && is_given(matches, main_name(row))
+    stands_alone(row.often) && is_given(matches, main_name(row))
 }
 
 /// The answer to words that ask for one option alone: its line, or variables where it alone is
@@ -727,7 +699,8 @@ fn alone_answer(alloc: Global, script: Script<'_>, row: Row<'_>) -> Result<Outco
     match &script.asked.variables {
         Some(prefix) => {
             let variables = script.variables(prefix.as_str());
-            Ok(Outcome::done(alone_code(alloc, variables, script.rows, row)?))
+            let code = alone_code(alloc, variables, &script.table.rows, row)?;
+            Ok(Outcome::done(code))
         }
         None => Ok(Outcome::done(alone_line(alloc, row)?)),
     }
@@ -763,14 +736,14 @@ fn help_code(alloc: Global, script: Script<'_>) -> Result<String, AllocError>
 fn counted_answer(
     alloc: Global,
     script: Script<'_>,
-    words: &[&str],
+    words: &[String],
     matches: &Matches,
 ) -> Result<Outcome, AllocError>
-    requires { read_result (read_options (script_of script)) (texts words.now) ≡ Ok matches.now }
+    requires { read_result (read_options (script_of script)) (map string_bytes words.now) ≡ Ok matches.now }
     ensures { IfOk result (λ outcome.
-        AnswersCounted (script_of script.entry) (texts words.now) (answer_of outcome)) }
+        AnswersCounted (script_of script.entry) (map string_bytes words.now) (answer_of outcome)) }
 {
-    if keep_counts(script.rows, matches) {
+    if keep_counts(&script.table.rows, matches) {
         return parsed_answer(alloc, script, words, matches);
     }
     match script.options.parse_words(alloc, words) {
@@ -784,14 +757,14 @@ fn counted_answer(
 fn parsed_answer(
     alloc: Global,
     script: Script<'_>,
-    words: &[&str],
+    words: &[String],
     matches: &Matches,
 ) -> Result<Outcome, AllocError>
-    requires { parse_result (read_options (script_of script)) (texts words.now) ≡ Ok matches.now }
+    requires { parse_result (read_options (script_of script)) (map string_bytes words.now) ≡ Ok matches.now }
     ensures { IfOk result (λ outcome.
-        AnswersCounted (script_of script.entry) (texts words.now) (answer_of outcome)) }
+        AnswersCounted (script_of script.entry) (map string_bytes words.now) (answer_of outcome)) }
 {
-    match free_error(script.operands, &matches.free) {
+    match free_error(&script.table.operands, &matches.free) {
         Some(error) => operand_refusal(alloc, script, error),
         None => accepted_answer(alloc, script, words, matches),
     }
@@ -801,10 +774,10 @@ fn parsed_answer(
 fn accepted_answer(
     alloc: Global,
     script: Script<'_>,
-    words: &[&str],
+    words: &[String],
     matches: &Matches,
 ) -> Result<Outcome, AllocError>
-    ensures { IfOk result (λ outcome. AnswersAccepted (script_of script.entry) (texts words.now)
+    ensures { IfOk result (λ outcome. AnswersAccepted (script_of script.entry) (map string_bytes words.now)
         matches.now (answer_of outcome)) }
 {
     match &script.asked.variables {
@@ -820,7 +793,8 @@ fn keep_counts(rows: &[Row<'_>], matches: &Matches) -> bool
 {
     for place in 0..rows.len() {
         let row = rows[place];
-        if !keeps_count(row.occurrence, matches.occurrences_at(place).len()) {
+        let count = matches.occurrences_at(place).len();
+        if !keeps_count(occurrence_of(false, row.often), count) {
             return false;
         }
     }
@@ -851,13 +825,14 @@ fn variables_answer(
         (answer_of outcome)) }
 {
     let variables = script.variables(prefix);
-    Ok(Outcome::done(variables_code(alloc, variables, script.rows, matches)?))
+    let code = variables_code(alloc, variables, &script.table.rows, matches)?;
+    Ok(Outcome::done(code))
 }
 
 /// The canonical line of words, or their first fault.
-fn line_answer(alloc: Global, script: Script<'_>, words: &[&str]) -> Result<Outcome, AllocError>
+fn line_answer(alloc: Global, script: Script<'_>, words: &[String]) -> Result<Outcome, AllocError>
     ensures { IfOk result (λ outcome.
-        AnswersLine (script_of script.entry) (texts words.now) (answer_of outcome)) }
+        AnswersLine (script_of script.entry) (map string_bytes words.now) (answer_of outcome)) }
 {
     names_resolve(script.options);
     match script.options.canonical_words(alloc, words) {
@@ -908,9 +883,11 @@ fn operand_fault_line(
         string_bytes text ≡ operand_fault_line name.now (operand_fault_told error.entry)) }
 {
     match error {
-        OperandError::Missing(operand) => format!(in alloc; "{name}: {operand} missing\n"),
+        OperandError::Missing(operand) => {
+            format!(in alloc; "{name}: Operand '{operand}' missing\n")
+        }
         OperandError::Unexpected(word) => {
-            format!(in alloc; "{name}: unexpected word: '{word}'\n")
+            format!(in alloc; "{name}: Unexpected operand: '{word}'\n")
         }
     }
 }

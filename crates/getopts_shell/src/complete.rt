@@ -1,7 +1,7 @@
 //! What completes a script's words: the code for bash, zsh and fish, and what it is answered.
 
 ghost use Rattle.std.specs.Prelude.{◌≡◌, ◌++◌, ◌∷◌, [], None, Some, MatchResult};
-ghost use Rattle.std.specs.Prelude.{nat_eq, IfOk, OnOk};
+ghost use Rattle.std.specs.Prelude.{map, nat_eq, IfOk, OnOk};
 ghost use Rattle.std.specs.List.{starts_with};
 ghost use Rattle.std.specs.Option.{option_map};
 ghost use Rattle.std.specs.String.{string_bytes};
@@ -10,17 +10,18 @@ ghost use Rattle.getopts.specs.Fail.{Fault, fault_of};
 ghost use Rattle.getopts.specs.Names.{texts};
 ghost use Rattle.getopts.specs.Results.{read_result};
 ghost use Rattle.getopts.specs.Reading.{stop_word};
-ghost use Rattle.getopts_shell.specs.Completion.{goes_on, is_last_after_stop, is_multi, may_come, name_line, offer};
+ghost use Rattle.getopts_shell.specs.Completion.{goes_on, holds_all, is_last_after_stop, may_come};
+ghost use Rattle.getopts_shell.specs.Completion.{name_line, offer};
 ghost use Rattle.getopts_shell.specs.Completion.{option_lines, options_lines, takes_argument};
 ghost use Rattle.getopts_shell.specs.Completion.{first_line, functions, modes, stub, stub_call};
 ghost use Rattle.getopts_shell.specs.Completion.{stub_quoted};
-ghost use Rattle.getopts_shell.specs.Held.{group_of_row, groups_of};
+ghost use Rattle.getopts_shell.specs.Held.{entries_of, entry_of_row};
 
 use crate::item::is_long_name;
 use crate::quote::{push_parting, push_replaced};
-use crate::row::Row;
+use crate::row::{Often, Row};
 use crate::variables::main_name;
-use getopts::{Fail, HasArg, Matches, Occur, Options};
+use getopts::{Fail, HasArg, Matches, Options};
 use std::alloc::{AllocError, Global};
 
 /// What completes words in bash: it reads the words up to the cursor, asks the program, and shows
@@ -191,13 +192,12 @@ pub(crate) fn offers(
     options: &Options,
     long_only: bool,
     rows: &[Row<'_>],
-    before: &[&str],
+    before: &[String],
     word: &str,
 ) -> Result<String, AllocError>
-    requires rows { options.now.groups ≡ groups_of rows.now }
-    requires mode { options.now.long_only ≡ long_only }
-    ensures { IfOk result (λ text.
-        string_bytes text ≡ offer options.now (texts before.now) word.now) }
+    requires { options.now.long_only ≡ long_only }
+    ensures { IfOk result (λ text. string_bytes text
+        ≡ offer options.now (entries_of rows.now) (map string_bytes before.now) word.now) }
 {
     if !begins_with(word, "-") {
         return String::from_str(alloc, "files\n");
@@ -210,9 +210,13 @@ pub(crate) fn offers(
 
 /// The matches of words after which an option may come, with a `--` and an empty word after them, if
 /// one may: these are a stop and a free word.
-fn goes_on(alloc: Global, options: &Options, before: &[&str]) -> Result<Option<Matches>, AllocError>
+fn goes_on(
+    alloc: Global,
+    options: &Options,
+    before: &[String],
+) -> Result<Option<Matches>, AllocError>
     ensures { IfOk result (λ found. option_map (λ matches. matches.groups) found
-        ≡ goes_on options.now (texts before.now)) }
+        ≡ goes_on options.now (map string_bytes before.now)) }
 {
     let words = with_stop(alloc, before)?;
     let found = read_words(alloc, options, &words)?;
@@ -255,11 +259,14 @@ fn no_matches(fail: &Fail) -> Result<Option<Matches>, AllocError>
 }
 
 /// Words, and after them a `--` and an empty word.
-fn with_stop<'w>(alloc: Global, before: &[&'w str]) -> Result<Vec<&'w str>, AllocError>
-    ensures { IfOk result (λ words. texts words.items ≡ texts before.now ++ stop_word ∷ [] ∷ []) }
+fn with_stop(alloc: Global, before: &[String]) -> Result<Vec<&str>, AllocError>
+    ensures { IfOk result (λ words. texts words.items
+        ≡ map string_bytes before.now ++ stop_word ∷ [] ∷ []) }
 {
     let mut words = Vec::new(alloc);
-    words.extend_from_slice(before)?;
+    for word in before {
+        words.push(word.as_str())?;
+    }
     words.push("--")?;
     words.push("")?;
     Ok(words)
@@ -275,7 +282,7 @@ fn is_last_after_stop(matches: &Matches) -> bool
     }
 }
 
-/// What is offered of the options that may come once more.
+/// What is offered of the options that are offered.
 fn options_lines(
     alloc: Global,
     matches: &Matches,
@@ -284,7 +291,7 @@ fn options_lines(
     rows: &[Row<'_>],
 ) -> Result<String, AllocError>
     ensures { IfOk result (λ text. string_bytes text
-        ≡ options_lines matches.now.groups long_only word.now (groups_of rows.now)) }
+        ≡ options_lines matches.now.groups long_only word.now (entries_of rows.now)) }
 {
     let mut text = String::new(alloc);
     for row in rows {
@@ -295,18 +302,18 @@ fn options_lines(
     Ok(text)
 }
 
-/// Whether an option may come once more.
+/// Whether an option is offered: it wasn't given, or all its values count.
 fn may_come(matches: &Matches, row: &Row<'_>) -> bool
-    ensures { result ≡ may_come matches.now.groups (group_of_row row.now) }
+    ensures { result ≡ may_come matches.now.groups (entry_of_row row.now) }
 {
-    is_multi(row.occurrence) || !is_given(matches, main_name(*row))
+    holds_all(row.often) || !is_given(matches, main_name(*row))
 }
 
-/// Whether an option may come any number of times.
-fn is_multi(occurrence: Occur) -> bool
-    ensures { result ≡ is_multi occurrence }
+/// Whether all values of an option count.
+pub(crate) fn holds_all(often: Often) -> bool
+    ensures { result ≡ holds_all often }
 {
-    matches!(occurrence, Occur::Multi)
+    matches!(often, Often::All)
 }
 
 /// Whether matches have an option of this name.
@@ -324,7 +331,7 @@ fn push_option(
     row: &Row<'_>,
 ) -> Result<(), AllocError>
     ensures { OnOk result (string_bytes text.new
-        ≡ string_bytes text.old ++ option_lines long_only word.now (group_of_row row.now)) }
+        ≡ string_bytes text.old ++ option_lines long_only word.now (entry_of_row row.now)) }
 {
     let valued = takes_argument(row.kind);
     push_name(text, word, valued, "--", row.long, row.description)?;

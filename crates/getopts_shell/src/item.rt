@@ -6,35 +6,34 @@ ghost use Rattle.std.specs.Prelude.{true, false};
 ghost use Rattle.std.specs.List.{AllByRecursion, ends_with, list_all, position_or_len, starts_with};
 ghost use Rattle.std.specs.Option.{option_copied, option_map_or};
 ghost use Rattle.getopts.specs.Names.{Text, Names, is_empty};
-ghost use Rattle.getopts.specs.Options.{Signature};
 ghost use Rattle.getopts.specs.Reading.{begins_with_dash};
 ghost use Rattle.getopts.specs.declared.groups.HasArg.{HasArg as Kind};
-ghost use Rattle.getopts.specs.declared.groups.Occur.{Occur as Occurrence};
-ghost use Rattle.getopts_shell.specs.Held.{entry_of_row};
 ghost use Rattle.getopts_shell.specs.Table.{is_name, is_name_byte, is_hint, is_hint_byte, AreNames};
 ghost use Rattle.getopts_shell.specs.Table.{is_long_name, is_long_byte, MayBeNames};
 ghost use Rattle.getopts_shell.specs.Table.{IsArgument, HasParts, IsBracketed, IsItem, end_means};
 ghost use Rattle.getopts_shell.specs.Table.{begins_capital, begins_name, ends_as_name};
 ghost use Rattle.getopts_shell.specs.Table.{ends_behind, fits, unopened};
 ghost use Rattle.getopts_shell.specs.Table.{after, before, dashed, holds, names_in, reason_of};
-ghost use Rattle.getopts_shell.specs.declared.row.Mark.{Mark as Behind};
+ghost use Rattle.getopts_shell.specs.declared.row.Often.{Often as Frequency};
 
-use crate::row::{Mark, Row};
-use getopts::{HasArg, Occur, names_lawful};
+use crate::row::{Often, Row};
+use getopts::{HasArg, names_lawful};
 
 /// The option of an item in the line with this number, with this description, if the text is one.
 pub(crate) fn row_of<'t>(line: usize, item: &'t str, description: &'t str) -> Option<Row<'t>>
     ensures option { MatchOption result
-        ((known : Signature) (hint : Text) (mark : Behind) → ¬ (IsItem item.now known hint mark))
-        (λ row. IsItem item.now (entry_of_row row).signature row.hint.now row.mark) }
+        ((names : Names) (kind : Kind) (often : Frequency) (hint : Text)
+        → ¬ (IsItem item.now names kind often hint))
+        (λ row. IsItem item.now (record { short = row.short.now; long = row.long.now }) row.kind
+        row.often row.hint.now) }
     ensures place { MatchOption result (Unit {0})
         (λ row. (row.line ≡ line) × (row.description.now ≡ description.now)) }
 {
-    let (inside, occurrence, mark) = unbracketed(item)?;
+    let (inside, often) = unbracketed(item)?;
     let (names, argument) = parts_of(inside);
     let (short, long) = names_of(names)?;
     let (kind, hint) = argument_of(argument)?;
-    if !fits(mark, kind) {
+    if !fits(often, kind) {
         return None;
     }
     Some(Row {
@@ -42,35 +41,35 @@ pub(crate) fn row_of<'t>(line: usize, item: &'t str, description: &'t str) -> Op
         short,
         long,
         kind,
-        occurrence,
+        often,
         hint,
         description,
-        mark,
     })
 }
 
-/// Whether an option with a mark may be of a kind: one that stands alone takes no argument.
-fn fits(mark: Mark, kind: HasArg) -> bool
-    ensures { result ≡ fits mark kind }
+/// Whether an option that may come so often may be of a kind: one that stands alone takes no
+/// argument.
+fn fits(often: Often, kind: HasArg) -> bool
+    ensures { result ≡ fits often kind }
 {
-    match (mark, kind) {
-        (Mark::Alone, HasArg::Yes | HasArg::Maybe) => false,
+    match (often, kind) {
+        (Often::Alone, HasArg::Yes | HasArg::Maybe) => false,
         _ => true,
     }
 }
 
-/// A text without the brackets of its occurrence, if it has those of one.
-fn unbracketed(text: &str) -> Option<(&str, Occur, Mark)>
-    ensures { MatchOption result ((inside : Text) (occurrence : Occurrence) (mark : Behind)
-        → ¬ (IsBracketed text.now inside occurrence mark))
-        (λ found. IsBracketed text.now found.0.now found.1 found.2) }
+/// A text without the brackets that say how often its option may come, and how often that is.
+fn unbracketed(text: &str) -> Option<(&str, Often)>
+    ensures { MatchOption result ((inside : Text) (often : Frequency)
+        → ¬ (IsBracketed text.now inside often))
+        (λ found. IsBracketed text.now found.0.now found.1) }
 {
     let Some(opened) = text.strip_prefix('[') else {
-        return Some((text, Occur::Req, Mark::Plain));
+        return Some((text, Often::Once));
     };
     let (inside, end) = cut_at_bracket(opened)?;
-    let (occurrence, mark) = end_means(end)?;
-    Some((inside, occurrence, mark))
+    let often = end_means(end)?;
+    Some((inside, often))
 }
 
 /// A text in two: what stands before its last `]`, and what stands after it.
@@ -83,15 +82,15 @@ fn cut_at_bracket(text: &str) -> Option<(&str, &str)>
 }
 
 /// What stands behind `]`.
-fn end_means(end: &str) -> Option<(Occur, Mark)>
+fn end_means(end: &str) -> Option<Often>
     ensures { result ≡ end_means end.now }
 {
     if end.is_empty() {
-        Some((Occur::Multi, Mark::Last))
+        Some(Often::Last)
     } else if end == "!" {
-        Some((Occur::Optional, Mark::Alone))
+        Some(Often::Alone)
     } else if end == ".." || end == "..." {
-        Some((Occur::Multi, Mark::Plain))
+        Some(Often::All)
     } else {
         None
     }
@@ -249,7 +248,7 @@ fn is_hint_byte(byte: u8) -> bool
 
 /// Why a text is no option that holds `[` and no `]`.
 const OPEN: &str = "no ']'";
-/// Where a dash or `|` stands after the first space.
+/// Where a dash, `|` or `]` stands after the first space.
 const APART: &str = "names are written as -s|--long, without a blank or a comma";
 /// Where a space stands after the first `]`.
 const GAP: &str = "a tab or two spaces have to come before the description";
@@ -269,7 +268,7 @@ const BAR: &str = "a long name comes after '|', with two dashes";
 const ORDER: &str = "the short name comes first, then one long one";
 /// Where its short name has more.
 const SHORT: &str = "a short name has one byte, and a long one comes after '--'";
-/// Where its short name is another byte.
+/// Where its short name is another byte, or begins with one beyond ASCII.
 const LETTER: &str = "a short name is a letter, a digit or one of ?@#%+_^,./:";
 /// Where its long name is shorter.
 const LONG: &str = "a long name has at least two bytes";
@@ -297,7 +296,7 @@ pub(crate) fn reason_of(item: &str) -> &'static str
     let reasons = [
         (is_open(item), OPEN),
         (end.starts_with(b" [-"), ONE),
-        (begins_name(unopened(argument)), APART),
+        (stands_apart(argument), APART),
         (end.contains(&b' '), GAP),
         (argument.contains(&b' '), SPACE),
         (names.contains(&b'='), EQUALS),
@@ -308,6 +307,7 @@ pub(crate) fn reason_of(item: &str) -> &'static str
         (lack_two_dashes(names, long), BAR),
         (long.starts_with(b"---"), DASHES),
         (long.contains(&b'|'), ORDER),
+        (is_beyond_ascii(short), LETTER),
         (short.len() > 2, SHORT),
         (!is_name(without_first(short)), LETTER),
         (is_too_short(long), LONG),
@@ -354,6 +354,14 @@ fn begins_name(bytes: &[u8]) -> bool
     matches!(bytes, [b'-' | b'|', ..])
 }
 
+/// Whether what stands after the first space is no argument, but a name, or the end of brackets.
+fn stands_apart(argument: &[u8]) -> bool
+    ensures { result ≡ (begins_name (unopened argument.now)
+        || starts_with ◌==◌ argument.now (codes "]")) }
+{
+    begins_name(unopened(argument)) || argument.starts_with(b"]")
+}
+
 /// Whether names begin as an operand does, and a space stands in the item.
 fn is_described(names: &[u8], item: &[u8]) -> bool
     ensures { result ≡ (begins_capital names.now && holds 32 item.now) }
@@ -373,6 +381,13 @@ fn lack_dash(names: &[u8], short: &[u8]) -> bool
     ensures { result ≡ (not (begins_with_dash names.now) || length short.now == 1) }
 {
     !names.starts_with(b"-") || short.len() == 1
+}
+
+/// Whether a short name with its dash begins with a byte beyond ASCII.
+fn is_beyond_ascii(short: &[u8]) -> bool
+    ensures { result ≡ nat_lt 127 (slice_index short.now 1) }
+{
+    matches!(short, [_, 128..=255, ..])
 }
 
 /// Whether a name comes after `|`, and the long one of the names doesn't begin with two dashes.

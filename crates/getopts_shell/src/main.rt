@@ -21,7 +21,7 @@ use answer::{NO_MEMORY, answer};
 use std::alloc::AllocError;
 use std::io;
 use std::process::ExitCode;
-use words::{system_words, texts_of};
+use words::system_words;
 
 /// Runs over the system's words, without the program's own name, the standard output and the
 /// standard error.
@@ -35,6 +35,5 @@ fn run(rt: &HostRuntime) -> Result<u8, AllocError>
     ensures { IfOk result IsStatus }
 {
     let words = system_words(rt)?;
-    let texts = texts_of(rt.alloc(), &words)?;
-    Ok(answer(rt.alloc(), &texts, &mut io::writer(rt), &mut rt.stderr()))
+    Ok(answer(rt.alloc(), &words, &mut io::writer(rt), &mut rt.stderr()))
 }

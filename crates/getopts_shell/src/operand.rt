@@ -10,9 +10,8 @@ ghost use Rattle.getopts.specs.Wrap.{continued};
 ghost use Rattle.getopts_shell.specs.Held.{operand_fault_told, operand_of, operands_of};
 ghost use Rattle.getopts_shell.specs.Program.{IsOperandRow, free_fault, operand_fault};
 ghost use Rattle.getopts_shell.specs.Program.{operand_head, operand_padding};
-ghost use Rattle.getopts_shell.specs.Table.{before, comes_before, first_late};
-ghost use Rattle.getopts_shell.specs.Table.{has_brackets, has_dots, is_needed};
-ghost use Rattle.getopts_shell.specs.Table.{is_operand, is_operand_byte, may_repeat};
+ghost use Rattle.getopts_shell.specs.Table.{before, comes_before, has_brackets, has_dots};
+ghost use Rattle.getopts_shell.specs.Table.{is_needed, is_operand, is_operand_byte, may_repeat};
 
 use crate::item::{begins_capital, cut_at, unopened};
 use crate::quote::{push_joined, push_parting};
@@ -107,21 +106,8 @@ fn undotted(item: &str) -> &str
     }
 }
 
-/// The first operand that may not come after those before it.
-pub(crate) fn first_late<'t>(operands: &[Operand<'t>]) -> Option<Operand<'t>>
-    ensures { option_map operand_of result ≡ first_late [] (operands_of operands.now) }
-{
-    for at in 0..operands.len() {
-        let operand = operands[at];
-        if !may_follow(&operands[..at], operand) {
-            return Some(operand);
-        }
-    }
-    None
-}
-
 /// Whether an operand may come after these.
-fn may_follow(before: &[Operand<'_>], operand: Operand<'_>) -> bool
+pub(crate) fn may_follow(before: &[Operand<'_>], operand: Operand<'_>) -> bool
     ensures { result ≡ list_all
         (λ other. comes_before (operand_of operand.entry) (operand_of other)) before.now }
 {

@@ -2,17 +2,19 @@
 
 ghost use Rattle.getopts_shell.specs.Table.{MayBeNames};
 
-use getopts::{HasArg, Occur};
+use getopts::HasArg;
 
-/// What stands behind the brackets of an option, besides how often it may come.
+/// How often an option may come, and which of its values count.
 #[derive(Clone, Copy)]
-pub enum Mark {
-    /// Nothing, and all values count: dots, or no brackets.
-    Plain,
-    /// `!`: it stands alone.
-    Alone,
-    /// Nothing either, and its last value counts.
+pub enum Often {
+    /// Exactly once: no brackets.
+    Once,
+    /// Any number of times, and the last value counts: brackets.
     Last,
+    /// Any number of times, and all values count: brackets and dots.
+    All,
+    /// It stands alone: brackets and `!`.
+    Alone,
 }
 
 /// An option that the line of a table with this number declares, by lawful names.
@@ -22,9 +24,8 @@ pub struct Row<'t> {
     pub short: &'t str,
     pub long: &'t str,
     pub kind: HasArg,
-    pub occurrence: Occur,
+    pub often: Often,
     pub hint: &'t str,
     pub description: &'t str,
-    pub mark: Mark,
     ghost may_be: { MayBeNames short.now long.now },
 }

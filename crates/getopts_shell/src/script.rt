@@ -4,8 +4,7 @@ ghost use Rattle.std.specs.Prelude.{◌≡◌, None};
 ghost use Rattle.getopts_shell.specs.Held.{asked_of, entries_of, groups_of};
 ghost use Rattle.getopts_shell.specs.Program.{asked_fault, options_in};
 
-use crate::operand::Operand;
-use crate::row::Row;
+use crate::table::Table;
 use crate::variables::Variables;
 use getopts::Options;
 
@@ -22,17 +21,16 @@ pub(crate) struct Asked {
     pub arrays: bool,
 }
 
-/// A script: what is asked for it, its name, and its options and operands, as its table declares
-/// them.
+/// A script: what is asked for it, its name, what its table declares, and its options.
 #[derive(Clone, Copy)]
 pub(crate) struct Script<'s> {
     pub asked: &'s Asked,
     pub name: &'s str,
-    pub rows: &'s [Row<'s>],
-    pub operands: &'s [Operand<'s>],
+    pub table: &'s Table<'s>,
     pub options: &'s Options,
-    ghost options_are: { options.now ≡ options_in (asked_of asked.now) (groups_of rows.now) },
-    ghost no_fault: { asked_fault (asked_of asked.now) (entries_of rows.now) ≡ None },
+    ghost options_are: { options.now
+        ≡ options_in (asked_of asked.now) (groups_of table.now.rows.items) },
+    ghost no_fault: { asked_fault (asked_of asked.now) (entries_of table.now.rows.items) ≡ None },
 }
 
 impl<'s> Script<'s> {

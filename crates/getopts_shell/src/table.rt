@@ -1,21 +1,31 @@
 //! Tables of options: their lines, and the options that these declare.
 
 ghost use Rattle.std.specs.Prelude.{◌≡◌, ◌++◌, Option, ◌||◌, ◌==◌, slice_index};
-ghost use Rattle.std.specs.Prelude.{MatchResult, IfErr, IfSome, OnOk, Some, None};
+ghost use Rattle.std.specs.Prelude.{◌∷◌, [], MatchResult, IfErr, IfSome, OnOk, Some, None, true};
+ghost use Rattle.std.specs.Prelude.{false};
 ghost use Rattle.std.specs.List.{list_any};
 ghost use Rattle.std.specs.Option.{option_copied, option_to_list};
 ghost use Rattle.std.specs.Str.{bytes_eq};
-ghost use Rattle.getopts.specs.Names.{is_empty};
-ghost use Rattle.getopts_shell.specs.Held.{entry_of_row, entries_of, operands_of, TellsFault};
+ghost use Rattle.getopts.specs.Names.{Text, is_empty};
+ghost use Rattle.getopts_shell.specs.Held.{entry_of_row, entries_of, operand_of, operands_of};
+ghost use Rattle.getopts_shell.specs.Held.{TellsFault};
 ghost use Rattle.getopts_shell.specs.Table.{trimmed, begins_gap, before_gap, from_gap};
 ghost use Rattle.getopts_shell.specs.Table.{any_has_name, name_again};
 ghost use Rattle.getopts_shell.specs.Table.{Entry, OneTableOneList, Declares, DeclaresOptions};
-ghost use Rattle.getopts_shell.specs.Table.{IsLineFault, IsTableFault, operand_at, operands_in};
+ghost use Rattle.getopts_shell.specs.Table.{IsLineFault, IsTableFault, late_operand};
+ghost use Rattle.getopts_shell.specs.Table.{may_follow, name_twice, operand_at, operands_in};
 
 use crate::item::row_of;
-use crate::operand::{Operand, is_operand};
+use crate::operand::{Operand, is_operand, may_follow};
 use crate::row::Row;
 use std::alloc::{AllocError, Global};
+
+/// What a table declares: its options and its operands, in order.
+#[derive(Drop)]
+pub(crate) struct Table<'t> {
+    pub rows: Vec<Row<'t>>,
+    pub operands: Vec<Operand<'t>>,
+}
 
 /// Why a table is refused.
 #[derive(Drop)]
@@ -24,6 +34,8 @@ pub(crate) enum TableError<'t> {
     NoOption(usize, &'t str),
     /// The line with this number has a name that stands there already. Holds the name.
     NameTwice(usize, &'t str),
+    /// The operand in the line with this number may not follow those before it. Holds its item.
+    LateOperand(usize, &'t str),
     /// Memory was refused.
     OutOfMemory,
 }
@@ -33,39 +45,37 @@ pub fn one_table_one_list()
     ensures { OneTableOneList }
 {}
 
-/// The options that a table declares, in order, and its operands.
-pub(crate) fn declared_in<'t>(
-    alloc: Global,
-    table: &'t str,
-) -> Result<(Vec<Row<'t>>, Vec<Operand<'t>>), TableError<'t>>
-    ensures { MatchResult result (λ found. DeclaresOptions table.now (entries_of found.0.items)
-        × (operands_of found.1.items ≡ operands_in table.now))
-        (λ error. TellsFault error (IsTableFault table.now)) }
+/// The options and the operands that a table declares.
+pub(crate) fn declared_in<'t>(alloc: Global, text: &'t str) -> Result<Table<'t>, TableError<'t>>
+    ensures { MatchResult result
+        (λ table. DeclaresOptions text.now (entries_of table.rows.items)
+        × (operands_of table.operands.items ≡ operands_in text.now))
+        (λ error. TellsFault error (IsTableFault text.now)) }
 {
-    let mut rows = Vec::new(alloc);
-    let mut operands = Vec::new(alloc);
+    let mut table = Table {
+        rows: Vec::new(alloc),
+        operands: Vec::new(alloc),
+    };
     let mut number = 0usize;
-    for line in table.split('\n') {
+    for line in text.split('\n') {
         number = number.saturating_add(1);
-        push_line(&mut rows, &mut operands, number, line)?;
+        push_line(&mut table, number, line)?;
     }
-    Ok((rows, operands))
+    Ok(table)
 }
 
 /// Adds the option or the operand that a line declares, if it declares one.
-fn push_line<'t>(
-    rows: &mut Vec<Row<'t>>,
-    operands: &mut Vec<Operand<'t>>,
-    number: usize,
-    line: &'t str,
-) -> Result<(), TableError<'t>>
+fn push_line<'t>(table: &mut Table<'t>, number: usize, line: &'t str) -> Result<(), TableError<'t>>
     ensures declared { OnOk result ((declared : Option Entry) × Declares number line.now declared
-        × (entries_of rows.new.items ≡ entries_of rows.old.items ++ option_to_list declared)
-        × IfSome declared (λ entry. name_again (entries_of rows.old.items) entry ≡ None)) }
-    ensures operands { OnOk result (operands_of operands.new.items
-        ≡ operands_of operands.old.items ++ option_to_list (operand_at number line.now)) }
-    ensures fault { IfErr result (λ error.
-        TellsFault error (IsLineFault number (entries_of rows.old.items) line.now)) }
+        × (entries_of table.new.rows.items
+        ≡ entries_of table.old.rows.items ++ option_to_list declared)
+        × IfSome declared (λ entry. name_again (entries_of table.old.rows.items) entry ≡ None)) }
+    ensures operands { OnOk result (operands_of table.new.operands.items
+        ≡ operands_of table.old.operands.items ++ option_to_list (operand_at number line.now)) }
+    ensures in_order { OnOk result (IfSome (operand_at number line.now)
+        (λ operand. may_follow (operands_of table.old.operands.items) operand ≡ true)) }
+    ensures fault { IfErr result (λ error. TellsFault error (IsLineFault number
+        (entries_of table.old.rows.items) (operands_of table.old.operands.items) line.now)) }
 {
     let line = trimmed(line);
     if declares_nothing(line) {
@@ -80,16 +90,48 @@ fn push_line<'t>(
             item,
             description,
         };
-        return match operands.push(operand) {
-            Ok(()) => Ok(()),
-            Err(_) => Err(TableError::OutOfMemory),
-        };
+        return push_operand(&mut table.operands, operand);
     }
-    let Some(row) = row_of(number, item, description) else {
-        return Err(TableError::NoOption(number, item));
-    };
+    match row_of(number, item, description) {
+        Some(row) => push_row(&mut table.rows, row),
+        None => Err(TableError::NoOption(number, item)),
+    }
+}
+
+/// Adds an operand, if it may follow those before it.
+fn push_operand<'t>(
+    operands: &mut Vec<Operand<'t>>,
+    operand: Operand<'t>,
+) -> Result<(), TableError<'t>>
+    ensures added { OnOk result (operands_of operands.new.items
+        ≡ operands_of operands.old.items ++ operand_of operand.entry ∷ []) }
+    ensures in_order { OnOk result
+        (may_follow (operands_of operands.old.items) (operand_of operand.entry) ≡ true) }
+    ensures fault { IfErr result (λ error. TellsFault error (λ fault.
+        (fault ≡ late_operand operand.entry.line operand.entry.item.now)
+        × (may_follow (operands_of operands.old.items) (operand_of operand.entry) ≡ false))) }
+{
+    if !may_follow(operands, operand) {
+        return Err(TableError::LateOperand(operand.line, operand.item));
+    }
+    match operands.push(operand) {
+        Ok(()) => Ok(()),
+        Err(_) => Err(TableError::OutOfMemory),
+    }
+}
+
+/// Adds a row, if its names are new.
+fn push_row<'t>(rows: &mut Vec<Row<'t>>, row: Row<'t>) -> Result<(), TableError<'t>>
+    ensures added { OnOk result (entries_of rows.new.items
+        ≡ entries_of rows.old.items ++ entry_of_row row.entry ∷ []) }
+    ensures once { OnOk result
+        (name_again (entries_of rows.old.items) (entry_of_row row.entry) ≡ None) }
+    ensures fault { IfErr result (λ error. TellsFault error (λ fault. (name : Text)
+        × (fault ≡ name_twice row.entry.line name)
+        × (name_again (entries_of rows.old.items) (entry_of_row row.entry) ≡ Some name))) }
+{
     match name_again(rows, row) {
-        Some(name) => Err(TableError::NameTwice(number, name)),
+        Some(name) => Err(TableError::NameTwice(row.line, name)),
         None => match rows.push(row) {
             Ok(()) => Ok(()),
             Err(_) => Err(TableError::OutOfMemory),

@@ -2,27 +2,29 @@
 
 ghost use Rattle.std.specs.Prelude.{◌≡◌, ◌++◌, [], length, map, IfOk, OnOk, false, not};
 ghost use Rattle.std.specs.Prelude.{slice_get, decimal, get_or, None, Some};
-ghost use Rattle.std.specs.Prelude.{MatchOption, true, ⊤};
+ghost use Rattle.std.specs.Prelude.{MatchOption, codes, true, ⊤};
 ghost use Rattle.std.specs.Char.{is_ascii_digit};
 ghost use Rattle.std.specs.Option.{option_map, option_map_or};
 ghost use Rattle.std.specs.List.{last_or, list_all, list_any};
 ghost use Rattle.std.specs.String.{string_bytes};
 ghost use Rattle.std.specs.Str.{IsUtf8, bytes_eq};
 ghost use Rattle.getopts.specs.Names.{AreTexts, main_name};
-ghost use Rattle.getopts_shell.specs.Held.{entries_of, entry_of_row, group_of_row};
+ghost use Rattle.getopts_shell.specs.Completion.{holds_all};
+ghost use Rattle.getopts_shell.specs.Held.{entries_of, entry_of_row};
 ghost use Rattle.getopts_shell.specs.Held.{variable_fault_told};
 ghost use Rattle.getopts_shell.specs.Quote.{quoted_words};
 ghost use Rattle.getopts_shell.specs.Variables.{AreTextValues, CodeSetsVariables, HoldTexts};
 ghost use Rattle.getopts_shell.specs.Variables.{all_values, found_alone, founds_of, given_alone};
-ghost use Rattle.getopts_shell.specs.Variables.{given_from, holds_all, is_prefix};
+ghost use Rattle.getopts_shell.specs.Variables.{given_from, is_prefix};
 ghost use Rattle.getopts_shell.specs.Variables.{is_variable, is_variable_byte, option_code};
-ghost use Rattle.getopts_shell.specs.Variables.{prefix_fault, texts_found, variable_fault};
+ghost use Rattle.getopts_shell.specs.Variables.{own_value, prefix_fault, texts_found};
 ghost use Rattle.getopts_shell.specs.Variables.{value_line, variable, variable_byte};
+ghost use Rattle.getopts_shell.specs.Variables.{variable_fault, variable_of};
 ghost use Rattle.getopts_shell.specs.Variables.{variables_code, many, one};
 
 use crate::quote::{push_line, push_parting, push_quoted, push_replaced};
-use crate::row::{Mark, Row};
-use getopts::{HasArg, Matches, Occur, Occurrences};
+use crate::row::{Often, Row};
+use getopts::{HasArg, Matches, Occurrences};
 use std::alloc::{AllocError, Global};
 
 /// How options become variables: what their names begin with, and whether an array holds values.
@@ -132,24 +134,49 @@ fn push_option(
     ensures text { OnOk result (string_bytes text.new ≡ string_bytes text.old
         ++ option_code variables.entry.prefix.now variables.entry.arrays
         record { entry = entry_of_row row.entry; found = founds_of given.entry }) }
-    ensures values { OnOk result (AreTextValues row.entry.kind
-        (holds_all (entry_of_row row.entry)) (founds_of given.entry)) }
+    ensures values { OnOk result
+        (AreTextValues row.entry.kind (holds_all row.entry.often) (founds_of given.entry)) }
+{
+    push_unset(text, variables.prefix, main_name(row))?;
+    push_option_value(alloc, text, variables, row, given)
+}
+
+/// Adds the command that takes a variable away.
+fn push_unset(text: &mut String, prefix: &str, name: &str) -> Result<(), AllocError>
+    ensures { OnOk result (string_bytes text.new ≡ string_bytes text.old
+        ++ (codes "\\unset -v " ++ (variable prefix.now name.now ++ codes "\n"))) }
+{
+    text.push_str("\\unset -v ")?;
+    push_variable(text, prefix, name)?;
+    text.push('\n')
+}
+
+/// Adds the command that sets the variable of an option, if it has a value.
+fn push_option_value(
+    alloc: Global,
+    text: &mut String,
+    variables: Variables<'_>,
+    row: Row<'_>,
+    given: Came<'_>,
+) -> Result<(), AllocError>
+    ensures text { OnOk result (string_bytes text.new ≡ string_bytes text.old
+        ++ value_line (variable_of variables.entry.prefix.now (entry_of_row row.entry))
+        (own_value variables.entry.arrays
+        record { entry = entry_of_row row.entry; found = founds_of given.entry })) }
+    ensures values { OnOk result
+        (AreTextValues row.entry.kind (holds_all row.entry.often) (founds_of given.entry)) }
 {
     let name = main_name(row);
-    text.push_str("\\unset -v ")?;
-    push_variable(text, variables.prefix, name)?;
-    text.push('\n')?;
-    match (row.kind, row.mark, row.occurrence) {
-        (HasArg::No, _, _) => push_count(alloc, text, variables.prefix, name, count(given)),
-        (_, Mark::Last, _) => push_last(text, variables.prefix, name, given),
-        (_, _, Occur::Multi) => push_all(alloc, text, variables, name, given),
+    match (row.kind, row.often) {
+        (HasArg::No, _) => push_count(alloc, text, variables.prefix, name, count(given)),
+        (_, Often::All) => push_all(alloc, text, variables, name, given),
         _ => push_last(text, variables.prefix, name, given),
     }
 }
 
 /// The main name of an option.
 pub(crate) fn main_name<'t>(row: Row<'t>) -> &'t str
-    ensures { result.now ≡ main_name (group_of_row row.entry).signature.names }
+    ensures { result.now ≡ main_name (entry_of_row row.entry).names }
 {
     if row.long.is_empty() {
         row.short
@@ -359,7 +386,7 @@ fn is_variable_byte(byte: u8) -> bool
 /// Whether one of the rows makes the variable that a main name makes.
 fn any_has_variable(rows: &[Row<'_>], name: &str) -> bool
     ensures { result ≡ list_any (λ row. bytes_eq
-        (map variable_byte (main_name (group_of_row row).signature.names))
+        (map variable_byte (main_name (entry_of_row row).names))
         (map variable_byte name.now)) rows.now }
 {
     rows.iter().any(|row| same_variable(main_name(*row), name))

@@ -1,8 +1,7 @@
 //! The system's words, without the program's own name.
 
-ghost use Rattle.std.specs.Prelude.{◌≡◌, ◌≤◌, map, vec_len, IfOk, IfSome};
+ghost use Rattle.std.specs.Prelude.{◌≡◌, ◌≤◌, vec_len, IfOk, IfSome};
 ghost use Rattle.std.specs.String.{string_bytes};
-ghost use Rattle.getopts.specs.Names.{texts};
 ghost use Rattle.getopts_bytes.specs.Marks.{text_of};
 
 use getopts_bytes::push_text;
@@ -52,15 +51,4 @@ fn text_of(alloc: Global, word: &[u8]) -> Result<String, AllocError>
     let mut text = String::new(alloc);
     push_text(&mut text, word)?;
     Ok(text)
-}
-
-/// The texts of words, in order.
-pub(crate) fn texts_of(alloc: Global, words: &[String]) -> Result<Vec<&str>, AllocError>
-    ensures { IfOk result (λ lent. texts lent.items ≡ map string_bytes words.now) }
-{
-    let mut texts = Vec::with_capacity(alloc, words.len())?;
-    for word in words {
-        texts.push(word.as_str())?;
-    }
-    Ok(texts)
 }

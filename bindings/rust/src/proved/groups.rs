@@ -3,7 +3,7 @@
 
 use crate::fallible::*;
 
-use super::names::{Names, is_of_bytes, key_of, short_byte};
+use super::names::{NO_BYTE, Names, is_of_bytes, key_of, short_byte};
 use crate::alloc::{AllocError, Global};
 
 /// The capacity once a first group is added: so many groups need no second request.
@@ -84,14 +84,14 @@ pub(crate) struct Ends {
 /// A group among others: where its names stand in the text of all names, what they are looked up by, and
 /// its kinds.
 #[derive(Debug, Clone, Copy)]
-struct SignatureRecord {
-    names: Ends,
+pub(crate) struct SignatureRecord {
+    pub names: Ends,
     /// The key of the main name.
-    key: u64,
+    pub key: u64,
     /// The byte of the short name, or `NO_BYTE`.
-    short: u16,
-    has_long: bool,
-    kinds: Kinds,
+    pub short: u16,
+    pub has_long: bool,
+    pub kinds: Kinds,
 }
 
 impl PartialEq for SignatureRecord {
@@ -164,15 +164,28 @@ impl Signatures {
         self.records.len()
     }
 
-    /// The groups may be declared: a law to cite, of which nothing is left once built.
+    /// The groups may be declared, and each name is of bytes: laws to cite, of which nothing is left once
+    /// built.
     pub(crate) fn are_lawful(&self) {
-        let _records = &self.records;
+        is_of_bytes(&self.text);
     }
 
-    /// The kinds of the group at a place.
+    /// What is held of the group at a place.
     #[inline(always)]
-    pub(crate) fn kinds_at(&self, place: usize) -> Kinds {
-        self.record(place).kinds
+    pub(crate) fn record(&self, place: usize) -> SignatureRecord {
+        self.records[place]
+    }
+
+    /// How many groups have a short name. It only says how much to reserve: a wrong number would cost memory
+    /// alone.
+    pub(crate) fn short_names(&self) -> usize {
+        let mut short_names: usize = 0;
+        for record in &self.records {
+            if record.short < NO_BYTE {
+                short_names = short_names.saturating_add(1);
+            }
+        }
+        short_names
     }
 
     /// The short name of the group at a place.
@@ -187,30 +200,6 @@ impl Signatures {
         second_at(&self.text, self.records[place].names)
     }
 
-    /// What is held of the group at a place.
-    #[inline(always)]
-    fn record(&self, place: usize) -> SignatureRecord {
-        self.records[place]
-    }
-
-    /// The key of the main name of the group at a place.
-    #[inline(always)]
-    pub(crate) fn key_at(&self, place: usize) -> u64 {
-        self.record(place).key
-    }
-
-    /// The byte of the short name of the group at a place, or `NO_BYTE`.
-    #[inline(always)]
-    pub(crate) fn short_at(&self, place: usize) -> u16 {
-        self.record(place).short
-    }
-
-    /// Whether the group at a place has a long name.
-    #[inline(always)]
-    pub(crate) fn has_long(&self, place: usize) -> bool {
-        self.record(place).has_long
-    }
-
     /// The two names of the group at a place.
     #[inline]
     pub(crate) fn names(&self, place: usize) -> Names<'_> {
@@ -223,7 +212,7 @@ impl Signatures {
     /// The main name of the group at a place.
     #[inline]
     pub(crate) fn main(&self, place: usize) -> &str {
-        if self.has_long(place) {
+        if self.record(place).has_long {
             self.long(place)
         } else {
             self.short(place)
@@ -240,17 +229,12 @@ impl Signatures {
         }
     }
 
-    /// Each name is of bytes: a law to cite, of which nothing is left once built.
-    pub(crate) fn are_of_bytes(&self) {
-        is_of_bytes(&self.text);
-    }
-
     /// What reading asks of the group at a place.
     #[inline(always)]
     pub(crate) fn get(&self, place: usize) -> Signature<'_> {
         Signature {
             names: self.names(place),
-            kinds: self.kinds_at(place),
+            kinds: self.record(place).kinds,
         }
     }
 

@@ -157,24 +157,23 @@ impl<'m> Occurrences<'m> {
     /// last.
     #[inline]
     pub fn get(&self, nth: usize) -> Option<(usize, Option<&'m str>)> {
-        if nth < self.len() {
-            Some(self.at(nth))
-        } else {
-            None
+        if nth >= self.len() {
+            return None;
         }
+        let occurrence = self.at(nth);
+        Some((occurrence.position, occurrence.value))
     }
 
-    /// The position and the value of one that is there.
+    /// One that is there.
     #[inline]
-    fn at(&self, nth: usize) -> (usize, Option<&'m str>) {
-        let occurrence = self.found.at(self.places[nth]);
-        (occurrence.position, occurrence.value)
+    fn at(&self, nth: usize) -> Occurrence<'m> {
+        self.found.at(self.places[nth])
     }
 
     pub(crate) fn positions(&self, alloc: Global) -> Result<Vec<usize>, AllocError> {
         let mut positions = Vec::of_capacity(alloc, self.len())?;
         for nth in 0..self.len() {
-            positions.try_push(self.at(nth).0)?;
+            positions.try_push(self.at(nth).position)?;
         }
         Ok(positions)
     }
@@ -182,7 +181,7 @@ impl<'m> Occurrences<'m> {
     pub(crate) fn values(&self, alloc: Global) -> Result<Vec<String>, AllocError> {
         let mut values = Vec::empty(alloc);
         for nth in 0..self.len() {
-            if let (_, Some(value)) = self.at(nth) {
+            if let Some(value) = self.at(nth).value {
                 values.try_push(String::copy_of(alloc, value)?)?;
             }
         }
@@ -192,8 +191,9 @@ impl<'m> Occurrences<'m> {
     pub(crate) fn pairs(&self, alloc: Global) -> Result<Vec<(usize, String)>, AllocError> {
         let mut pairs = Vec::empty(alloc);
         for nth in 0..self.len() {
-            if let (position, Some(value)) = self.at(nth) {
-                pairs.try_push((position, String::copy_of(alloc, value)?))?;
+            let occurrence = self.at(nth);
+            if let Some(value) = occurrence.value {
+                pairs.try_push((occurrence.position, String::copy_of(alloc, value)?))?;
             }
         }
         Ok(pairs)
@@ -257,6 +257,6 @@ impl<'m> Iterator for OccurrencesIter<'m> {
         }
         let occurrence = self.occurrences.at(self.next);
         self.next += 1;
-        Some(occurrence)
+        Some((occurrence.position, occurrence.value))
     }
 }

@@ -98,7 +98,7 @@ pub(crate) fn words_from<'a, I: Iterator<Item = &'a str>>(
 fn check_counts(alloc: Global, signatures: &Signatures, read: &ReadLine) -> Result<(), Fail> {
     for place in 0..signatures.len() {
         let count = read.index.count(place);
-        if !fits_count(signatures.kinds_at(place).occurrence, count) {
+        if !fits_count(signatures.record(place).kinds.occurrence, count) {
             return Err(count_fault(alloc, signatures.main(place), count));
         }
     }

@@ -68,6 +68,20 @@ pub(crate) struct Scanner<'o> {
     pub table: &'o Table,
 }
 
+/// The option that a name resolves to: the place of its group, and whether it takes an argument.
+#[derive(Clone, Copy)]
+pub(crate) struct Named {
+    pub place: usize,
+    pub kind: HasArg,
+}
+
+/// The value that an option takes, if any, and how many of the words after its own that uses.
+#[derive(Clone, Copy)]
+struct Argument<'w> {
+    value: Option<&'w str>,
+    used: usize,
+}
+
 /// What a word is to a line.
 #[derive(Clone, Copy)]
 pub(crate) enum Shape<'w> {
@@ -151,33 +165,30 @@ fn first_character(text: &str) -> &str {
     }
 }
 
-/// The value of an option of kind Yes or Maybe in a cluster, by the rest of its word and the words
-/// after that, and how many of those it uses.
+/// What an option of kind Yes or Maybe takes in a cluster, by the rest of its word and the words after that.
 fn ending<'w, S: AsStr>(
     alloc: Global,
     kind: HasArg,
     name: &str,
     rest: &'w str,
     after: &'w [S],
-) -> Result<(Option<&'w str>, usize), Fail> {
-    if !rest.is_empty() {
-        return Ok((Some(rest), 0));
-    }
-    match after.first() {
-        Some(word) if kind == HasArg::Yes || !is_dashed(word.as_str()) => {
-            Ok((Some(word.as_str()), 1))
-        }
-        None if kind == HasArg::Yes => Err(Fail::argument_missing(alloc, name)),
-        _ => Ok((None, 0)),
-    }
+) -> Result<Argument<'w>, Fail> {
+    let (value, used) = match after.first() {
+        _ if !rest.is_empty() => (Some(rest), 0),
+        Some(word) if kind == HasArg::Yes || !is_dashed(word.as_str()) => (Some(word.as_str()), 1),
+        None if kind == HasArg::Yes => return Err(Fail::argument_missing(alloc, name)),
+        _ => (None, 0),
+    };
+    Ok(Argument { value, used })
 }
 
 impl<'o> Scanner<'o> {
-    /// The place and the kind of argument of the option that a name resolves to.
-    fn option(&self, name: &str) -> Option<(usize, HasArg)> {
+    /// The option that a name resolves to.
+    fn option(&self, name: &str) -> Option<Named> {
         let signatures = self.options.signatures();
         let place = self.table.resolve(signatures, name)?;
-        Some((place, signatures.kinds_at(place).kind))
+        let kind = signatures.record(place).kinds.kind;
+        Some(Named { place, kind })
     }
 
     /// Reads an item in long form, by its text after the dashes and the words after its first. Adds
@@ -191,11 +202,11 @@ impl<'o> Scanner<'o> {
         found: &mut LineOccurrences,
     ) -> Result<usize, Fail> {
         let (name, argument) = name_and_argument(text);
-        let (group, kind) = match self.option(name) {
+        let option = match self.option(name) {
             Some(option) => option,
             None => return Err(Fail::unrecognized_option(alloc, name)),
         };
-        let (value, used) = match (kind, argument) {
+        let (value, used) = match (option.kind, argument) {
             (HasArg::No, None) => (None, 0),
             (HasArg::No, Some(_)) => return Err(Fail::unexpected_argument(alloc, name)),
             (HasArg::Yes, None) => match after.first() {
@@ -205,20 +216,21 @@ impl<'o> Scanner<'o> {
             (HasArg::Yes, Some(value)) => (Some(value), 0),
             (HasArg::Maybe, argument) => (argument, 0),
         };
-        found.try_push(group, position, value)?;
+        found.try_push(option.place, position, value)?;
         Ok(used)
     }
 
-    /// The place and the kind of argument of the option that a byte in a cluster names; only names of one
-    /// byte resolve there, and one that isn't ASCII is no text.
+    /// The option that a byte in a cluster names; only names of one byte resolve there, and one that isn't
+    /// ASCII is no text.
     #[inline(always)]
-    fn option_at(&self, byte: u8) -> Option<(usize, HasArg)> {
+    fn option_at(&self, byte: u8) -> Option<Named> {
         if !byte.is_ascii() {
             return None;
         }
         let signatures = self.options.signatures();
         let place = self.table.resolve_byte(signatures, byte)?;
-        Some((place, signatures.kinds_at(place).kind))
+        let kind = signatures.record(place).kinds.kind;
+        Some(Named { place, kind })
     }
 
     /// Reads a cluster, by its text after the dash and the words after its first. Adds its occurrences,
@@ -237,12 +249,15 @@ impl<'o> Scanner<'o> {
                     let name = first_character(&text[at..]);
                     return Err(Fail::unrecognized_option(alloc, name));
                 }
-                Some((group, HasArg::No)) => found.try_push(group, position, None)?,
-                Some((group, kind)) => {
+                Some(Named {
+                    place,
+                    kind: HasArg::No,
+                }) => found.try_push(place, position, None)?,
+                Some(Named { place, kind }) => {
                     let name = &text[at..at + 1];
-                    let (value, used) = ending(alloc, kind, name, &text[at + 1..], after)?;
-                    found.try_push(group, position, value)?;
-                    return Ok(used);
+                    let argument = ending(alloc, kind, name, &text[at + 1..], after)?;
+                    found.try_push(place, position, argument.value)?;
+                    return Ok(argument.used);
                 }
             }
         }
@@ -266,8 +281,15 @@ impl<'o> Scanner<'o> {
 
     /// Reads a line: its items, and what follows the stop or the first free word.
     pub(crate) fn scan<S: AsStr>(&self, alloc: Global, words: &[S]) -> Result<Line, Fail> {
-        let stops = self.options.style() == ParsingStyle::StopAtFirstFree;
         let mut line = Line::of_capacity(alloc, words.len().min(FIRST_ROOM))?;
+        self.scan_into(alloc, words, &mut line)?;
+        Ok(line)
+    }
+
+    /// Reads a line into one that gives nothing yet.
+    #[inline(always)]
+    fn scan_into<S: AsStr>(&self, alloc: Global, words: &[S], line: &mut Line) -> Result<(), Fail> {
+        let stops = self.options.style() == ParsingStyle::StopAtFirstFree;
         line.try_grow(words, stops)?;
         let mut at = 0;
         'items: while at < words.len() {
@@ -277,7 +299,7 @@ impl<'o> Scanner<'o> {
                 Shape::Free => {
                     if stops {
                         push_copies(alloc, &mut line.free, &words[at..])?;
-                        return Ok(line);
+                        return Ok(());
                     }
                     push_copy(alloc, &mut line.free, word)?;
                     at + 1
@@ -285,7 +307,7 @@ impl<'o> Scanner<'o> {
                 Shape::Stop => {
                     line.trailing_start = (!after.is_empty()).then_some(line.free.len());
                     push_copies(alloc, &mut line.free, after)?;
-                    return Ok(line);
+                    return Ok(());
                 }
                 Shape::Long(text) => at + 1 + self.long(alloc, text, after, at, &mut line.found)?,
                 Shape::Cluster(text) => {
@@ -293,6 +315,6 @@ impl<'o> Scanner<'o> {
                 }
             };
         }
-        Ok(line)
+        Ok(())
     }
 }

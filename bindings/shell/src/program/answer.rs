@@ -5,15 +5,14 @@ use crate::host::*;
 
 use super::complete::{functions, is_given, offers, stub, takes_argument};
 use super::item::reason_of;
-use super::operand::{Operand, OperandError, first_late, free_error, push_operands, rows_of};
+use super::operand::{OperandError, free_error, push_operands, rows_of};
 use super::quote::{push_joined, push_line, push_quoted};
-use super::row::{Mark, Row};
+use super::row::{Often, Row};
 use super::script::{Asked, Script};
-use super::table::{TableError, declared_in};
+use super::table::{Table, TableError, declared_in};
 use super::variables::{
     VariableError, Variables, alone_code, main_name, variable_error, variables_code,
 };
-use super::words::texts_of;
 use crate::getopts::{Fail, Matches, Occur, Options, ParsingStyle, names_resolve};
 use ::getopts::bytes::push_bytes;
 use crate::host::alloc::{AllocError, Global};
@@ -82,7 +81,7 @@ impl Outcome {
 /// - 4: a write or a flush failed, and what was written is a front of the text
 /// - 5: what is wrong with the call: its own words, an unknown shell, a missing table, or a line of
 ///   it
-pub fn answer<W: Write, E: Write>(alloc: Global, words: &[&str], out: &mut W, err: &mut E) -> u8 {
+pub fn answer<W: Write, E: Write>(alloc: Global, words: &[String], out: &mut W, err: &mut E) -> u8 {
     match output_to(alloc, words) {
         Ok(output) => match write_output(&output, out, err) {
             Ok(()) => output.status,
@@ -123,7 +122,7 @@ fn print<W: Write>(out: &mut W, bytes: &[u8]) -> io::Result<()> {
 }
 
 /// What the program writes for words: the bytes of its answer's text.
-fn output_to(alloc: Global, words: &[&str]) -> Result<Output, AllocError> {
+fn output_to(alloc: Global, words: &[String]) -> Result<Output, AllocError> {
     let outcome = answer_to(alloc, words)?;
     let mut bytes = Vec::of_capacity(alloc, outcome.text.len())?;
     push_bytes(&mut bytes, outcome.text.as_str())?;
@@ -134,7 +133,7 @@ fn output_to(alloc: Global, words: &[&str]) -> Result<Output, AllocError> {
 }
 
 /// What the program says to words.
-fn answer_to(alloc: Global, words: &[&str]) -> Result<Outcome, AllocError> {
+fn answer_to(alloc: Global, words: &[String]) -> Result<Outcome, AllocError> {
     let options = own_options(alloc)?;
     match options.parse_words(alloc, words) {
         Ok(own) => own_answer(alloc, &options, &own),
@@ -202,8 +201,7 @@ fn own_answer(alloc: Global, options: &Options, own: &Matches) -> Result<Outcome
         return Ok(Outcome::done(String::copy_of(alloc, VERSION)?));
     }
     let asked = asked_by(alloc, own)?;
-    let words = texts_of(alloc, &own.free)?;
-    free_answer(alloc, &asked, &words)
+    free_answer(alloc, &asked, &own.free)
 }
 
 /// What the program's own words ask for, where they are accepted with these matches.
@@ -221,9 +219,11 @@ fn asked_by(alloc: Global, own: &Matches) -> Result<Asked, AllocError> {
 }
 
 /// The answer to the free words of the program's own: a script's name, its table and its words.
-fn free_answer(alloc: Global, asked: &Asked, words: &[&str]) -> Result<Outcome, AllocError> {
+fn free_answer(alloc: Global, asked: &Asked, words: &[String]) -> Result<Outcome, AllocError> {
     match words {
-        [name, table, words @ ..] => table_answer(alloc, asked, name, table, words),
+        [name, table, words @ ..] => {
+            table_answer(alloc, asked, name.as_str(), table.as_str(), words)
+        }
         _ => Ok(Outcome::misused(String::copy_of(alloc, NEEDED)?)),
     }
 }
@@ -234,63 +234,35 @@ fn table_answer(
     asked: &Asked,
     name: &str,
     table: &str,
-    words: &[&str],
+    words: &[String],
 ) -> Result<Outcome, AllocError> {
     match declared_in(alloc, table) {
-        Ok((rows, operands)) => declared_answer(alloc, asked, name, table, &rows, &operands, words),
+        Ok(declared) => declared_answer(alloc, asked, name, table, &declared, words),
         Err(error) => Ok(Outcome::misused(table_refusal(alloc, error)?)),
     }
 }
 
-/// The answer where a table has these rows and operands: that the operands stand in no order, or
-/// what it is else.
+/// The answer where a table declares these: the code that completes words, the fault of the
+/// variables, or the answer for the script.
 fn declared_answer(
     alloc: Global,
     asked: &Asked,
     name: &str,
-    table: &str,
-    rows: &[Row<'_>],
-    operands: &[Operand<'_>],
-    words: &[&str],
-) -> Result<Outcome, AllocError> {
-    match first_late(operands) {
-        Some(operand) => Ok(Outcome::misused(late_line(alloc, operand)?)),
-        None => ordered_answer(alloc, asked, name, table, rows, operands, words),
-    }
-}
-
-/// What is said of an operand that may not come after those before it.
-fn late_line(alloc: Global, operand: Operand<'_>) -> Result<String, AllocError> {
-    let Operand { line, item, .. } = operand;
-    text!(in alloc;
-        "getopts_shell: line {line} of the options: \
-         {item}: nothing comes after dots, and nothing required after brackets\n"
-    )
-}
-
-/// The answer where the operands of a table stand in order: the code that completes words, the
-/// fault of the variables, or the answer for the script.
-fn ordered_answer(
-    alloc: Global,
-    asked: &Asked,
-    name: &str,
-    table: &str,
-    rows: &[Row<'_>],
-    operands: &[Operand<'_>],
-    words: &[&str],
+    text: &str,
+    table: &Table<'_>,
+    words: &[String],
 ) -> Result<Outcome, AllocError> {
     if let Some(shell) = &asked.complete {
-        return completion_answer(alloc, asked, shell.as_str(), name, table);
+        return completion_answer(alloc, asked, shell.as_str(), name, text);
     }
-    if let Some(error) = asked_error(asked, rows) {
+    if let Some(error) = asked_error(asked, &table.rows) {
         return Ok(Outcome::misused(variable_refusal(alloc, error)?));
     }
-    let options = options_of(alloc, asked, rows, false)?;
+    let options = options_of(alloc, asked, &table.rows, false)?;
     let script = Script {
         asked,
         name,
-        rows,
-        operands,
+        table,
         options: &options,
     };
     script_answer(alloc, script, words)
@@ -306,6 +278,10 @@ fn table_refusal(alloc: Global, error: TableError<'_>) -> Result<String, AllocEr
         TableError::NameTwice(number, name) => text!(in alloc;
             "getopts_shell: line {number} of the options: \
              the name '{name}' stands in an earlier line\n"
+        ),
+        TableError::LateOperand(number, item) => text!(in alloc;
+            "getopts_shell: line {number} of the options: \
+             {item}: nothing comes after dots, and nothing required after brackets\n"
         ),
         TableError::OutOfMemory => Err(AllocError),
     }
@@ -360,33 +336,40 @@ fn options_of(
 /// Adds the options of a table.
 fn add_rows(options: &mut Options, rows: &[Row<'_>], shown: bool) -> Result<(), AllocError> {
     for row in rows {
-        let occurrence = if shown {
-            shown_occurrence(row.mark, row.occurrence)
-        } else {
-            row.occurrence
-        };
         options.add_group(
             row.short,
             row.long,
             row.description,
             row.hint,
             row.kind,
-            occurrence,
+            occurrence_of(shown, row.often),
         )?;
     }
     Ok(())
 }
 
-/// How often an option may come, as a help shows it.
-fn shown_occurrence(mark: Mark, occurrence: Occur) -> Occur {
-    match mark {
-        Mark::Last => Occur::Optional,
-        _ => occurrence,
+/// How often words may give an option, or how often its help says.
+fn occurrence_of(shown: bool, often: Often) -> Occur {
+    match often {
+        Often::Once => Occur::Req,
+        Often::All => Occur::Multi,
+        Often::Alone => Occur::Optional,
+        Often::Last => {
+            if shown {
+                Occur::Optional
+            } else {
+                Occur::Multi
+            }
+        }
     }
 }
 
 /// The answer for a script and its words.
-fn script_answer(alloc: Global, script: Script<'_>, words: &[&str]) -> Result<Outcome, AllocError> {
+fn script_answer(
+    alloc: Global,
+    script: Script<'_>,
+    words: &[String],
+) -> Result<Outcome, AllocError> {
     if script.asked.usage {
         return Ok(Outcome::done(help_of(alloc, script)?));
     }
@@ -398,7 +381,7 @@ fn script_answer(alloc: Global, script: Script<'_>, words: &[&str]) -> Result<Ou
 
 /// The options of a script as its help shows them.
 fn shown_options(alloc: Global, script: Script<'_>) -> Result<Options, AllocError> {
-    options_of(alloc, script.asked, script.rows, true)
+    options_of(alloc, script.asked, &script.table.rows, true)
 }
 
 /// The text that the help of a script begins with.
@@ -412,7 +395,11 @@ fn brief_text(alloc: Global, script: Script<'_>, shown: &Options) -> Result<Stri
 /// The short usage of a script: its options, and its operands.
 fn usage_line(alloc: Global, script: Script<'_>, shown: &Options) -> Result<String, AllocError> {
     let mut text = shown.short_usage(alloc, script.name)?;
-    push_operands(&mut text, !script.rows.is_empty(), script.operands)?;
+    push_operands(
+        &mut text,
+        !script.table.rows.is_empty(),
+        &script.table.operands,
+    )?;
     Ok(text)
 }
 
@@ -420,7 +407,7 @@ fn usage_line(alloc: Global, script: Script<'_>, shown: &Options) -> Result<Stri
 fn help_of(alloc: Global, script: Script<'_>) -> Result<String, AllocError> {
     let shown = shown_options(alloc, script)?;
     let brief = brief_text(alloc, script, &shown)?;
-    let rows = rows_of(alloc, script.operands)?;
+    let rows = rows_of(alloc, &script.table.operands)?;
     let front = help_front(brief, &rows)?;
     shown.usage(alloc, front.as_str())
 }
@@ -463,7 +450,7 @@ fn offer_answer(
     alloc: Global,
     shell: &str,
     script: Script<'_>,
-    words: &[&str],
+    words: &[String],
 ) -> Result<Outcome, AllocError> {
     match functions(shell) {
         Some(_) => Ok(Outcome::done(last_offers(alloc, script, words)?)),
@@ -472,20 +459,31 @@ fn offer_answer(
 }
 
 /// What may come at the last word.
-fn last_offers(alloc: Global, script: Script<'_>, words: &[&str]) -> Result<String, AllocError> {
+fn last_offers(alloc: Global, script: Script<'_>, words: &[String]) -> Result<String, AllocError> {
     let options = script.options;
     let long_only = script.asked.long_only;
     let count = words.len();
     if count == 0 {
-        return offers(alloc, options, long_only, script.rows, words, "");
+        return offers(alloc, options, long_only, &script.table.rows, words, "");
     }
     let before = &words[..count - 1];
-    let word = words[count - 1];
-    offers(alloc, options, long_only, script.rows, before, word)
+    let word = &words[count - 1];
+    offers(
+        alloc,
+        options,
+        long_only,
+        &script.table.rows,
+        before,
+        word.as_str(),
+    )
 }
 
 /// The answer to the words of a script. They are read once, whatever their counts.
-fn words_answer(alloc: Global, script: Script<'_>, words: &[&str]) -> Result<Outcome, AllocError> {
+fn words_answer(
+    alloc: Global,
+    script: Script<'_>,
+    words: &[String],
+) -> Result<Outcome, AllocError> {
     match script.options.parse_ignoring_counts(alloc, words) {
         Ok(matches) => read_answer(alloc, script, words, &matches),
         Err(fail) => refusal(alloc, script, &fail),
@@ -497,13 +495,13 @@ fn words_answer(alloc: Global, script: Script<'_>, words: &[&str]) -> Result<Out
 fn read_answer(
     alloc: Global,
     script: Script<'_>,
-    words: &[&str],
+    words: &[String],
     matches: &Matches,
 ) -> Result<Outcome, AllocError> {
-    if asks_help(script.rows, matches) {
+    if asks_help(&script.table.rows, matches) {
         return Ok(Outcome::done(help_code(alloc, script)?));
     }
-    match first_alone(script.rows, matches) {
+    match first_alone(&script.table.rows, matches) {
         Some(row) => alone_answer(alloc, script, row),
         None => counted_answer(alloc, script, words, matches),
     }
@@ -520,9 +518,9 @@ fn offers_help(rows: &[Row<'_>]) -> bool {
         .any(|row| row.long == "help" && !takes_argument(row.kind))
 }
 
-/// Whether an option with this mark stands alone.
-fn stands_alone(mark: Mark) -> bool {
-    matches!(mark, Mark::Alone)
+/// Whether an option that may come so often stands alone.
+fn stands_alone(often: Often) -> bool {
+    matches!(often, Often::Alone)
 }
 
 /// The first row that stands alone and is given by matches.
@@ -538,7 +536,7 @@ fn first_alone<'t>(rows: &[Row<'t>], matches: &Matches) -> Option<Row<'t>> {
 
 /// Whether a row stands alone and is given by matches.
 fn is_alone(row: Row<'_>, matches: &Matches) -> bool {
-    stands_alone(row.mark) && is_given(matches, main_name(row))
+    stands_alone(row.often) && is_given(matches, main_name(row))
 }
 
 /// The answer to words that ask for one option alone: its line, or variables where it alone is
@@ -547,12 +545,8 @@ fn alone_answer(alloc: Global, script: Script<'_>, row: Row<'_>) -> Result<Outco
     match &script.asked.variables {
         Some(prefix) => {
             let variables = script.variables(prefix.as_str());
-            Ok(Outcome::done(alone_code(
-                alloc,
-                variables,
-                script.rows,
-                row,
-            )?))
+            let code = alone_code(alloc, variables, &script.table.rows, row)?;
+            Ok(Outcome::done(code))
         }
         None => Ok(Outcome::done(alone_line(alloc, row)?)),
     }
@@ -580,10 +574,10 @@ fn help_code(alloc: Global, script: Script<'_>) -> Result<String, AllocError> {
 fn counted_answer(
     alloc: Global,
     script: Script<'_>,
-    words: &[&str],
+    words: &[String],
     matches: &Matches,
 ) -> Result<Outcome, AllocError> {
-    if keep_counts(script.rows, matches) {
+    if keep_counts(&script.table.rows, matches) {
         return parsed_answer(alloc, script, words, matches);
     }
     match script.options.parse_words(alloc, words) {
@@ -597,10 +591,10 @@ fn counted_answer(
 fn parsed_answer(
     alloc: Global,
     script: Script<'_>,
-    words: &[&str],
+    words: &[String],
     matches: &Matches,
 ) -> Result<Outcome, AllocError> {
-    match free_error(script.operands, &matches.free) {
+    match free_error(&script.table.operands, &matches.free) {
         Some(error) => operand_refusal(alloc, script, error),
         None => accepted_answer(alloc, script, words, matches),
     }
@@ -610,7 +604,7 @@ fn parsed_answer(
 fn accepted_answer(
     alloc: Global,
     script: Script<'_>,
-    words: &[&str],
+    words: &[String],
     matches: &Matches,
 ) -> Result<Outcome, AllocError> {
     match &script.asked.variables {
@@ -623,7 +617,8 @@ fn accepted_answer(
 fn keep_counts(rows: &[Row<'_>], matches: &Matches) -> bool {
     for place in 0..rows.len() {
         let row = rows[place];
-        if !keeps_count(row.occurrence, matches.occurrences_at(place).len()) {
+        let count = matches.occurrences_at(place).len();
+        if !keeps_count(occurrence_of(false, row.often), count) {
             return false;
         }
     }
@@ -647,16 +642,12 @@ fn variables_answer(
     matches: &Matches,
 ) -> Result<Outcome, AllocError> {
     let variables = script.variables(prefix);
-    Ok(Outcome::done(variables_code(
-        alloc,
-        variables,
-        script.rows,
-        matches,
-    )?))
+    let code = variables_code(alloc, variables, &script.table.rows, matches)?;
+    Ok(Outcome::done(code))
 }
 
 /// The canonical line of words, or their first fault.
-fn line_answer(alloc: Global, script: Script<'_>, words: &[&str]) -> Result<Outcome, AllocError> {
+fn line_answer(alloc: Global, script: Script<'_>, words: &[String]) -> Result<Outcome, AllocError> {
     names_resolve(script.options);
     match script.options.canonical_words(alloc, words) {
         Ok(Some(line)) => Ok(Outcome::done(line_code(alloc, &line)?)),
@@ -695,9 +686,11 @@ fn operand_fault_line(
     error: OperandError<'_>,
 ) -> Result<String, AllocError> {
     match error {
-        OperandError::Missing(operand) => text!(in alloc; "{name}: {operand} missing\n"),
+        OperandError::Missing(operand) => {
+            text!(in alloc; "{name}: Operand '{operand}' missing\n")
+        }
         OperandError::Unexpected(word) => {
-            text!(in alloc; "{name}: unexpected word: '{word}'\n")
+            text!(in alloc; "{name}: Unexpected operand: '{word}'\n")
         }
     }
 }

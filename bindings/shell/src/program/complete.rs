@@ -5,9 +5,9 @@ use crate::host::*;
 
 use super::item::is_long_name;
 use super::quote::{push_parting, push_replaced};
-use super::row::Row;
+use super::row::{Often, Row};
 use super::variables::main_name;
-use crate::getopts::{Fail, HasArg, Matches, Occur, Options};
+use crate::getopts::{Fail, HasArg, Matches, Options};
 use crate::host::alloc::{AllocError, Global};
 
 /// What completes words in bash: it reads the words up to the cursor, asks the program, and shows
@@ -163,7 +163,7 @@ pub(crate) fn offers(
     options: &Options,
     long_only: bool,
     rows: &[Row<'_>],
-    before: &[&str],
+    before: &[String],
     word: &str,
 ) -> Result<String, AllocError> {
     if !begins_with(word, "-") {
@@ -180,7 +180,7 @@ pub(crate) fn offers(
 fn goes_on(
     alloc: Global,
     options: &Options,
-    before: &[&str],
+    before: &[String],
 ) -> Result<Option<Matches>, AllocError> {
     let words = with_stop(alloc, before)?;
     let found = read_words(alloc, options, &words)?;
@@ -217,9 +217,11 @@ fn no_matches(fail: &Fail) -> Result<Option<Matches>, AllocError> {
 }
 
 /// Words, and after them a `--` and an empty word.
-fn with_stop<'w>(alloc: Global, before: &[&'w str]) -> Result<Vec<&'w str>, AllocError> {
+fn with_stop(alloc: Global, before: &[String]) -> Result<Vec<&str>, AllocError> {
     let mut words = Vec::empty(alloc);
-    words.try_extend_from_slice(before)?;
+    for word in before {
+        words.try_push(word.as_str())?;
+    }
     words.try_push("--")?;
     words.try_push("")?;
     Ok(words)
@@ -233,7 +235,7 @@ fn is_last_after_stop(matches: &Matches) -> bool {
     }
 }
 
-/// What is offered of the options that may come once more.
+/// What is offered of the options that are offered.
 fn options_lines(
     alloc: Global,
     matches: &Matches,
@@ -250,14 +252,14 @@ fn options_lines(
     Ok(text)
 }
 
-/// Whether an option may come once more.
+/// Whether an option is offered: it wasn't given, or all its values count.
 fn may_come(matches: &Matches, row: &Row<'_>) -> bool {
-    is_multi(row.occurrence) || !is_given(matches, main_name(*row))
+    holds_all(row.often) || !is_given(matches, main_name(*row))
 }
 
-/// Whether an option may come any number of times.
-fn is_multi(occurrence: Occur) -> bool {
-    matches!(occurrence, Occur::Multi)
+/// Whether all values of an option count.
+pub(crate) fn holds_all(often: Often) -> bool {
+    matches!(often, Often::All)
 }
 
 /// Whether matches have an option of this name.

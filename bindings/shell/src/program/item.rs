@@ -3,16 +3,16 @@
 
 use crate::host::*;
 
-use super::row::{Mark, Row};
-use crate::getopts::{HasArg, Occur, names_lawful};
+use super::row::{Often, Row};
+use crate::getopts::{HasArg, names_lawful};
 
 /// The option of an item in the line with this number, with this description, if the text is one.
 pub(crate) fn row_of<'t>(line: usize, item: &'t str, description: &'t str) -> Option<Row<'t>> {
-    let (inside, occurrence, mark) = unbracketed(item)?;
+    let (inside, often) = unbracketed(item)?;
     let (names, argument) = parts_of(inside);
     let (short, long) = names_of(names)?;
     let (kind, hint) = argument_of(argument)?;
-    if !fits(mark, kind) {
+    if !fits(often, kind) {
         return None;
     }
     Some(Row {
@@ -20,29 +20,29 @@ pub(crate) fn row_of<'t>(line: usize, item: &'t str, description: &'t str) -> Op
         short,
         long,
         kind,
-        occurrence,
+        often,
         hint,
         description,
-        mark,
     })
 }
 
-/// Whether an option with a mark may be of a kind: one that stands alone takes no argument.
-fn fits(mark: Mark, kind: HasArg) -> bool {
-    match (mark, kind) {
-        (Mark::Alone, HasArg::Yes | HasArg::Maybe) => false,
+/// Whether an option that may come so often may be of a kind: one that stands alone takes no
+/// argument.
+fn fits(often: Often, kind: HasArg) -> bool {
+    match (often, kind) {
+        (Often::Alone, HasArg::Yes | HasArg::Maybe) => false,
         _ => true,
     }
 }
 
-/// A text without the brackets of its occurrence, if it has those of one.
-fn unbracketed(text: &str) -> Option<(&str, Occur, Mark)> {
+/// A text without the brackets that say how often its option may come, and how often that is.
+fn unbracketed(text: &str) -> Option<(&str, Often)> {
     let Some(opened) = text.strip_prefix('[') else {
-        return Some((text, Occur::Req, Mark::Plain));
+        return Some((text, Often::Once));
     };
     let (inside, end) = cut_at_bracket(opened)?;
-    let (occurrence, mark) = end_means(end)?;
-    Some((inside, occurrence, mark))
+    let often = end_means(end)?;
+    Some((inside, often))
 }
 
 /// A text in two: what stands before its last `]`, and what stands after it.
@@ -51,13 +51,13 @@ fn cut_at_bracket(text: &str) -> Option<(&str, &str)> {
 }
 
 /// What stands behind `]`.
-fn end_means(end: &str) -> Option<(Occur, Mark)> {
+fn end_means(end: &str) -> Option<Often> {
     if end.is_empty() {
-        Some((Occur::Multi, Mark::Last))
+        Some(Often::Last)
     } else if end == "!" {
-        Some((Occur::Optional, Mark::Alone))
+        Some(Often::Alone)
     } else if end == ".." || end == "..." {
-        Some((Occur::Multi, Mark::Plain))
+        Some(Often::All)
     } else {
         None
     }
@@ -179,7 +179,7 @@ fn is_hint_byte(byte: u8) -> bool {
 
 /// Why a text is no option that holds `[` and no `]`.
 const OPEN: &str = "no ']'";
-/// Where a dash or `|` stands after the first space.
+/// Where a dash, `|` or `]` stands after the first space.
 const APART: &str = "names are written as -s|--long, without a blank or a comma";
 /// Where a space stands after the first `]`.
 const GAP: &str = "a tab or two spaces have to come before the description";
@@ -199,7 +199,7 @@ const BAR: &str = "a long name comes after '|', with two dashes";
 const ORDER: &str = "the short name comes first, then one long one";
 /// Where its short name has more.
 const SHORT: &str = "a short name has one byte, and a long one comes after '--'";
-/// Where its short name is another byte.
+/// Where its short name is another byte, or begins with one beyond ASCII.
 const LETTER: &str = "a short name is a letter, a digit or one of ?@#%+_^,./:";
 /// Where its long name is shorter.
 const LONG: &str = "a long name has at least two bytes";
@@ -225,7 +225,7 @@ pub(crate) fn reason_of(item: &str) -> &'static str {
     let reasons = [
         (is_open(item), OPEN),
         (end.starts_with(b" [-"), ONE),
-        (begins_name(unopened(argument)), APART),
+        (stands_apart(argument), APART),
         (end.contains(&b' '), GAP),
         (argument.contains(&b' '), SPACE),
         (names.contains(&b'='), EQUALS),
@@ -236,6 +236,7 @@ pub(crate) fn reason_of(item: &str) -> &'static str {
         (lack_two_dashes(names, long), BAR),
         (long.starts_with(b"---"), DASHES),
         (long.contains(&b'|'), ORDER),
+        (is_beyond_ascii(short), LETTER),
         (short.len() > 2, SHORT),
         (!is_name(without_first(short)), LETTER),
         (is_too_short(long), LONG),
@@ -272,6 +273,11 @@ fn begins_name(bytes: &[u8]) -> bool {
     matches!(bytes, [b'-' | b'|', ..])
 }
 
+/// Whether what stands after the first space is no argument, but a name, or the end of brackets.
+fn stands_apart(argument: &[u8]) -> bool {
+    begins_name(unopened(argument)) || argument.starts_with(b"]")
+}
+
 /// Whether names begin as an operand does, and a space stands in the item.
 fn is_described(names: &[u8], item: &[u8]) -> bool {
     begins_capital(names) && item.contains(&b' ')
@@ -285,6 +291,11 @@ pub(crate) fn begins_capital(bytes: &[u8]) -> bool {
 /// Whether names begin with no dash, or the short one of them is nothing else.
 fn lack_dash(names: &[u8], short: &[u8]) -> bool {
     !names.starts_with(b"-") || short.len() == 1
+}
+
+/// Whether a short name with its dash begins with a byte beyond ASCII.
+fn is_beyond_ascii(short: &[u8]) -> bool {
+    matches!(short, [_, 128..=255, ..])
 }
 
 /// Whether a name comes after `|`, and the long one of the names doesn't begin with two dashes.

@@ -19,7 +19,7 @@ use answer::{NO_MEMORY, answer};
 use crate::host::alloc::AllocError;
 use crate::host::io;
 use std::process::ExitCode;
-use words::{system_words, texts_of};
+use words::system_words;
 
 /// Runs over the system's words, without the program's own name, the standard output and the
 /// standard error.
@@ -31,10 +31,9 @@ pub fn main(rt: HostRuntime) -> ExitCode {
 /// and then nothing is written.
 fn run(rt: &HostRuntime) -> Result<u8, AllocError> {
     let words = system_words(rt)?;
-    let texts = texts_of(rt.alloc(), &words)?;
     Ok(answer(
         rt.alloc(),
-        &texts,
+        &words,
         &mut io::writer(rt),
         &mut rt.stderr(),
     ))

@@ -80,19 +80,8 @@ fn undotted(item: &str) -> &str {
     }
 }
 
-/// The first operand that may not come after those before it.
-pub(crate) fn first_late<'t>(operands: &[Operand<'t>]) -> Option<Operand<'t>> {
-    for at in 0..operands.len() {
-        let operand = operands[at];
-        if !may_follow(&operands[..at], operand) {
-            return Some(operand);
-        }
-    }
-    None
-}
-
 /// Whether an operand may come after these.
-fn may_follow(before: &[Operand<'_>], operand: Operand<'_>) -> bool {
+pub(crate) fn may_follow(before: &[Operand<'_>], operand: Operand<'_>) -> bool {
     before.iter().all(|other| comes_before(*other, operand))
 }
 

@@ -3,8 +3,7 @@
 
 use crate::host::*;
 
-use super::operand::Operand;
-use super::row::Row;
+use super::table::Table;
 use super::variables::Variables;
 use crate::getopts::Options;
 
@@ -20,14 +19,12 @@ pub(crate) struct Asked {
     pub arrays: bool,
 }
 
-/// A script: what is asked for it, its name, and its options and operands, as its table declares
-/// them.
+/// A script: what is asked for it, its name, what its table declares, and its options.
 #[derive(Clone, Copy)]
 pub(crate) struct Script<'s> {
     pub asked: &'s Asked,
     pub name: &'s str,
-    pub rows: &'s [Row<'s>],
-    pub operands: &'s [Operand<'s>],
+    pub table: &'s Table<'s>,
     pub options: &'s Options,
 }
 

@@ -4,9 +4,15 @@
 use crate::host::*;
 
 use super::item::row_of;
-use super::operand::{Operand, is_operand};
+use super::operand::{Operand, is_operand, may_follow};
 use super::row::Row;
 use crate::host::alloc::{AllocError, Global};
+
+/// What a table declares: its options and its operands, in order.
+pub(crate) struct Table<'t> {
+    pub rows: Vec<Row<'t>>,
+    pub operands: Vec<Operand<'t>>,
+}
 
 /// Why a table is refused.
 pub(crate) enum TableError<'t> {
@@ -14,6 +20,8 @@ pub(crate) enum TableError<'t> {
     NoOption(usize, &'t str),
     /// The line with this number has a name that stands there already. Holds the name.
     NameTwice(usize, &'t str),
+    /// The operand in the line with this number may not follow those before it. Holds its item.
+    LateOperand(usize, &'t str),
     /// Memory was refused.
     OutOfMemory,
 }
@@ -21,25 +29,23 @@ pub(crate) enum TableError<'t> {
 /// A table declares one list of options at most: a law to cite, which does nothing.
 pub fn one_table_one_list() {}
 
-/// The options that a table declares, in order, and its operands.
-pub(crate) fn declared_in<'t>(
-    alloc: Global,
-    table: &'t str,
-) -> Result<(Vec<Row<'t>>, Vec<Operand<'t>>), TableError<'t>> {
-    let mut rows = Vec::empty(alloc);
-    let mut operands = Vec::empty(alloc);
+/// The options and the operands that a table declares.
+pub(crate) fn declared_in<'t>(alloc: Global, text: &'t str) -> Result<Table<'t>, TableError<'t>> {
+    let mut table = Table {
+        rows: Vec::empty(alloc),
+        operands: Vec::empty(alloc),
+    };
     let mut number = 0usize;
-    for line in table.split('\n') {
+    for line in text.split('\n') {
         number = number.saturating_add(1);
-        push_line(&mut rows, &mut operands, number, line)?;
+        push_line(&mut table, number, line)?;
     }
-    Ok((rows, operands))
+    Ok(table)
 }
 
 /// Adds the option or the operand that a line declares, if it declares one.
 fn push_line<'t>(
-    rows: &mut Vec<Row<'t>>,
-    operands: &mut Vec<Operand<'t>>,
+    table: &mut Table<'t>,
     number: usize,
     line: &'t str,
 ) -> Result<(), TableError<'t>> {
@@ -56,16 +62,32 @@ fn push_line<'t>(
             item,
             description,
         };
-        return match operands.try_push(operand) {
-            Ok(()) => Ok(()),
-            Err(_) => Err(TableError::OutOfMemory),
-        };
+        return push_operand(&mut table.operands, operand);
     }
-    let Some(row) = row_of(number, item, description) else {
-        return Err(TableError::NoOption(number, item));
-    };
+    match row_of(number, item, description) {
+        Some(row) => push_row(&mut table.rows, row),
+        None => Err(TableError::NoOption(number, item)),
+    }
+}
+
+/// Adds an operand, if it may follow those before it.
+fn push_operand<'t>(
+    operands: &mut Vec<Operand<'t>>,
+    operand: Operand<'t>,
+) -> Result<(), TableError<'t>> {
+    if !may_follow(operands, operand) {
+        return Err(TableError::LateOperand(operand.line, operand.item));
+    }
+    match operands.try_push(operand) {
+        Ok(()) => Ok(()),
+        Err(_) => Err(TableError::OutOfMemory),
+    }
+}
+
+/// Adds a row, if its names are new.
+fn push_row<'t>(rows: &mut Vec<Row<'t>>, row: Row<'t>) -> Result<(), TableError<'t>> {
     match name_again(rows, row) {
-        Some(name) => Err(TableError::NameTwice(number, name)),
+        Some(name) => Err(TableError::NameTwice(row.line, name)),
         None => match rows.try_push(row) {
             Ok(()) => Ok(()),
             Err(_) => Err(TableError::OutOfMemory),

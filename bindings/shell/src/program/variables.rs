@@ -4,8 +4,8 @@
 use crate::host::*;
 
 use super::quote::{push_line, push_parting, push_quoted, push_replaced};
-use super::row::{Mark, Row};
-use crate::getopts::{HasArg, Matches, Occur, Occurrences};
+use super::row::{Often, Row};
+use crate::getopts::{HasArg, Matches, Occurrences};
 use crate::host::alloc::{AllocError, Global};
 
 /// How options become variables: what their names begin with, and whether an array holds values.
@@ -96,14 +96,29 @@ fn push_option(
     row: Row<'_>,
     given: Came<'_>,
 ) -> Result<(), AllocError> {
-    let name = main_name(row);
+    push_unset(text, variables.prefix, main_name(row))?;
+    push_option_value(alloc, text, variables, row, given)
+}
+
+/// Adds the command that takes a variable away.
+fn push_unset(text: &mut String, prefix: &str, name: &str) -> Result<(), AllocError> {
     text.try_push_str("\\unset -v ")?;
-    push_variable(text, variables.prefix, name)?;
-    text.try_push('\n')?;
-    match (row.kind, row.mark, row.occurrence) {
-        (HasArg::No, _, _) => push_count(alloc, text, variables.prefix, name, count(given)),
-        (_, Mark::Last, _) => push_last(text, variables.prefix, name, given),
-        (_, _, Occur::Multi) => push_all(alloc, text, variables, name, given),
+    push_variable(text, prefix, name)?;
+    text.try_push('\n')
+}
+
+/// Adds the command that sets the variable of an option, if it has a value.
+fn push_option_value(
+    alloc: Global,
+    text: &mut String,
+    variables: Variables<'_>,
+    row: Row<'_>,
+    given: Came<'_>,
+) -> Result<(), AllocError> {
+    let name = main_name(row);
+    match (row.kind, row.often) {
+        (HasArg::No, _) => push_count(alloc, text, variables.prefix, name, count(given)),
+        (_, Often::All) => push_all(alloc, text, variables, name, given),
         _ => push_last(text, variables.prefix, name, given),
     }
 }

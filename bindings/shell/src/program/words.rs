@@ -47,12 +47,3 @@ fn text_of(alloc: Global, word: &[u8]) -> Result<String, AllocError> {
     push_text(&mut text, word)?;
     Ok(text)
 }
-
-/// The texts of words, in order.
-pub(crate) fn texts_of(alloc: Global, words: &[String]) -> Result<Vec<&str>, AllocError> {
-    let mut texts = Vec::of_capacity(alloc, words.len())?;
-    for word in words {
-        texts.try_push(word.as_str())?;
-    }
-    Ok(texts)
-}

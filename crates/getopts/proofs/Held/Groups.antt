@@ -8,7 +8,7 @@ use Rattle.std.specs.String.{string_bytes}
 use Rattle.std.proofs.lemmas.List.{length-map, map-append}
 use Rattle.std.proofs.lemmas.List.Elements.{All-nil, All-take, All-drop}
 use Rattle.std.proofs.lemmas.Option.{same_Some, slice_get-map}
-use Rattle.getopts.specs.Names.{Text, IsLawfullyNamed, main_name}
+use Rattle.getopts.specs.Names.{Text, Names, IsLawfullyNamed, main_name}
 use Rattle.getopts.specs.Options.{Signature, Group, MayBeDeclared, signatures_of}
 use Rattle.getopts.specs.Canon.{main_at}
 use Rattle.getopts.specs.Held.Pieces.{IsOfBytes}
@@ -19,7 +19,7 @@ use Rattle.getopts.specs.Held.Help.{groups_with, groups_view, HoldGroups}
 use Rattle.getopts.specs.declared.help.Groups.TheInside.{Inside}
 use Rattle.getopts.specs.declared.groups.Ends.{Ends}
 use Rattle.getopts.specs.declared.groups.SignatureRecord.{SignatureRecord}
-use Rattle.getopts.proofs.Lists.{AllByRecursion-unmap, AllByRecursion-at, AllByRecursion-append}
+use Rattle.getopts.proofs.Lists.{AllByRecursion-map, AllByRecursion-unmap, AllByRecursion-at, AllByRecursion-append}
 use Rattle.getopts.proofs.Lists.{slice_get-read, each_kept}
 use Rattle.getopts.proofs.Held.Twos.{two-append}
 
@@ -60,6 +60,19 @@ names_at-signature (first ∷ signatures) zero signature is =
     ap (λ k. k.names) (same_Some first signature is)
 names_at-signature (first ∷ signatures) (suc place) signature is =
     names_at-signature signatures place signature is
+
+-- of lawfully named groups those at a place are
+pub fits_at : (groups : List Names) → AllByRecursion IsLawfullyNamed groups → (i : ℕ)
+    → i < length groups → IsLawfullyNamed (names_at groups i)
+fits_at [] lawful i within = absurd (omega (arith, within))
+fits_at (first ∷ groups) lawful zero within = lawful.0
+fits_at (first ∷ groups) lawful (suc i) within = fits_at groups lawful.1 i (omega (arith, within))
+
+-- names of lawful signatures are lawful
+pub lawful_names : (signatures : List Signature) → AreLawfulSignatures signatures
+    → AllByRecursion IsLawfullyNamed (names_in signatures)
+lawful_names signatures lawful = AllByRecursion-map IsLawfullyNamed (λ (s : Signature). s.names)
+    signatures lawful.named
 
 -- where the text of all is of bytes, each name is
 pub HaveNamesOfBytes-in : (text : Text) → IsOfBytes text → (records : List SignatureRecord)

@@ -1,18 +1,17 @@
 -- Occurrences whose values stand in one text.
-use Rattle.std.proofs.Common.{◌≡◌, ◌<◌, ◌++◌, ◌∷◌, ℕ, List, [], map, length, Option, Some, None}
-use Rattle.std.proofs.Common.{get_or, slice_get, refl, ap, ◌∙◌, arith, length-append}
+use Rattle.std.proofs.Common.{◌≡◌, ◌++◌, ◌∷◌, ℕ, List, [], map, length, Option, Some, None}
+use Rattle.std.proofs.Common.{refl, ap, ◌∙◌, arith, length-append}
 use Rattle.std.specs.List.{AllByRecursion}
 use Rattle.std.specs.Option.{option_map}
 use Rattle.std.specs.Str.{IsUtf8}
-use Rattle.std.proofs.lemmas.List.{length-map, map-append}
-use Rattle.std.proofs.lemmas.Option.{slice_get-map}
+use Rattle.std.proofs.lemmas.List.{map-append}
 use Rattle.std.proofs.lemmas.Str.{IsCharBoundary-end}
 use Rattle.getopts.specs.Names.{Text}
 use Rattle.getopts.specs.Reading.{Occurrence}
 use Rattle.getopts.specs.Held.Occurrences.{text_at, IsSpanOf, StandsAt, occurrence_in, HasItsValue}
 use Rattle.getopts.specs.declared.occurrences.Span.{Span}
 use Rattle.getopts.specs.declared.occurrences.OccurrenceRecord.{OccurrenceRecord}
-use Rattle.getopts.proofs.Lists.{AllByRecursion-at, AllByRecursion-append, slice_get-read, each_kept}
+use Rattle.getopts.proofs.Lists.{AllByRecursion-append, each_kept}
 use Rattle.getopts.proofs.Held.Texts.{IsCharBoundary-append, between-append, between-added}
 
 -- a text stands there with more after it
@@ -67,24 +66,6 @@ occurrences-push values more utf8 records held added last =
       AllByRecursion-append (HasItsValue (values ++ more)) records (added ∷ []) kept.0 (last, tt),
       map-append (occurrence_in (values ++ more)) records (added ∷ [])
           ∙ ap (λ (os : List Occurrence). os ++ occurrence_in (values ++ more) added ∷ []) kept.1,
-    )
-
--- a place of an occurrence is one of a record
-pub within_items : (now : List Occurrence) (values : Text) (items : List OccurrenceRecord)
-    (place : ℕ) → map (occurrence_in values) items ≡ now → place < length now → place < length items
-within_items now values items place is inside =
-    omega (arith, inside, ap length is, length-map items (occurrence_in values))
-
--- what is held of the record at a place, and the occurrence there
-pub occurrence_at : (values : Text) (records : List OccurrenceRecord) (now : List Occurrence)
-    (place : ℕ) (r : OccurrenceRecord) → AllByRecursion (HasItsValue values) records
-    → map (occurrence_in values) records ≡ now → place < length now → r ≡ get_or records place r
-    → HasItsValue values r × (slice_get now place ≡ Some (occurrence_in values r))
-occurrence_at values records now place r held are within is =
-    let at = slice_get-read records place r (within_items now values records place are within) is in (
-      AllByRecursion-at (HasItsValue values) records place r held at,
-      rw (← are) (slice_get-map (occurrence_in values) records place
-          ∙ ap (option_map (occurrence_in values)) at),
     )
 
 -- the groups of occurrences, whatever their values

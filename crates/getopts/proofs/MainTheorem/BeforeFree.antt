@@ -1,5 +1,5 @@
 -- Under `StopAtFirstFree` the words before the free ones give the same options.
-use Rattle.std.proofs.Common.{◌≡◌, List, [], ◌∷◌, ◌++◌, Option, None, refl, sym, ap, ◌∙◌, append-nil}
+use Rattle.std.proofs.Common.{◌≡◌, List, [], ◌∷◌, ◌++◌, None, refl, sym, ap, ◌∙◌, append-nil}
 use Rattle.std.proofs.Common.{subst, Bor, Result, Ok, Err, IfOk}
 use Rattle.std.specs.List.{AllByRecursion}
 use Rattle.getopts.specs.Names.{Text, texts}

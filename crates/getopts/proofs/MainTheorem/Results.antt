@@ -10,14 +10,12 @@ use Rattle.getopts.specs.declared.fail.Fail.{Fail}
 use Rattle.getopts.specs.Reading.{Reading, IsReading, holds_equals}
 use Rattle.getopts.specs.Matches.{Matched, matches_of}
 use Rattle.getopts.specs.Parse.{HasReading, HasNoReading, BreaksCounts, IsAccepted, IsRefused}
-use Rattle.getopts.specs.Canon.{Content, content_of, main_at, canonical_line}
-use Rattle.getopts.specs.Canon.{IsAcceptedWith}
+use Rattle.getopts.specs.Canon.{Content, content_of, main_at, canonical_line, IsAcceptedWith}
 use Rattle.getopts.specs.CanonAnswers.{IsParseAnswer, IsCanonicalAnswer, IsWritten, IsUnwritable}
 use Rattle.getopts.specs.Results.{read, first_count_fault, unless_fault, with_counts_kept}
-use Rattle.getopts.specs.Results.{reading_result, line_result}
-use Rattle.getopts.specs.Results.{made_of, written_line, read_result, parse_result}
+use Rattle.getopts.specs.Results.{reading_result, line_result, made_of, written_line, read_result}
+use Rattle.getopts.specs.Results.{parse_result, canonical_result}
 use Rattle.getopts.specs.Gives.{IsReadingOf, IsLineOf, IsReadAnswer, HasResults, GivesResult, GivesAs}
-use Rattle.getopts.specs.Results.{canonical_result}
 use Rattle.getopts.proofs.Canonical.Lines.{is_plain-true, is_plain-false, Says-accepted}
 use Rattle.getopts.proofs.Canonical.Lines.{IsSound-says, HasUnwritable-content}
 use Rattle.getopts.proofs.Canonical.Answered.{only_parse_answer, only_canonical_answer}
@@ -214,9 +212,3 @@ pub made_of-ok : {X : Type 0} (make : Reading → X) (outcome : Result Reading F
     → (reading : Reading) × (outcome ≡ Ok reading) × (make reading ≡ x)
 made_of-ok make (Ok reading) x same = (reading, refl, cc)
 made_of-ok make (Err fault) x same = cc
-
--- and a fault is that of the line
-pub made_of-err : {X : Type 0} (make : Reading → X) (outcome : Result Reading Fault) (fault : Fault)
-    → made_of make outcome ≡ Err fault → outcome ≡ Err fault
-made_of-err make (Ok reading) fault same = cc
-made_of-err make (Err other) fault same = cc

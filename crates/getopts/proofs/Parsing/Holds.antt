@@ -1,27 +1,22 @@
 -- What accepted matches hold of the names that the options declare.
 use Rattle.std.proofs.Common.{◌≡◌, ◌==◌, ◌<◌, ◌+◌, ℕ, zero, suc, Bool, true, false, cond, List, []}
-use Rattle.std.proofs.Common.{◌∷◌, ◌++◌, drop, length, append_assoc, map, slice_get, Option, Some}
-use Rattle.std.proofs.Common.{None, IfSome, IsSome, refl, ap, sym, subst, ◌∙◌, arith, add-zero}
-use Rattle.std.proofs.Common.{zero-add}
+use Rattle.std.proofs.Common.{◌∷◌, drop, length, map, slice_get, Option, Some, None, IfSome, IsSome}
+use Rattle.std.proofs.Common.{refl, ap, sym, subst, ◌∙◌, arith, add-zero, zero-add}
 use Rattle.std.specs.List.{AllByRecursion, filter}
 use Rattle.std.specs.Option.{option_map, option_map_or}
 use Rattle.std.proofs.lemmas.Bool.{eqb-true}
 use Rattle.std.proofs.lemmas.Option.{option_and_then_some, same_Some}
-use Rattle.std.specs.Borrow.{Bor}
-use Rattle.getopts.specs.Names.{Text, Names, resolution, texts}
-use Rattle.getopts.specs.Options.{Signature, Group, Grammar, Declared, names_of, signatures_of}
+use Rattle.getopts.specs.Names.{Text, Names, resolution}
+use Rattle.getopts.specs.Options.{Signature, Group, Declared, names_of, signatures_of}
 use Rattle.getopts.specs.Options.{grammar_of, Declares, kind_of, occur_of}
-use Rattle.getopts.specs.Reading.{Occurrence, spelled_all, tail_words, IsLawfulItem, occurrences_of}
-use Rattle.getopts.specs.Reading.{Item, free, long, Tail, line_end, stop, rest, Reading, FitsKind}
-use Rattle.getopts.specs.Reading.{cluster, stop_word, tail_frees, free_items, free_words, IsReading}
+use Rattle.getopts.specs.Reading.{Occurrence, spelled_all, tail_words, occurrences_of, Tail, stop}
+use Rattle.getopts.specs.Reading.{FitsKind, stop_word, free_words, IsReading}
 use Rattle.getopts.specs.Matches.{Found, Matched, MatchedGroup, found_at, matched, FitsCount}
 use Rattle.getopts.specs.Matches.{KeepsCounts}
 use Rattle.getopts.specs.Accessors.{IsDefined, place_of, found_of, found_in, first_value}
 use Rattle.getopts.specs.Parse.{IsAccepted, HasReading}
-use Rattle.getopts.specs.Holds.{HaveLastWordsFree, AreGroupsOf, HaveValuesByKind}
-use Rattle.getopts.specs.Holds.{HoldGiven, HoldDeclared, EndsInTrailing, Accepts}
-use Rattle.getopts.specs.ReadingLaws.{EndIn, HavePositionsBelow}
-use Rattle.getopts.specs.declared.groups.ParsingStyle.TheVariants.{FloatingFrees, StopAtFirstFree}
+use Rattle.getopts.specs.Holds.{AreGroupsOf, HaveValuesByKind}
+use Rattle.getopts.specs.Holds.{HoldGiven, HoldDeclared, EndsInTrailing}
 use Rattle.getopts.specs.declared.groups.HasArg.{HasArg}
 use Rattle.getopts.specs.declared.groups.HasArg.TheVariants.{Yes}
 use Rattle.getopts.specs.declared.groups.Occur.{Occur}
@@ -32,8 +27,7 @@ use Rattle.getopts.proofs.Held.Matches.{signatures-matched}
 use Rattle.getopts.proofs.Reading.Laws.{TrailingStartIsAfterStop_lem}
 use Rattle.getopts.proofs.Reading.Readings.{spelled_all-append}
 use Rattle.getopts.proofs.Held.Signatures.{names-signatures_of}
-use Rattle.getopts.proofs.Parsing.Parsed.{HavePositionsInOrder-read, positions_below-read}
-use Rattle.getopts.proofs.Scanner.Loop.{length-texts}
+use Rattle.getopts.proofs.Parsing.Parsed.{HavePositionsInOrder-read}
 
 -- each occurrence has a value, or none, as this kind of argument wants
 abbrev HaveValuesFor : HasArg → List Found → Type 0

@@ -1,6 +1,6 @@
 -- The option that a word in long form begins, by its name, its kind and its argument.
 use Rattle.std.proofs.Common.{map, ◌≡◌, ℕ, false, List, [], ◌∷◌, ◌++◌, length, drop, Option, Some, None}
-use Rattle.std.proofs.Common.{Ok, refl, ap, ◌∙◌, slice_get, Bor}
+use Rattle.std.proofs.Common.{Ok, refl, ap, ◌∙◌, slice_get}
 use Rattle.getopts.specs.Names.{Text}
 use Rattle.getopts.specs.Options.{Grammar}
 use Rattle.getopts.specs.Reading.{Argument, none, attached, Dashes, long, argument_words}

@@ -1,8 +1,8 @@
 -- A line that was read up to a place: its items so far, one more item, and each way in which it
 -- goes on.
-use Rattle.std.proofs.Common.{Err, drop-cons, ◌≡◌, ◌<◌, ◌≤◌, ◌+◌, ℕ, List, [], ◌∷◌, ◌++◌, length}
+use Rattle.std.proofs.Common.{Err, drop-cons, ◌≡◌, ◌≤◌, ◌+◌, ℕ, List, [], ◌∷◌, ◌++◌, length}
 use Rattle.std.proofs.Common.{map, drop, refl, ap, ◌∙◌, sym, subst, append_assoc, arith, add-one}
-use Rattle.std.proofs.Common.{zero-add, false, add-zero, suc, get_or, not, eqb, Ok}
+use Rattle.std.proofs.Common.{zero-add, false, add-zero, suc, not, eqb, Ok}
 use Rattle.std.specs.Bool.{then_some}
 use Rattle.std.proofs.Math.Seq.{drop-append_seam}
 use Rattle.std.proofs.lemmas.List.{drop-map, append-nil, length-append, length-map, length-drop}
@@ -12,7 +12,7 @@ use Rattle.std.specs.Prelude.{slice_get, Some}
 use Rattle.getopts.specs.Names.{Text, AreTexts}
 use Rattle.getopts.specs.Options.{Grammar}
 use Rattle.getopts.specs.Fail.{Tells}
-use Rattle.getopts.specs.Reading.{is_dashed, stop_word, Argument, none, separate, Item, free}
+use Rattle.getopts.specs.Reading.{is_dashed, stop_word, Argument, none, Item, free}
 use Rattle.getopts.specs.Reading.{argument_words, item_words, Occurrence, at_position, word_count}
 use Rattle.getopts.specs.Reading.{occurrences_after, mentions, free_items, Tail, stop, rest}
 use Rattle.getopts.specs.Reading.{trailing_after, IsReading, IsScanFault}
@@ -88,11 +88,6 @@ trailing_after-stop text start (word ∷ words) =
 pub length-texts : {X : Type 0} (text : X → Text) (words : List X)
     → length (map text words) ≡ length words
 length-texts text words = simp length-map
-
--- an argument is one word of its own at most
-pub argument_words-most : (argument : Argument) → length (argument_words argument) ≤ 1
-argument_words-most (separate word) = omega arith
-argument_words-most argument = omega arith
 
 -- A line of borrowed words that was read up to a place.
 module _ {grammar : Grammar} (named : IsNamed grammar) {X : Type 0} (text : X → Text)

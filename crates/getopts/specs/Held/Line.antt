@@ -1,5 +1,5 @@
 -- What the functions of `scan` find in the words that they are given.
-use Rattle.std.specs.Prelude.{◌≡◌, false, None, List, [], map}
+use Rattle.std.specs.Prelude.{◌≡◌, false, None, Some, List, [], map}
 use Rattle.std.specs.String.{string_bytes}
 use Rattle.getopts.specs.Names.{Text}
 use Rattle.getopts.specs.Options.{Grammar, MayBeDeclared, names_of, grammar_of}
@@ -9,6 +9,7 @@ use Rattle.getopts.specs.Reading.{Dashes, is_dashed, stop_word, Reading, IsReadi
 use Rattle.getopts.specs.Reading.{occurrences_of, free_words, trailing_start}
 use Rattle.getopts.specs.Turn.{IsInLongForm, IsShortForm}
 use Rattle.getopts.specs.declared.scan.Line.{Line}
+use Rattle.getopts.specs.declared.scan.Named.{Named}
 use Rattle.getopts.specs.declared.scan.Scanner.{Scanner}
 use Rattle.getopts.specs.declared.scan.Shape.{Shape}
 use Rattle.getopts.specs.declared.scan.Shape.TheVariants as shape
@@ -17,10 +18,15 @@ use Rattle.getopts.specs.declared.scan.Shape.TheVariants as shape
 abbrev pub scanner_grammar : Scanner → Grammar
 scanner_grammar scanner = grammar_of scanner.options.now
 
--- the options of a scanner are declared, and its table is that of their names, if it has one
+-- the options of a scanner are declared, and its table is that of their names
 pub record IsLawfulScanner (scanner : Scanner) : Type 0 where
   pub declared : MayBeDeclared scanner.options.now.groups
-  pub table : IsTableOf (names_of scanner.options.now.groups) scanner.table.now.letters.items scanner.table.now.words.items
+  pub table : IsTableOf (names_of scanner.options.now.groups) scanner.table.now
+
+-- the option that a name resolves to
+pub record IsNamedBy (grammar : Grammar) (name : Text) (option : Named) : Type 0 where
+  pub place : grammar.place name ≡ Some option.place
+  pub kind : grammar.kind name ≡ Some option.kind
 
 -- what a word is to a line
 abbrev pub HasShape : Grammar → Text → Shape → Type 0

@@ -13,7 +13,7 @@ use Rattle.getopts.specs.declared.matches.ReadLine.{ReadLine}
 
 -- a line that was read holds the table and the index of groups with these signatures
 pub record IsOfSignatures (signatures : List Signature) (read : ReadLine) : Type 0 where
-  pub table : IsTableOf (names_in signatures) read.table.letters.items read.table.words.items
+  pub table : IsTableOf (names_in signatures) read.table
   pub index : read.index ≡ index_of (length signatures) read.line.found
 
 -- words were read to this line by declared options
@@ -33,5 +33,5 @@ matched_view inside = matched 0 inside.signatures inside.found
 
 -- they keep their table, and where the occurrences of each group stand
 pub record KeepsGroups (inside : Inside) : Type 0 where
-  pub table : IsTableOf (names_in inside.signatures) inside.table.letters.items inside.table.words.items
+  pub table : IsTableOf (names_in inside.signatures) inside.table
   pub index : inside.index ≡ index_of (length inside.signatures) inside.found

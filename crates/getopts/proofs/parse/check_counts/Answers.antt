@@ -22,9 +22,9 @@ returns-clause-ok c =
 pub loop-place-preserved : goal.loop-place-preserved
 loop-place-preserved c =
     let signatures = c.args.signatures.now in
-    let kinds = c.kinds_at.result in
+    let kinds = c.record.result.kinds in
     let count = c.count-count.result in
-    let there = signature-there signatures c.loop-place.place kinds c.kinds_at.ensures in
+    let there = signature-there signatures c.loop-place.place kinds c.record.ensures.kinds in
     let counted : count ≡ length (found_at c.loop-place.place c.args.read.now.line.found) =
     c.count-count.ensures
     ∙ ap (λ (ix : List (List ℕ)). length (unwrap_or (slice_get ix c.loop-place.place) []))
@@ -39,8 +39,8 @@ loop-place-preserved c =
 pub returns-then-not-fits_count-clause-err : goal.returns-then-not-fits_count-clause-err
 returns-then-not-fits_count-clause-err c =
     let there = signature-there c.args.signatures.now c.loop-place.place
-    c.kinds_at.result
-    c.kinds_at.ensures in
+    c.record.result.kinds
+    c.record.ensures.kinds in
     let count = c.count-count.result in
     let counted : count ≡ length (found_at c.loop-place.place c.args.read.now.line.found) =
     c.count-count.ensures

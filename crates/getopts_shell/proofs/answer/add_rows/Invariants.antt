@@ -1,5 +1,6 @@
 use Rattle.std.proofs.Common.{◌≡◌, ◌++◌, take}
-use Rattle.getopts_shell.specs.Held.{entries_of, groups_as}
+use Rattle.getopts_shell.specs.Held.{entries_of}
+use Rattle.getopts_shell.specs.Table.{groups_as}
 use Rattle.getopts_shell.proofs.answer.add_rows.Given as goal
 
 -- the options of the rows so far were added

@@ -3,7 +3,7 @@ use Rattle.std.specs.Str.{IsUtf8}
 use Rattle.std.proofs.lemmas.Result.{IfOk-weaker}
 use Rattle.std.proofs.lemmas.Str.{IsUtf8-string_bytes}
 use Rattle.getopts.specs.Names.{AreTexts, Text, main_name}
-use Rattle.getopts_shell.specs.Held.{entry_of_row, group_of_row}
+use Rattle.getopts_shell.specs.Held.{entry_of_row}
 use Rattle.getopts_shell.specs.Program.{alone_line}
 use Rattle.getopts_shell.specs.Variables.{line_code}
 use Rattle.getopts_shell.proofs.Fronts.{on_ok}
@@ -17,7 +17,7 @@ returns-clause-text c =
     (λ text is. is ∙ ap (λ (word : Text). line_code (word ∷ string_bytes c.in_ok-stop.stop ∷ []))
     word
     ∙ ap (λ (stop : Text). line_code ((45 ∷ 45 ∷ main_name
-    (group_of_row c.args.row).signature.names) ∷ stop ∷ []))
+    (entry_of_row c.args.row).names) ∷ stop ∷ []))
     c.in_ok-stop.ensures.ok)
     c.line_code.ensures
 

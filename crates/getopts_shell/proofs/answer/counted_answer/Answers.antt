@@ -1,6 +1,6 @@
+use Rattle.std.proofs.Common.{map, string_bytes}
 use Rattle.std.proofs.Common.{sym, ◌∙◌}
 use Rattle.std.proofs.lemmas.Result.{IfOk-weaker}
-use Rattle.getopts.specs.Names.{texts}
 use Rattle.getopts_shell.specs.HeldScript.{script_of}
 use Rattle.getopts_shell.specs.Program.{read_options}
 use Rattle.getopts_shell.proofs.Asked.{held_signatures_are, kept_result}
@@ -9,13 +9,12 @@ use Rattle.getopts_shell.proofs.answer.counted_answer.Goals as goal
 
 pub keep_counts-requires : goal.keep_counts-requires
 keep_counts-requires c =
-    held_signatures_are (read_options (script_of c.args.script)) (texts c.args.words.now)
-    c.args.matches.now
-    c.requires
+    rw c.deref.ensures.value (held_signatures_are (read_options (script_of c.args.script))
+    (map string_bytes c.args.words.now) c.args.matches.now c.requires)
 
 pub parsed_answer-requires : goal.parsed_answer-requires
 parsed_answer-requires c =
-    kept_result (read_options (script_of c.args.script)) (texts c.args.words.now)
+    kept_result (read_options (script_of c.args.script)) (map string_bytes c.args.words.now)
     c.args.matches.now c.requires (sym c.keep_counts.ensures ∙ c.if-keep_counts.true)
 
 pub returns-in-Err : goal.returns-in-Err

@@ -14,12 +14,12 @@ returns c =
     let rows = map string_bytes c.in_ok-rows.rows.items in
     let front = c.as_str.ensures.value ∙ c.in_ok-front.ensures
     ∙ ap (λ rows. help_front (string_bytes c.in_ok-brief.brief) (map string_bytes rows))
-    c.deref.ensures.value
+    c.deref-2.ensures.value
     ∙ ap (λ (brief : Text). help_front brief rows) c.in_ok-brief.ensures in
     IfOk-weaker c.usage.result _ _
     (λ help only. (
       rows,
-      c.in_ok-rows.ensures,
+      rw c.deref.ensures.value at c.in_ok-rows.ensures,
       subst (λ (shown : Declared). IsTheOnly (IsUsageText shown (help_front (brief_text script)
           rows)) (string_bytes help)) c.in_ok-shown.ensures
           (subst (λ (text : Text). IsTheOnly (IsUsageText c.in_ok-shown.shown text)

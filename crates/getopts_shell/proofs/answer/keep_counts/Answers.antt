@@ -1,8 +1,10 @@
-use Rattle.std.proofs.Common.{◌+◌, ℕ, Bool, List, ap, arith, drop, length, sym, ◌∙◌}
+use Rattle.std.proofs.Common.{◌+◌, Bool, List, ap, arith, drop, false, length, sym, ◌∙◌}
 use Rattle.std.specs.Prelude.{◌&&◌}
 use Rattle.std.specs.Option.{is_none}
 use Rattle.getopts.specs.Matches.{MatchedGroup}
 use Rattle.getopts.specs.Results.{first_count_fault, fits_count}
+use Rattle.getopts.specs.declared.groups.Occur.{Occur}
+use Rattle.getopts_shell.specs.Table.{occurrence_of}
 use Rattle.getopts_shell.proofs.Asked.{counts_from, none_left}
 use Rattle.getopts_shell.proofs.answer.keep_counts.Goals as goal
 
@@ -10,7 +12,8 @@ pub loop-place-preserved : goal.loop-place-preserved
 loop-place-preserved c =
     let row = c.index-rows-place.result in
     let groups = c.args.matches.now.groups in
-    let fits = sym (ap (λ (n : ℕ). fits_count row.occurrence n) (c.len.ensures
+    let fits = sym (ap (λ (o : Occur). fits_count o c.len-count.result) c.occurrence_of.ensures
+    ∙ ap (fits_count (occurrence_of false row.often)) (c.len-count.ensures
     ∙ ap length c.occurrences_at.ensures))
     ∙ sym c.keeps_count.ensures ∙ c.if-not-keeps_count.false in
     c.loop-place.invariant
@@ -23,7 +26,8 @@ pub returns-then-not-keeps_count : goal.returns-then-not-keeps_count
 returns-then-not-keeps_count c =
     let row = c.index-rows-place.result in
     let groups = c.args.matches.now.groups in
-    let breaks = sym (ap (λ (n : ℕ). fits_count row.occurrence n) (c.len.ensures
+    let breaks = sym (ap (λ (o : Occur). fits_count o c.len-count.result) c.occurrence_of.ensures
+    ∙ ap (fits_count (occurrence_of false row.often)) (c.len-count.ensures
     ∙ ap length c.occurrences_at.ensures))
     ∙ sym c.keeps_count.ensures ∙ c.if-not-keeps_count.true in
     sym (c.loop-place.invariant

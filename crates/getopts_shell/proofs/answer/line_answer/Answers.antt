@@ -1,6 +1,5 @@
 use Rattle.std.proofs.Common.{Some, ap, map, string_bytes, subst, sym, ◌∙◌}
 use Rattle.std.proofs.lemmas.Result.{IfOk-weaker}
-use Rattle.getopts.specs.Names.{texts}
 use Rattle.getopts.specs.Options.{Declared}
 use Rattle.getopts_shell.proofs.Plain.{ArePlainlyNamed}
 use Rattle.getopts_shell.specs.Program.{done}
@@ -13,15 +12,15 @@ use Rattle.getopts_shell.proofs.answer.line_answer.Goals as goal
 
 pub unreachable-requires : goal.unreachable-requires
 unreachable-requires c =
-    never_unwritable c.args.script.options.now (texts c.args.words.now)
+    never_unwritable c.args.script.options.now (map string_bytes c.args.words.now)
     (subst (λ (options : Declared). ArePlainlyNamed options.groups) (sym c.args.script.options_are)
-    (plain_rows c.args.script.rows.now))
+    (plain_rows c.args.script.table.now.rows.items))
     (rw c.in-Ok-None.field-0-is at c.in-Ok-None.ensures.unwritable)
 
 pub returns-in_ok-line_code-in-Ok-Some : goal.returns-in_ok-line_code-in-Ok-Some
 returns-in_ok-line_code-in-Ok-Some c =
     let line = map string_bytes c.in-Ok-Some.line.items in
-    let tells = tells_words c.args.script.options.now (texts c.args.words.now) line
+    let tells = tells_words c.args.script.options.now (map string_bytes c.args.words.now) line
     (strings_are_texts c.in-Ok-Some.line.items) c.names_resolve.ensures.empty
     c.in-Ok-Some.ensures.laws
     (rw c.in-Ok-Some.field-0-is at c.in-Ok-Some.ensures.written) in

@@ -9,9 +9,11 @@ use Rattle.getopts_shell.proofs.answer.parsed_answer.Goals as goal
 
 pub returns-in-Some : goal.returns-in-Some
 returns-in-Some c =
-    let fault = free_fault (operands_of c.args.script.operands.now) in
+    let fault = free_fault (operands_of c.args.script.table.now.operands.items) in
     let free_is = ap (λ (matches : Matched). fault matches.free) (sym c.matches.view_is)
-    ∙ ap (λ free. fault (map string_bytes free)) (sym c.deref.ensures.value) in
+    ∙ ap (λ free. fault (map string_bytes free)) (sym c.deref-2.ensures.value)
+    ∙ ap (λ operands. free_fault (operands_of operands) (map string_bytes c.deref-2.result.now))
+    (sym c.deref.ensures.value) in
     IfOk-weaker c.operand_refusal.result _ _
     (λ outcome is. at_ok _ _ c.args.matches.now c.requires (at_some _ _ _
     (free_is ∙ sym c.free_error.ensures ∙ ap (option_map operand_fault_told) c.in-Some.is) is))
@@ -19,9 +21,11 @@ returns-in-Some c =
 
 pub returns-in-None : goal.returns-in-None
 returns-in-None c =
-    let fault = free_fault (operands_of c.args.script.operands.now) in
+    let fault = free_fault (operands_of c.args.script.table.now.operands.items) in
     let free_is = ap (λ (matches : Matched). fault matches.free) (sym c.matches.view_is)
-    ∙ ap (λ free. fault (map string_bytes free)) (sym c.deref.ensures.value) in
+    ∙ ap (λ free. fault (map string_bytes free)) (sym c.deref-2.ensures.value)
+    ∙ ap (λ operands. free_fault (operands_of operands) (map string_bytes c.deref-2.result.now))
+    (sym c.deref.ensures.value) in
     IfOk-weaker c.accepted_answer.result _ _
     (λ outcome is. at_ok _ _ c.args.matches.now c.requires (at_none _ _
     (free_is ∙ sym c.free_error.ensures ∙ ap (option_map operand_fault_told) c.in-None.is) is))

@@ -7,5 +7,5 @@ use Rattle.getopts_shell.proofs.answer.read_answer.Goals as goal
 pub returns-then-asks_help : goal.returns-then-asks_help
 returns-then-asks_help c =
     let code = c.in_ok-help_code.ensures in
-    at_true _ _ (sym c.asks_help.ensures ∙ c.if-asks_help.true)
+    at_true _ _ (rw c.deref.ensures.value at (sym c.asks_help.ensures ∙ c.if-asks_help.true))
     (code.0, code.1, one_word code.0 code.2, c.done.ensures ∙ ap done code.3)

@@ -1,24 +1,21 @@
-use Rattle.std.proofs.Common.{ap, subst, sym, ◌∙◌}
+use Rattle.std.proofs.Common.{map, string_bytes}
+use Rattle.std.proofs.Common.{ap, subst, ◌∙◌}
 use Rattle.std.proofs.lemmas.Result.{IfOk-weaker}
-use Rattle.getopts.specs.Names.{texts}
-use Rattle.getopts_shell.specs.Held.{answer_of, asked_of, entries_of, operands_of}
+use Rattle.getopts_shell.specs.Held.{answer_of, asked_of, entries_of}
 use Rattle.getopts_shell.specs.Program.{AnswersDeclared, declared, faulty, misused}
-use Rattle.getopts_shell.specs.Table.{DeclaresOptions}
 use Rattle.getopts_shell.proofs.answer.table_answer.Goals as goal
 
 pub returns-in-Ok : goal.returns-in-Ok
 returns-in-Ok c =
     IfOk-weaker c.declared_answer.result _ _
-    (λ outcome is. declared (entries_of c.deref.result.now)
-    (subst (λ rows. DeclaresOptions c.args.table.now (entries_of rows))
-    (sym c.deref.ensures.value) c.in-Ok.ensures.0)
+    (λ outcome is. declared (entries_of c.in-Ok.declared.rows.items) c.in-Ok.ensures.0
     (subst (λ operands. AnswersDeclared (record {
       asked = asked_of c.args.asked.now;
       name = c.args.name.now;
-      entries = entries_of c.deref.result.now;
+      entries = entries_of c.in-Ok.declared.rows.items;
       operands = operands;
-    }) c.args.table.now (texts c.args.words.now) (answer_of outcome))
-    (ap operands_of c.deref-in-Ok.ensures.value ∙ c.in-Ok.ensures.1) is))
+    }) c.args.table.now (map string_bytes c.args.words.now) (answer_of outcome))
+    c.in-Ok.ensures.1 is))
     c.declared_answer.ensures
 
 pub returns-in_ok-table_refusal-in-Err : goal.returns-in_ok-table_refusal-in-Err

@@ -3,7 +3,7 @@ use Rattle.std.specs.Prelude.{codes, decimal}
 use Rattle.getopts.specs.Names.{Text}
 use Rattle.std.proofs.lemmas.Result.{IfOk-weaker}
 use Rattle.getopts_shell.specs.Held.{fault_told}
-use Rattle.getopts_shell.specs.Table.{no_option, name_twice}
+use Rattle.getopts_shell.specs.Table.{late_operand, name_twice, no_option}
 use Rattle.getopts_shell.proofs.answer.table_refusal.Goals as goal
 
 pub returns-in-NoOption : goal.returns-in-NoOption
@@ -29,3 +29,13 @@ returns-in-NameTwice c =
       is,
     ))
     c.format-in-NameTwice.ensures.ok
+
+pub returns-in-LateOperand : goal.returns-in-LateOperand
+returns-in-LateOperand c =
+    IfOk-weaker c.format-in-LateOperand.result _ _
+    (λ text is. (
+      late_operand c.in-LateOperand.number c.in-LateOperand.item.now,
+      ap fault_told c.in-LateOperand.is,
+      is,
+    ))
+    c.format-in-LateOperand.ensures.ok

@@ -10,10 +10,13 @@ returns c =
     let matches = c.args.matches.now in
     record {
       sets = asked_sets (asked_of script.asked.now) c.args.prefix.now
-          (entries_of script.rows.now) matches.groups matches.free c.requires script.no_fault;
-      values = c.in_ok-variables_code.ensures.values;
-      free_values = c.in_ok-variables_code.ensures.free;
+          (entries_of script.table.now.rows.items) matches.groups matches.free c.requires script.no_fault;
+      values = rw c.deref.ensures.value at c.in_ok-code.ensures.values;
+      free_values = c.in_ok-code.ensures.free;
       answer_is = c.done.ensures
-          ∙ ap done (rw (c.variables-variables.ensures.0, c.variables-variables.ensures.1)
-          at c.in_ok-variables_code.ensures.text);
+          ∙ ap done (rw (
+            c.variables-variables.ensures.0,
+            c.variables-variables.ensures.1,
+            c.deref.ensures.value,
+          ) at c.in_ok-code.ensures.text);
     }

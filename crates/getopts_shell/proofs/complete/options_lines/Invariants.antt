@@ -1,11 +1,11 @@
 use Rattle.std.proofs.Common.{◌≡◌, take}
 use Rattle.std.specs.String.{string_bytes}
 use Rattle.getopts_shell.specs.Completion.{options_lines}
-use Rattle.getopts_shell.specs.Held.{groups_of}
+use Rattle.getopts_shell.specs.Held.{entries_of}
 use Rattle.getopts_shell.proofs.complete.options_lines.Given as goal
 
 -- the text is what is offered of the rows so far
 abbrev pub invariant-loop-row : goal.invariant-loop-row
 invariant-loop-row l =
     string_bytes l.text
-    ≡ options_lines l.matches.groups l.long_only l.word (groups_of (take l.row-index l.rows))
+    ≡ options_lines l.matches.groups l.long_only l.word (entries_of (take l.row-index l.rows))

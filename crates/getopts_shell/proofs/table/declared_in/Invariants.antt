@@ -7,5 +7,5 @@ use Rattle.getopts_shell.proofs.table.declared_in.Given as goal
 -- what the lines so far declare
 abbrev pub invariant-loop-line : goal.invariant-loop-line
 invariant-loop-line l = LinesSoFar (map (λ line. line.now) l.yielded) l.number
-    (entries_of l.rows.items)
-    × (operands_of l.operands.items ≡ operands_after 0 (map (λ line. line.now) l.yielded))
+    (entries_of l.table.rows.items)
+    × (operands_of l.table.operands.items ≡ operands_after 0 (map (λ line. line.now) l.yielded))

@@ -3,7 +3,8 @@ use Rattle.std.proofs.lemmas.List.Concat.{flat_map-append}
 use Rattle.getopts.proofs.Lists.{AllByRecursion-append}
 use Rattle.getopts.specs.Matches.{Matched}
 use Rattle.getopts_shell.specs.Held.{entries_of}
-use Rattle.getopts_shell.specs.Variables.{AreTextValues, Given, given_from, holds_all}
+use Rattle.getopts_shell.specs.Completion.{holds_all}
+use Rattle.getopts_shell.specs.Variables.{AreTextValues, Given, given_from}
 use Rattle.getopts_shell.proofs.Assignments.{given_more}
 use Rattle.getopts_shell.proofs.Written.{strings_are_texts}
 use Rattle.getopts_shell.proofs.variables.variables_code.Goals as goal
@@ -17,8 +18,8 @@ loop-place-preserved c =
     given_more place rows held c.index-rows-place.result c.occurrences_at.result
     c.loop-place-test.true
     c.index-rows-place.is c.occurrences_at.ensures in
-    let texts = λ (option : Given). AreTextValues option.entry.signature.kind
-    (holds_all option.entry) option.found in (
+    let texts = λ (option : Given). AreTextValues option.entry.kind
+    (holds_all option.entry.often) option.found in (
       c.in_ok-push_option.ensures.text
           ∙ simp (c.loop-place.invariant.0, more, flat_map-append, append-nil),
       rw more (AllByRecursion-append texts (given_from 0 (entries_of (take place rows)) held) _

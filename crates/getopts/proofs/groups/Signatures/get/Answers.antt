@@ -14,7 +14,7 @@ returns c =
     let signature : Signature = there.0 in
     let names : names_view c.names.result ≡ signature.names = c.names.ensures
     ∙ names_at-signature c.args.self.now c.args.place signature there.1 in
-    let kinds : c.kinds_at.result ≡ kinds_of signature = same_Some _ _ (c.kinds_at.ensures
+    let kinds : c.record.result.kinds ≡ kinds_of signature = same_Some _ _ (c.record.ensures.kinds
     ∙ ap (option_map kinds_of) there.1) in
     rw there.1 (λ k. Some (record {
       names = names k;

@@ -1,8 +1,11 @@
--- A record has the keys and the kinds of its group.
+-- A record has the keys and the kinds of its group, which is lawful.
 use Rattle.std.proofs.Common.{arith, sym, ap}
 use Rattle.std.specs.Option.{option_map}
-use Rattle.getopts.specs.Held.Groups.{kinds_of}
+use Rattle.std.proofs.lemmas.List.{length-map}
+use Rattle.getopts.specs.Options.{Signature}
+use Rattle.getopts.specs.Held.Groups.{kinds_of, names_in}
 use Rattle.getopts.proofs.Held.Groups.{held_at, record_within, names_at-signature}
+use Rattle.getopts.proofs.Held.Groups.{fits_at, lawful_names}
 use Rattle.getopts.proofs.groups.Signatures.record.Goals as goal
 
 pub index-requires : goal.index-requires
@@ -15,6 +18,12 @@ returns-clause-keys c =
     let held = held_at _ c.self.inside.records.items _ _ c.index.result.now
     c.self.invariant.held c.self.view_is c.requires c.index.ensures in
     rw (names_at-signature _ _ _ held.1) held.0.keys
+
+pub returns-clause-lawful : goal.returns-clause-lawful
+returns-clause-lawful c =
+    fits_at (names_in c.args.self.now)
+    (lawful_names c.args.self.now (rw (← c.self.view_is) c.self.invariant.lawful)) c.args.place
+    (omega (arith, c.requires, length-map c.args.self.now (λ (s : Signature). s.names)))
 
 pub returns-clause-kinds : goal.returns-clause-kinds
 returns-clause-kinds c =

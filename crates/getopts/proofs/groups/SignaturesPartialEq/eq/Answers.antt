@@ -1,6 +1,5 @@
 -- They are the same where they are as many, and the same at each place.
-use Rattle.std.proofs.Common.{sym, ◌∙◌}
-use Rattle.std.proofs.Common.{◌≡◌, true, map, List, [], ◌∷◌}
+use Rattle.std.proofs.Common.{sym, ◌∙◌, ◌≡◌, true, map, List, [], ◌∷◌, ◌==◌, ap}
 use Rattle.std.specs.Cmp.Lexicographic.{pointwise}
 use Rattle.getopts.specs.Names.{Text}
 use Rattle.getopts.specs.Held.Groups.{signature_in, same_record, same_kinds, two_at}
@@ -8,7 +7,6 @@ use Rattle.getopts.specs.Held.Pieces.{between}
 use Rattle.std.proofs.lemmas.Slice.Eq.{bytes_eq-Decides}
 use Rattle.std.specs.Str.{bytes_eq}
 use Rattle.std.specs.String.{string_bytes}
-use Rattle.std.proofs.Common.{◌==◌, ap}
 use Rattle.getopts.specs.declared.groups.SignatureRecord.{SignatureRecord}
 use Rattle.std.proofs.lemmas.Bool.{not-true, not-false, and_parts, and_from, eqb-true}
 use Rattle.std.specs.Option.{option_eq}

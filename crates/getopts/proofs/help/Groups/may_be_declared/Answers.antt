@@ -8,4 +8,4 @@ pub returns : goal.returns
 returns c =
     MayBeDeclared-lawful c.args.self.now (subst AreLawfulSignatures
     (signatures_held c.self.inside c.args.self.now c.self.invariant c.self.view_is).0
-    c.are_lawful.ensures)
+    c.are_lawful.ensures.lawful)

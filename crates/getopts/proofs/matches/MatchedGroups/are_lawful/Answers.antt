@@ -5,4 +5,4 @@ use Rattle.getopts.proofs.matches.MatchedGroups.are_lawful.Goals as goal
 pub returns : goal.returns
 returns c =
     rw (← c.self.view_is) (AreHeldLawfully-matched 0 c.self.inside.signatures c.self.inside.found
-    c.are_lawful.ensures.named)
+    c.are_lawful.ensures.lawful.named)

@@ -14,7 +14,10 @@ invariant_of-result c =
     let found : c.in_ok-clone-3.field-0 ≡ c.self.inside.found = c.in_ok-clone-3.ensures.cases in
     let index : c.in_ok-clone-4.field-0 ≡ c.self.inside.index = c.in_ok-clone-4.ensures.cases in
     record {
-      table = rw (signatures, letters, words) c.self.invariant.table;
+      table = record {
+        are_letters = rw (signatures, letters) c.self.invariant.table.are_letters;
+        are_words = rw (signatures, words) c.self.invariant.table.are_words;
+      };
       index = index ∙ c.self.invariant.index ∙ sym (λ i. index_of (length (signatures i)) (found i));
     }
 

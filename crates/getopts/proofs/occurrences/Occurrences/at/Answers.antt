@@ -21,4 +21,4 @@ returns c =
     rw (← c.self.view_is)
     (founds-at c.self.inside.found.now c.self.inside.places.now c.self.invariant c.args.nth place
     (slice_get-get_or c.self.inside.places.now c.args.nth 0 within)
-    ∙ ap (option_map found_part) c.at-occurrence.ensures)
+    ∙ ap (option_map found_part) c.at.ensures)

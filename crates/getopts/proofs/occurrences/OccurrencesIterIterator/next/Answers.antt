@@ -7,4 +7,4 @@ pub returns-clause-steps : goal.returns-clause-steps
 returns-clause-steps c =
     rw (← c.self.view_is)
     (drop-next c.self.inside.occurrences c.self.inside.next
-    (held_found c.at-occurrence.result) c.at-occurrence.ensures)
+    (held_found (c.at-occurrence.result.position, c.at-occurrence.result.value)) c.at-occurrence.ensures)

@@ -8,8 +8,7 @@ use Rattle.getopts.proofs.MainTheorem.BeforeFree.{HaveLastWordsFree-accepted}
 use Rattle.getopts.proofs.MainTheorem.Results.{GivesResult-parse}
 use Rattle.getopts.proofs.Parsing.Parsed.{positions_below-read, keeps_laws}
 use Rattle.getopts.proofs.Scanner.Loop.{length-texts}
-use Rattle.getopts.proofs.Parsing.Holds.{HoldDeclared-accepted}
-use Rattle.getopts.proofs.Parsing.Holds.{EndsInTrailing-read}
+use Rattle.getopts.proofs.Parsing.Holds.{HoldDeclared-accepted, EndsInTrailing-read}
 use Rattle.getopts.proofs.options.Options.parse_words.Goals as goal
 
 pub returns-clause-accepted : goal.returns-clause-accepted

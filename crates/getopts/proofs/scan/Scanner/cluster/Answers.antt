@@ -1,10 +1,11 @@
 -- Each name of a cluster is a flag, ends it, or is a fault.
-use Rattle.std.proofs.Common.{◌+◌, take, slice_index, sym, ◌∙◌, ap, arith, None, rules}
+use Rattle.std.proofs.Common.{◌+◌, take, slice_index, sym, ◌∙◌, ap, arith, None, Some, rules}
 use Rattle.std.specs.Option.{option_copied}
 use Rattle.std.specs.Str.{IsCharBoundary}
 use Rattle.std.proofs.lemmas.Str.{IsCharBoundary-after_ascii}
 use Rattle.std.proofs.lemmas.Result.{err_from_is_err_and}
 use Rattle.getopts.specs.Fail.{unrecognized_option}
+use Rattle.getopts.specs.declared.groups.HasArg.{HasArg}
 use Rattle.getopts.specs.Reading.{cluster, ends_in}
 use Rattle.getopts.specs.Turn.{faults, first_char, chosen_turn}
 use Rattle.getopts.proofs.Parsing.Faults.{Tells-one, Tells-weaker}
@@ -48,35 +49,35 @@ returns-in-Some-clause-ok g c =
     let option = rw c.as_bytes.ensures.value at c.in-Some.ensures.option in
     let name = c.range-name.ensures.value
     ∙ slice_range-one c.args.text.now c.names.at (omega arith) in
-    AddsItem-ends (omega arith) c.names.invariant c.in-Some.group c.in-Some.kind
-    (option_copied c.in_ok-value-in-Some.value) c.in_ok-value-in-Some.used _ option.0
-    (search rules) option.1
-    (rw (name, c.range_from-in-Some.ensures.value) at c.in_ok-value-in-Some.ensures.ok)
+    AddsItem-ends (omega arith) c.names.invariant c.in-Some.field-0.place c.in-Some.field-0.kind
+    (option_copied c.in_ok-argument-in-Some.argument.value) c.in_ok-argument-in-Some.argument.used _ option.place
+    (search rules) option.kind
+    (rw (name, c.range_from-in-Some.ensures.value) at c.in_ok-argument-in-Some.ensures.ok)
     c.in_ok-push-in-Some.ensures
 
-pub returns-in_err-value-in-Some-clause-err : goal.returns-in_err-value-in-Some-clause-err
-returns-in_err-value-in-Some-clause-err g c =
-    let left = err_from_is_err_and c.from_residual-in_err-value-in-Some.result
-    c.from_residual-in_err-value-in-Some.ensures.1 in
+pub returns-in_err-argument-in-Some-clause-err : goal.returns-in_err-argument-in-Some-clause-err
+returns-in_err-argument-in-Some-clause-err g c =
+    let left = err_from_is_err_and c.from_residual-in_err-argument-in-Some.result
+    c.from_residual-in_err-argument-in-Some.ensures.1 in
     let option = rw c.as_bytes.ensures.value at c.in-Some.ensures.option in
     let name = c.range-name.ensures.value
     ∙ slice_range-one c.args.text.now c.names.at (omega arith) in
     let bytes = take c.names.at c.args.text.now in
     let byte = slice_index c.args.text.now c.names.at in
-    rw (left.1, left.2) (Tells-weaker c.in_err-value-in-Some.field-0.0 _ _
-    (rw (name, c.range_from-in-Some.ensures.value) at c.in_err-value-in-Some.ensures.err)
+    rw (left.1, left.2) (Tells-weaker c.in_err-argument-in-Some.field-0.0 _ _
+    (rw (name, c.range_from-in-Some.ensures.value) at c.in_err-argument-in-Some.ensures.err)
     (λ fault told. cluster_turn-ends (omega arith) c.names.invariant
-    c.in-Some.kind (search rules) option.1
+    c.in-Some.field-0.kind (search rules) option.kind
     ∙ ap (chosen_turn (λ a. cluster bytes (ends_in byte a))) told))
 
 pub names-preserved : goal.names-preserved
 names-preserved g c =
-    let option = rw c.as_bytes.ensures.value at c.in-Some-default-No.ensures.option in
+    let option = rw c.as_bytes.ensures.value at c.in-Some-No.ensures.option in
     FlagsRead-more (omega arith) c.names.invariant
-    c.in-Some-default-No.group _ c.utf8.text
-    (rw c.as_bytes.ensures.value at c.in-Some-default-No.ensures.ascii)
-    option.0 (rw c.in-Some-default-No.field-0-1-is at option.1)
-    c.in_ok-push-in-Some-default-No.ensures
+    c.in-Some-No.field-0.place _ c.utf8.text
+    (rw c.as_bytes.ensures.value at c.in-Some-No.ensures.ascii)
+    option.place (option.kind ∙ ap (λ (kind : HasArg). Some kind) (search rules))
+    c.in_ok-push-in-Some-No.ensures
 
 pub returns-clause-ok : goal.returns-clause-ok
 returns-clause-ok g c = AddsItem-flags (omega arith) c.names.invariant

@@ -2,7 +2,6 @@
 use Rattle.std.proofs.Common.{map, Some, None, refl, rules}
 use Rattle.std.specs.Option.{option_copied}
 use Rattle.getopts.specs.Fail.{argument_missing, unrecognized_option, unexpected_argument}
-use Rattle.getopts.specs.Names.{texts}
 use Rattle.getopts.specs.Held.Line.{scanner_grammar}
 use Rattle.getopts.specs.Reading.{none, attached, separate}
 use Rattle.getopts.specs.Turn.{chosen_long, Chooses}
@@ -20,8 +19,8 @@ returns-clause-ok g c = λ dashes.
     let after = map g.S.AsStr.text c.args.after.now in
     let cut = c.name_and_argument.ensures in
     let named = c.in-Some.ensures in
-    let chooses : Chooses (chosen_long c.in-Some.option.1 name argument after)
-    (option_copied c.match-kind.used.0) c.match-kind.used.1 = elim c.match-kind.branch [
+    let chooses : Chooses (chosen_long c.in-Some.option.kind name argument after)
+    (option_copied c.match-option-2.used.0) c.match-option-2.used.1 = elim c.match-option-2.branch [
       | in-No-None w ↦ rw (w.used-is, w.in-No-None.is-0, w.in-No-None.is-1) (Chooses-ok none)
       | in-Yes-None+in-Some-first w ↦
           rw (
@@ -40,7 +39,7 @@ returns-clause-ok g c = λ dashes.
     ] in
     AddsItem-long (scanner_grammar c.args.self.now) dashes c.args.text.now name argument after
     cut.text cut.name
-    c.in-Some.option.1 c.in-Some.option.0 c.args.position _ _ _ _ named.1 named.0 chooses
+    c.in-Some.option.kind c.in-Some.option.place c.args.position _ _ _ _ named.kind named.place chooses
     c.in_ok-push.ensures
 
 pub returns-in-None-clause-err : goal.returns-in-None-clause-err
@@ -59,7 +58,7 @@ returns-in-No-Some-clause-err g c = λ dashes.
     Tells-long (scanner_grammar c.args.self.now) dashes c.args.text.now name
     (Some c.in-No-Some.field-0-1.now) (map g.S.AsStr.text c.args.after.now)
     (rw c.in-No-Some.is-1 at cut.text) cut.name
-    (Some No) (rw c.in-No-Some.is-0 at c.in-Some.ensures.1) c.unexpected_argument.result
+    (Some No) (rw c.in-No-Some.is-0 at c.in-Some.ensures.kind) c.unexpected_argument.result
     (unexpected_argument name) refl c.unexpected_argument.ensures
 
 pub returns-in-None-first-clause-err : goal.returns-in-None-first-clause-err
@@ -68,5 +67,5 @@ returns-in-None-first-clause-err g c = λ dashes.
     let cut = c.name_and_argument.ensures in
     Tells-long (scanner_grammar c.args.self.now) dashes c.args.text.now name None
     (map g.S.AsStr.text c.args.after.now) (rw c.in-Yes-None.is-1 at cut.text) cut.name (Some Yes)
-    (rw c.in-Yes-None.is-0 at c.in-Some.ensures.1) c.argument_missing.result (argument_missing name)
+    (rw c.in-Yes-None.is-0 at c.in-Some.ensures.kind) c.argument_missing.result (argument_missing name)
     (rw (texts-none g.S.AsStr.text c.args.after.now (search rules)) refl) c.argument_missing.ensures

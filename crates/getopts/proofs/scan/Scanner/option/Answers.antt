@@ -23,8 +23,8 @@ returns-in_err-place c =
     ) at c.in_err-place.ensures in
     rw (c.from_residual.ensures, ← none) refl
 
-pub kinds_at-requires : goal.kinds_at-requires
-kinds_at-requires c =
+pub record-requires : goal.record-requires
+record-requires c =
     let signatures = c.signatures-signatures.result.now in
     let within = resolution_within (names_in signatures) c.args.name.now c.in_ok-place.place
     (sym c.in_ok-place.ensures) in
@@ -35,8 +35,9 @@ returns c =
     let groups = c.args.self.now.options.now.groups in
     let there = rw (c.signatures-signatures.ensures.signatures, names-signatures_of groups) at
     c.in_ok-place.ensures in
-    let kinds = (rw c.signatures-signatures.ensures.signatures at c.kinds_at.ensures)
-    ∙ sym (kinds-signatures_of groups c.in_ok-place.place) in (
-      sym there,
-      rw (← there) (sym (ap (option_map (λ (k : Kinds). k.kind)) kinds ∙ kind_of-kinds _)),
-    )
+    let kinds = (rw c.signatures-signatures.ensures.signatures at c.record.ensures.kinds)
+    ∙ sym (kinds-signatures_of groups c.in_ok-place.place) in
+    record {
+      place = sym there;
+      kind = rw (← there) (sym (ap (option_map (λ (k : Kinds). k.kind)) kinds ∙ kind_of-kinds _));
+    }

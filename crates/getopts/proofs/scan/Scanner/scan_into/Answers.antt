@@ -1,10 +1,9 @@
 -- Each turn reads one more item, and each end is that of a reading or a fault.
-use Rattle.std.proofs.Common.{refl, map, Bor, ◌≡◌, ◌+◌, drop, length, sym, ap, ◌∙◌, arith, rules}
+use Rattle.std.proofs.Common.{refl, map, ◌≡◌, ◌+◌, drop, length, sym, ap, ◌∙◌, arith, rules}
 use Rattle.std.specs.String.{string_bytes}
 use Rattle.std.proofs.lemmas.List.{drop-map, append-nil, drop_all, length-map}
 use Rattle.std.proofs.lemmas.Option.{slice_get_read}
 use Rattle.std.proofs.lemmas.Result.{err_from_is_err_and}
-use Rattle.getopts.specs.Names.{Text, texts}
 use Rattle.getopts.specs.Held.Line.{scanner_grammar, IsLawfulScanner}
 use Rattle.getopts.specs.Reading.{line_end, stop, rest, free_items}
 use Rattle.getopts.specs.declared.groups.ParsingStyle.TheVariants.{FloatingFrees, StopAtFirstFree}
@@ -17,7 +16,7 @@ use Rattle.getopts.proofs.Reading.Turns.{IsNamed, read}
 use Rattle.getopts.proofs.Scanner.Loop.{ReadSoFar-none, ReadSoFar-free, ReadSoFar-added}
 use Rattle.getopts.proofs.Scanner.Loop.{IsReading-tail, IsReading-rest, IsReading-stop, Tells-word}
 use Rattle.getopts.proofs.Scanner.Loop.{used-within, length-texts, trailing_after-stop}
-use Rattle.getopts.proofs.scan.Scanner.scan.Goals as goal
+use Rattle.getopts.proofs.scan.Scanner.scan_into.Goals as goal
 
 -- a scanner's names are texts
 named : (scanner : Scanner) → IsLawfulScanner scanner → IsNamed (scanner_grammar scanner)
@@ -98,7 +97,7 @@ returns-in_err-long-in-Long-clause-err g c =
     c.from_residual-in_err-long-in-Long.ensures.1 in
     rw (left.1, left.2) (Tells-word (named _ c.requires.lawful) g.S.AsStr.text _ c.requires.texts
     c.items.invariant.read _ (slice_get_read c.args.words.now _ c.items.at _ refl (omega arith)
-          c.index-words-at.is) _ c.in_err-long-in-Long.field-0.0
+    c.index-words-at.is) _ c.in_err-long-in-Long.field-0.0
     (turn_long _ _ _ _ _ (rw c.as_str-word.ensures at c.in-Long.ensures.1))
     (rw (take-drop c.args.words.now (c.items.at + 1)) at c.in_err-long-in-Long.ensures.err
     c.in-Long.ensures.0))
@@ -109,7 +108,7 @@ returns-in_err-at-in-Cluster-clause-err g c =
     c.from_residual-in_err-at-in-Cluster.ensures.1 in
     rw (left.1, left.2) (Tells-word (named _ c.requires.lawful) g.S.AsStr.text _ c.requires.texts
     c.items.invariant.read _ (slice_get_read c.args.words.now _ c.items.at _ refl (omega arith)
-          c.index-words-at.is) _ c.in_err-at-in-Cluster.field-0.0
+    c.index-words-at.is) _ c.in_err-at-in-Cluster.field-0.0
     (turn_short _ _ _ _ (rw c.as_str-word.ensures at c.in-Cluster.ensures))
     (rw (take-drop c.args.words.now (c.items.at + 1)) at c.in_err-at-in-Cluster.ensures.err))
 
@@ -117,7 +116,7 @@ pub overflow_add-at-in-Long-2 : goal.overflow_add-at-in-Long-2
 overflow_add-at-in-Long-2 g c =
     let within = used-within (named _ c.requires.lawful) g.S.AsStr.text _ c.requires.texts
     c.items.invariant.read _ (slice_get_read c.args.words.now _ c.items.at _ refl (omega arith)
-          c.index-words-at.is) _ c.in_ok-long-in-Long.field-0 _
+    c.index-words-at.is) _ c.in_ok-long-in-Long.field-0 _
     (turn_long _ _ _ _ _ (rw c.as_str-word.ensures at c.in-Long.ensures.1))
     (rw (take-drop c.args.words.now (c.items.at + 1)) at c.in_ok-long-in-Long.ensures.ok
     c.in-Long.ensures.0) in omega (arith, within)
@@ -126,7 +125,7 @@ pub overflow_add-at-in-Cluster-2 : goal.overflow_add-at-in-Cluster-2
 overflow_add-at-in-Cluster-2 g c =
     let within = used-within (named _ c.requires.lawful) g.S.AsStr.text _ c.requires.texts
     c.items.invariant.read _ (slice_get_read c.args.words.now _ c.items.at _ refl (omega arith)
-          c.index-words-at.is) _ c.in_ok-at-in-Cluster.field-0 _
+    c.index-words-at.is) _ c.in_ok-at-in-Cluster.field-0 _
     (turn_short _ _ _ _ (rw c.as_str-word.ensures at c.in-Cluster.ensures))
     (rw (take-drop c.args.words.now (c.items.at + 1)) at c.in_ok-at-in-Cluster.ensures.ok) in
     omega (arith, within)
@@ -146,7 +145,7 @@ pub items-preserved-in_ok-long-in-Long : goal.items-preserved-in_ok-long-in-Long
 items-preserved-in_ok-long-in-Long g c = record {
   read = ReadSoFar-added (named _ c.requires.lawful) g.S.AsStr.text _ c.requires.texts c.items.invariant.read _
       (slice_get_read c.args.words.now _ c.items.at _ refl (omega arith)
-          c.index-words-at.is) _ c.in_ok-long-in-Long.field-0 _
+      c.index-words-at.is) _ c.in_ok-long-in-Long.field-0 _
       (turn_long _ _ _ _ _ (rw c.as_str-word.ensures at c.in-Long.ensures.1))
       (rw (take-drop c.args.words.now (c.items.at + 1)) at c.in_ok-long-in-Long.ensures.ok
       c.in-Long.ensures.0);
@@ -157,7 +156,7 @@ pub items-preserved : goal.items-preserved
 items-preserved g c = record {
   read = ReadSoFar-added (named _ c.requires.lawful) g.S.AsStr.text _ c.requires.texts c.items.invariant.read _
       (slice_get_read c.args.words.now _ c.items.at _ refl (omega arith)
-          c.index-words-at.is) _ c.in_ok-at-in-Cluster.field-0 _
+      c.index-words-at.is) _ c.in_ok-at-in-Cluster.field-0 _
       (turn_short _ _ _ _ (rw c.as_str-word.ensures at c.in-Cluster.ensures))
       (rw (take-drop c.args.words.now (c.items.at + 1)) at c.in_ok-at-in-Cluster.ensures.ok);
   trailing = c.items.invariant.trailing;

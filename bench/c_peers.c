@@ -1,0 +1,121 @@
+/* Runs the job `whole` of getopts_bench in C, on bindings/c and on two parsers of glibc, and prints the same sum.
+ *
+ * usage: c_peers PEER whole ROWS TIMES
+ *
+ * PEER is `getopts`, `getopt_long` or `argp`. Tables and words are made before the turns. A turn of bindings/c makes
+ * options of its table, reads the words, and takes each count and value. The two others give one option after the
+ * other, whose value a turn takes as it comes; they sort the words, so each turn has a copy of the pointers to them. */
+#define _GNU_SOURCE
+#include <argp.h>
+#include <getopt.h>
+#include <getopts.h>
+#include <stdio.h>
+#include <stdlib.h>
+#include <string.h>
+
+enum { MOST = 32, FIRST_KEY = 256 };
+
+static struct getopts_option table[MOST + 1];
+static struct option long_options[MOST + 1];
+static struct argp_option argp_options[MOST + 1];
+static char short_options[2 * MOST + 1];
+static char **words, **moved;
+static int options, count;
+
+/* Adds an option to each table. */
+static void declare(int takes, const char *short_name, const char *long_name) {
+    int key = *short_name ? *short_name : FIRST_KEY + options;
+    enum getopts_kind kind = GETOPTS_MULTI + (takes ? GETOPTS_YES : GETOPTS_NO);
+    table[options] = (struct getopts_option){ short_name, long_name, "H", "d", kind };
+    /* No word has the name that stands for none. */
+    long_options[options] = (struct option){ *long_name ? long_name : "\1", takes, NULL, key };
+    argp_options[options++] = (struct argp_option){ *long_name ? long_name : NULL, key, takes ? "H" : NULL, 0, "d", 0 };
+    if (*short_name)
+        strcat(strcat(short_options, short_name), takes ? ":" : "");
+}
+
+/* Reads the rows of a file. */
+static int read_rows(const char *name) {
+    static char row[4096];
+    FILE *file = fopen(name, "r");
+    while (file && fgets(row, sizeof row, file)) {
+        char *rest = strdup(row), *fields[3] = { "", "", "" };
+        for (int at = 0; at < 3; at++)
+            if (!(fields[at] = strsep(&rest, "\t\n")))
+                fields[at] = "";
+        if (strcmp(fields[0], "words") == 0) {
+            words = calloc(atoi(fields[1]) + 2, sizeof *words);
+            moved = calloc(atoi(fields[1]) + 2, sizeof *moved);
+            words[count++] = "c_peers";
+        } else if (strcmp(fields[0], "word") == 0) {
+            words[count++] = fields[1];
+        } else {
+            declare(strcmp(fields[0], "optmulti") == 0, fields[1], fields[2]);
+        }
+    }
+    return file && words;
+}
+
+static size_t length(const char *value) {
+    return value ? strlen(value) : 0;
+}
+
+static size_t getopts_turn(void) {
+    struct getopts *given = getopts_new(table, GETOPTS_ORDINARY);
+    if (getopts_read(given, count - 1, words + 1) != GETOPTS_OK)
+        exit(2);
+    size_t sum = 0;
+    for (const struct getopts_option *row = table; row < table + options; row++) {
+        const char *name = *row->long_name ? row->long_name : row->short_name;
+        size_t times = getopts_count(given, name);
+        for (size_t nth = 0; nth < times; nth++)
+            sum += 1 + length(getopts_value(given, name, nth));
+    }
+    for (char *const *word = getopts_free_words(given); *word; word++)
+        sum += strlen(*word);
+    getopts_delete(given);
+    return sum;
+}
+
+static size_t getopt_long_turn(void) {
+    size_t sum = 0;
+    memcpy(moved, words, (count + 1) * sizeof *words);
+    optind = 0;
+    for (int key; (key = getopt_long(count, moved, short_options, long_options, NULL)) != -1;) {
+        if (key == '?')
+            exit(2);
+        sum += 1 + length(optarg);
+    }
+    for (int at = optind; at < count; at++)
+        sum += strlen(moved[at]);
+    return sum;
+}
+
+static error_t take(int key, char *value, struct argp_state *state) {
+    if (key >= ARGP_KEY_END)
+        return ARGP_ERR_UNKNOWN;
+    *(size_t *)state->input += (key != ARGP_KEY_ARG) + length(value);
+    return 0;
+}
+
+static size_t argp_turn(void) {
+    static const struct argp argp = { argp_options, take, "FILE..", NULL, NULL, NULL, NULL };
+    size_t sum = 0;
+    memcpy(moved, words, (count + 1) * sizeof *words);
+    if (argp_parse(&argp, count, moved, 0, NULL, &sum) != 0)
+        exit(2);
+    return sum;
+}
+
+int main(int argc, char **argv) {
+    if (argc != 5 || strcmp(argv[2], "whole") != 0 || !read_rows(argv[3]))
+        return 2;
+    size_t (*turn)(void) = strcmp(argv[1], "getopts") == 0 ? getopts_turn : getopt_long_turn;
+    size_t sum = 0;
+    if (strcmp(argv[1], "argp") == 0)
+        turn = argp_turn;
+    for (int times = atoi(argv[4]); times > 0; times--)
+        sum += turn();
+    printf("%zu\n", sum);
+    return 0;
+}

@@ -1,0 +1,64 @@
+# Makes getopts(3) of getopts.h, which it is given twice: its first comment is the description, and each declaration has
+# the comment above it.
+function escaped(line) {
+    gsub(/\\/, "\\e", line)
+    gsub(/-/, "\\-", line)
+    gsub(/'/, "\\(aq", line)
+    return line ~ /^\./ ? "\\&" line : line
+}
+# A declaration of a call, which is broken between parameters alone.
+function call(line) {
+    gsub(/ /, "\\ ", line)
+    gsub(/,\\ /, ", ", line)
+    return ".ti -4\n\\fB" line "\\fP\n.br"
+}
+# A line of a type, whose comment isn't bold.
+function member(line) {
+    line = escaped(line)
+    sub(/\/\*.*/, "\\fP&\\fB", line)
+    return "\\fB" line "\\fP"
+}
+# A line of a comment: what is indented stands as it is, names are bold, and a dash begins an item.
+function said(line,    starts) {
+    starts = as_is ? ".fi\n" : ""
+    if (line ~ /^    / || (as_is && line == "")) {
+        starts = as_is ? "" : ".nf\n"
+        as_is = 1
+        return starts escaped(line)
+    }
+    as_is = 0
+    if (line == "")
+        return starts ".P"
+    if (sub(/^- /, "", line))
+        starts = starts ".IP \\(bu 2\n"
+    sub(/^  */, "", line)
+    line = escaped(line)
+    gsub(/GETOPTS_[A-Z_]*[A-Z]|getopts?_[a-z_]*[a-z]|`[^`]*`/, "\\fB&\\fP", line)
+    gsub(/`/, "", line)
+    return starts line
+}
+
+FNR == NR && /^#define GETOPTS_VERSION/ { split($0, version, "\"") }
+FNR == NR && /^[a-z].*getopts_[a-z_]*\(.*;$/ { calls = calls call($0) "\n" }
+FNR == NR { next }
+FNR == 1 {
+    print ".TH GETOPTS 3 \"\" \"getopts " version[2] "\" \"Library Functions Manual\"\n.ad l\n.nh"
+    print ".SH NAME\ngetopts \\- command\\-line options by a table"
+    print ".SH SYNOPSIS\n.B #include <getopts.h>\n.P\n.RS 4\n" calls ".RE\n.SH DESCRIPTION"
+}
+/^#ifdef __cplusplus/, /^#endif/ { next }
+/^#(ifndef|include|endif)|^#define GETOPTS_H$/ { next }
+/^\/\*/ { comment = 1; sub(/^\/\*/, " *") }
+comment {
+    comment = !sub(/ *\*\/$/, "")
+    sub(/^ \* ?/, "")
+    text = text said($0) "\n"
+    next
+}
+/^$/ && text code != "" {
+    print ".P\n" (code ? code ".RS 4\n" text ".RE" : text)
+    text = code = ""
+}
+/^[a-z].*\(.*;$/ { code = ".RS 4\n" call($0) "\n.RE\n"; next }
+/./ { code = (code == "" ? ".nf\n" : substr(code, 1, length(code) - 4)) member($0) "\n.fi\n" }
+END { print ".SH SEE ALSO\n.BR getopt_long (3)" }
