@@ -296,6 +296,14 @@ def test_offered_lemmas_are_cited():
          if not re.search(rf"^(?!(?:  )?(?:pub )?{name} ).*(?<![\w-]){name}(?![\w-])", text, re.M))
 
 
+def test_offered_lemmas_are_cited():
+    """Some proof imports each lemma that CONTRACTS.md offers."""
+    offered = re.search(r"^\*\*Lemmas to cite\*\*.*?\n\n", pages[CONTRACTS], re.M | re.S)[0]
+    proofs = "".join(read(name) for name in tracked if re.match(r"crates/\w+/proofs/", name))
+    cited = re.findall(r"[\w-]+", " ".join(re.findall(r"^use [\w.]+\{([^}]*)\}", proofs, re.M)))
+    none(f"nothing cites {name}" for name in re.findall(r"`([\w-]+)`", offered) if name not in cited)
+
+
 # ---- promises
 
 def clauses_of():
