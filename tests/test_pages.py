@@ -352,12 +352,11 @@ def test_definitions_are_in_the_grammar(crate):
 
 
 def test_wrong_bodies(request):
-    """PROOFS has each public edit with the function that it turns, by modules."""
-    modules, page, head = {}, "docs/PROOFS.md", "| module | wrong bodies, each with its function |\n|---|---|\n"
+    """PROOFS has each public edit, by crates."""
+    crates, page, head = {}, "docs/PROOFS.md", "| crate | wrong bodies |\n|---|---|\n"
     for name in sorted(edits):
-        module, function = re.search(r"^fn: ([a-z_:]+)::((?:[A-Z]\w*::)?\w+)$", edits[name], re.M).groups()
-        modules.setdefault(module, []).append(f"`{os.path.basename(name)[:-5]}` (`{function}`)")
-    rows = [f"| `{module}` | {', '.join(bodies)} |\n" for module, bodies in sorted(modules.items())]
+        crates.setdefault(name.split("/")[2], []).append(f"`{os.path.basename(name)[:-5]}`")
+    rows = [f"| `{crate}` | {', '.join(bodies)} |\n" for crate, bodies in sorted(crates.items())]
     wanted = re.sub(rf"(?<={re.escape(head)})(\|.*\n)*", "".join(rows), pages[page], count=1)
     fix(page, wanted, request)
     assert pages[page] == wanted, ANEW
