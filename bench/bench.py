@@ -121,16 +121,22 @@ def rows(line):
     return "".join("\t".join(row) + "\n" for row in said)
 
 
+def lexopt_line(line):
+    """The options of a line as the peer lexopt has them. What has one value at most on the line is an `Option`."""
+    options, words = parts(line)
+    text = f'    "{line}" {{\n'
+    for at, (call, short, long, *_) in enumerate(options):
+        times = sum(word.split("=")[0] == f"--{long}" or bool(short) and word.startswith(f"-{short}") for word in words)
+        held = "usize" if call == "optflagmulti" else "Vec<String>" if times > 1 else "Option<String>"
+        names = [f"Short('{short}')"] * bool(short) + [f'Long("{long}")'] * bool(long)
+        text += f"        option{at}: {held} = {' | '.join(names)},\n"
+    return text + "    }\n"
+
+
 def lexopt_lines():
-    """The options of the lines that are read whole, as the peer lexopt has them."""
-    text = ""
-    for line in dict.fromkeys(line for work, line, *_ in JOBS.values() if work == "whole"):
-        text += f'    "{line}" {{\n'
-        for at, (call, short, long, *_) in enumerate(parts(line)[0]):
-            names = [f"Short('{short}')"] * bool(short) + [f'Long("{long}")'] * bool(long)
-            text += f"        option{at}: {'usize' if call == 'optflagmulti' else 'Vec<String>'} = {' | '.join(names)},\n"
-        text += "    }\n"
-    return f"lines! {{\n{text}}}\n"
+    """The lines that are read whole, as the peer lexopt has them."""
+    lines = dict.fromkeys(line for work, line, *_ in JOBS.values() if work == "whole")
+    return f"lines! {{\n{''.join(lexopt_line(line) for line in lines)}}}\n"
 
 
 def stop(why):

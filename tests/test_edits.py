@@ -14,7 +14,6 @@ beside those of a third. The edits in private/ turn bodies that no public clause
 import itertools
 import os
 import re
-import shutil
 
 import pytest
 from conftest import ROOT, answer, copy_tree, kit, wait_for

@@ -26,6 +26,7 @@ def read(name):
 tracked = all_tracked()
 pages = {name: read(name) for name in tracked if name.endswith(".md")}
 sources = {name: read(name) for name in tracked if re.match(r"crates/\w*/src/.*\.rt$", name)}
+modules = sources | {name: read(name) for name in tracked if re.match(r"bindings/.*\.rs$", name)}
 CALLING, CONTRACTS = (next(name for name in pages if name.endswith(end)) for end in ("CALLING.md", "CONTRACTS.md"))
 edits = {name: read(name) for name in tracked if name.endswith(".edit") and "/private/" not in name}
 ANEW = "'bash test.sh -k pages --fix' writes it anew"
@@ -283,7 +284,8 @@ def test_contracts(request):
 
 
 # Those that wait for a caller.
-UNCITED = {"lines_again", "ReadsOnce-unsigned", "IsReadAs-one", "IsReadAs-not_both", "IsReadAs-weaker", "HasReading-known"}
+UNCITED = {"lines_again", "answer_again", "same_first_or", "ReadsOnce-unsigned", "IsReadAs-one", "IsReadAs-not_both",
+           "IsReadAs-weaker", "HasReading-known"}
 
 
 def test_offered_lemmas_are_cited():
@@ -292,6 +294,14 @@ def test_offered_lemmas_are_cited():
     text = "\n".join(read(name) for name in tracked if name.endswith((".rt", ".antt")))
     none(f"nothing cites {name}" for name in sorted(offered - UNCITED)
          if not re.search(rf"^(?!(?:  )?(?:pub )?{name} ).*(?<![\w-]){name}(?![\w-])", text, re.M))
+
+
+def test_offered_lemmas_are_cited():
+    """Some proof imports each lemma that CONTRACTS.md offers."""
+    offered = re.search(r"^\*\*Lemmas to cite\*\*.*?\n\n", pages[CONTRACTS], re.M | re.S)[0]
+    proofs = "".join(read(name) for name in tracked if re.match(r"crates/\w+/proofs/", name))
+    cited = re.findall(r"[\w-]+", " ".join(re.findall(r"^use [\w.]+\{([^}]*)\}", proofs, re.M)))
+    none(f"nothing cites {name}" for name in re.findall(r"`([\w-]+)`", offered) if name not in cited)
 
 
 # ---- promises
@@ -342,12 +352,11 @@ def test_definitions_are_in_the_grammar(crate):
 
 
 def test_wrong_bodies(request):
-    """PROOFS has each public edit with the function that it turns, by modules."""
-    modules, page, head = {}, "docs/PROOFS.md", "| module | wrong bodies, each with its function |\n|---|---|\n"
+    """PROOFS has each public edit, by crates."""
+    crates, page, head = {}, "docs/PROOFS.md", "| crate | wrong bodies |\n|---|---|\n"
     for name in sorted(edits):
-        module, function = re.search(r"^fn: ([a-z_:]+)::((?:[A-Z]\w*::)?\w+)$", edits[name], re.M).groups()
-        modules.setdefault(module, []).append(f"`{os.path.basename(name)[:-5]}` (`{function}`)")
-    rows = [f"| `{module}` | {', '.join(bodies)} |\n" for module, bodies in sorted(modules.items())]
+        crates.setdefault(name.split("/")[2], []).append(f"`{os.path.basename(name)[:-5]}`")
+    rows = [f"| `{crate}` | {', '.join(bodies)} |\n" for crate, bodies in sorted(crates.items())]
     wanted = re.sub(rf"(?<={re.escape(head)})(\|.*\n)*", "".join(rows), pages[page], count=1)
     fix(page, wanted, request)
     assert pages[page] == wanted, ANEW
@@ -377,6 +386,9 @@ def test_names_and_links(page):
     prose = re.sub(r"^```.*?^```", "", pages[page], flags=re.M | re.S)
     for span in sorted(set(re.findall(r"`([A-Za-z_][\w-]*)`", prose))):
         failures += [] if span in words() else [f"nothing is called {span}"]
+    for owner, name in sorted(set(re.findall(r"`([A-Z]\w*)::(\w+)", prose))):
+        of_it = [text for text in modules.values() if re.search(rf"\bimpl\b.*\b{owner}\b", text)]
+        failures += [f"no {owner} has {name}"] if of_it and not re.search(rf"\bfn {name}\b", "\n".join(of_it)) else []
     for path in sorted(set(re.findall(r"`([\w./-]+\.(?:md|rt|antt|rs|c|h|sh|py|edit|txt))`", prose))):
         there = [path, os.path.normpath(os.path.join(os.path.dirname(page), path))]
         if not any(f"/{it}".endswith(f"/{end}") for it in tracked for end in there):

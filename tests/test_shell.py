@@ -335,6 +335,8 @@ def test_install(carried, tmp_path):
     install("a prefix", CDPATH=f"/:{SHELL}")
     assert (tmp_path / "a prefix/bin/getopts_shell").read_bytes() == carried.read_bytes()
     assert (tmp_path / "a prefix/share/man/man1/getopts_shell.1").is_file()
+    licences = {"LICENSE-musl", "LICENSE-MIT", "LICENSE-APACHE", "NOTICE"}
+    assert set(os.listdir(tmp_path / "a prefix/share/doc/getopts_shell")) == licences
     for machine in ("x86_64", "aarch64"):
         install("/usr", DESTDIR="stage", MACHINE=machine)
         there = SHELL / machine / "getopts_shell"
@@ -355,6 +357,9 @@ def test_install(carried, tmp_path):
     (tmp_path / "bsd/uname").chmod(0o755)
     install("other", status=1, PATH=f"{tmp_path}/bsd:{os.environ['PATH']}")
     (tmp_path / "bsd/uname").unlink()
+    (tmp_path / "link").symlink_to(SHELL / "install.sh")
+    assert "not by a link" in run("sh", tmp_path / "link", "other", status=1)[1]
+    (tmp_path / "link").unlink()
     install("--uninstall", "a prefix")
     install("--uninstall", "/usr", DESTDIR="stage/")
     assert not [path for path in tmp_path.rglob("*") if not path.is_dir()]

@@ -26,7 +26,7 @@ macro_rules! lines {
                         let mut parser = Parser::from_args(words);
                         while let Some(item) = parser.next().expect("the line is accepted") {
                             match item {
-                                $($option => given.$field.take(&mut parser),)*
+                                $($option => given.$field.hold(&mut parser),)*
                                 Value(word) => given.free.push(text(word)),
                                 _ => panic!("the option is declared"),
                             }
@@ -44,8 +44,8 @@ include!("lines.rs");
 
 /// What a field holds of an option.
 trait Held {
-    /// Takes the option that the parser gave, with its value if it has one.
-    fn take(&mut self, parser: &mut Parser);
+    /// Holds the option that the parser gave, with its value if it has one.
+    fn hold(&mut self, parser: &mut Parser);
 
     /// Its count, and the lengths of its values.
     fn sum(&self) -> usize;
@@ -53,7 +53,7 @@ trait Held {
 
 /// A flag's count.
 impl Held for usize {
-    fn take(&mut self, _parser: &mut Parser) {
+    fn hold(&mut self, _parser: &mut Parser) {
         *self += 1;
     }
 
@@ -62,15 +62,30 @@ impl Held for usize {
     }
 }
 
+/// An option's value.
+impl Held for Option<String> {
+    fn hold(&mut self, parser: &mut Parser) {
+        *self = Some(value(parser));
+    }
+
+    fn sum(&self) -> usize {
+        self.as_ref().map_or(0, |value| 1 + value.len())
+    }
+}
+
 /// An option's values.
 impl Held for Vec<String> {
-    fn take(&mut self, parser: &mut Parser) {
-        self.push(text(parser.value().expect("there is a value")));
+    fn hold(&mut self, parser: &mut Parser) {
+        self.push(value(parser));
     }
 
     fn sum(&self) -> usize {
         self.len() + total_length(self)
     }
+}
+
+fn value(parser: &mut Parser) -> String {
+    text(parser.value().expect("there is a value"))
 }
 
 fn text(word: OsString) -> String {

@@ -4,7 +4,7 @@
 //!
 //! PEER is `getopts` (the Rust crate, or what stands in for it), `lexopt`, `pico-args` or `clap`. The jobs and
 //! the rows are those of `getopts_bench`: `whole` of each peer, and of `getopts` the others too, but for
-//! `canonical`, which the crate has not. What stands in for it has also `os`, which is `copied` by `parse_os`.
+//! `canonical`, which the crate has not. What stands in for it has also `os`, which is `whole` by `parse_os`.
 //!
 //! The peers but `getopts` take their words. Of these READY copies are made before the first turn, at least TIMES,
 //! so that no turn makes words. The status is 2 where the peer doesn't do the job.
@@ -28,7 +28,9 @@ fn main() -> ExitCode {
             ExitCode::SUCCESS
         }
         None => {
-            eprintln!("peers: arguments are PEER JOB ROWS TIMES, where the peer does the job");
+            eprintln!(
+                "peers: arguments are PEER JOB ROWS [READY] TIMES, where the peer does the job"
+            );
             ExitCode::from(2)
         }
     }

@@ -65,6 +65,7 @@ pub(crate) fn read_words<A: AsRef<OsStr>, T>(
     }
 }
 
+/// By no list. Of larger items this would take too much of a thread's stack.
 fn read_few<A: AsRef<OsStr>, T>(
     mut words: impl Iterator<Item = A>,
     text_of: impl Fn(&OsStr) -> Option<&str>,
@@ -89,6 +90,7 @@ fn read_few<A: AsRef<OsStr>, T>(
     }
 }
 
+/// By a list.
 fn read_list<A: AsRef<OsStr>, T>(
     first: impl IntoIterator<Item = A>,
     others: impl Iterator<Item = A>,

@@ -177,30 +177,27 @@ fn matches() -> Matches {
     options(0).parse_words(Global, &WORDS).unwrap()
 }
 
-/// Whether a refusal is told as one of memory.
-fn of_memory<T>(result: Result<T, Fail>) -> Result<T, Fail> {
-    if let Err(fail) = &result {
-        assert!(matches!(fail, Fail::OutOfMemory));
-    }
-    result
+/// Each refused request of reading is told as one of memory.
+fn told<T>(options: &Options, read: impl Fn(&Options) -> Result<T, Fail>) {
+    let of_memory =
+        |result: &Result<T, Fail>| !matches!(result, Err(fail) if *fail != Fail::OutOfMemory);
+    let refused = each_refused_of(options, |options| {
+        let result = read(options);
+        assert!(of_memory(&result));
+        result
+    });
+    assert!(refused > 8);
 }
 
 #[test]
 fn each_refused_request_of_reading_is_told() {
     for more in [0, 30] {
         let options = options(more);
-        assert!(each_refused_of(&options, |o| of_memory(o.parse_words(Global, &WORDS))) > 8);
-        assert!(
-            each_refused_of(&options, |o| of_memory(o.parse(Global, WORDS.iter().copied()))) > 8
-        );
-        assert!(
-            each_refused_of(&options, |o| of_memory(o.parse_ignoring_counts(Global, &WORDS))) > 8
-        );
-        assert!(each_refused_of(&options, |o| of_memory(o.canonical_words(Global, &WORDS))) > 8);
-        assert!(
-            each_refused_of(&options, |o| of_memory(o.canonical(Global, WORDS.iter().copied())))
-                > 8
-        );
+        told(&options, |o| o.parse_words(Global, &WORDS));
+        told(&options, |o| o.parse(Global, WORDS.iter().copied()));
+        told(&options, |o| o.parse_ignoring_counts(Global, &WORDS));
+        told(&options, |o| o.canonical_words(Global, &WORDS));
+        told(&options, |o| o.canonical(Global, WORDS.iter().copied()));
     }
     let many = ["-vofile", "free"].repeat(2000);
     let floating = options(0).parse_ignoring_counts(Global, &many).unwrap();
@@ -210,24 +207,24 @@ fn each_refused_request_of_reading_is_told() {
 #[test]
 fn refused_words_are_told_or_memory_is() {
     let options = options(0);
-    for (word, wanted) in
-        [("-ox", "-o"), ("--nope", "nope"), ("-v=", "="), ("--verbose=x", "verbose"), ("-o", "o")]
-    {
-        let words = if word == "-ox" { vec!["-ox", "-ox"] } else { vec![word] };
-        let refused = std::cell::RefCell::new(0);
+    for (line, wanted) in [
+        ("-ox -ox", "output"),
+        ("--nope", "nope"),
+        ("-v=", "="),
+        ("--verbose=x", "verbose"),
+        ("-o", "o"),
+    ] {
+        let words: Vec<&str> = line.split(' ').collect();
         for granted in 0.. {
             GRANTED.with(|state| state.set(Some((granted, false))));
             let fail = options.parse_words(Global, &words).unwrap_err();
             GRANTED.with(|state| state.set(None));
             if !matches!(fail, Fail::OutOfMemory) {
-                let text = fail.to_string();
-                assert!(text.contains(if word == "-ox" { "output" } else { wanted }), "{text}");
+                assert!(granted > 0 && fail.to_string().contains(wanted), "{fail}");
                 assert_eq!(each_refused_of(&fail, |fail| fail.try_clone()), 1);
                 break;
             }
-            *refused.borrow_mut() += 1;
         }
-        assert!(*refused.borrow() > 0);
     }
 }
 

@@ -67,17 +67,6 @@ one_with one = record {
   by = λ answer is. one.by answer is.1;
 }
 
--- an answer that is made of the one text of which a fact is so
-one_made : {Fact : Text → Type 0} {Is : Text → Answer → Type 0}
-    → ((text other : Text) → Fact text → Fact other → other ≡ text)
-    → ((text : Text) → IsOne (Is text))
-    → IsOne (λ answer. (text : Text) × Fact text × Is text answer)
-one_made {Fact} {Is} same one = record {
-  only = λ answer other is also. (one is.0).only answer other is.2
-      (subst (λ (text : Text). Is text other) (same is.0 also.0 is.1 also.1) also.2);
-  by = λ answer is. (one is.0).by answer is.2;
-}
-
 one_bool : (test : Bool) {Then Else : Answer → Type 0} → IsOne Then → IsOne Else
     → IsOne (λ answer. MatchBool test (Then answer) (Else answer))
 one_bool true then else = then
@@ -110,9 +99,14 @@ only_help script help other is also =
     is.2 (subst (λ (rows : List Text). IsTheOnly (IsUsageText (shown_options script)
     (help_front (brief_text script) rows)) other) rows_same also.2)
 
+-- an answer that is made of the help
 one_help : (script : Script) {Is : Text → Answer → Type 0} → ((help : Text) → IsOne (Is help))
     → IsOne (λ answer. (help : Text) × IsHelp script help × Is help answer)
-one_help script one = one_made (only_help script) one
+one_help script {Is} one = record {
+  only = λ answer other is also. (one is.0).only answer other is.2
+      (subst (λ (text : Text). Is text other) (only_help script is.0 also.0 is.1 also.1) also.2);
+  by = λ answer is. (one is.0).by answer is.2;
+}
 
 one_tells : (script : Script) (prefix : Text) (options : List _) (free : List Text)
     → IsOne (TellsOptions script prefix options free)
@@ -226,8 +220,7 @@ one_free asked (name ∷ []) = one_equal _ is_misused
 one_free asked (name ∷ table ∷ words) = one_of_table asked name table words
 
 one_own : (own : Matched) → IsOne (AnswersOwn own)
-one_own own = one_bool (is_given own (codes "help"))
-    (one_made (only_text _) (λ help. one_equal _ is_done))
+one_own own = one_bool (is_given own (codes "help")) (one_equal _ is_done)
     (one_bool (is_given own (codes "version")) (one_equal _ is_done)
     (one_free (asked_by own) own.free))
 

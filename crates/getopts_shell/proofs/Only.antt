@@ -14,7 +14,7 @@ use Rattle.getopts_shell.specs.Table.{Declares, DeclareEntries, DeclaresOptions}
 use Rattle.getopts_shell.specs.Table.{OneTableOneList, DeclareOptions, name_again, TableFault}
 use Rattle.getopts_shell.specs.Table.{name_twice}
 use Rattle.getopts_shell.specs.Table.{IsLineFault, IsTableFault, Operand, late, line_number}
-use Rattle.getopts_shell.specs.Table.{late_operand, may_follow, none, operand_at, operands_after}
+use Rattle.getopts_shell.specs.Table.{late_operand, none, operand_at, operands_after}
 use Rattle.getopts_shell.specs.Table.{twice}
 use Rattle.getopts_shell.proofs.Lines.{Places, here, later, earlier, operands_around, places}
 use Rattle.getopts_shell.proofs.Items.{one_bracketed, one_pair, one_names, one_argument}

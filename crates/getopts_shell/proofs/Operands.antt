@@ -5,7 +5,7 @@ use Rattle.std.proofs.Common.{arith}
 use Rattle.std.proofs.Math.ListN.{drop_of_length-le}
 use Rattle.std.proofs.Common.{◌-◌, append-nil, append_assoc, suc, zero}
 use Rattle.std.specs.Prelude.{◌||◌, codes, if◌then◌else◌, nat_lt}
-use Rattle.std.specs.List.{AllZip, flat_map, list_all}
+use Rattle.std.specs.List.{AllZip, flat_map}
 use Rattle.getopts.specs.Only.{IsTheOnly}
 use Rattle.getopts.specs.Usage.{next_row, spaces}
 use Rattle.getopts.proofs.Wrapping.Usage.{made_of_the_only}

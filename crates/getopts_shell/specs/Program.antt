@@ -64,6 +64,32 @@ own_groups =
 abbrev pub own_options : Declared
 own_options = record { groups = own_groups; style = StopAtFirstFree; long_only = false }
 
+-- the line that the program's own help begins with, and that help
+abbrev pub own_brief : Text
+own_brief = codes "Usage: getopts_shell [options] NAME TABLE [WORD].."
+
+abbrev pub own_help : Text
+own_help = joined (codes "\n") (
+    own_brief
+    ∷ []
+    ∷ codes "Options:"
+    ∷ codes "    -b, --brief TEXT    begin the help with TEXT"
+    ∷ codes "    -s, --stop          leave all words from the first free one on free"
+    ∷ codes "    -l, --long-only     let long names follow one dash too"
+    ∷ codes "    -V, --variables PREFIX"
+    ∷ codes "                        set a variable for each option, named PREFIX and its"
+    ∷ codes "                        name"
+    ∷ codes "    -A, --arrays        with --variables, make an array of values"
+    ∷ codes "    -u, --usage         write the help of TABLE"
+    ∷ codes "    -c, --complete SHELL"
+    ∷ codes "                        write a completion script for bash, zsh or fish"
+    ∷ codes "        --complete-words SHELL"
+    ∷ codes "                        write what may come at the last WORD"
+    ∷ codes "    -h, --help          print this help"
+    ∷ codes "        --version       print the version"
+    ∷ []
+    ∷ [])
+
 -- whether matches have an option of this name
 abbrev pub is_given : Matched → Text → Bool
 is_given own name = is_present own.groups name
@@ -404,10 +430,7 @@ AnswersFree asked words answer =
 -- the answer to the program's own words with these matches: its help, its version, or what they ask
 -- for
 abbrev pub AnswersOwn : Matched → Answer → Type 0
-AnswersOwn own answer = MatchBool (is_given own (codes "help"))
-    ((help : Text) × IsTheOnly
-    (IsUsageText own_options (codes "Usage: getopts_shell [options] NAME TABLE [WORD]..")) help
-    × (answer ≡ done help))
+AnswersOwn own answer = MatchBool (is_given own (codes "help")) (answer ≡ done own_help)
     (MatchBool (is_given own (codes "version")) (answer ≡ done (codes "getopts_shell 0.2.24\n"))
     (AnswersFree (asked_by own) own.free answer))
 

@@ -12,7 +12,7 @@ ghost use Rattle.getopts_shell.specs.Held.{TellsFault};
 ghost use Rattle.getopts_shell.specs.Table.{trimmed, begins_gap, before_gap, from_gap};
 ghost use Rattle.getopts_shell.specs.Table.{any_has_name, name_again};
 ghost use Rattle.getopts_shell.specs.Table.{Entry, OneTableOneList, Declares, DeclaresOptions};
-ghost use Rattle.getopts_shell.specs.Table.{IsLineFault, IsTableFault, TableFault, late_operand};
+ghost use Rattle.getopts_shell.specs.Table.{IsLineFault, IsTableFault, late_operand};
 ghost use Rattle.getopts_shell.specs.Table.{may_follow, name_twice, operand_at, operands_in};
 
 use crate::item::row_of;

@@ -1,20 +1,17 @@
 -- What the words of a canonical line ask for is what its mentions ask for.
-use Rattle.std.proofs.Common.{◌≡◌, ◌++◌, ℕ, zero, suc, Bool, false, List, [], ◌∷◌, map, cond, codes}
-use Rattle.std.proofs.Common.{Option, Some, None, refl, subst, unwrap_or, ◌∙◌}
+use Rattle.std.proofs.Common.{◌≡◌, ◌++◌, ◌<◌, ℕ, zero, suc, false, List, [], ◌∷◌, map, cond, arith}
+use Rattle.std.proofs.Common.{Option, Some, None, refl, unwrap_or, ◌∙◌}
 use Rattle.std.specs.List.{AllByRecursion}
 use Rattle.std.specs.Option.{option_or}
 use Rattle.std.specs.Str.{bytes_eq}
-use Rattle.getopts.specs.Canon.{Content, IsPlain, canonical_word, main_at}
+use Rattle.getopts.specs.Canon.{Content, canonical_word, main_at}
 use Rattle.getopts.specs.CanonAnswers.{IsWritten, IsUnwritable}
 use Rattle.getopts.specs.Names.{Text}
-use Rattle.getopts.specs.Options.{grammar_of}
 use Rattle.getopts.specs.Parse.{Reads}
-use Rattle.getopts.specs.Reading.{FitsKind, Mention, holds_equals, stop_word}
-use Rattle.getopts.specs.declared.groups.HasArg.{HasArg}
-use Rattle.getopts.specs.declared.groups.HasArg.TheVariants.{No}
-use Rattle.getopts.proofs.Canonical.Lines.{FitsGroup, IsFitting, IsFitting-reading}
+use Rattle.getopts.specs.Reading.{Mention, holds_equals, stop_word}
+use Rattle.getopts.proofs.Canonical.Lines.{FitsGroup, FitsGroup-within, IsFitting, IsFitting-reading}
 use Rattle.getopts.proofs.Parsing.Only.{meets}
-use Rattle.getopts_uses.specs.Loudness.{after_word, asked_by, last_asked, loudness_options}
+use Rattle.getopts_uses.specs.Loudness.{asked_by, last_asked, loudness_options}
 use Rattle.getopts_uses.specs.declared.loudness.Loudness.{Loudness}
 use Rattle.getopts_uses.specs.declared.loudness.Loudness.TheVariants.{Normal}
 
@@ -22,28 +19,16 @@ use Rattle.getopts_uses.specs.declared.loudness.Loudness.TheVariants.{Normal}
 abbrev pub after_words : Loudness → List Text → Loudness
 after_words loudness [] = loudness
 after_words loudness (word ∷ words) =
-    cond (bytes_eq word stop_word) loudness (after_words (after_word loudness word) words)
+    cond (bytes_eq word stop_word) loudness (after_words (unwrap_or (asked_by word) loudness) words)
 
--- a flag has no value
-no_value : (kind : HasArg) → kind ≡ No → (value : Text) → FitsKind kind (Some value) → ⊥
-no_value kind is value fits = subst (λ (k : HasArg). FitsKind k (Some value)) is fits
-
--- a mention's word isn't `--`, and asks for what the mention asks for
-record IsSame (loudness : Loudness) (m : Mention) : Type 0 where
-  going_on : bytes_eq (canonical_word loudness_options.groups m) stop_word ≡ false
-  same : after_word loudness (canonical_word loudness_options.groups m)
-      ≡ unwrap_or (asked_by (main_at loudness_options.groups m.group)) loudness
-
-same_word : (loudness : Loudness) (place : ℕ) (value : Option Text)
-    → FitsGroup loudness_options.groups (record { group = place; value = value })
-    → IsSame loudness (record { group = place; value = value })
-same_word loudness zero None fits = record { going_on = refl; same = refl }
-same_word loudness zero (Some value) fits = absurd (no_value fits.0 (cc) value fits.2)
-same_word loudness (suc zero) None fits = record { going_on = refl; same = refl }
-same_word loudness (suc zero) (Some value) fits = absurd (no_value fits.0 (cc) value fits.2)
-same_word loudness (suc (suc zero)) None fits = record { going_on = refl; same = refl }
-same_word loudness (suc (suc zero)) (Some value) fits = record { going_on = refl; same = refl }
-same_word loudness (suc (suc (suc place))) value fits = cc
+-- the word of a mention isn't `--`
+goes_on : (place : ℕ) (value : Option Text) → place < 3
+    → bytes_eq (canonical_word loudness_options.groups (record { group = place; value = value })) stop_word
+    ≡ false
+goes_on zero value within = refl
+goes_on (suc zero) value within = refl
+goes_on (suc (suc zero)) value within = refl
+goes_on (suc (suc (suc place))) value within = absurd (omega arith)
 
 unwrap_or-option_or : (last first : Option Loudness) (loudness : Loudness)
     → unwrap_or last (unwrap_or first loudness) ≡ unwrap_or (option_or last first) loudness
@@ -56,10 +41,10 @@ same_words : (loudness : Loudness) (mentions : List Mention) (free : List Text)
     ≡ unwrap_or (last_asked mentions) loudness
 same_words loudness [] free fits = refl
 same_words loudness (m ∷ mentions) free fits =
-    let here = same_word loudness m.group m.value fits.0 in
-    rw (here.going_on, here.same)
-    (same_words (unwrap_or (asked_by (main_at loudness_options.groups m.group)) loudness) mentions free fits.1
-    ∙ unwrap_or-option_or (last_asked mentions) (asked_by (main_at loudness_options.groups m.group)) loudness)
+    let asked = asked_by (canonical_word loudness_options.groups m) in
+    rw (goes_on m.group m.value (FitsGroup-within loudness_options.groups m fits.0))
+    (same_words (unwrap_or asked loudness) mentions free fits.1
+    ∙ unwrap_or-option_or (last_asked mentions) asked loudness)
 
 -- of a canonical line of words, its own words ask for what is mentioned
 pub after_words-written : (words line : List Text) (written : IsWritten loudness_options words line)

@@ -1,15 +1,18 @@
 -- Values that are checked: a number within bounds, and a choice.
-use Rattle.std.specs.Prelude.{◌≡◌, ◌≤◌, ⊤, ℕ, if◌then◌else◌, false, List, [], ◌∷◌, map, codes}
+use Rattle.std.specs.Prelude.{◌≡◌, ◌≤◌, ⊤, ℕ, if◌then◌else◌, false, [], ◌∷◌, map, codes}
 use Rattle.std.specs.Prelude.{Option, Some, None, Result, Ok, Err}
+use Rattle.std.specs.Option.{option_map}
 use Rattle.std.specs.Str.{bytes_eq}
 use Rattle.std.specs.Str.Parse.{ParsesUnsigned}
 use Rattle.std.specs.String.{string_bytes}
 use Rattle.std.specs.declared.num.ParseIntError.{ParseIntError}
 use Rattle.getopts.specs.Accessors.{first_value, found_of}
-use Rattle.getopts.specs.Fail.{Fault, Tells}
+use Rattle.getopts.specs.Fail.{Fault, fault_of}
 use Rattle.getopts.specs.Matches.{Matched}
 use Rattle.getopts.specs.Names.{Text}
 use Rattle.getopts.specs.Options.{Declared, group_of}
+use Rattle.getopts.specs.declared.fail.Fail.{Fail}
+use Rattle.getopts.specs.declared.fail.Fail.TheVariants as fail
 use Rattle.getopts.specs.declared.groups.HasArg.TheVariants.{Yes}
 use Rattle.getopts.specs.declared.groups.Occur.TheVariants.{Optional}
 use Rattle.getopts.specs.declared.groups.ParsingStyle.TheVariants.{FloatingFrees}
@@ -73,11 +76,16 @@ AreJobsOf matches jobs = IsNumberBy (codes "jobs") 1 64 1 (value_of matches (cod
 abbrev pub IsColorOf : Matched → Result Color Refusal → Type 0
 IsColorOf matches color = IsColorBy (codes "color") (value_of matches (codes "color")) color
 
+-- why a line that the library refuses sets nothing; out of memory is no fault of the line
+abbrev pub refusal_of : Fail → Refusal
+refusal_of fail.OutOfMemory = refusal.OutOfMemory
+refusal_of fail = refusal.Line fail
+
 -- What a line sets, or why it sets nothing: its fault, a number that isn't within bounds, or, where the number is,
 -- a word that is no choice.
 abbrev pub IsSettingsBy : Result Matched Fault → Result Settings Refusal → Type 0
 IsSettingsBy line (Err refusal.OutOfMemory) = ⊤
-IsSettingsBy line (Err (refusal.Line fail)) = Tells fail (λ fault. line ≡ Err fault)
+IsSettingsBy line (Err (refusal.Line fail)) = option_map Err (fault_of fail) ≡ Some line
 IsSettingsBy (Ok matches) (Ok settings) =
     AreJobsOf matches (Ok settings.jobs) × IsColorOf matches (Ok settings.color)
     × (map string_bytes settings.files.items ≡ matches.free)

@@ -1,12 +1,11 @@
 -- A compiler driver of thirty options: the options, and the job of a line.
 use Rattle.std.specs.Prelude.{◌≡◌, ⊤, List, [], ◌∷◌, ◌++◌, true, map, codes, length}
-use Rattle.std.specs.Prelude.{Option, Some, None, Result, Ok, Err}
+use Rattle.std.specs.Prelude.{Result, Ok, Err}
 use Rattle.std.specs.Option.{option_map}
 use Rattle.std.specs.String.{string_bytes}
 use Rattle.getopts.specs.Accessors.{first_value, first_value_or, found_of, is_present, values_of}
 use Rattle.getopts.specs.Fail.{Fault, Tells}
 use Rattle.getopts.specs.Matches.{Matched}
-use Rattle.getopts.specs.Names.{Text}
 use Rattle.getopts.specs.Options.{Declared, Group, group_of}
 use Rattle.getopts.specs.declared.groups.HasArg.TheVariants.{No, Yes, Maybe}
 use Rattle.getopts.specs.declared.groups.Occur.TheVariants.{Optional, Multi}

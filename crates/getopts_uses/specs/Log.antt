@@ -1,5 +1,5 @@
 -- The subcommand `log`: its options, by a table, and what its words ask for.
-use Rattle.std.specs.Prelude.{◌≡◌, List, [], ◌∷◌, false, map, codes, Result, Ok, Err}
+use Rattle.std.specs.Prelude.{◌≡◌, [], ◌∷◌, false, map, codes, Result, Ok, Err}
 use Rattle.std.specs.Option.{option_map}
 use Rattle.std.specs.String.{string_bytes}
 use Rattle.getopts.specs.Accessors.{first_value, found_of, values_of}

@@ -3,7 +3,7 @@ use Rattle.std.specs.Prelude.{◌≡◌, if◌then◌else◌, false, List, [], �
 use Rattle.std.specs.Prelude.{Option, Some, None, Result, Ok, Err, unwrap_or}
 use Rattle.std.specs.Option.{option_or}
 use Rattle.std.specs.Str.{bytes_eq}
-use Rattle.getopts.specs.Canon.{Content, IsAcceptedWith, main_at}
+use Rattle.getopts.specs.Canon.{Content, IsAcceptedWith, canonical_word}
 use Rattle.getopts.specs.Fail.{Tells}
 use Rattle.getopts.specs.Names.{Text}
 use Rattle.getopts.specs.Options.{Declared, group_of}
@@ -28,16 +28,16 @@ loudness_options = record {
   long_only = false;
 }
 
--- what an option asks for, by its main name
+-- how much a word of a canonical line asks to be said, if it asks for that
 abbrev pub asked_by : Text → Option Loudness
-asked_by name = if bytes_eq name (codes "quiet") then Some Quiet
-    else (if bytes_eq name (codes "verbose") then Some Verbose else None)
+asked_by word = if bytes_eq word (codes "--quiet") then Some Quiet
+    else (if bytes_eq word (codes "--verbose") then Some Verbose else None)
 
--- what the last of these mentions asks for that asks for any loudness
+-- what the last of these mentions asks for that asks for it
 abbrev pub last_asked : List Mention → Option Loudness
 last_asked [] = None
 last_asked (m ∷ mentions) =
-    option_or (last_asked mentions) (asked_by (main_at loudness_options.groups m.group))
+    option_or (last_asked mentions) (asked_by (canonical_word loudness_options.groups m))
 
 -- How much a line asks to be said, or its fault: of what it mentions, in the order in which it was typed, the last
 -- of the two flags.
@@ -45,8 +45,3 @@ abbrev pub IsLoudnessOf : List Text → Result Loudness Fail → Type 0
 IsLoudnessOf words (Ok loudness) = (content : Content) × IsAcceptedWith loudness_options words content
     × (loudness ≡ unwrap_or (last_asked content.mentions) Normal)
 IsLoudnessOf words (Err fail) = Tells fail (IsRefused loudness_options words)
-
--- how much is said after a word of a canonical line, where it was so much before
-abbrev pub after_word : Loudness → Text → Loudness
-after_word loudness word = if bytes_eq word (codes "--quiet") then Quiet
-    else (if bytes_eq word (codes "--verbose") then Verbose else loudness)

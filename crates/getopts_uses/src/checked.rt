@@ -7,8 +7,8 @@ ghost use Rattle.getopts.specs.Accessors.{IsDefined, first_value, found_of};
 ghost use Rattle.getopts.specs.Names.{texts};
 ghost use Rattle.getopts.specs.Results.{parse_result};
 ghost use Rattle.getopts_uses.specs.Checked.{IsColorBy, IsNumberBy, IsSettingsBy, checked_options};
-ghost use Rattle.getopts_uses.specs.Checked.{color_named};
-ghost use Rattle.getopts_uses.specs.declared.checked.Refusal.TheVariants.{Line, OutOfMemory};
+ghost use Rattle.getopts_uses.specs.Checked.{color_named, refusal_of};
+ghost use Rattle.getopts_uses.specs.declared.checked.Refusal.TheVariants.{OutOfMemory};
 
 use getopts::{Fail, Matches, Options};
 use std::alloc::{AllocError, Global};
@@ -50,10 +50,13 @@ pub enum Refusal {
 }
 
 impl From<Fail> for Refusal {
-    ghost from_gives = { λ fail refusal. refusal ≡ Line fail };
+    ghost from_gives = { λ fail refusal. refusal ≡ refusal_of fail };
 
     fn from(fail: Fail) -> Refusal {
-        Refusal::Line(fail)
+        match fail {
+            Fail::OutOfMemory => Refusal::OutOfMemory,
+            fault => Refusal::Line(fault),
+        }
     }
 }
 

@@ -4,7 +4,7 @@ ghost use Rattle.std.specs.Prelude.{◌≡◌, List, map, IfOk, unwrap_or};
 ghost use Rattle.std.specs.String.{string_bytes};
 ghost use Rattle.getopts.specs.CanonAnswers.{IsWritten};
 ghost use Rattle.getopts.specs.Names.{Text, texts};
-ghost use Rattle.getopts_uses.specs.Loudness.{IsLoudnessOf, after_word, last_asked, loudness_options};
+ghost use Rattle.getopts_uses.specs.Loudness.{IsLoudnessOf, asked_by, last_asked, loudness_options};
 ghost use Rattle.getopts_uses.specs.declared.loudness.Loudness.TheVariants.{Normal};
 
 use getopts::{Fail, Options};
@@ -53,18 +53,18 @@ fn last_of(line: &[String]) -> Loudness
         if word.as_str() == "--" {
             return loudness;
         }
-        loudness = after(loudness, word.as_str());
+        loudness = asked_by(word.as_str()).unwrap_or(loudness);
     }
     loudness
 }
 
-/// How much is said after a word of a canonical line.
-fn after(loudness: Loudness, word: &str) -> Loudness
-    ensures { result ≡ after_word loudness word.now }
+/// How much a word of a canonical line asks to be said, if it asks for that.
+fn asked_by(word: &str) -> Option<Loudness>
+    ensures { result ≡ asked_by word.now }
 {
     match word {
-        "--quiet" => Loudness::Quiet,
-        "--verbose" => Loudness::Verbose,
-        _ => loudness,
+        "--quiet" => Some(Loudness::Quiet),
+        "--verbose" => Some(Loudness::Verbose),
+        _ => None,
     }
 }

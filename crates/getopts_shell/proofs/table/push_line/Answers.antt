@@ -1,6 +1,6 @@
 use Rattle.std.proofs.Common.{◌≡◌, Some, ap, sym, true, ◌∙◌}
 use Rattle.std.specs.Prelude.{IfSome}
-use Rattle.std.proofs.lemmas.Result.{IfErr-weaker, IfOk-weaker}
+use Rattle.std.proofs.lemmas.Result.{IfErr-weaker}
 use Rattle.getopts_shell.specs.Held.{entry_of_row, operands_of}
 use Rattle.getopts_shell.specs.Table.{late, may_follow, operand_at, trimmed, twice}
 use Rattle.getopts_shell.proofs.Fronts.{on_ok}

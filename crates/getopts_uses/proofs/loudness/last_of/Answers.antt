@@ -1,10 +1,10 @@
 -- What is said after the whole line is what it mentions last.
-use Rattle.std.proofs.Common.{◌≡◌, ◌∙◌, ◌∷◌, ◌+◌, true, cond, drop, map, sym, ap, arith, rules}
+use Rattle.std.proofs.Common.{◌≡◌, ◌∙◌, ◌∷◌, ◌+◌, true, cond, drop, map, sym, ap, arith, unwrap_or}
 use Rattle.std.specs.Str.{bytes_eq}
 use Rattle.std.specs.String.{string_bytes}
 use Rattle.std.proofs.lemmas.List.{at_drop_all, at_drop_more}
 use Rattle.getopts.specs.Reading.{stop_word}
-use Rattle.getopts_uses.specs.Loudness.{after_word}
+use Rattle.getopts_uses.specs.Loudness.{asked_by}
 use Rattle.getopts_uses.proofs.LoudnessLemmas.{after_words, after_words-written}
 use Rattle.getopts_uses.proofs.loudness.last_of.Goals as goal
 
@@ -17,7 +17,7 @@ returns-then-eq c = λ words written.
     let stops : bytes_eq (string_bytes word) stop_word ≡ true = cc in
     let here = at_drop_more (λ rest. after_words loudness (map string_bytes rest)) line index word (omega arith)
     ∙ ap (λ first. after_words loudness (map string_bytes (first ∷ drop (index + 1) line))) (sym c.word-item.is)
-    ∙ ap (λ stop. cond stop loudness (after_words (after_word loudness (string_bytes word))
+    ∙ ap (λ stop. cond stop loudness (after_words (unwrap_or (asked_by (string_bytes word)) loudness)
     (map string_bytes (drop (index + 1) line)))) stops in
     sym here ∙ c.loop-word.invariant ∙ after_words-written words (map string_bytes line) written
 
