@@ -283,16 +283,11 @@ def test_contracts(request):
     assert pages[CONTRACTS] == wanted, ANEW
 
 
-# Those that wait for a caller.
-UNCITED = {"lines_again", "answer_again", "same_first_or", "ReadsOnce-unsigned", "IsReadAs-one", "IsReadAs-not_both",
-           "IsReadAs-weaker", "HasReading-known"}
-
-
 def test_offered_lemmas_are_cited():
     """Each lemma that CONTRACTS offers is named outside its own lines."""
     offered = set(re.findall(r"`([\w-]+)`", re.search(r"\*\*Lemmas to cite\*\*.*?\n\n", pages[CONTRACTS], re.S)[0]))
     text = "\n".join(read(name) for name in tracked if name.endswith((".rt", ".antt")))
-    none(f"nothing cites {name}" for name in sorted(offered - UNCITED)
+    none(f"nothing cites {name}" for name in sorted(offered)
          if not re.search(rf"^(?!(?:  )?(?:pub )?{name} ).*(?<![\w-]){name}(?![\w-])", text, re.M))
 
 
