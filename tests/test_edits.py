@@ -106,8 +106,8 @@ class Copies:
             for line in set(re.findall("^ghost use .*", text, re.M)) - set((self.folder / other).read_text().split("\n")):
                 module = re.escape(line.partition("{")[0])
                 self.files[other] = re.sub(rf"^{module}\{{.*", line, self.text(other), flags=re.M)
-            for name in re.findall(r"^pub\(crate\) fn (\w+)\(", text, re.M):
-                self.files[other] = re.sub(rf"^fn {name}\(", f"pub(crate) fn {name}(", self.text(other), flags=re.M)
+            for name in re.findall(r"^pub\(crate\) fn (\w+)", text, re.M):
+                self.files[other] = re.sub(rf"^fn {name}\b", f"pub(crate) fn {name}", self.text(other), flags=re.M)
         self.copy_proofs(path, new, edit.variant)
         return "::".join([edit.host, *path[:-1], new])
 

@@ -228,7 +228,7 @@ fn ending<'w, S: AsStr>(
 
 impl<'o> Scanner<'o> {
     ghost use Rattle.getopts.specs.Held.Line.{scanner_grammar, IsLawfulScanner, IsNamedBy, HasShape};
-    ghost use Rattle.getopts.specs.Held.Line.{ReadsLine, IsEmptyLine};
+    ghost use Rattle.getopts.specs.Held.Line.{ReadsLine};
     ghost use Rattle.getopts.specs.Turn.{faults, long_turn, cluster_turn, AddsItem};
 
     /// The option that a name resolves to.
@@ -367,23 +367,8 @@ impl<'o> Scanner<'o> {
         ensures err { IfErr result (λ fail. Tells fail
             (IsScanFault (scanner_grammar self.now) (map S.text words.now))) }
     {
-        let mut line = Line::with_capacity(alloc, words.len().min(FIRST_ROOM))?;
-        self.scan_into(alloc, words, &mut line)?;
-        Ok(line)
-    }
-
-    /// Reads a line into one that gives nothing yet.
-    #[inline(always)]
-    fn scan_into<S: AsStr>(&self, alloc: Global, words: &[S], line: &mut Line) -> Result<(), Fail>
-        requires lawful { IsLawfulScanner self.now }
-        requires texts { AreTexts (map S.text words.now) }
-        requires empty { IsEmptyLine line.old }
-        ensures ok { OnOk result
-            (ReadsLine (scanner_grammar self.now) (map S.text words.now) line.new) }
-        ensures err { IfErr result (λ fail. Tells fail
-            (IsScanFault (scanner_grammar self.now) (map S.text words.now))) }
-    {
         let stops = self.options.style() == ParsingStyle::StopAtFirstFree;
+        let mut line = Line::with_capacity(alloc, words.len().min(FIRST_ROOM))?;
         line.reserve(words, stops)?;
         let mut at = 0;
         'items: while at < words.len() {
@@ -393,7 +378,7 @@ impl<'o> Scanner<'o> {
                 Shape::Free => {
                     if stops {
                         push_copies(alloc, &mut line.free, &words[at..])?;
-                        return Ok(());
+                        return Ok(line);
                     }
                     push_copy(alloc, &mut line.free, word)?;
                     at + 1
@@ -401,7 +386,7 @@ impl<'o> Scanner<'o> {
                 Shape::Stop => {
                     line.trailing_start = (!after.is_empty()).then_some(line.free.len());
                     push_copies(alloc, &mut line.free, after)?;
-                    return Ok(());
+                    return Ok(line);
                 }
                 Shape::Long(text) => at + 1 + self.long(alloc, text, after, at, &mut line.found)?,
                 Shape::Cluster(text) => {
@@ -409,6 +394,6 @@ impl<'o> Scanner<'o> {
                 }
             };
         }
-        Ok(())
+        Ok(line)
     }
 }

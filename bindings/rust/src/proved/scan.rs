@@ -281,15 +281,8 @@ impl<'o> Scanner<'o> {
 
     /// Reads a line: its items, and what follows the stop or the first free word.
     pub(crate) fn scan<S: AsStr>(&self, alloc: Global, words: &[S]) -> Result<Line, Fail> {
-        let mut line = Line::of_capacity(alloc, words.len().min(FIRST_ROOM))?;
-        self.scan_into(alloc, words, &mut line)?;
-        Ok(line)
-    }
-
-    /// Reads a line into one that gives nothing yet.
-    #[inline(always)]
-    fn scan_into<S: AsStr>(&self, alloc: Global, words: &[S], line: &mut Line) -> Result<(), Fail> {
         let stops = self.options.style() == ParsingStyle::StopAtFirstFree;
+        let mut line = Line::of_capacity(alloc, words.len().min(FIRST_ROOM))?;
         line.try_grow(words, stops)?;
         let mut at = 0;
         'items: while at < words.len() {
@@ -299,7 +292,7 @@ impl<'o> Scanner<'o> {
                 Shape::Free => {
                     if stops {
                         push_copies(alloc, &mut line.free, &words[at..])?;
-                        return Ok(());
+                        return Ok(line);
                     }
                     push_copy(alloc, &mut line.free, word)?;
                     at + 1
@@ -307,7 +300,7 @@ impl<'o> Scanner<'o> {
                 Shape::Stop => {
                     line.trailing_start = (!after.is_empty()).then_some(line.free.len());
                     push_copies(alloc, &mut line.free, after)?;
-                    return Ok(());
+                    return Ok(line);
                 }
                 Shape::Long(text) => at + 1 + self.long(alloc, text, after, at, &mut line.found)?,
                 Shape::Cluster(text) => {
@@ -315,6 +308,6 @@ impl<'o> Scanner<'o> {
                 }
             };
         }
-        Ok(())
+        Ok(line)
     }
 }

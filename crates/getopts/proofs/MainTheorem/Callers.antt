@@ -1,14 +1,11 @@
 -- Lemmas for callers.
 use Rattle.std.proofs.Common.{◌≡◌, ◌==◌, ℕ, zero, suc, ◌+◌, Bool, true, false, cond, List, [], ◌∷◌}
-use Rattle.std.proofs.Common.{length, map, nat_lt, unwrap_or, Option, Some, None, Result, Ok, Err}
-use Rattle.std.proofs.Common.{refl, ap, sym, IfOk, IfSome, subst, ◌∙◌}
-use Rattle.std.specs.Prelude.{OnOk}
+use Rattle.std.proofs.Common.{length, map, nat_lt, Option, Some, None, Ok}
+use Rattle.std.proofs.Common.{refl, ap, sym, subst, ◌∙◌}
 use Rattle.std.specs.List.{filter, filter_map, cons_option}
 use Rattle.getopts.specs.Names.{Text, resolution}
 use Rattle.std.specs.Option.{option_map_or}
-use Rattle.std.specs.Str.Parse.{ParsesUnsigned}
 use Rattle.std.proofs.lemmas.List.{length-map}
-use Rattle.getopts.specs.declared.fail.Fail.{Fail}
 use Rattle.getopts.specs.Options.{Signature, Declared, MayBeDeclared, names_of, signatures_of}
 use Rattle.getopts.specs.Options.{grammar_of}
 use Rattle.getopts.specs.Reading.{Reading, Mention, Occurrence, occurrences_of, free_words}
@@ -16,9 +13,9 @@ use Rattle.getopts.specs.ReadingLaws.{mentions_of}
 use Rattle.getopts.specs.Canon.{Content, content_of, canonical_reading, with_setting}
 use Rattle.getopts.specs.CanonAnswers.{IsWritten, KeepsLineLaws}
 use Rattle.getopts.specs.Matches.{Found, Matched, found_at, matched, matches_of, KeepsCounts}
-use Rattle.getopts.specs.Accessors.{IsReadAs, place_of, found_in, found_of, each_value, first_value}
-use Rattle.getopts.specs.Accessors.{first_value_or, is_present, values_of}
-use Rattle.getopts.specs.Parse.{Reads, HasReading, IsAccepted}
+use Rattle.getopts.specs.Accessors.{place_of, found_in, found_of, each_value, first_value}
+use Rattle.getopts.specs.Accessors.{is_present, values_of}
+use Rattle.getopts.specs.Parse.{Reads, HasReading}
 use Rattle.getopts.specs.Theorem.{AcceptedExactlyWhen, HoldSame, OneContentHoldsSame}
 use Rattle.getopts.specs.Theorem.{LinesReadAgain}
 use Rattle.getopts.specs.Fail.{Fault}
@@ -33,62 +30,10 @@ use Rattle.getopts.proofs.MainTheorem.Plain.{are_plain, lawful_groups}
 use Rattle.getopts.proofs.Parsing.Holds.{place_of-groups}
 use Rattle.getopts.proofs.Parsing.Parsed.{only_reads}
 
--- what a value is read as by one reading, it is read as by another that asks for less
-pub IsReadAs-weaker : {T E : Type 0} (P Q : Text → Result T E → Type 0)
-    → ((text : Text) (answer : Result T E) → P text answer → Q text answer)
-    → (value : Option Text) (answer : Result (Option T) E) → IsReadAs P value answer
-    → IsReadAs Q value answer
-IsReadAs-weaker P Q follows None answer read = read
-IsReadAs-weaker P Q follows (Some text) (Ok None) read = read
-IsReadAs-weaker P Q follows (Some text) (Ok (Some value)) read = follows text (Ok value) read
-IsReadAs-weaker P Q follows (Some text) (Err error) read = follows text (Err error) read
-
--- A way to read texts as values gives one value of a text at most, and no error where it gives one.
-pub record ReadsOnce {T E : Type 0} (gives : Text → Result T E → Type 0) : Type 0 where
-  pub one : (text : Text) (a b : T) → gives text (Ok a) → gives text (Ok b) → a ≡ b
-  pub not_both : (text : Text) (a : T) (error : E) → gives text (Ok a) → gives text (Err error) → ⊥
-
--- numbers are read so
-pub ReadsOnce-unsigned : {E : Type 0} (bits radix : ℕ)
-    → ReadsOnce {E = E} (ParsesUnsigned bits radix)
-ReadsOnce-unsigned bits radix = record {
-  one = λ text a b read also. read.1 ∙ sym also.1;
-  not_both = λ text a error read bad. bad read.0;
-}
-
--- where values are read so, an option's value is read as one thing
-pub IsReadAs-one : {T E : Type 0} (gives : Text → Result T E → Type 0) → ReadsOnce gives
-    → (value : Option Text) (a b : Option T) → IsReadAs gives value (Ok a)
-    → IsReadAs gives value (Ok b) → a ≡ b
-IsReadAs-one gives once None a b read also = cc
-IsReadAs-one {T} gives once (Some text) (Some a) (Some b) read also =
-    ap (λ (x : T). Some x) (once.one text a b read also)
-IsReadAs-one gives once (Some text) (Some a) None read also = absurd also
-IsReadAs-one gives once (Some text) None b read also = absurd read
-
--- and not as a value and as an error
-pub IsReadAs-not_both : {T E : Type 0} (gives : Text → Result T E → Type 0) → ReadsOnce gives
-    → (value : Option Text) (a : Option T) (error : E)
-    → IsReadAs gives value (Ok a) → IsReadAs gives value (Err error) → ⊥
-IsReadAs-not_both gives once None a error read bad = cc
-IsReadAs-not_both gives once (Some text) (Some a) error read bad =
-    once.not_both text a error read bad
-IsReadAs-not_both gives once (Some text) None error read bad = read
-
 -- options that are written out may be declared where this test of their names says so
 pub MayBeDeclared-plain : (options : Declared) → are_plain options.groups ≡ true
     → MayBeDeclared options.groups
 MayBeDeclared-plain options plain = lawful_groups options.groups plain
-
--- A line that is written out has this reading and its matches, where options pass that test.
-pub HasReading-known : (options : Declared) (words : List Text) (reading : Reading)
-    → are_plain options.groups ≡ true → Reads options words reading
-    → HasReading options words (matches_of options reading)
-HasReading-known options words reading plain reads = record {
-  reading = reading;
-  only = only_reads options (MayBeDeclared-plain options plain) words reading reads;
-  matches_are = refl;
-}
 
 -- ---- lines that say the same
 
@@ -168,16 +113,6 @@ each_value-first : (founds others : List Found) → each_value founds ≡ each_v
     → first_value founds ≡ first_value others
 each_value-first founds others same = first_value-each founds ∙ ap first_of_values same
     ∙ sym (first_value-each others)
-
-first_or : Text → List (Option Text) → Option Text
-first_or fallback [] = None
-first_or fallback (value ∷ more) = Some (unwrap_or value fallback)
-
-first_value_or-each : (fallback : Text) (founds : List Found)
-    → first_value_or founds fallback ≡ first_or fallback (each_value founds)
-unfolding first_or
-first_value_or-each fallback [] = refl
-first_value_or-each fallback (found ∷ founds) = refl
 
 values_of-each : (founds : List Found)
     → values_of founds ≡ filter_map (λ (value : Option Text). value) (each_value founds)
@@ -273,34 +208,11 @@ results_again {X} see same options declared law words line written style long_on
     back.again back.accepted in
     rw (first, second) (ap (λ (x : X). Ok x) (same m back.again back.same))
 
--- the same of the line that `canonical_words` returns
-pub answer_again : {X Y : Type 0} (see : Matched → X)
-    → ((m n : Matched) → HoldSame m n → see n ≡ see m) → (options : Declared)
-    → MayBeDeclared options.groups → (words : List Text) (lines : Y → List Text)
-    → (answer : Result (Option Y) Fail) → OnOk answer (LinesReadAgain options)
-    → IfOk answer (λ line. IfSome line (λ y. IsWritten options words (lines y)))
-    → IfOk answer (λ line. IfSome line (λ y.
-    result_map_both see (λ (fault : Fault). fault) (parse_result options (lines y))
-    ≡ result_map_both see (λ (fault : Fault). fault) (parse_result options words)))
-answer_again see same options declared words lines (Ok (Some y)) law written =
-    results_again see same options declared law words (lines y) written options.style
-    options.long_only
-answer_again see same options declared words lines (Ok None) law written = tt
-answer_again see same options declared words lines (Err fail) law written = tt
-
 module _ (matches other : Matched) (same : HoldSame matches other) where
   -- Of matches that hold the same, an option's first value is the same.
   pub same_first : (name : Text)
       → first_value (found_of other.groups name) ≡ first_value (found_of matches.groups name)
   same_first name = each_value-first _ _ (same.values name)
-
-  -- Of matches that hold the same, an option's first value or a fallback is the same.
-  pub same_first_or : (name fallback : Text)
-      → first_value_or (found_of other.groups name) fallback
-      ≡ first_value_or (found_of matches.groups name) fallback
-  same_first_or name fallback = first_value_or-each fallback (found_of other.groups name)
-      ∙ ap (first_or fallback) (same.values name)
-      ∙ sym (first_value_or-each fallback (found_of matches.groups name))
 
   -- Of matches that hold the same, an option's values are the same.
   pub same_values : (name : Text)
@@ -318,19 +230,3 @@ module _ (matches other : Matched) (same : HoldSame matches other) where
   -- Of matches that hold the same, an option was given in both or in neither.
   pub same_present : (name : Text) → is_present other.groups name ≡ is_present matches.groups name
   same_present name = ap (λ (count : ℕ). nat_lt 0 count) (same_count name)
-
--- What a program asks of matches, and so of all that hold the same, it asks of a canonical line
--- that is read again.
-pub lines_again : {X Y : Type 0} (Asks : Matched → X → Type 0)
-    → ((m n : Matched) → HoldSame m n → (x : X) → Asks m x → Asks n x) → (options : Declared)
-    → (words : List Text) (see : Y → List Text) (answer : Result (Option Y) Fail)
-    → OnOk answer (LinesReadAgain options)
-    → IfOk answer (λ line. IfSome line (λ y. IsWritten options words (see y)))
-    → IfOk answer (λ line. IfSome line (λ y. (x : X)
-    → ((m : Matched) × IsAccepted options words m × Asks m x)
-    → (m : Matched) × IsAccepted options (see y) m × Asks m x))
-lines_again Asks again options words see (Ok (Some y)) law written = λ x asked.
-    let back = law words (see y) asked.0 written asked.1.read options.style options.long_only in
-    (back.again, back.accepted, again asked.0 back.again back.same x asked.2)
-lines_again Asks again options words see (Ok None) law written = tt
-lines_again Asks again options words see (Err fail) law written = tt

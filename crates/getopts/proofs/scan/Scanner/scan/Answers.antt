@@ -16,7 +16,7 @@ use Rattle.getopts.proofs.Reading.Turns.{IsNamed, read}
 use Rattle.getopts.proofs.Scanner.Loop.{ReadSoFar-none, ReadSoFar-free, ReadSoFar-added}
 use Rattle.getopts.proofs.Scanner.Loop.{IsReading-tail, IsReading-rest, IsReading-stop, Tells-word}
 use Rattle.getopts.proofs.Scanner.Loop.{used-within, length-texts, trailing_after-stop}
-use Rattle.getopts.proofs.scan.Scanner.scan_into.Goals as goal
+use Rattle.getopts.proofs.scan.Scanner.scan.Goals as goal
 
 -- a scanner's names are texts
 named : (scanner : Scanner) → IsLawfulScanner scanner → IsNamed (scanner_grammar scanner)

@@ -3,7 +3,7 @@ use Rattle.std.proofs.Common.{◌≡◌, None, length, map, ◌-◌}
 use Rattle.std.specs.String.{string_bytes}
 use Rattle.getopts.specs.Held.Line.{scanner_grammar}
 use Rattle.getopts.proofs.Scanner.Loop.{ReadSoFar}
-use Rattle.getopts.proofs.scan.Scanner.scan_into.Given as goal
+use Rattle.getopts.proofs.scan.Scanner.scan.Given as goal
 
 abbrev pub invariant-items : goal.invariant-items
 invariant-items g l = record {
