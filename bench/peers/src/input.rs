@@ -21,6 +21,8 @@ pub struct Named {
     /// A name of its own for the peer that asks for one.
     pub id: &'static str,
     pub kind: Kind,
+    /// Whether it comes more than once among the words.
+    pub again: bool,
 }
 
 impl Named {
@@ -36,11 +38,18 @@ impl Named {
             dashed: [kept(format!("-{short}")), kept(format!("--{long}"))],
             id: kept(format!("{short}/{long}")),
             kind,
+            again: false,
         }
     }
 
     pub fn is_flag(&self) -> bool {
         self.kind == Kind::Flag
+    }
+
+    /// Whether a word gives the option, where none stands in a cluster behind another.
+    fn is_given_by(&self, word: &str) -> bool {
+        let [short, long] = self.dashed;
+        !self.short.is_empty() && word.starts_with(short) || word.split('=').next() == Some(long)
     }
 
     /// The long name where there is one, else the short name.
@@ -79,6 +88,9 @@ impl Input {
                 "optflagopt" => input.options.push(Named::new(rest, Kind::Maybe)),
                 _ => return None,
             }
+        }
+        for option in &mut input.options {
+            option.again = input.words.iter().filter(|word| option.is_given_by(word)).count() > 1;
         }
         Some(input)
     }

@@ -12,7 +12,12 @@ pub fn turn(input: &Input, words: Vec<OsString>) -> usize {
         if option.is_flag() {
             while is_next(&mut arguments, option) {
                 sum += 1;
+                if !option.again {
+                    break;
+                }
             }
+        } else if !option.again {
+            sum += value(&mut arguments, option).map_or(0, |value| 1 + value.len());
         } else {
             for value in values(&mut arguments, option) {
                 sum += 1 + value.len();
@@ -30,6 +35,17 @@ fn is_next(arguments: &mut Arguments, option: &Named) -> bool {
         (_, "") => arguments.contains(short),
         _ => arguments.contains([short, long]),
     }
+}
+
+/// The value of an option that comes once. It is taken.
+fn value(arguments: &mut Arguments, option: &Named) -> Option<String> {
+    let [short, long] = option.dashed;
+    let value = match (option.short, option.long) {
+        ("", _) => arguments.opt_value_from_str(long),
+        (_, "") => arguments.opt_value_from_str(short),
+        _ => arguments.opt_value_from_str([short, long]),
+    };
+    value.expect("the line is accepted")
 }
 
 /// The values of the option. They are taken.
