@@ -265,8 +265,8 @@ def clauses_in(text):
 def imports(text):
     """The lines that bring the words of the clauses into a file, one a module."""
     words, modules, known = set(re.findall(r"\w+|[^\w\s]+", " ".join(clauses_in(text)))), {}, set()
-    for name, source in sorted(sources.items()):
-        for module, names in re.findall(r"ghost use (Rattle[\w.]*)\.\{([^}]*)\};", source if "/getopts/" in name else ""):
+    for _, source in sorted(it for it in sources.items() if "/getopts/" in it[0]):
+        for module, names in re.findall(r"ghost use (Rattle[\w.]*)\.\{([^}]*)\};", source):
             modules.setdefault(module, set()).update(re.split(r",\s*", names))
     lines = []
     for module, names in sorted(modules.items(), key=lambda it: (it[0].startswith("Rattle.std"), it[0])):
@@ -278,21 +278,17 @@ def imports(text):
 
 def test_contracts(request):
     """CONTRACTS.md has the contract of each public function, as the sources have it."""
-    wanted = re.sub(r"^```\w+\n.*?^```", lambda _: f"```text\n{contracts()}\n{imports(contracts())}```", pages[CONTRACTS], flags=re.M | re.S)
+    block = f"```text\n{contracts()}\n{imports(contracts())}```"
+    wanted = re.sub(r"^```\w+\n.*?^```", lambda _: block, pages[CONTRACTS], flags=re.M | re.S)
     fix(CONTRACTS, wanted, request)
     assert pages[CONTRACTS] == wanted, ANEW
-
-
-# Those that wait for a caller.
-UNCITED = {"lines_again", "answer_again", "same_first_or", "ReadsOnce-unsigned", "IsReadAs-one", "IsReadAs-not_both",
-           "IsReadAs-weaker", "HasReading-known"}
 
 
 def test_offered_lemmas_are_cited():
     """Each lemma that CONTRACTS offers is named outside its own lines."""
     offered = set(re.findall(r"`([\w-]+)`", re.search(r"\*\*Lemmas to cite\*\*.*?\n\n", pages[CONTRACTS], re.S)[0]))
     text = "\n".join(read(name) for name in tracked if name.endswith((".rt", ".antt")))
-    none(f"nothing cites {name}" for name in sorted(offered - UNCITED)
+    none(f"nothing cites {name}" for name in sorted(offered)
          if not re.search(rf"^(?!(?:  )?(?:pub )?{name} ).*(?<![\w-]){name}(?![\w-])", text, re.M))
 
 

@@ -1,4 +1,4 @@
-"""Without any proof: each program with its stored arguments, which `rt ci` runs proved, and getopts_show over writers."""
+"""Without any proof: programs with their stored arguments, which `rt ci` runs proved, and getopts_show over writers."""
 
 import json
 import subprocess
@@ -100,7 +100,7 @@ mod writers {
     }
 {TESTS}}
 """
-# How many bytes each takes, which write fails (0: none), whether the flush does, and the status where it isn't the row's.
+# How many bytes a writer takes, which write fails (0: none), whether the flush does, and a status that isn't the row's.
 KINDS = {"takes_all": "usize::MAX, 0, false, None", "takes_one_byte": "1, 0, false, None",
          "first_write_fails": "usize::MAX, 1, false, Some(4)", "third_write_fails": "1, 3, false, Some(4)",
          "takes_no_byte": "0, 0, false, Some(4)", "flush_fails": "usize::MAX, 0, true, Some(4)"}
