@@ -5,6 +5,8 @@ use Rattle.getopts.proofs.Held.Occurrences.{pairs-more}
 use Rattle.getopts.proofs.occurrences.Occurrences.pairs.Goals as goal
 
 pub loop-nth-preserved : goal.loop-nth-preserved
-loop-nth-preserved c = let more =
-    pairs-more c.args.self.now c.loop-nth.nth (Some (c.at-occurrence.result.position, c.at-occurrence.result.value)) (sym c.at-occurrence.ensures) in grind
-    (arith, common_steps)
+loop-nth-preserved c =
+    let found = c.at-occurrence.result in
+    let more = pairs-more c.args.self.now c.loop-nth.nth (Some (found.position, found.value))
+    (sym c.at-occurrence.ensures) in
+    grind (arith, common_steps)
