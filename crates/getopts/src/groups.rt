@@ -12,7 +12,7 @@ ghost use Rattle.getopts.specs.Held.Groups.{signature_view, names_view, names_in
 ghost use Rattle.getopts.specs.Held.Groups.{AreLawfulSignatures, HasKeys, AreEndsOf, StandAt, two_at};
 ghost use Rattle.getopts.specs.Held.Names.{names_at, HaveNamesOfBytes};
 
-use crate::names::{NO_BYTE, Names, is_of_bytes, key_of, short_byte};
+use crate::names::{Names, is_of_bytes, key_of, short_byte};
 use std::alloc::{AllocError, Global};
 use std::marker::Model;
 
@@ -254,18 +254,6 @@ impl Signatures {
         ensures lawful { IsLawfullyNamed (names_at (names_in self.now) place) }
     {
         self.records[place]
-    }
-
-    /// How many groups have a short name. It only says how much to reserve: a wrong number would cost memory
-    /// alone.
-    pub(crate) fn short_names(&self) -> usize {
-        let mut short_names: usize = 0;
-        for record in &self.records {
-            if record.short < NO_BYTE {
-                short_names = short_names.saturating_add(1);
-            }
-        }
-        short_names
     }
 
     /// The short name of the group at a place.

@@ -3,7 +3,7 @@
 
 use crate::fallible::*;
 
-use super::names::{NO_BYTE, Names, is_of_bytes, key_of, short_byte};
+use super::names::{Names, is_of_bytes, key_of, short_byte};
 use crate::alloc::{AllocError, Global};
 
 /// The capacity once a first group is added: so many groups need no second request.
@@ -174,18 +174,6 @@ impl Signatures {
     #[inline(always)]
     pub(crate) fn record(&self, place: usize) -> SignatureRecord {
         self.records[place]
-    }
-
-    /// How many groups have a short name. It only says how much to reserve: a wrong number would cost memory
-    /// alone.
-    pub(crate) fn short_names(&self) -> usize {
-        let mut short_names: usize = 0;
-        for record in &self.records {
-            if record.short < NO_BYTE {
-                short_names = short_names.saturating_add(1);
-            }
-        }
-        short_names
     }
 
     /// The short name of the group at a place.
