@@ -285,14 +285,6 @@ def test_contracts(request):
 
 
 def test_offered_lemmas_are_cited():
-    """Each lemma that CONTRACTS offers is named outside its own lines."""
-    offered = set(re.findall(r"`([\w-]+)`", re.search(r"\*\*Lemmas to cite\*\*.*?\n\n", pages[CONTRACTS], re.S)[0]))
-    text = "\n".join(read(name) for name in tracked if name.endswith((".rt", ".antt")))
-    none(f"nothing cites {name}" for name in sorted(offered)
-         if not re.search(rf"^(?!(?:  )?(?:pub )?{name} ).*(?<![\w-]){name}(?![\w-])", text, re.M))
-
-
-def test_offered_lemmas_are_cited():
     """Some proof imports each lemma that CONTRACTS.md offers."""
     offered = re.search(r"^\*\*Lemmas to cite\*\*.*?\n\n", pages[CONTRACTS], re.M | re.S)[0]
     proofs = "".join(read(name) for name in tracked if re.match(r"crates/\w+/proofs/", name))
