@@ -43,7 +43,7 @@ def reason_of(item):
         (long and len(long.encode()) < 4, "a long name has at least two bytes"),
         (not re.fullmatch(f"{LONG_BYTE}*", long),
          "a long name may hold letters, digits, '-', '_', '.', '+', ':' and bytes from 128 on"),
-        (long[-1:] in (":", ".") and long, "a long name doesn't end in ':' or '.', and dots come after ']'"),
+        (long[-1:] in (":", "."), "a long name doesn't end in ':' or '.', and dots come after ']'"),
         (item.endswith("!"), "'!' comes only after ']' of an option without an argument"),
         ("]" in item and item[-1] not in "].", "behind ']' comes nothing, or '..' or '!'"),
     ]

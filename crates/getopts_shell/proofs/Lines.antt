@@ -10,6 +10,7 @@ use Rattle.std.specs.Option.{option_to_list}
 use Rattle.std.proofs.Common.{append-nil, append_assoc, subst, length-append}
 use Rattle.std.proofs.lemmas.List.{take-append-drop}
 use Rattle.std.proofs.lemmas.List.{at_drop_more}
+use Rattle.std.proofs.lemmas.List.Concat.{flat_map-append}
 use Rattle.getopts.specs.Names.{Names, Text, is_empty}
 use Rattle.getopts.specs.declared.groups.HasArg.{HasArg}
 use Rattle.getopts.specs.Wrap.{lines_of}
@@ -21,7 +22,7 @@ use Rattle.std.proofs.lemmas.Str.Ascii.{trim_ascii_is}
 use Rattle.getopts_shell.specs.Table.{after_blanks, trimmed, before_gap, from_gap}
 use Rattle.getopts_shell.specs.Table.{Entry, is_passed, IsItem, DeclaresEntry, Declares}
 use Rattle.getopts_shell.specs.Table.{Operand, is_operand, is_skipped, item_of, operand_at}
-use Rattle.getopts_shell.specs.Table.{operands_after}
+use Rattle.getopts_shell.specs.Table.{operands_among}
 use Rattle.getopts_shell.specs.declared.row.Often.{Often}
 use Rattle.getopts_shell.specs.Table.{DeclareEntries, DeclareOptions, EachAfter, IsLineFault}
 use Rattle.getopts_shell.specs.Table.{IsTableFault, TableFault, line_number, may_follow}
@@ -51,71 +52,46 @@ passed_not line text item text_is there item_is plain =
     ∙ rw (item_is, text_is) at plain
 
 -- the operand that a line would declare
-abbrev operand_made : ℕ → Text → Operand
-operand_made number line = record {
-  line = number;
-  item = item_of line;
-  description = trimmed (from_gap (trimmed line));
-}
+abbrev operand_made : Text → Operand
+operand_made line =
+    record { item = item_of line; description = trimmed (from_gap (trimmed line)) }
 
 -- what a line declares by these tests
-operand_by : (number : ℕ) (line : Text) (skipped operand : Bool) → is_skipped line ≡ skipped
+operand_by : (line : Text) (skipped operand : Bool) → is_skipped line ≡ skipped
     → is_operand (item_of line) ≡ operand
-    → operand_at number line
-    ≡ (if not skipped && operand then Some (operand_made number line) else None)
-operand_by number line skipped operand skipped_is is =
-    ap (λ (b : Bool). if not b && is_operand (item_of line) then Some (operand_made number line)
+    → operand_at line ≡ (if not skipped && operand then Some (operand_made line) else None)
+operand_by line skipped operand skipped_is is =
+    ap (λ (b : Bool). if not b && is_operand (item_of line) then Some (operand_made line)
     else None) skipped_is
-    ∙ ap (λ (b : Bool). if not skipped && b then Some (operand_made number line) else None) is
+    ∙ ap (λ (b : Bool). if not skipped && b then Some (operand_made line) else None) is
 
 -- such a line declares no operand
-pub no_operand_at : (number : ℕ) (line text item : Text) → text ≡ trimmed line
-    → skips text ≡ false → item ≡ trimmed (before_gap text) → is_operand item ≡ false
-    → operand_at number line ≡ None
-no_operand_at number line text item text_is there item_is plain =
-    operand_by number line false false (rw text_is at there) (rw (item_is, text_is) at plain)
-
--- nor does a line that declares nothing
-pub none_skipped : (number : ℕ) (line text : Text) → text ≡ trimmed line → skips text ≡ true
-    → (is_passed line ≡ true) × (operand_at number line ≡ None)
-none_skipped number line text text_is skipped =
-    let is : is_skipped line ≡ true = rw text_is at skipped in (
-      ap (λ (b : Bool). b || is_operand (item_of line)) is,
-      operand_by number line true (is_operand (item_of line)) is refl,
-    )
+pub no_operand_at : (line text item : Text) → text ≡ trimmed line → skips text ≡ false
+    → item ≡ trimmed (before_gap text) → is_operand item ≡ false → operand_at line ≡ None
+no_operand_at line text item text_is there item_is plain =
+    operand_by line false false (rw text_is at there) (rw (item_is, text_is) at plain)
 
 -- a line of an operand
-pub declares_operand : (number : ℕ) (line text item rest description : Text) → text ≡ trimmed line
+pub declares_operand : (line text item rest description : Text) → text ≡ trimmed line
     → skips text ≡ false → item ≡ trimmed (before_gap text) → rest ≡ from_gap text
     → description ≡ trimmed rest → is_operand item ≡ true
-    → (is_passed line ≡ true) × (operand_at number line
-    ≡ Some (record { line = number; item = item; description = description }))
-declares_operand number line text item rest description text_is there item_is rest_is
-    description_is operand =
+    → (is_passed line ≡ true)
+    × (operand_at line ≡ Some (record { item = item; description = description }))
+declares_operand line text item rest description text_is there item_is rest_is description_is
+    operand =
     let skipped : is_skipped line ≡ false = rw text_is at there in
     let is : is_operand (item_of line) ≡ true = rw (item_is, text_is) at operand in (
       ap (λ (b : Bool). b || is_operand (item_of line)) skipped ∙ is,
-      operand_by number line false true skipped is
+      operand_by line false true skipped is
           ∙ rw (description_is, rest_is, item_is, text_is) refl,
     )
 
 -- those of a line among lines
-pub operands_around : (before : ℕ) (lines : List Text) (line : Text) (more : List Text) (number : ℕ)
-    → number ≡ line_number (before + length lines)
-    → operands_after before (lines ++ line ∷ more)
-    ≡ operands_after before lines ++ (option_to_list (operand_at number line)
-    ++ operands_after (before + length lines + 1) more)
-operands_around before [] line more number number_is =
-    ap (λ (n : ℕ). option_to_list (operand_at n line) ++ operands_after (before + 1) more)
-    (sym (number_is ∙ omega arith))
-    ∙ ap (λ (n : ℕ). option_to_list (operand_at number line) ++ operands_after n more) (omega arith)
-operands_around before (first ∷ lines) line more number number_is =
-    ap (λ (others : List Operand). option_to_list (operand_at (line_number before) first) ++ others)
-    (operands_around (before + 1) lines line more number (number_is ∙ omega arith)
-    ∙ ap (λ (n : ℕ). operands_after (before + 1) lines ++ (option_to_list (operand_at number line)
-    ++ operands_after n more)) (omega arith))
-    ∙ sym (append_assoc (option_to_list (operand_at (line_number before) first))
-    (operands_after (before + 1) lines) _)
+pub operands_around : (lines : List Text) (line : Text) (more : List Text)
+    → operands_among (lines ++ line ∷ more)
+    ≡ operands_among lines ++ (option_to_list (operand_at line) ++ operands_among more)
+operands_around lines line more =
+    flat_map-append (λ (line : Text). option_to_list (operand_at line)) lines (line ∷ more)
 
 -- a line that isn't passed over and has an option declares it
 pub declares_entry : (number : ℕ) (line text item rest description : Text) (entry : Entry)
@@ -242,16 +218,14 @@ no_lines = record {
 }
 
 -- the operands of the lines so far, with that of one more
-pub next_operands : (lines : List Text) (line : Text) (number next : ℕ) (entries : List Entry)
-    (operands more : List Operand) → LinesSoFar lines number entries
-    → next ≡ min (number + 1) (2 ^ 64 - 1)
-    → more ≡ operands ++ option_to_list (operand_at next line)
-    → operands ≡ operands_after 0 lines → more ≡ operands_after 0 (lines ++ line ∷ [])
-next_operands lines line number next entries operands more so_far next_is more_is is =
-    more_is ∙ ap (λ (o : List Operand). o ++ option_to_list (operand_at next line)) is
-    ∙ ap (λ (o : List Operand). operands_after 0 lines ++ o)
-    (sym (append-nil (option_to_list (operand_at next line))))
-    ∙ sym (operands_around 0 lines line [] next (omega (arith, next_is, so_far.number_is)))
+pub next_operands : (lines : List Text) (line : Text) (operands more : List Operand)
+    → more ≡ operands ++ option_to_list (operand_at line) → operands ≡ operands_among lines
+    → more ≡ operands_among (lines ++ line ∷ [])
+next_operands lines line operands more more_is is =
+    more_is ∙ ap (λ (o : List Operand). o ++ option_to_list (operand_at line)) is
+    ∙ ap (λ (o : List Operand). operands_among lines ++ o)
+    (sym (append-nil (option_to_list (operand_at line))))
+    ∙ sym (operands_around lines line [])
 
 -- the lines so far, with one more
 pub next_line : (lines : List Text) (line : Text) (number next : ℕ) (entries more : List Entry)
@@ -259,8 +233,8 @@ pub next_line : (lines : List Text) (line : Text) (number next : ℕ) (entries m
     → next ≡ min (number + 1) (2 ^ 64 - 1)
     → Declares next line declared → more ≡ entries ++ option_to_list declared
     → IfSome declared (λ entry. name_again entries entry ≡ None)
-    → operands ≡ operands_after 0 lines
-    → IfSome (operand_at next line) (λ operand. may_follow operands operand ≡ true)
+    → operands ≡ operands_among lines
+    → IfSome (operand_at line) (λ operand. may_follow operands operand ≡ true)
     → LinesSoFar (lines ++ line ∷ []) next more
 next_line lines line number next entries more operands declared so_far next_is is more_is new
     operands_are follows = record {
@@ -271,10 +245,9 @@ next_line lines line number next entries more operands declared so_far next_is i
         once = each_append (λ before entry. name_again before entry ≡ None) entries declared
             so_far.declared.once new;
         in_order = subst (EachAfter (λ before operand. may_follow before operand ≡ true))
-            (next_operands lines line number next entries (operands_after 0 lines) _ so_far next_is refl
-            refl)
-            (each_append (λ before operand. may_follow before operand ≡ true) (operands_after 0 lines)
-            (operand_at next line) so_far.declared.in_order (rw operands_are at follows));
+            (next_operands lines line (operands_among lines) _ refl refl)
+            (each_append (λ before operand. may_follow before operand ≡ true) (operands_among lines)
+            (operand_at line) so_far.declared.in_order (rw operands_are at follows));
       });
     }
 
@@ -292,7 +265,7 @@ pub table_fault : (table : Text) (lines : List Text) (line : Text) (number next 
     → length lines < length (lines_of table)
     → line ≡ get_or (lines_of table) (length lines) line
     → LinesSoFar lines number entries → next ≡ min (number + 1) (2 ^ 64 - 1)
-    → operands ≡ operands_after 0 lines → IsLineFault next entries operands line fault
+    → operands ≡ operands_among lines → IsLineFault next entries operands line fault
     → IsTableFault table fault
 table_fault table lines line number next entries operands fault so_far_are below line_is so_far
     next_is operands_are is =
@@ -304,7 +277,7 @@ table_fault table lines line number next entries operands fault so_far_are below
           ∙ rw (← so_far_are) refl;
       entries = entries;
       declared = so_far.declared;
-      fault_at = subst (λ (n : ℕ). IsLineFault n entries (operands_after 0 lines) line fault)
+      fault_at = subst (λ (n : ℕ). IsLineFault n entries (operands_among lines) line fault)
           (next_is ∙ omega (arith, so_far.number_is)) (rw operands_are at is);
     }
 

@@ -14,7 +14,7 @@ use Rattle.getopts_shell.specs.Table.{Declares, DeclareEntries, DeclaresOptions}
 use Rattle.getopts_shell.specs.Table.{OneTableOneList, DeclareOptions, name_again, TableFault}
 use Rattle.getopts_shell.specs.Table.{name_twice}
 use Rattle.getopts_shell.specs.Table.{IsLineFault, IsTableFault, Operand, late, line_number}
-use Rattle.getopts_shell.specs.Table.{late_operand, none, operand_at, operands_after}
+use Rattle.getopts_shell.specs.Table.{late_operand, none, operand_at, operands_among}
 use Rattle.getopts_shell.specs.Table.{twice}
 use Rattle.getopts_shell.proofs.Lines.{Places, here, later, earlier, operands_around, places}
 use Rattle.getopts_shell.proofs.Items.{one_bracketed, one_pair, one_names, one_argument}
@@ -121,13 +121,13 @@ declares_at count number (first ∷ before) after line entries all number_is is 
 no_fault_at : (before after : List Text) (line : Text) (entries all : List Entry)
     (fault : TableFault)
     → DeclareOptions before entries → DeclareOptions (before ++ line ∷ after) all
-    → ¬ (IsLineFault (line_number (length before)) entries (operands_after 0 before) line fault)
+    → ¬ (IsLineFault (line_number (length before)) entries (operands_among before) line fault)
 no_fault_at before after line entries all fault so_far whole =
     by_line (declares_at 0 _ before after line entries all (omega arith) so_far.declared
     whole.declared)
   where
     by_line : {fault : TableFault} → DeclaresAt (line_number (length before)) line entries all
-        → ¬ (IsLineFault (line_number (length before)) entries (operands_after 0 before) line
+        → ¬ (IsLineFault (line_number (length before)) entries (operands_among before) line
         fault)
     by_line (stands declared others declares all_is) (none no_declared) =
         no_declared declared declares
@@ -139,11 +139,10 @@ no_fault_at before after line entries all fault so_far whole =
         let both : Some name ≡ None = sym again ∙ ap (name_again entries) entry_is
         ∙ whole.once entries others other all_is in cc
     by_line _ (late operand is not_so) =
-        let both : false ≡ true = sym not_so ∙ whole.in_order (operands_after 0 before)
-        (operands_after (0 + length before + 1) after) operand
-        (operands_around 0 before line after (line_number (length before)) (omega arith)
-        ∙ ap (λ (declared : Option Operand). operands_after 0 before ++ (option_to_list declared
-        ++ operands_after (0 + length before + 1) after)) is) in cc
+        let both : false ≡ true = sym not_so ∙ whole.in_order (operands_among before)
+        (operands_among after) operand (operands_around before line after
+        ∙ ap (λ (declared : Option Operand). operands_among before
+        ++ (option_to_list declared ++ operands_among after)) is) in cc
 
 -- a table that declares options has no fault
 pub no_fault : (table : Text) (entries : List Entry) (fault : TableFault)
@@ -154,9 +153,9 @@ no_fault table entries fault declares is =
     (rw is.lines_are at declares) is.fault_at
 
 -- a line of an operand declares no option
-operand_passed : (number : ℕ) (line : Text) (operand : Operand)
-    → operand_at number line ≡ Some operand → is_passed line ≡ true
-operand_passed number line operand is = by_tests _ (is_skipped line) (is_operand (item_of line)) is
+operand_passed : (line : Text) (operand : Operand)
+    → operand_at line ≡ Some operand → is_passed line ≡ true
+operand_passed line operand is = by_tests _ (is_skipped line) (is_operand (item_of line)) is
   where
     by_tests : (there : Operand) (skipped of_operand : Bool)
         → (if not skipped && of_operand then Some there else None) ≡ Some operand
@@ -188,15 +187,15 @@ one_line_fault number entries operands line fault other (late operand is not_so)
     let operand_is : also ≡ operand = cc in
     ap (λ (o : Operand). late_operand number o.item) operand_is
 one_line_fault number entries operands line fault other (late operand is not_so) (none also) =
-    absurd (also None (operand_passed number line operand is))
+    absurd (also None (operand_passed line operand is))
 one_line_fault number entries operands line fault other (none is) (late operand at not_so) =
-    absurd (is None (operand_passed number line operand at))
+    absurd (is None (operand_passed line operand at))
 one_line_fault number entries operands line fault other (late operand is not_so)
     (twice entry name of again) =
-    let both : true ≡ false = sym (operand_passed number line operand is) ∙ of.there in cc
+    let both : true ≡ false = sym (operand_passed line operand is) ∙ of.there in cc
 one_line_fault number entries operands line fault other (twice entry name of again)
     (late operand at not_so) =
-    let both : true ≡ false = sym (operand_passed number line operand at) ∙ of.there in cc
+    let both : true ≡ false = sym (operand_passed line operand at) ∙ of.there in cc
 
 -- a table has one fault at most
 pub one_fault : (table : Text) (fault other : TableFault) → IsTableFault table fault
@@ -210,7 +209,7 @@ one_fault table fault other is also =
     by_place (here before_is line_is) =
         let entries_are = one_list is.before is.entries also.entries is.declared
         (rw before_is at also.declared) in
-        one_line_fault (line_number (length is.before)) is.entries (operands_after 0 is.before)
+        one_line_fault (line_number (length is.before)) is.entries (operands_among is.before)
         is.line fault other is.fault_at (rw (before_is, entries_are, line_is) at also.fault_at)
     by_place (later more others_are) =
         absurd (no_fault_at is.before more is.line is.entries also.entries fault is.declared

@@ -91,7 +91,6 @@ items_of operands = map (λ (operand : Operand). operand.item) (operands_of oper
 -- what stands past the last operand, as the code reads it
 abbrev pub no_operand : OperandHeld
 no_operand = record {
-  line = 0;
   item = record { ref_ptr = (0, 0); now = [] };
   description = record { ref_ptr = (0, 0); now = [] };
 }

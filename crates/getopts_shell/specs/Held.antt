@@ -39,11 +39,7 @@ entries_of rows = map entry_of_row rows
 
 -- the operand that the code holds
 abbrev pub operand_of : OperandHeld → Operand
-operand_of operand = record {
-  line = operand.line;
-  item = operand.item.now;
-  description = operand.description.now;
-}
+operand_of operand = record { item = operand.item.now; description = operand.description.now }
 
 abbrev pub operands_of : List OperandHeld → List Operand
 operands_of operands = map operand_of operands

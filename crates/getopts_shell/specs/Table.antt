@@ -6,7 +6,7 @@ use Rattle.std.specs.Prelude.{slice_index, length, map}
 use Rattle.std.specs.Prelude.{drop, take, find}
 use Rattle.std.specs.Char.{is_ascii_alphanumeric, is_ascii_digit, is_ascii_uppercase}
 use Rattle.std.specs.Char.{is_ascii_whitespace}
-use Rattle.std.specs.List.{AllByRecursion, after_first, before_first, ends_with}
+use Rattle.std.specs.List.{AllByRecursion, after_first, before_first, ends_with, flat_map}
 use Rattle.std.specs.List.{list_all, list_any}
 use Rattle.std.specs.List.{prefix_len, starts_with, suffix_len}
 use Rattle.std.specs.Option.{option_map_or, option_to_list}
@@ -184,9 +184,8 @@ is_operand item = begins_capital (unopened item)
     && (list_all is_operand_byte (operand_name item)
     && (has_brackets (before 46 item) && has_dots item))
 
--- An operand of a table: the number of its line, its item, and its description.
+-- An operand of a table: its item, and its description.
 pub record Operand : Type 0 where
-  pub line : ℕ
   pub item : Text
   pub description : Text
 
@@ -299,23 +298,19 @@ DeclareEntries before (line ∷ lines) entries = (declared : Option Entry) × (o
     × Declares (line_number before) line declared × DeclareEntries (before + 1) lines others
     × (entries ≡ option_to_list declared ++ others)
 
--- the operand that a line with this number declares, if it declares one
-abbrev pub operand_at : ℕ → Text → Option Operand
-operand_at number line = if not (is_skipped line) && is_operand (item_of line) then Some (record {
-  line = number;
+-- the operand that a line declares, if it declares one
+abbrev pub operand_at : Text → Option Operand
+operand_at line = if not (is_skipped line) && is_operand (item_of line) then Some (record {
   item = item_of line;
   description = trimmed (from_gap (trimmed line));
 }) else None
 
--- the operands that lines declare, in order, where so many lines stand before them
-abbrev pub operands_after : ℕ → List Text → List Operand
-operands_after before [] = []
-operands_after before (line ∷ lines) =
-    option_to_list (operand_at (line_number before) line) ++ operands_after (before + 1) lines
+-- the operands that lines declare, in order, and those of a table
+abbrev pub operands_among : List Text → List Operand
+operands_among lines = flat_map (λ line. option_to_list (operand_at line)) lines
 
--- the operands that a table declares
 abbrev pub operands_in : Text → List Operand
-operands_in table = operands_after 0 (lines_of table)
+operands_in table = operands_among (lines_of table)
 
 -- whether another operand may come before this one: it may not come again, and it has to be there
 -- where this one has to
@@ -344,7 +339,7 @@ pub record DeclareOptions (lines : List Text) (entries : List Entry) : Type 0 wh
   pub declared : DeclareEntries 0 lines entries
   pub once : EachAfter (λ before entry. name_again before entry ≡ None) entries
   pub in_order : EachAfter (λ before operand. may_follow before operand ≡ true)
-      (operands_after 0 lines)
+      (operands_among lines)
 
 -- the table declares these options
 abbrev pub DeclaresOptions : Text → List Entry → Type 0
@@ -424,7 +419,7 @@ pub data IsLineFault (number : ℕ) (entries : List Entry) (operands : List Oper
   twice : (entry : Entry) (name : Text) → DeclaresEntry number line entry
       → name_again entries entry ≡ Some name
       → IsLineFault number entries operands line (name_twice number name)
-  late : (operand : Operand) → operand_at number line ≡ Some operand
+  late : (operand : Operand) → operand_at line ≡ Some operand
       → may_follow operands operand ≡ false
       → IsLineFault number entries operands line (late_operand number operand.item)
 
@@ -436,5 +431,5 @@ pub record IsTableFault (table : Text) (fault : TableFault) : Type 0 where
   pub lines_are : lines_of table ≡ before ++ line ∷ after
   pub entries : List Entry
   pub declared : DeclareOptions before entries
-  pub fault_at : IsLineFault (line_number (length before)) entries (operands_after 0 before) line
+  pub fault_at : IsLineFault (line_number (length before)) entries (operands_among before) line
       fault

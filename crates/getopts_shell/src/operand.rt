@@ -18,10 +18,9 @@ use crate::quote::{push_joined, push_parting};
 use getopts::wrap::each_split_within;
 use std::alloc::{AllocError, Global};
 
-/// An operand that the line of a table with this number declares.
+/// An operand that a line of a table declares.
 #[derive(Clone, Copy)]
 pub struct Operand<'t> {
-    pub line: usize,
     pub item: &'t str,
     pub description: &'t str,
 }

@@ -71,8 +71,8 @@ fn push_line<'t>(table: &mut Table<'t>, number: usize, line: &'t str) -> Result<
         ≡ entries_of table.old.rows.items ++ option_to_list declared)
         × IfSome declared (λ entry. name_again (entries_of table.old.rows.items) entry ≡ None)) }
     ensures operands { OnOk result (operands_of table.new.operands.items
-        ≡ operands_of table.old.operands.items ++ option_to_list (operand_at number line.now)) }
-    ensures in_order { OnOk result (IfSome (operand_at number line.now)
+        ≡ operands_of table.old.operands.items ++ option_to_list (operand_at line.now)) }
+    ensures in_order { OnOk result (IfSome (operand_at line.now)
         (λ operand. may_follow (operands_of table.old.operands.items) operand ≡ true)) }
     ensures fault { IfErr result (λ error. TellsFault error (IsLineFault number
         (entries_of table.old.rows.items) (operands_of table.old.operands.items) line.now)) }
@@ -85,12 +85,8 @@ fn push_line<'t>(table: &mut Table<'t>, number: usize, line: &'t str) -> Result<
     let item = trimmed(item);
     let description = trimmed(description);
     if is_operand(item) {
-        let operand = Operand {
-            line: number,
-            item,
-            description,
-        };
-        return push_operand(&mut table.operands, operand);
+        let operand = Operand { item, description };
+        return push_operand(&mut table.operands, number, operand);
     }
     match row_of(number, item, description) {
         Some(row) => push_row(&mut table.rows, row),
@@ -98,9 +94,10 @@ fn push_line<'t>(table: &mut Table<'t>, number: usize, line: &'t str) -> Result<
     }
 }
 
-/// Adds an operand, if it may follow those before it.
+/// Adds the operand of the line with this number, if it may follow those before it.
 fn push_operand<'t>(
     operands: &mut Vec<Operand<'t>>,
+    number: usize,
     operand: Operand<'t>,
 ) -> Result<(), TableError<'t>>
     ensures added { OnOk result (operands_of operands.new.items
@@ -108,11 +105,11 @@ fn push_operand<'t>(
     ensures in_order { OnOk result
         (may_follow (operands_of operands.old.items) (operand_of operand.entry) ≡ true) }
     ensures fault { IfErr result (λ error. TellsFault error (λ fault.
-        (fault ≡ late_operand operand.entry.line operand.entry.item.now)
+        (fault ≡ late_operand number operand.entry.item.now)
         × (may_follow (operands_of operands.old.items) (operand_of operand.entry) ≡ false))) }
 {
     if !may_follow(operands, operand) {
-        return Err(TableError::LateOperand(operand.line, operand.item));
+        return Err(TableError::LateOperand(number, operand.item));
     }
     match operands.push(operand) {
         Ok(()) => Ok(()),

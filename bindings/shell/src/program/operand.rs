@@ -8,10 +8,9 @@ use super::quote::{push_joined, push_parting};
 use crate::getopts::wrap::each_split_within;
 use crate::host::alloc::{AllocError, Global};
 
-/// An operand that the line of a table with this number declares.
+/// An operand that a line of a table declares.
 #[derive(Clone, Copy)]
 pub struct Operand<'t> {
-    pub line: usize,
     pub item: &'t str,
     pub description: &'t str,
 }

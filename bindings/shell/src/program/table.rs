@@ -57,12 +57,8 @@ fn push_line<'t>(
     let item = trimmed(item);
     let description = trimmed(description);
     if is_operand(item) {
-        let operand = Operand {
-            line: number,
-            item,
-            description,
-        };
-        return push_operand(&mut table.operands, operand);
+        let operand = Operand { item, description };
+        return push_operand(&mut table.operands, number, operand);
     }
     match row_of(number, item, description) {
         Some(row) => push_row(&mut table.rows, row),
@@ -70,13 +66,14 @@ fn push_line<'t>(
     }
 }
 
-/// Adds an operand, if it may follow those before it.
+/// Adds the operand of the line with this number, if it may follow those before it.
 fn push_operand<'t>(
     operands: &mut Vec<Operand<'t>>,
+    number: usize,
     operand: Operand<'t>,
 ) -> Result<(), TableError<'t>> {
     if !may_follow(operands, operand) {
-        return Err(TableError::LateOperand(operand.line, operand.item));
+        return Err(TableError::LateOperand(number, operand.item));
     }
     match operands.try_push(operand) {
         Ok(()) => Ok(()),

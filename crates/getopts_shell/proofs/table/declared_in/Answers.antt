@@ -21,8 +21,7 @@ loop-line-preserved c =
       next_line lines c.in-Some.line.now c.loop-line.number _ _ _ _ pushed.0
           c.loop-line.invariant.0 c.saturating_add-number.ensures pushed.1 pushed.2 pushed.3
           c.loop-line.invariant.1 c.in_ok-push_line.ensures.in_order,
-      next_operands lines c.in-Some.line.now c.loop-line.number _ _ _ _ c.loop-line.invariant.0
-          c.saturating_add-number.ensures c.in_ok-push_line.ensures.operands
+      next_operands lines c.in-Some.line.now _ _ c.in_ok-push_line.ensures.operands
           c.loop-line.invariant.1,
     )
 

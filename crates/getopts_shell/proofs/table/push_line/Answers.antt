@@ -10,7 +10,7 @@ use Rattle.getopts_shell.proofs.table.push_line.Goals as goal
 
 pub returns-then-is_operand-clause-fault : goal.returns-then-is_operand-clause-fault
 returns-then-is_operand-clause-fault c =
-    let is = declares_operand c.args.number c.args.line.now c.trimmed-line.result.now
+    let is = declares_operand c.args.line.now c.trimmed-line.result.now
     c.trimmed-item.result.now c.cut_at_gap.result.1.now c.trimmed-description.result.now
     c.trimmed-line.ensures (sym c.declares_nothing.ensures ∙ c.if-declares_nothing.false)
     (c.trimmed-item.ensures ∙ ap trimmed c.cut_at_gap.ensures.before) c.cut_at_gap.ensures.after
@@ -33,12 +33,12 @@ returns-in-Some-clause-declared c =
 
 pub returns-in-Some-clause-in_order : goal.returns-in-Some-clause-in_order
 returns-in-Some-clause-in_order c =
-    let none = no_operand_at c.args.number c.args.line.now c.trimmed-line.result.now
+    let none = no_operand_at c.args.line.now c.trimmed-line.result.now
     c.trimmed-item.result.now c.trimmed-line.ensures
     (sym c.declares_nothing.ensures ∙ c.if-declares_nothing.false)
     (c.trimmed-item.ensures ∙ ap trimmed c.cut_at_gap.ensures.before)
     (sym c.is_operand.ensures ∙ c.if-is_operand.false) in
-    on_ok c.push_row.result (IfSome (operand_at c.args.number c.args.line.now)
+    on_ok c.push_row.result (IfSome (operand_at c.args.line.now)
     (λ operand. may_follow (operands_of c.args.table.now.operands.items) operand ≡ true))
     (rw none tt)
 
