@@ -198,7 +198,9 @@ def tried(edits, room):
     for file, text in copies.files.items():
         (folder / file).write_text(text, encoding="utf-8")
     only = [word for function in functions.values() for word in ("--only", function)]
-    said = answer("rt", "check", "--jobs", os.environ.get("JOBS", "1"), *only, cwd=folder)[0].decode(errors="replace")
+    # Those of callers are the last of a run, when processors are free.
+    jobs = os.environ.get("JOBS", "2" if below else "1")
+    said = answer("rt", "check", "--jobs", jobs, *only, cwd=folder)[0].decode(errors="replace")
     (room / "said").write_text(said)
     again = set(re.findall(r"^crate (\w+): ", said, re.M)) - {host}
     assert not again or "CI_LOG" not in os.environ, f"proved again: {again}"
