@@ -1,3 +1,3 @@
--- Canonical lines, and the answer of `canonical`.
+-- Canonical lines, and the result of `canonical`.
 pub mod Lines
 pub mod Answered

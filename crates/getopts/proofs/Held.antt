@@ -1,4 +1,4 @@
--- What is held, and what is seen of it.
+-- What data structures hold, and how it is seen.
 pub mod Pieces
 pub mod Texts
 pub mod Options

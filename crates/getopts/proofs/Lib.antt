@@ -1,22 +1,22 @@
--- Lemmas, by rooms. Beside them stands a folder for each function whose proof needs a file.
+-- Lemmas, by subject. Beside them is a folder for each function whose proof needs a file.
 
--- facts of lists of anything
+-- facts about lists of any elements
 pub mod Lists
--- how words read: a tool of the proofs, read word by word, and what holds of all readings
+-- how words are read: a tool for the proofs, and properties of all readings
 pub mod Reading
--- how the code scans: a word, an item, a cluster, and the line up to a place
+-- how the code scans a word, an item, a cluster, and the line up to a place
 pub mod Scanner
--- what names resolve to, and the table that they are looked up in
+-- what names resolve to, and the table for looking them up
 pub mod Lookup
--- what is held, and what is seen of it
+-- what data structures hold, and how it is seen
 pub mod Held
--- from a reading or a fault to the answer of `parse`
+-- from a reading or a fault to the result of `parse`
 pub mod Parsing
--- canonical lines, and the answer of `canonical`
+-- canonical lines, and the result of `canonical`
 pub mod Canonical
 -- the main theorem, and lemmas for callers
 pub mod MainTheorem
 -- descriptions in rows, and usage texts
 pub mod Wrapping
--- what computes on a line that is written out
+-- computing with literal lines
 pub mod OnLiterals

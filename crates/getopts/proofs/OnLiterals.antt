@@ -1,4 +1,4 @@
--- What an answer unfolds to compute readings, results and matches of a line that is written out.
+-- What a proof unfolds to compute readings, results and matches of a literal line.
 use Rattle.std.specs.Prelude.{⊤}
 use Rattle.getopts.specs.Results.{turn, read_both, read, reading_result, line_result}
 use Rattle.getopts.specs.Turn.{cluster_turn}
@@ -9,7 +9,7 @@ unfoldable pub getopts_on_literals : ⊤
 unfolding turn read_both read reading_result line_result cluster_turn
 getopts_on_literals = tt
 
--- What an answer unfolds to compute a help text that is written out.
+-- What a proof unfolds to compute a literal help text.
 unfoldable pub usage_on_literals : ⊤
 unfolding width_of unicode_width
 usage_on_literals = tt

@@ -1,4 +1,4 @@
--- How words read: a tool of the proofs, read word by word, and what holds of all readings.
+-- How words are read: a tool for the proofs, and properties of all readings.
 pub mod Turns
 pub mod Texts
 pub mod Steps

@@ -1,4 +1,4 @@
--- How the code scans: a word, an item, a cluster, and the line up to a place.
+-- How the code scans a word, an item, a cluster, and the line up to a place.
 pub mod Words
 pub mod Items
 pub mod Clusters

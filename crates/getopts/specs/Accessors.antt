@@ -1,4 +1,4 @@
--- What the accessors of matches answer, over the groups that matches hold.
+-- What the accessors of matches return, by the groups that matches hold.
 use Rattle.std.specs.Prelude.{◌≡◌, ℕ, Bool, List, [], ◌∷◌, map, length, nat_lt, IsSome, Option}
 use Rattle.std.specs.Prelude.{Some, None, MatchOption, IsSomeAnd, Result, Ok, slice_get, unwrap_or}
 use Rattle.std.specs.Result.{result_transpose}
@@ -19,27 +19,27 @@ held_names groups = map (λ group. group.signature.names) groups
 abbrev pub place_of : List MatchedGroup → Text → Option ℕ
 place_of groups name = resolution (held_names groups) name
 
--- a name is defined: it resolves to a group
+-- The name is defined: it resolves to a group.
 abbrev pub IsDefined : List MatchedGroup → Text → Type 0
 IsDefined groups name = IsSome (place_of groups name)
 
--- each name is defined
+-- Each name is defined.
 abbrev pub AreDefined : List MatchedGroup → List Text → Type 0
 AreDefined groups names = AllByRecursion (IsDefined groups) names
 
--- each group that matches hold is lawfully named
+-- Each group that matches hold has valid names.
 abbrev pub AreHeldLawfully : List MatchedGroup → Type 0
 AreHeldLawfully groups = AllByRecursion (λ group. IsLawfullyNamed group.signature.names) groups
 
--- the occurrences of the group at a place; past the last group there are none
+-- the occurrences of the group at a place; none past the last group
 abbrev pub found_in : List MatchedGroup → ℕ → List Found
 found_in groups place = option_map_or (λ group. group.found) (slice_get groups place) []
 
--- the occurrences of the group that a name resolves to; of an undefined name there are none
+-- the occurrences of the group that a name resolves to; none if it is undefined
 abbrev pub found_of : List MatchedGroup → Text → List Found
 found_of groups name = option_map_or (found_in groups) (place_of groups name) []
 
--- whether there is an occurrence
+-- whether a name has an occurrence
 abbrev pub is_present : List MatchedGroup → Text → Bool
 is_present groups name = nat_lt 0 (length (found_of groups name))
 
@@ -63,7 +63,7 @@ each_value founds = map (λ found. found.value) founds
 abbrev pub values_of : List Found → List Text
 values_of founds = filter_map (λ found. found.value) founds
 
--- an occurrence's position and value, where it has a value
+-- an occurrence's position and value, if it has a value
 abbrev pub pair_of : Found → Option (ℕ × Text)
 pair_of found = option_map (λ value. (found.position, value)) found.value
 
@@ -76,19 +76,19 @@ abbrev pub first_value : List Found → Option Text
 first_value [] = None
 first_value (found ∷ founds) = found.value
 
--- the value of the first occurrence, or this text where that has none
+-- the value of the first occurrence, or this text if that has none
 abbrev pub first_value_or : List Found → Text → Option Text
 first_value_or [] fallback = None
 first_value_or (found ∷ founds) fallback = Some (unwrap_or found.value fallback)
 
--- the value for the first of these names whose group's first occurrence has a value
+-- the value of the first listed name whose group's first occurrence has one
 abbrev pub first_value_among : List MatchedGroup → List Text → Option Text
 first_value_among groups [] = None
 first_value_among groups (name ∷ names) =
     option_or (first_value (found_of groups name)) (first_value_among groups names)
 
--- Where there is no value, it is read as nothing.
--- A value is read as what this way of reading gives for it: a value or an error.
+-- If there is no value, nothing is parsed.
+-- The answer is what parsing the value gives: a result or an error.
 abbrev pub IsReadAs : {T E : Type 0} → (Text → Result T E → Type 0)
     → Option Text → Result (Option T) E → Type 0
 IsReadAs gives value answer =

@@ -1,5 +1,5 @@
--- The canonical line: what a line says, written again with main names alone; the laws of such a
--- line, and where there is none.
+-- Canonical lines: what a command line says, rewritten with main names alone; the laws of such
+-- lines, and when there is none.
 use Rattle.std.specs.Prelude.{◌≡◌, ◌≢◌, ◌↔◌, ℕ, Bool, false, List, [], ◌∷◌, ◌++◌, map, Option}
 use Rattle.std.specs.Prelude.{Some, None, slice_get}
 use Rattle.std.specs.List.{AllByRecursion, Contains}
@@ -15,7 +15,7 @@ use Rattle.getopts.specs.Matches.{matches_of, KeepsCounts}
 use Rattle.getopts.specs.Parse.{Reads}
 use Rattle.getopts.specs.declared.groups.ParsingStyle.{ParsingStyle}
 
--- what a line may say: mentions in order, and free words
+-- what a command line may say: mentions in order, and free words
 pub record Content : Type 0 where
   pub mentions : List Mention
   pub free : List Text
@@ -27,23 +27,23 @@ content_of options reading = record {
   free = free_words reading;
 }
 
--- the main name of the group at this place; past the last group, the empty text
+-- the main name of the group at this place; empty past the last group
 abbrev pub main_at : List Group → ℕ → Text
 main_at groups place =
     option_map_or (λ group. main_name group.signature.names) (slice_get groups place) []
 
--- plain content: no mentioned group has a main name that holds `=`
+-- The content is plain: no mentioned group has a main name that contains `=`.
 abbrev pub IsPlain : List Group → Content → Type 0
 IsPlain groups content =
     AllByRecursion (λ m. holds_equals (main_at groups m.group) ≡ false) content.mentions
 
--- sound content: each mentioned group is what its own main name resolves to
+-- The content is sound: each mentioned group is what its own main name resolves to.
 abbrev pub IsSound : List Group → Content → Type 0
 IsSound groups content =
     AllByRecursion (λ m. resolution (names_of groups) (main_at groups m.group) ≡ Some m.group)
     content.mentions
 
--- the canonical word of a mention: `--main`, or `--main=value` where it has a value
+-- the canonical word of a mention: `--main`, or `--main=value` if it has a value
 abbrev pub canonical_word : List Group → Mention → Text
 canonical_word groups m = long_word two (main_at groups m.group) m.value
 
@@ -61,24 +61,24 @@ attached_value (Some value) = attached value
 abbrev pub canonical_item : List Group → Mention → Item
 canonical_item groups m = long two (main_at groups m.group) (attached_value m.value)
 
--- the canonical reading of a content: the items of its mentions, and the stop with its free words
+-- the canonical reading of a content: its mentions' items, and the stop with its free words
 abbrev pub canonical_reading : List Group → Content → Reading
 canonical_reading groups content = record {
   items = map (canonical_item groups) content.mentions;
   tail = stop content.free;
 }
 
--- options with the same groups, in this style and mode
+-- the options with the same groups, in this style and mode
 abbrev pub with_setting : Declared → ParsingStyle → Bool → Declared
 with_setting options style long_only = record options { style = style; long_only = long_only }
 
--- a reading of a line that keeps the counts
+-- This is a reading of the words that keeps the counts.
 pub record IsCountKeeping (options : Declared) (reading : Reading) (words : List Text)
     : Type 0 where
   pub reads : IsReading (grammar_of options) reading words
   pub keeps : KeepsCounts (matches_of options reading).groups
 
--- The words have one reading, which keeps the counts and says the content.
+-- The words have exactly one reading, which keeps the counts and has this content.
 -- The words are accepted with this content.
 pub record IsAcceptedWith (options : Declared) (words : List Text) (content : Content)
     : Type 0 where
@@ -87,8 +87,8 @@ pub record IsAcceptedWith (options : Declared) (words : List Text) (content : Co
   pub counts : KeepsCounts (matches_of options reading).groups
   pub content_is : content ≡ content_of options reading
 
--- In some style and mode the line has a reading with this content that keeps the counts.
--- A line says a content.
+-- In some style and mode the words have a reading with this content that keeps the counts.
+-- The words say this content.
 pub record Says (options : Declared) (words : List Text) (content : Content) : Type 0 where
   pub style : ParsingStyle
   pub long_only : Bool
@@ -96,16 +96,16 @@ pub record Says (options : Declared) (words : List Text) (content : Content) : T
   pub reads : IsCountKeeping (with_setting options style long_only) reading words
   pub content_is : content ≡ content_of (with_setting options style long_only) reading
 
--- The canonical reading keeps the counts and has the content.
--- The canonical line of a content reads back.
+-- The canonical reading keeps the counts and has this content.
+-- The canonical line of this content reads back.
 pub record ReadsBack (options : Declared) (content : Content) : Type 0 where
   pub reads : IsCountKeeping options (canonical_reading options.groups content)
       (canonical_line options.groups content)
   pub same : content_of options (canonical_reading options.groups content) ≡ content
 
--- The content is sound; its line reads back in both styles and both modes; it says that content
--- alone; and of sound and plain contents it is that of this one only.
--- These are the laws of the canonical line of a content that is plain and that some line says.
+-- The content is sound. Its line reads back in both styles and both modes, says this content only,
+-- and among sound and plain contents is the canonical line of this one only.
+-- These are the laws of the canonical line of a plain content that some line says.
 pub record HasCanonicalLine (options : Declared) (content : Content) : Type 0 where
   pub sound : IsSound options.groups content
   pub reads_back : (style : ParsingStyle) (long_only : Bool)
@@ -117,15 +117,15 @@ pub record HasCanonicalLine (options : Declared) (content : Content) : Type 0 wh
       → (canonical_line options.groups other ≡ canonical_line options.groups content)
       ↔ (other ≡ content)
 
--- This is so in both styles and both modes.
--- The canonical word of a mention is the first word of no lawful item with just that mention.
+-- This is true in both styles and both modes.
+-- The mention's canonical word is the first word of no valid item with just that mention.
 abbrev pub HasNoItem : Declared → Mention → Type 0
 HasNoItem options m = (style : ParsingStyle) (long_only : Bool) (item : Item)
     → IsLawfulItem (grammar_of (with_setting options style long_only)) item
     → mentions (grammar_of (with_setting options style long_only)) item ≡ m ∷ []
     → slice_get (item_words item) 0 ≢ Some (canonical_word options.groups m)
 
--- some mention of a content can't be written by its canonical word
+-- Some mention of the content can't be written by its canonical word.
 pub record HasUnwritable (options : Declared) (content : Content) : Type 0 where
   pub unwritable : Mention
   pub mentioned : Contains content.mentions unwritable

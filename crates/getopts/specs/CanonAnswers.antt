@@ -1,4 +1,4 @@
--- The answers of `canonical`: what it answers to accepted words, and what holds of contents.
+-- The results of `canonical` for accepted words, and the laws of the lines that it returns.
 use Rattle.std.specs.Prelude.{◌≡◌, List, Option, MatchOption, Result, MatchResult}
 use Rattle.getopts.specs.Names.{Text}
 use Rattle.getopts.specs.Options.{Declared}
@@ -9,15 +9,15 @@ pub use Rattle.getopts.specs.Canon.{IsAcceptedWith}
 use Rattle.getopts.specs.Canon.{Content, IsPlain, IsSound, canonical_line, HasCanonicalLine}
 use Rattle.getopts.specs.Canon.{HasUnwritable}
 
--- The words are accepted with a content that is plain, and this is its canonical line.
+-- The words are accepted with a plain content, and this is its canonical line.
 pub record IsWritten (options : Declared) (words line : List Text) : Type 0 where
   pub content : Content
   pub accepted : IsAcceptedWith options words content
   pub plain : IsPlain options.groups content
   pub line_is : line ≡ canonical_line options.groups content
 
--- The words are accepted with a content that is sound and isn't plain.
 -- Some mention of the content can't be written.
+-- The words are accepted with a content that is sound but not plain.
 pub record IsUnwritable (options : Declared) (words : List Text) : Type 0 where
   pub content : Content
   pub accepted : IsAcceptedWith options words content
@@ -25,19 +25,19 @@ pub record IsUnwritable (options : Declared) (words : List Text) : Type 0 where
   pub not_plain : ¬ (IsPlain options.groups content)
   pub unwritable : HasUnwritable options content
 
--- what `parse` answers to these words, memory aside
+-- This is what `parse` answers to these words, memory aside.
 abbrev pub IsParseAnswer : Declared → List Text → Result Matched Fault → Type 0
 IsParseAnswer options words answer =
     MatchResult answer (IsAccepted options words) (IsRefused options words)
 
--- what `canonical` answers to these words, memory aside
+-- This is what `canonical` answers to these words, memory aside.
 abbrev pub IsCanonicalAnswer : Declared → List Text → Result (Option (List Text)) Fault → Type 0
 IsCanonicalAnswer options words answer =
     MatchResult answer
     (λ written. MatchOption written (IsUnwritable options words) (IsWritten options words))
     (IsRefused options words)
 
--- the laws of the lines that `canonical` answers: of each, those of the content that it is made of
+-- Each line that `canonical` returns obeys the laws for the content that it is made of.
 abbrev pub KeepsLineLaws : Declared → Type 0
 KeepsLineLaws options = (words line : List Text) → (written : IsWritten options words line)
     → HasCanonicalLine options written.content

@@ -13,22 +13,22 @@ use Rattle.getopts.specs.Results.{reading_result, line_result, read_result, pars
 use Rattle.getopts.specs.Results.{canonical_result}
 use Rattle.getopts.specs.declared.fail.Fail.{Fail}
 
--- the reading of these words, or why there is none
+-- This is the reading of the words, or why there is none.
 abbrev pub IsReadingOf : Declared → List Text → Result Reading Fault → Type 0
 IsReadingOf options words answer =
     MatchResult answer (Reads options words) (HasNoReading options words)
 
--- the reading of these words that keeps the counts, or their first fault
+-- This is the reading of the words that keeps the counts, or their first error.
 abbrev pub IsLineOf : Declared → List Text → Result Reading Fault → Type 0
 IsLineOf options words answer =
     MatchResult answer (λ reading. IsCountKeeping options reading words) (IsRefused options words)
 
--- what `parse_ignoring_counts` answers to these words, memory aside
+-- This is what `parse_ignoring_counts` answers to these words, memory aside.
 abbrev pub IsReadAnswer : Declared → List Text → Result Matched Fault → Type 0
 IsReadAnswer options words answer =
     MatchResult answer (HasReading options words) (HasNoReading options words)
 
--- The results are those of the relations, and no others.
+-- Each function computes the only result that its relation allows.
 pub record HasResults (options : Declared) (words : List Text) : Type 0 where
   pub reading : IsTheOnly (IsReadingOf options words) (reading_result options words)
   pub line : IsTheOnly (IsLineOf options words) (line_result options words)
@@ -36,11 +36,11 @@ pub record HasResults (options : Declared) (words : List Text) : Type 0 where
   pub read : IsTheOnly (IsReadAnswer options words) (read_result options words)
   pub canonical : IsTheOnly (IsCanonicalAnswer options words) (canonical_result options words)
 
--- what is seen of a call's answer is so, or memory is out
+-- What is seen of the call's answer meets `Is`, unless it is out of memory.
 abbrev pub GivesAs : {A X : Type 0} → (A → X) → Result A Fail → (Result X Fault → Type 0) → Type 0
 GivesAs see answer Is =
     MatchResult answer (λ value. Is (Ok (see value))) (λ fail. Tells fail (λ fault. Is (Err fault)))
 
--- a call answers this result, or that memory is out
+-- The call's answer is this result, unless it is out of memory.
 abbrev pub GivesResult : {X : Type 0} → Result X Fail → Result X Fault → Type 0
 GivesResult answer result = GivesAs (λ value. value) answer (λ it. result ≡ it)

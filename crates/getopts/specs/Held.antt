@@ -1,6 +1,6 @@
--- What the code holds, and what is seen of it.
+-- What the code stores, and the values that it stands for.
 
--- lists and texts cut at places
+-- lists and texts cut into pieces
 pub mod Pieces
 -- names by their places, and their keys
 pub mod Names
@@ -10,11 +10,11 @@ pub mod Groups
 pub mod Help
 -- the table of names
 pub mod Table
--- where the occurrences of groups stand
+-- which occurrences belong to which group
 pub mod Index
--- the occurrences of a line, and those of one group
+-- the occurrences of a command line, and those of one group
 pub mod Occurrences
 -- what scanning finds
 pub mod Line
--- lines that were read, and groups with what a line gave to each
+-- command lines that were read, and groups with their occurrences
 pub mod Matches

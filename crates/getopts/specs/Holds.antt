@@ -1,4 +1,4 @@
--- What accepted matches hold of the names that the options declare.
+-- What accepted matches say about the names that the options declare.
 use Rattle.std.specs.Prelude.{◌≡◌, ◌<◌, ℕ, List, [], ◌∷◌, ◌++◌, drop, length, map, Some, None}
 use Rattle.std.specs.Prelude.{IfSome, IsSome, Ok}
 use Rattle.std.specs.List.{AllByRecursion}
@@ -15,18 +15,18 @@ use Rattle.getopts.specs.declared.groups.HasArg.TheVariants.{Yes}
 use Rattle.getopts.specs.declared.groups.Occur.TheVariants.{Req}
 use Rattle.getopts.specs.declared.groups.ParsingStyle.TheVariants.{StopAtFirstFree}
 
--- the groups that matches hold are those of the options, in names and kinds
+-- Matches hold the groups of the options, with the same names and kinds.
 abbrev pub AreGroupsOf : Declared → List MatchedGroup → Type 0
 AreGroupsOf options groups = map (λ group. group.signature) groups ≡ signatures_of options.groups
 
--- the occurrences of each group have values that fit its kind
+-- The occurrences of each group have values that fit its kind.
 abbrev pub HaveValuesByKind : List MatchedGroup → Type 0
 HaveValuesByKind groups =
     AllByRecursion (λ group. AllByRecursion (λ found. FitsKind group.signature.kind found.value)
     group.found) groups
 
--- The groups are those of the options, with occurrences that stand in order and have values that fit
--- their kinds. An option that needs an argument and was given has a value.
+-- The groups are those of the options, with positions in order and values that fit their kinds. An
+-- option that needs an argument and was given has a value.
 -- Matches hold what is declared: each declared name is defined.
 pub record HoldGiven (options : Declared) (groups : List MatchedGroup) : Type 0 where
   pub same_groups : AreGroupsOf options groups
@@ -36,14 +36,15 @@ pub record HoldGiven (options : Declared) (groups : List MatchedGroup) : Type 0 
   pub needed : (name : Text) → kind_of options.groups name ≡ Some Yes
       → 0 < length (found_of groups name) → IsSome (first_value (found_of groups name))
 
--- Accepted matches keep the counts besides, so each required option was given once.
+-- Accepted matches also keep the counts, so each required option was given exactly once.
 pub record HoldDeclared (options : Declared) (groups : List MatchedGroup) : Type 0 where
   pub given : HoldGiven options groups
   pub counts_kept : KeepsCounts groups
   pub required : (name : Text) → occur_of options.groups name ≡ Some Req
       → length (found_of groups name) ≡ 1
 
--- The words are some words and then the free ones; without these they give the same options, and nothing free.
+-- The words before the free words give the same options by themselves, and no free words.
+-- The words end in the free words.
 pub record StandBeforeFree (options : Declared) (words : List Text) (matches : Matched)
     : Type 0 where
   pub before : List Text
@@ -51,20 +52,20 @@ pub record StandBeforeFree (options : Declared) (words : List Text) (matches : M
   pub alone : parse_result options before
       ≡ Ok (record matches { free = []; trailing_start = None })
 
--- under `StopAtFirstFree` options stand before the free words, which are the last words of the line
+-- Under `StopAtFirstFree`, options precede the free words, which are the last words of the line.
 abbrev pub HaveLastWordsFree : Declared → List Text → Matched → Type 0
 HaveLastWordsFree options words matches =
     options.style ≡ StopAtFirstFree → StandBeforeFree options words matches
 
--- There is one free word at least from the trailing start on.
+-- At least one free word is there from the trailing start on.
 -- The words are some words, `--`, and the free words from the trailing start on.
 pub record EndsInTrailing (words : List Text) (matches : Matched) (start : ℕ) : Type 0 where
   pub below : start < length matches.free
   pub before : List Text
   pub words_are : words ≡ before ++ stop_word ∷ drop start matches.free
 
--- Positions are indexes of words; under `StopAtFirstFree` the words end in the free words, and where
--- there is a trailing start, in those from there on, after `--`.
+-- Positions are indexes of words. Under `StopAtFirstFree` the words end in the free words. If there
+-- is a trailing start, they end in `--` and the free words from there on.
 -- The options accept the words with these matches.
 pub record Accepts (options : Declared) (words : List (Bor Text)) (matches : Matched)
     : Type 0 where

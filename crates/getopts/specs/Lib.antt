@@ -1,22 +1,22 @@
 -- What a caller must believe, in reading order.
 
--- a value, and no other
+-- one value, and no other
 pub mod Only
--- names, which pairs are lawful, and how they resolve
+-- names, which pairs are valid, and how names resolve
 pub mod Names
--- groups, options, and what reading asks of them
+-- groups, options, and what parsing uses of them
 pub mod Options
--- faults and their printed texts
+-- errors and their printed texts
 pub mod Fail
--- items, readings, occurrences and scan faults
+-- items, readings, occurrences and scan errors
 pub mod Reading
 -- the matches of a reading, and counts
 pub mod Matches
 -- the results of `parse`
 pub mod Parse
--- what holds of all readings
+-- laws of readings
 pub mod ReadingLaws
--- what accessors answer
+-- what accessors return
 pub mod Accessors
 -- canonical lines and their laws
 pub mod Canon
@@ -24,13 +24,13 @@ pub mod Canon
 pub mod CanonAnswers
 -- the results as functions
 pub mod Results
--- what accepted matches hold of declared names
+-- what accepted matches say about declared names
 pub mod Holds
--- what those functions give, and what calls return by them
+-- what those functions compute, and what calls return by them
 pub mod Gives
 -- the main theorem
 pub mod Theorem
--- when options, matches and refusals are equal
+-- when options, matches and errors are equal
 pub mod Same
 -- descriptions in rows
 pub mod Wrap
@@ -38,7 +38,7 @@ pub mod Wrap
 pub mod Usage
 -- Cited by private clauses alone, and by the views of private types.
 
--- what the first word of a line gives, with the words after it
+-- what the first word of a command line gives, with the words after it
 pub mod Turn
--- what the code holds, and what is seen of it
+-- what the code stores, and the values that it stands for
 pub mod Held

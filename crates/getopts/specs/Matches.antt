@@ -1,4 +1,4 @@
--- What the matches of a reading hold, and whether the counts are kept.
+-- What the matches of a reading hold, and whether counts are kept.
 use Rattle.std.specs.Prelude.{◌≡◌, ◌==◌, if◌then◌else◌, ℕ, ◌+◌, ◌≤◌, ⊤, List, [], ◌∷◌, ◌++◌, length}
 use Rattle.std.specs.Prelude.{map, Option}
 use Rattle.std.specs.List.{AllByRecursion, filter}
@@ -9,23 +9,23 @@ use Rattle.getopts.specs.Reading.{Reading, Occurrence, occurrences_of, free_word
 use Rattle.getopts.specs.declared.groups.Occur.{Occur}
 use Rattle.getopts.specs.declared.groups.Occur.TheVariants.{Req, Optional, Multi}
 
--- one occurrence of a known group: its position, and the value if there is one
+-- an occurrence of a known group: its position, and its value if it has one
 pub record Found : Type 0 where
   pub position : ℕ
   pub value : Option Text
 
--- a group as matches hold it, with its occurrences in the order of the line
+-- a group as matches hold it, with its occurrences in command-line order
 pub record MatchedGroup : Type 0 where
   pub signature : Signature
   pub found : List Found
 
--- what matches hold: the groups, the free words, and where the words after a stop begin among them
+-- what matches hold: groups, free words, and where the words after a stop begin among those
 pub record Matched : Type 0 where
   pub groups : List MatchedGroup
   pub free : List Text
   pub trailing_start : Option ℕ
 
--- an occurrence of a group that is known
+-- an occurrence without its group
 abbrev pub found_part : Occurrence → Found
 found_part occurrence = record { position = occurrence.position; value = occurrence.mention.value }
 
@@ -33,7 +33,7 @@ found_part occurrence = record { position = occurrence.position; value = occurre
 abbrev pub found_at : ℕ → List Occurrence → List Found
 found_at place occurrences = map found_part (filter (λ o. o.mention.group == place) occurrences)
 
--- each group with its occurrences, where the first group has this place
+-- each group with its occurrences, if the first group has this place
 abbrev pub matched : ℕ → List Signature → List Occurrence → List MatchedGroup
 matched place [] occurrences = []
 matched place (signature ∷ signatures) occurrences =
@@ -48,25 +48,26 @@ matches_of options reading = record {
   trailing_start = trailing_start reading;
 }
 
--- the number of occurrences that a group may have: exactly one, at most one, or any
+-- A group may have this many occurrences: exactly one, at most one, or any number.
 abbrev pub FitsCount : Occur → ℕ → Type 0
 FitsCount Req count = count ≡ 1
 FitsCount Optional count = count ≤ 1
 FitsCount Multi count = ⊤
 
--- a group keeps its count
+-- The group keeps its count.
 abbrev pub KeepsCount : MatchedGroup → Type 0
 KeepsCount group = FitsCount group.signature.occurrence (length group.found)
 
--- each group keeps its count
+-- Each group keeps its count.
 abbrev pub KeepsCounts : List MatchedGroup → Type 0
 KeepsCounts groups = AllByRecursion KeepsCount groups
 
--- the fault of a broken count: missing where there is no occurrence, else given too often
+-- the error for a broken count: missing if there is no occurrence, otherwise given too often
 abbrev pub count_fault : Text → ℕ → Fault
 count_fault main count = if count == 0 then option_missing main else option_duplicated main
 
--- the count fault: that of the first group in order of definition that breaks its count
+-- It is about the first group, in order of declaration, that breaks its count.
+-- This is the count error of the groups.
 pub record IsCountFault (groups : List MatchedGroup) (fault : Fault) : Type 0 where
   pub before : List MatchedGroup
   pub group : MatchedGroup

@@ -1,4 +1,4 @@
--- Names of options: the two names of a group, which pairs are lawful, and what a name resolves to.
+-- Names of options: the two names of a group, which pairs are valid, and what a name resolves to.
 use Rattle.std.specs.Prelude.{◌≢◌, ◌==◌, ℕ, ◌+◌, ◌<◌, ◌≤◌, Bool, ◌&&◌, not, List, length, map}
 use Rattle.std.specs.Prelude.{Option, if◌then◌else◌, ◌≡◌, Some, None, [], ◌∷◌, slice_get}
 use Rattle.std.specs.Borrow.{Bor}
@@ -14,7 +14,7 @@ Text = List ℕ
 abbrev pub texts : List (Bor Text) → List Text
 texts words = map (λ word. word.now) words
 
--- each text is UTF-8
+-- Each text is UTF-8.
 abbrev pub AreTexts : List Text → Type 0
 AreTexts words = AllByRecursion IsUtf8 words
 
@@ -23,22 +23,22 @@ pub record Names : Type 0 where
   pub short : Text
   pub long : Text
 
--- the short name has at most one byte, the long name doesn't have exactly one, and not both are
--- empty
+-- The names are valid.
+-- The short name has at most one byte, the long name not exactly one, and not both are empty.
 pub record AreLawful (short long : Text) : Type 0 where
   pub short_fits : length short ≤ 1
   pub long_fits : length long ≢ 1
   pub named : 0 < length short + length long
 
--- a group's two names are lawful
+-- A group's two names are valid.
 abbrev pub IsLawfullyNamed : Names → Type 0
 IsLawfullyNamed names = AreLawful names.short names.long
 
--- a text with no byte
+-- whether a text has no bytes
 abbrev pub is_empty : Text → Bool
 is_empty text = length text == 0
 
--- the main name: the long name where there is one, else the short name
+-- the main name: the long name or, if there is none, the short name
 abbrev pub main_name : Names → Text
 main_name names = if is_empty names.long then names.short else names.long
 
@@ -46,7 +46,7 @@ main_name names = if is_empty names.long then names.short else names.long
 abbrev pub is_main : Text → Names → Bool
 is_main name names = bytes_eq (main_name names) name
 
--- whether this is the group's alias: its short name, where it has both
+-- whether this is the group's alias: its short name, if it has a long one too
 abbrev pub is_alias : Text → Names → Bool
 is_alias name names =
     not (is_empty names.long) && not (is_empty names.short) && bytes_eq names.short name
@@ -55,27 +55,28 @@ is_alias name names =
 abbrev pub main_place : List Names → Text → Option ℕ
 main_place groups name = position (is_main name) groups
 
--- The place of the group that a name resolves to: the first with this main name; where there is
--- none, the first whose main name is that of the first group with this alias.
+-- This is the first group with this main name. If there is none, it is the group that the main name
+-- of the first group with this alias resolves to.
+-- the place of the group that a name resolves to
 abbrev pub resolution : List Names → Text → Option ℕ
 resolution groups name = option_or (main_place groups name)
     (option_and_then (λ declarer. main_place groups (main_name declarer))
     (find (is_alias name) groups))
 
--- the main name of a resolved group resolves to that same group
+-- The main name of a resolved group resolves to that same group.
 abbrev pub MainNameResolves : List Names → Type 0
 MainNameResolves groups = (name : Text) (place : ℕ) (names : Names)
     → resolution groups name ≡ Some place
     → slice_get groups place ≡ Some names
     → resolution groups (main_name names) ≡ Some place
 
--- a name of one byte that resolves is the short name of some group, and the long name of none
+-- A name of one byte that resolves is the short name of some group, and the long name of none.
 abbrev pub OneByteIsShort : List Names → Type 0
 OneByteIsShort groups = (byte place : ℕ)
     → resolution groups (byte ∷ []) ≡ Some place
     → Any (λ names. names.short ≡ byte ∷ []) groups
     × AllByRecursion (λ names. names.long ≢ byte ∷ []) groups
 
--- the empty name doesn't resolve
+-- The empty name doesn't resolve.
 abbrev pub EmptyResolvesNot : List Names → Type 0
 EmptyResolvesNot groups = resolution groups [] ≡ None

@@ -1,10 +1,10 @@
--- A value, and no other.
+-- One value, and no other.
 use Rattle.std.specs.Prelude.{◌≡◌, ◌↔◌}
 
--- the value meets the fact, and no other value does
+-- This value has the property, and no other value has.
 abbrev pub IsTheOnly : {X : Type 0} → (X → Type 0) → X → Type 0
 IsTheOnly {X} Fact value = (other : X) → Fact other ↔ (other ≡ value)
 
--- two values that meet the fact are one
+-- At most one value has the property.
 abbrev pub AtMostOne : {X : Type 0} → (X → Type 0) → Type 0
 AtMostOne {X} Fact = (value other : X) → Fact value → Fact other → value ≡ other

@@ -1,4 +1,4 @@
--- What options hold: groups in order of definition, a parsing style and a mode.
+-- What options hold: groups in order of declaration, a parsing style and a mode.
 use Rattle.std.specs.Prelude.{ℕ, Bool, List, [], ◌∷◌, ◌++◌, Option, IsSome, map, slice_get}
 use Rattle.std.specs.List.{AllByRecursion}
 use Rattle.std.specs.Option.{option_and_then, option_map}
@@ -8,19 +8,19 @@ use Rattle.getopts.specs.declared.groups.HasArg.{HasArg}
 use Rattle.getopts.specs.declared.groups.Occur.{Occur}
 use Rattle.getopts.specs.declared.groups.ParsingStyle.{ParsingStyle}
 
--- what reading asks of a group: its names, its kind of argument and its kind of occurrence
+-- what parsing uses of a group: its names, its kind of argument and its kind of occurrence
 pub record Signature : Type 0 where
   pub names : Names
   pub kind : HasArg
   pub occurrence : Occur
 
--- a group: what reading asks of it, and what usage texts show besides
+-- a group: what parsing uses of it, with its hint and description for usage texts
 pub record Group : Type 0 where
   pub signature : Signature
   pub hint : Text
   pub description : Text
 
--- the group that an adding call makes of its arguments
+-- the group that a call adds for these arguments
 abbrev pub group_of : Text → Text → Text → Text → HasArg → Occur → Group
 group_of short long description hint kind occurrence = record {
   signature = record {
@@ -32,26 +32,26 @@ group_of short long description hint kind occurrence = record {
   description = description;
 }
 
--- groups in order of definition, a parsing style, and whether the mode is long-only
+-- options: groups in order of declaration, a parsing style, and whether the mode is long-only
 pub record Declared : Type 0 where
   pub groups : List Group
   pub style : ParsingStyle
   pub long_only : Bool
 
--- the options with one more group, the last
+-- the options with this group added as the last
 abbrev pub with_group : Declared → Group → Declared
 with_group options group = record options { groups = options.groups ++ group ∷ [] }
 
--- the options with these groups last, one after the other
+-- the options with these groups added as the last, one after the other
 abbrev pub with_groups : Declared → List Group → Declared
 with_groups options [] = options
 with_groups options (group ∷ groups) = with_groups (with_group options group) groups
 
--- each group is lawfully named
+-- Each group has valid names.
 abbrev pub AreLawfullyNamed : List Group → Type 0
 AreLawfullyNamed groups = AllByRecursion (λ group. IsLawfullyNamed group.signature.names) groups
 
--- groups that may be declared: each is lawfully named, and its short name is a text
+-- The groups may be declared: each has valid names, and its short name is UTF-8.
 pub record MayBeDeclared (groups : List Group) : Type 0 where
   pub named : AreLawfullyNamed groups
   pub shorts : AllByRecursion (λ group. IsUtf8 group.signature.names.short) groups
@@ -60,12 +60,13 @@ pub record MayBeDeclared (groups : List Group) : Type 0 where
 abbrev pub names_of : List Group → List Names
 names_of groups = map (λ group. group.signature.names) groups
 
--- what reading asks of each group
+-- what parsing uses of each group
 abbrev pub signatures_of : List Group → List Signature
 signatures_of groups = map (λ group. group.signature) groups
 
--- What the reading of words asks of options: the place of the group that a name resolves to, that
--- group's kind of argument, the style and the mode.
+-- It takes from options the place and the kind of argument of the group that a name resolves to,
+-- the style and the mode.
+-- what parsing uses of options
 pub record Grammar : Type 0 where
   pub place : Text → Option ℕ
   pub kind : Text → Option HasArg
@@ -84,7 +85,7 @@ occur_of groups name =
     option_and_then (λ place. option_map (λ group. group.signature.occurrence) (slice_get groups place))
     (resolution (names_of groups) name)
 
--- these options declare this name
+-- The options declare this name: it resolves.
 abbrev pub Declares : Declared → Text → Type 0
 Declares options name = IsSome (resolution (names_of options.groups) name)
 

@@ -1,4 +1,4 @@
--- The results of `parse`: exactly one of three cases holds of the words.
+-- The results of `parse`: for any words, exactly one of three cases holds.
 use Rattle.std.specs.Prelude.{◌≡◌, ◌⊎◌, List}
 use Rattle.getopts.specs.Only.{IsTheOnly}
 use Rattle.getopts.specs.Names.{Text}
@@ -10,40 +10,41 @@ use Rattle.getopts.specs.ReadingLaws.{OneDashOrTwo, LinesCompose, TrailingStartI
 use Rattle.getopts.specs.ReadingLaws.{FreeWordsAreSubsequence, PositionsAreWords}
 use Rattle.getopts.specs.Matches.{Matched, matches_of, KeepsCounts, IsCountFault}
 
--- a reading of the words by these options
+-- This is a reading of the words by these options.
 abbrev pub Reads : Declared → List Text → Reading → Type 0
 Reads options words reading = IsReading (grammar_of options) reading words
 
--- The words have one reading, and the matches are what it gives.
+-- The words have exactly one reading, and these are its matches.
 pub record HasReading (options : Declared) (words : List Text) (matches : Matched) : Type 0 where
   pub reading : Reading
   pub only : IsTheOnly (Reads options words) reading
   pub matches_are : matches ≡ matches_of options reading
 
--- The words have one reading, and what it gives keeps the counts.
+-- The words have exactly one reading, and it keeps the counts.
 -- The words are accepted with these matches.
 pub record IsAccepted (options : Declared) (words : List Text) (matches : Matched) : Type 0 where
   pub read : HasReading options words matches
   pub counts : KeepsCounts matches.groups
 
--- The words have one reading, and what it gives breaks the counts.
--- The fault is that of the first group that breaks its count.
+-- The words have exactly one reading, and it breaks a count.
+-- The error is about the first group that breaks its count.
 pub record BreaksCounts (options : Declared) (words : List Text) (fault : Fault) : Type 0 where
   pub matches : Matched
   pub read : HasReading options words matches
   pub breaks : IsCountFault matches.groups fault
 
--- The words have no reading, and this is their only scan fault.
+-- The words have no reading, and this is their only scan error.
 pub record HasNoReading (options : Declared) (words : List Text) (fault : Fault) : Type 0 where
   pub only : IsTheOnly (IsScanFault (grammar_of options) words) fault
   pub no_reading : (reading : Reading) → ¬ (Reads options words reading)
 
--- the words are refused with this fault
+-- The words are rejected with this error.
 abbrev pub IsRefused : Declared → List Text → Fault → Type 0
 IsRefused options words fault = HasNoReading options words fault ⊎ BreaksCounts options words fault
 
--- Other spellings of one line, lines one after the other, where free words and occurrences stand:
--- these are the laws of readings by a grammar.
+-- They are about other spellings of a command line, command lines one after the other, and where
+-- free words and occurrences are.
+-- The laws of readings hold for this grammar.
 pub record KeepsReadingLaws (grammar : Grammar) : Type 0 where
   pub long_argument : LongAttachedOrSeparate grammar
   pub short_argument : ShortAttachedOrSeparate grammar

@@ -1,5 +1,6 @@
--- How words are read: items, their spelling, when they are lawful, readings of a line, the
--- occurrences and free words of a reading, and the faults of a line that has none.
+-- How words are read: items and their spelling, which items are valid, the readings of a command
+-- line, the occurrences and free words of a reading, and the errors of a command line that has
+-- none.
 use Rattle.std.specs.Prelude.{◌≡◌, ◌≢◌, ◌==◌, ⊤, ℕ, ◌+◌, ◌<◌, Bool, true, false, List, [], ◌∷◌}
 use Rattle.std.specs.Prelude.{◌++◌, length, map, Option, Some, None, encode_utf8}
 use Rattle.std.specs.Char.{IsScalar}
@@ -30,7 +31,7 @@ abbrev pub begins_with_dash : Text → Bool
 begins_with_dash [] = false
 begins_with_dash (c ∷ more) = c == dash
 
--- whether a text holds `=`
+-- whether a text contains `=`
 abbrev pub holds_equals : Text → Bool
 holds_equals text = list_any (λ c. c == equals_sign) text
 
@@ -38,7 +39,7 @@ holds_equals text = list_any (λ c. c == equals_sign) text
 abbrev pub stop_word : Text
 stop_word = dash ∷ dash ∷ []
 
--- the argument of an option: none, attached in its word, or separate as the next word
+-- the argument of an option: none, attached in the same word, or separate as the next word
 pub data Argument : Type 0 where
   none : Argument
   attached : Text → Argument
@@ -54,8 +55,8 @@ pub data End : Type 0 where
   flags : End
   ends_in : ℕ → Argument → End
 
--- An item: a free word; a name in long form, with its argument; or a cluster, which is flags of one
--- byte each, and an end.
+-- A cluster consists of flags of one byte each, and an end.
+-- an item: a free word; a long item, of dashes, a name and an argument; or a cluster
 pub data Item : Type 0 where
   free : Text → Item
   long : Dashes → Text → Argument → Item
@@ -71,28 +72,28 @@ abbrev pub long_word : Dashes → Text → Option Text → Text
 long_word dashes name argument =
     dash_text dashes ++ (name ++ option_map_or (λ text. equals_sign ∷ text) argument [])
 
--- the attached argument
+-- the attached argument, if there is one
 abbrev pub attached_argument : Argument → Option Text
 attached_argument (attached argument) = Some argument
 attached_argument argument = None
 
--- the value that an argument gives to its option
+-- the value that an argument gives to its option, if any
 abbrev pub value_of : Argument → Option Text
 value_of none = None
 value_of (attached argument) = Some argument
 value_of (separate word) = Some word
 
--- what the end adds to the cluster's word: nothing, or the option and its attached argument
+-- what the end adds to the cluster's word: nothing, or its option and an attached argument
 abbrev pub end_text : End → Text
 end_text flags = []
 end_text (ends_in option argument) = option ∷ unwrap_or (attached_argument argument) []
 
--- a separate argument is a word of its own
+-- the words of an argument: a separate argument is a word of its own
 abbrev pub argument_words : Argument → List Text
 argument_words (separate word) = word ∷ []
 argument_words argument = []
 
--- the words of an end after the cluster's word
+-- the words of an end that follow the cluster's word
 abbrev pub end_words : End → List Text
 end_words flags = []
 end_words (ends_in option argument) = argument_words argument
@@ -104,63 +105,69 @@ item_words (long dashes name argument) =
     long_word dashes name (attached_argument argument) ∷ argument_words argument
 item_words (cluster bytes end) = (dash ∷ (bytes ++ end_text end)) ∷ end_words end
 
--- the words that items spell one after the other, before those that follow
+-- the words that items spell, one item after the other, and then these words
 abbrev pub spelled_all : List Item → List Text → List Text
 spelled_all [] more = more
 spelled_all (item ∷ items) more = item_words item ++ spelled_all items more
 
--- which dashes may stand before a name: two; in long-only mode one too, where the name begins with
--- no dash
+-- Two dashes may; in long-only mode one dash may too, if the name doesn't begin with a dash.
+-- These dashes may precede this name.
 abbrev pub MayStandBefore : Bool → Dashes → Text → Type 0
 MayStandBefore long_only one name = (long_only ≡ true) × (begins_with_dash name ≡ false)
 MayStandBefore long_only two name = ⊤
 
--- the values that a kind may have: none for No, one for Yes, at most one for Maybe
+-- The value fits the kind: there is none for `No`, one for `Yes`, and at most one for `Maybe`.
 abbrev pub FitsKind : HasArg → Option Text → Type 0
 FitsKind No (Some value) = ⊥
 FitsKind Yes None = ⊥
 FitsKind kind value = ⊤
 
--- The arguments that a kind may have in long form: those whose value it may have, but no separate
--- one for Maybe.
+-- The argument fits the kind in long form: its value does, and for `Maybe` it isn't separate.
 abbrev pub FitsLong : HasArg → Argument → Type 0
 FitsLong Maybe (separate word) = ⊥
 FitsLong kind argument = FitsKind kind (value_of argument)
 
--- The arguments that a kind may have at the end of a cluster, where No doesn't stand: those whose
--- value it may have, but an attached one isn't empty, and for Maybe a separate one isn't dashed.
+-- Its value fits, and the kind isn't `No`. An attached argument isn't empty, and for `Maybe` a
+-- separate one isn't dashed.
+-- The argument fits the kind at the end of a cluster.
 abbrev pub FitsEnd : HasArg → Argument → Type 0
 FitsEnd No argument = ⊥
 FitsEnd kind (attached argument) = argument ≢ []
 FitsEnd Maybe (separate word) = is_dashed word ≡ false
 FitsEnd kind argument = FitsKind kind (value_of argument)
 
--- the name is a flag: one byte that resolves to a group of kind No
+-- The name is a flag: one byte that resolves to a group of kind `No`.
 abbrev pub IsFlag : Grammar → ℕ → Type 0
 IsFlag grammar name = grammar.kind (name ∷ []) ≡ Some No
 
--- a lawful end of a cluster with these flags
+-- There is at least one flag, or else an option at the end. Such an option resolves, and its
+-- argument fits its kind.
+-- The end is valid in a cluster with these flags.
 abbrev pub IsLawfulEnd : Grammar → List ℕ → End → Type 0
 IsLawfulEnd grammar bytes flags = bytes ≢ []
 IsLawfulEnd grammar bytes (ends_in option argument) = (kind : HasArg)
     × (grammar.kind (option ∷ []) ≡ Some kind)
     × FitsEnd kind argument
 
--- a lawful item in long form
+-- Its dashes may precede its name; the name contains no `=` and resolves; and its argument fits the
+-- kind.
+-- The long item is valid.
 pub record IsLawfulLong (grammar : Grammar) (dashes : Dashes) (name : Text) (argument : Argument)
     : Type 0 where
   pub before : MayStandBefore grammar.long_only dashes name
   pub cut_once : holds_equals name ≡ false
   pub resolves : (kind : HasArg) × (grammar.kind name ≡ Some kind) × FitsLong kind argument
 
--- a lawful cluster: in ordinary mode, with no `-` after its dash, of flags and a lawful end
+-- The mode is ordinary, no `-` follows the dash, each byte is a flag, and the end is valid.
+-- The cluster is valid.
 pub record IsLawfulCluster (grammar : Grammar) (bytes : List ℕ) (end : End) : Type 0 where
   pub ordinary : grammar.long_only ≡ false
   pub short_form : begins_with_dash (bytes ++ end_text end) ≡ false
   pub each : AllByRecursion (IsFlag grammar) bytes
   pub last : IsLawfulEnd grammar bytes end
 
--- a lawful item; a free word isn't dashed, and there is none under `StopAtFirstFree`
+-- A free word isn't dashed, and there is none under `StopAtFirstFree`.
+-- The item is valid.
 abbrev pub IsLawfulItem : Grammar → Item → Type 0
 IsLawfulItem grammar (free word) = (is_dashed word ≡ false) × (grammar.style ≡ FloatingFrees)
 IsLawfulItem grammar (long dashes name argument) = IsLawfulLong grammar dashes name argument
@@ -171,19 +178,20 @@ abbrev pub is_bare : Item → Bool
 is_bare (cluster bytes (ends_in option none)) = true
 is_bare item = false
 
--- the line ends, or its next word is dashed
+-- The command line ends, or its next word is dashed.
 abbrev pub EndsOrIsDashed : List Text → Type 0
 EndsOrIsDashed [] = ⊤
 EndsOrIsDashed (word ∷ words) = is_dashed word ≡ true
 
--- after each bare cluster the line ends or its next word is dashed
+-- After each bare cluster the command line ends, or its next word is dashed.
 abbrev pub AreWellFollowed : List Item → List Text → Type 0
 AreWellFollowed [] more = ⊤
 AreWellFollowed (item ∷ items) more =
     (is_bare item ≡ true → EndsOrIsDashed (spelled_all items more)) × AreWellFollowed items more
 
--- What follows the items: the end of the line; the stop `--` and the words after it; or, from the
--- first free word on, the rest.
+-- This is the end of the command line; the stop `--` and the words after it; or, from the first
+-- free word on, the rest.
+-- what follows the items
 pub data Tail : Type 0 where
   line_end : Tail
   stop : List Text → Tail
@@ -200,34 +208,35 @@ abbrev pub tail_words : Tail → List Text
 tail_words (stop words) = stop_word ∷ words
 tail_words tail = tail_frees tail
 
--- a lawful tail; a rest begins with a word that isn't dashed, and stands only under
--- `StopAtFirstFree`
+-- The rest begins with a word that isn't dashed, and exists only under `StopAtFirstFree`.
+-- The tail is valid.
 abbrev pub IsLawfulTail : Grammar → Tail → Type 0
 IsLawfulTail grammar (rest []) = ⊥
 IsLawfulTail grammar (rest (word ∷ words)) =
     (is_dashed word ≡ false) × (grammar.style ≡ StopAtFirstFree)
 IsLawfulTail grammar tail = ⊤
 
--- a list of items and a tail
+-- a reading: a list of items, and a tail
 pub record Reading : Type 0 where
   pub items : List Item
   pub tail : Tail
 
--- A reading of a line: lawful items and a lawful tail whose spellings, one after the other, are its
--- words, each bare cluster followed as it may be.
+-- Its items and its tail are valid and spell the words, and each bare cluster is followed as it may
+-- be.
+-- This is a reading of the words.
 pub record IsReading (grammar : Grammar) (reading : Reading) (words : List Text) : Type 0 where
   pub spells : spelled_all reading.items (tail_words reading.tail) ≡ words
   pub items : AllByRecursion (IsLawfulItem grammar) reading.items
   pub tail : IsLawfulTail grammar reading.tail
   pub followed : AreWellFollowed reading.items (tail_words reading.tail)
 
--- a group that is mentioned, by its place, and perhaps a value
+-- a mention of a group, by its place, perhaps with a value
 pub record Mention : Type 0 where
   pub group : ℕ
   pub value : Option Text
 
--- What a name with this value mentions. The options of a lawful item resolve, so the 0 is never
--- taken.
+-- The options of a valid item resolve, so the 0 is never used.
+-- what a name with this value mentions
 abbrev pub mention_of : Grammar → Text → Option Text → Mention
 mention_of grammar name value = record { group = unwrap_or (grammar.place name) 0; value = value }
 
@@ -244,8 +253,8 @@ mentions grammar (long dashes name argument) = mention_of grammar name (value_of
 mentions grammar (cluster bytes end) =
     map (λ byte. mention_of grammar (byte ∷ []) None) bytes ++ end_mentions grammar end
 
--- an occurrence: what is mentioned, and the position in the line, which is the index of the word in
--- which its item begins
+-- The position is the index of the word in which its item begins.
+-- an occurrence: a mention, with its position in the command line
 pub record Occurrence : Type 0 where
   pub mention : Mention
   pub position : ℕ
@@ -258,8 +267,8 @@ at_position position m = record { mention = m; position = position }
 abbrev pub word_count : List Item → ℕ
 word_count items = length (spelled_all items [])
 
--- the occurrences of items, where so many words stand before them: a position is the number of
--- words that the items before spell
+-- A position is the number of words before the item.
+-- the occurrences of items that follow this many words
 abbrev pub occurrences_after : ℕ → Grammar → List Item → List Occurrence
 occurrences_after before grammar [] = []
 occurrences_after before grammar (item ∷ items) =
@@ -280,7 +289,8 @@ free_items (item ∷ items) = free_items items
 abbrev pub free_words : Reading → List Text
 free_words reading = free_items reading.items ++ tail_frees reading.tail
 
--- where the words after a stop begin among the free words, if any word follows it
+-- This is the number of free words before the stop, if any word follows it.
+-- where the words after a stop begin among the free words
 abbrev pub trailing_after : ℕ → Tail → Option ℕ
 trailing_after before (stop (word ∷ words)) = Some before
 trailing_after before tail = None
@@ -289,7 +299,8 @@ trailing_after before tail = None
 abbrev pub trailing_start : Reading → Option ℕ
 trailing_start reading = trailing_after (length (free_items reading.items)) reading.tail
 
--- a word in long form, with this name and this attached argument, which is more than its dashes
+-- These dashes may precede the name, which contains no `=`, and the word is more than its dashes.
+-- The word is in long form, with this name and this attached argument.
 pub record IsLongForm (grammar : Grammar) (word name : Text) (argument : Option Text) : Type 0 where
   pub dashes : Dashes
   pub before : MayStandBefore grammar.long_only dashes name
@@ -297,7 +308,8 @@ pub record IsLongForm (grammar : Grammar) (word name : Text) (argument : Option 
   pub word_is : word ≡ long_word dashes name argument
   pub filled : word ≢ dash_text dashes
 
--- a word in short form that has this text after flags: in ordinary mode, with no `-` after its dash
+-- The mode is ordinary, and no `-` follows the dash.
+-- The word is in short form, with this text after its flags.
 pub record HasAfterFlags (grammar : Grammar) (word text : Text) : Type 0 where
   pub bytes : List ℕ
   pub ordinary : grammar.long_only ≡ false
@@ -305,34 +317,35 @@ pub record HasAfterFlags (grammar : Grammar) (word text : Text) : Type 0 where
   pub second : begins_with_dash (bytes ++ text) ≡ false
   pub each : AllByRecursion (IsFlag grammar) bytes
 
--- The faults of a word where an item begins, with these words after it.
+-- An item begins at the word, and these words are after it.
+-- The word has this error.
 pub data IsFaultAt (grammar : Grammar) (word : Text) (after : List Text) : Fault → Type 0 where
   -- in long form, a name that doesn't resolve
   unknown_name : (name : Text) (argument : Option Text) → IsLongForm grammar word name argument
       → grammar.kind name ≡ None → IsFaultAt grammar word after (unrecognized_option name)
-  -- in short form, after flags, a byte of ASCII that doesn't resolve
+  -- in short form, after flags, an ASCII byte that doesn't resolve
   unknown_byte : (byte : ℕ) (more : Text) → byte < 128 → HasAfterFlags grammar word (byte ∷ more)
       → grammar.kind (byte ∷ []) ≡ None
       → IsFaultAt grammar word after (unrecognized_option (byte ∷ []))
-  -- or a character of more bytes, which no short name is
+  -- or a character of several bytes, which is never a short name
   wide_character : (character : ℕ) (more : Text) → IsScalar character
       → 1 < length (encode_utf8 character)
       → HasAfterFlags grammar word (encode_utf8 character ++ more)
       → IsFaultAt grammar word after (unrecognized_option (encode_utf8 character))
-  -- in long form, an attached argument for kind No
+  -- in long form, an argument attached to an option of kind `No`
   unwanted_argument : (name argument : Text) → IsLongForm grammar word name (Some argument)
       → grammar.kind name ≡ Some No → IsFaultAt grammar word after (unexpected_argument name)
-  -- in long form, kind Yes with no argument at the end of the line
+  -- in long form, an option of kind `Yes` without an argument at the end of the command line
   long_unfinished : (name : Text) → IsLongForm grammar word name None
       → grammar.kind name ≡ Some Yes → after ≡ []
       → IsFaultAt grammar word after (argument_missing name)
-  -- in short form, after flags, a last option of kind Yes at the end of the line
+  -- in short form, after flags, a last option of kind `Yes` at the end of the command line
   short_unfinished : (option : ℕ) → HasAfterFlags grammar word (option ∷ [])
       → grammar.kind (option ∷ []) ≡ Some Yes → after ≡ []
       → IsFaultAt grammar word after (argument_missing (option ∷ []))
 
--- A scan fault of a line: the fault of a word, where the words before it have a reading that ends
--- there.
+-- Some word has this error, and the words before it have a reading that ends there.
+-- This is a scan error of the words.
 pub record IsScanFault (grammar : Grammar) (words : List Text) (fault : Fault) : Type 0 where
   pub before : List Text
   pub word : Text

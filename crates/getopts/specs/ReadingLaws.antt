@@ -1,5 +1,5 @@
--- Laws of readings: which items may stand for others, how lines compose, and what free words, the
--- trailing start and positions keep to. Each is about every reading of every line.
+-- Laws of readings: which items may replace others, how command lines compose, and facts about free
+-- words, the trailing start and positions. Each is about every reading of every command line.
 use Rattle.std.specs.Prelude.{◌≡◌, ◌≢◌, ℕ, ◌+◌, ◌<◌, ⊤, List, [], ◌∷◌, ◌++◌, map, drop, Some, None}
 use Rattle.std.specs.Prelude.{nat_le, if◌then◌else◌, Bool, false, true, length, slice_get, Contains}
 use Rattle.std.specs.List.{AllByRecursion, filter, last_or, zip}
@@ -15,7 +15,7 @@ use Rattle.getopts.specs.Reading.{occurrences_of, free_words, trailing_start}
 use Rattle.getopts.specs.Matches.{MatchedGroup}
 use Rattle.getopts.specs.declared.groups.HasArg.TheVariants.{Yes}
 
--- what a reading mentions, in the order of the line: its occurrences without their positions
+-- what a reading mentions, in command-line order: its occurrences without their positions
 abbrev pub mentions_of : Grammar → Reading → List Mention
 mentions_of grammar reading = map (λ o. o.mention) (occurrences_of grammar reading)
 
@@ -23,24 +23,25 @@ mentions_of grammar reading = map (λ o. o.mention) (occurrences_of grammar read
 abbrev pub spelled_words : Reading → List Text
 spelled_words reading = spelled_all reading.items (tail_words reading.tail)
 
--- the reading of items in three parts, and a tail
+-- the reading with items in three parts, and a tail
 abbrev pub reading_of : List Item → List Item → List Item → Tail → Reading
 reading_of front middle back tail = record { items = front ++ (middle ++ back); tail = tail }
 
--- the positions of a reading's occurrences, in the order of the line
+-- the positions of a reading's occurrences, in command-line order
 abbrev pub positions_in : Grammar → Reading → List ℕ
 positions_in grammar reading = map (λ o. o.position) (occurrences_of grammar reading)
 
--- the position, or the next where it stands after this one
+-- the other position, one higher if it is after this position
 abbrev pub one_higher_after : ℕ → ℕ → ℕ
 one_higher_after position other = if nat_le other position then other else other + 1
 
--- of the positions of two readings, those after this one are one higher in the second
+-- The new positions are the old ones, one higher if they are after this position.
 abbrev pub AreHigherAfter : ℕ → List ℕ → List ℕ → Type 0
 AreHigherAfter position old new = new ≡ map (one_higher_after position) old
 
--- The new reading has the old one's mentions, free words and trailing start.
--- The new reading is one of what it spells, and its positions are to the old one's as `Alike` says.
+-- The new reading is a reading of what it spells, and its positions relate to the old ones as
+-- `Alike` says.
+-- The new reading has the mentions, free words and trailing start of the old one.
 pub record ReadsAlike (grammar : Grammar) (Alike : List ℕ → List ℕ → Type 0) (old new : Reading)
     : Type 0 where
   pub reads : IsReading grammar new (spelled_words new)
@@ -49,8 +50,8 @@ pub record ReadsAlike (grammar : Grammar) (Alike : List ℕ → List ℕ → Typ
   pub trailing : trailing_start new ≡ trailing_start old
   pub positions : Alike (positions_in grammar old) (positions_in grammar new)
 
--- `Alike` may ask for the item's position.
--- Wherever the item stands in a reading, the reading with the others in its place is alike.
+-- `Alike` may depend on the item's position.
+-- A reading that contains the item reads alike with the others in its place.
 abbrev pub Respells : Grammar → Item → List Item → (ℕ → List ℕ → List ℕ → Type 0) → Type 0
 Respells grammar item others Alike = (front back : List Item) (tail : Tail) (words : List Text)
     → IsReading grammar (reading_of front (item ∷ []) back tail) words
@@ -58,24 +59,25 @@ Respells grammar item others Alike = (front back : List Item) (tail : Tail) (wor
     (reading_of front (item ∷ []) back tail) (reading_of front others back tail)
 
 -- Positions of later items are one higher with the longer one.
--- Either item may stand for the other.
+-- Either item may replace the other.
 pub record AreOneWordApart (grammar : Grammar) (shorter longer : Item) : Type 0 where
   pub to_longer : Respells grammar shorter (longer ∷ []) AreHigherAfter
   pub to_shorter : Respells grammar longer (shorter ∷ [])
       (λ position old new. AreHigherAfter position new old)
 
--- `--name=argument` and `--name`, `argument` read alike, where the name's kind is Yes, but that
+-- `--name=argument` and `--name`, `argument` read alike if the name's kind is `Yes`, except that
 -- positions of later items are one higher with the latter.
--- A long argument may be attached or separate.
+-- A long option's argument may be attached or separate.
 pub record LongAttachedOrSeparate (grammar : Grammar) : Type 0 where
   pub either : (dashes : Dashes) (name argument : Text)
       → grammar.kind name ≡ Some Yes
       → AreOneWordApart grammar
       (long dashes name (attached argument)) (long dashes name (separate argument))
 
--- `-xargument` and `-x`, `argument` read alike, also after flags, where the kind of `x` is Yes, but
--- that positions of later items are one higher with the latter.
--- A short argument may be attached or separate; one that is empty can't be attached.
+-- `-xargument` and `-x`, `argument` read alike, also after flags, if the kind of `x` is `Yes`,
+-- except that positions of later items are one higher with the latter. An empty argument can't be
+-- attached.
+-- A short option's argument may be attached or separate.
 pub record ShortAttachedOrSeparate (grammar : Grammar) : Type 0 where
   pub either : (bytes : List ℕ) (option : ℕ) (argument : Text)
       → grammar.kind (option ∷ []) ≡ Some Yes
@@ -83,8 +85,9 @@ pub record ShortAttachedOrSeparate (grammar : Grammar) : Type 0 where
       → AreOneWordApart grammar (cluster bytes (ends_in option (attached argument)))
       (cluster bytes (ends_in option (separate argument)))
 
--- This asks that `x` is a flag, and that `s` isn't empty and doesn't begin with `-`.
--- A cluster splits: `-xs` and `-x`, `-s` read alike but for positions.
+-- `-xs` and `-x`, `-s` read alike except for positions, if `x` is a flag and `s` isn't empty and
+-- doesn't begin with `-`.
+-- A cluster may be split after a flag.
 pub record ClusterSplits (grammar : Grammar) : Type 0 where
   pub after_flag : (flag : ℕ) (bytes : List ℕ) (end : End)
       → bytes ++ end_text end ≢ []
@@ -92,8 +95,9 @@ pub record ClusterSplits (grammar : Grammar) : Type 0 where
       → Respells grammar (cluster (flag ∷ bytes) end)
       (cluster (flag ∷ []) flags ∷ cluster bytes end ∷ []) (λ position old new. ⊤)
 
--- This asks that the name doesn't begin with `-`.
--- One dash or two: in long-only mode `-name` and `--name` read alike, positions too.
+-- `-name` and `--name` read alike in long-only mode, in positions too, if the name doesn't begin
+-- with `-`.
+-- In long-only mode a name may follow one dash or two.
 pub record OneDashOrTwo (grammar : Grammar) : Type 0 where
   pub other_dashes : (dashes other : Dashes) (name : Text) (argument : Argument)
       → grammar.long_only ≡ true
@@ -105,18 +109,19 @@ pub record OneDashOrTwo (grammar : Grammar) : Type 0 where
 abbrev pub is_last_bare : List Item → Bool
 is_last_bare items = option_map_or is_bare (last_or None items) false
 
--- the items of two readings one after the other, and the second's tail
+-- the items of two readings one after the other, with the tail of the second
 abbrev pub joined_reading : Reading → Reading → Reading
 joined_reading first second = record { items = first.items ++ second.items; tail = second.tail }
 
--- the mentions and the free words of the whole are those of the first and then those of the second
+-- The whole has the mentions and free words of the first reading, and then those of the second.
 pub record HasContentOfBoth (grammar : Grammar) (first second whole : Reading) : Type 0 where
   pub mentions : mentions_of grammar whole ≡ mentions_of grammar first ++ mentions_of grammar second
   pub free : free_words whole ≡ free_words first ++ free_words second
 
--- The first line is read to its end by items of which the last isn't a bare cluster, and the second
--- has a reading. Then the readings joined are one of the lines joined.
--- Lines compose, in both styles: each reading of the lines joined has the content of both.
+-- Take a command line that is read to its end by items of which the last isn't a bare cluster, and
+-- another that has a reading. The two readings joined are a reading of the two lines joined, and
+-- any reading of these has the content of both.
+-- Command lines compose, in both styles.
 pub record LinesCompose (grammar : Grammar) : Type 0 where
   pub of_both : (first second : Reading) (words more : List Text)
       → IsReading grammar first words
@@ -127,12 +132,12 @@ pub record LinesCompose (grammar : Grammar) : Type 0 where
       × ((whole : Reading) → IsReading grammar whole (words ++ more)
       → HasContentOfBoth grammar first second whole)
 
--- a place among the free words, from which on they are the words after the stop
+-- This is a place among the free words, from which on they are the words after the stop.
 pub record IsAfterStop (reading : Reading) (start : ℕ) : Type 0 where
   pub below : start < length (free_words reading)
   pub tail_is : reading.tail ≡ stop (drop start (free_words reading))
 
--- A trailing start is a place among the free words.
+-- The trailing start is a place among the free words.
 -- From the trailing start on, the free words are the words after the stop.
 pub record TrailingStartIsAfterStop (grammar : Grammar) : Type 0 where
   pub after_stop : (reading : Reading) (words : List Text) (start : ℕ)
@@ -140,7 +145,7 @@ pub record TrailingStartIsAfterStop (grammar : Grammar) : Type 0 where
       → trailing_start reading ≡ Some start
       → IsAfterStop reading start
 
--- the texts are the words that are kept, in the same order, where others are left out
+-- The texts are words from the list, in the same order; others may be left out.
 abbrev pub IsSubsequence : List Text → List Text → Type 0
 IsSubsequence texts words = (kept : List Bool)
     × (texts ≡ map (λ pair. pair.1) (filter (λ pair. pair.0) (zip kept words)))
@@ -151,14 +156,14 @@ pub record FreeWordsAreSubsequence (grammar : Grammar) : Type 0 where
       → IsReading grammar reading words
       → IsSubsequence (free_words reading) words
 
--- the positions of each group that matches hold never decrease
+-- In each group that matches hold, the positions never decrease.
 abbrev pub HavePositionsInOrder : List MatchedGroup → Type 0
 HavePositionsInOrder groups =
     AllByRecursion (λ group. IsNonDecreasingBy (λ found. found.position) group.found) groups
 
--- The position is the number of words that the items before spell; the word there is the item's
--- first.
--- An occurrence stands in an item: it is one of the item's mentions.
+-- It is one of the item's mentions. Its position is the number of words that the items before
+-- spell, and the word there is the item's first.
+-- The occurrence belongs to an item.
 pub record StandsInItem (grammar : Grammar) (reading : Reading) (words : List Text)
     (occurrence : Occurrence) : Type 0 where
   pub before : List Item
@@ -169,7 +174,7 @@ pub record StandsInItem (grammar : Grammar) (reading : Reading) (words : List Te
       Contains (map (at_position (word_count before)) (mentions grammar item)) occurrence
   pub first_word : slice_get words occurrence.position ≡ slice_get (item_words item) 0
 
--- Each occurrence of a reading stands in an item, at its first word.
+-- Each occurrence of a reading belongs to an item, and is at its first word.
 -- Positions are indexes of words.
 pub record PositionsAreWords (grammar : Grammar) : Type 0 where
   pub of_occurrence : (reading : Reading) (words : List Text) (occurrence : Occurrence)
@@ -177,7 +182,7 @@ pub record PositionsAreWords (grammar : Grammar) : Type 0 where
       → Contains (occurrences_of grammar reading) occurrence
       → StandsInItem grammar reading words occurrence
 
--- each position that matches hold is below the number of words
+-- Each position that matches hold is below this number of words.
 abbrev pub HavePositionsBelow : ℕ → List MatchedGroup → Type 0
 HavePositionsBelow count groups =
     AllByRecursion (λ group. AllByRecursion (λ found. found.position < count) group.found) groups

@@ -1,5 +1,5 @@
--- The results as functions. Nobody has to believe these definitions: the law `HasResults` says that
--- each gives what a relation of `Gives` or `CanonAnswers` says.
+-- The results as functions. Nobody has to believe these definitions: `HasResults` says that each
+-- function gives what a relation of `Gives` or `CanonAnswers` describes.
 use Rattle.std.specs.Prelude.{◌==◌, if◌then◌else◌, ℕ, Bool, true, nat_lt, not, List, [], ◌∷◌, ◌++◌}
 use Rattle.std.specs.Prelude.{length, Option, Some, None, Result, Ok, Err}
 use Rattle.std.specs.List.{list_all}
@@ -16,22 +16,22 @@ use Rattle.getopts.specs.declared.groups.Occur.TheVariants.{Req, Optional, Multi
 use Rattle.getopts.specs.declared.groups.ParsingStyle.{ParsingStyle}
 use Rattle.getopts.specs.declared.groups.ParsingStyle.TheVariants.{FloatingFrees, StopAtFirstFree}
 
--- a word that isn't dashed
+-- what a word gives that isn't dashed
 abbrev pub free_turn : ParsingStyle → Text → List Text → Turn
 free_turn FloatingFrees word more = takes (free word) none
 free_turn StopAtFirstFree word more = ends (rest (word ∷ more))
 
--- two dashes and this text: the stop, or a word in long form
+-- what two dashes and this text give: the stop, or a name in long form
 abbrev pub two_dashes_turn : Grammar → Text → List Text → Turn
 two_dashes_turn grammar [] more = ends (stop more)
 two_dashes_turn grammar (c ∷ text) more = long_turn grammar two (c ∷ text) more
 
--- one dash and this text, which doesn't begin with another
+-- what one dash and this text give, if no second dash follows
 abbrev pub one_dash_turn : Grammar → Text → List Text → Turn
 one_dash_turn grammar text more =
     if grammar.long_only then long_turn grammar one text more else cluster_turn grammar [] text more
 
--- the first word of a line
+-- what the first word of a command line gives
 unfoldable pub turn : Grammar → Text → List Text → Turn
 turn grammar (first ∷ second ∷ text) more = if first == dash
     then (if second == dash then two_dashes_turn grammar text more else one_dash_turn grammar
@@ -39,19 +39,20 @@ turn grammar (first ∷ second ∷ text) more = if first == dash
     else free_turn grammar.style (first ∷ second ∷ text) more
 turn grammar word more = free_turn grammar.style word more
 
--- an outcome, with these items before it
+-- an outcome with these items before it
 abbrev pub with_items : List Item → Result Reading Fault → Result Reading Fault
 with_items items (Ok reading) = Ok (record { items = items ++ reading.items; tail = reading.tail })
 with_items items (Err fault) = Err fault
 
--- the outcome of a line, by its first word's turn and the outcomes after one word and after two
+-- It depends on what the first word gives, and on the outcomes after one word and after two.
+-- the outcome of a command line
 abbrev pub after_turn : Turn → Result Reading Fault → Result Reading Fault → Result Reading Fault
 after_turn (ends tail) after_one after_two = Ok (record { items = []; tail = tail })
 after_turn (takes item (separate word)) after_one after_two = with_items (item ∷ []) after_two
 after_turn (takes item argument) after_one after_two = with_items (item ∷ []) after_one
 after_turn (faults fault) after_one after_two = Err fault
 
--- the outcomes of a line and of the line without its first word
+-- the outcomes of a command line, and of that line without its first word
 unfoldable pub read_both : Grammar → List Text → Result Reading Fault × Result Reading Fault
 read_both grammar [] =
     (Ok (record { items = []; tail = line_end }), Ok (record { items = []; tail = line_end }))
@@ -61,29 +62,29 @@ read_both grammar (word ∷ more) = (
   (read_both grammar more).0,
 )
 
--- the reading of a line, or its fault
+-- the reading of a command line, or its error
 unfoldable pub read : Grammar → List Text → Result Reading Fault
 unfolding read_both
 read grammar words = (read_both grammar words).0
 
--- whether a group may have so many occurrences
+-- whether a group may have this many occurrences
 abbrev pub fits_count : Occur → ℕ → Bool
 fits_count Req count = count == 1
 fits_count Optional count = nat_lt count 2
 fits_count Multi count = true
 
--- the fault of a group that breaks its count
+-- the error of a group that breaks its count
 abbrev pub broken_count : MatchedGroup → Fault
 broken_count group = count_fault (main_name group.signature.names) (length group.found)
 
--- the fault of the first group that breaks its count
+-- the error of the first group that breaks its count
 abbrev pub first_count_fault : List MatchedGroup → Option Fault
 first_count_fault [] = None
 first_count_fault (group ∷ groups) =
     if fits_count group.signature.occurrence (length group.found) then first_count_fault
     groups else Some (broken_count group)
 
--- a reading, unless there is this count fault
+-- the reading, unless there is this count error
 abbrev pub unless_fault : Reading → Option Fault → Result Reading Fault
 unless_fault reading None = Ok reading
 unless_fault reading (Some fault) = Err fault
@@ -94,21 +95,21 @@ with_counts_kept options (Ok reading) =
     unless_fault reading (first_count_fault (matches_of options reading).groups)
 with_counts_kept options (Err fault) = Err fault
 
--- the reading of words, or their first scan fault
+-- the reading of words, or their scan error
 unfoldable pub reading_result : Declared → List Text → Result Reading Fault
 reading_result options words = read (grammar_of options) words
 
--- the reading of words that keeps the counts, or their first fault
+-- the reading of words that keeps the counts, or their first error
 unfoldable pub line_result : Declared → List Text → Result Reading Fault
 line_result options words = with_counts_kept options (read (grammar_of options) words)
 
--- the canonical line of a content, or none where some mention of it can't be written
+-- the canonical line of a content, or none if some mention of it can't be written
 abbrev pub written_line : List Group → Content → Option (List Text)
 written_line groups content =
     if list_all (λ m. not (holds_equals (main_at groups m.group))) content.mentions then Some
     (canonical_line groups content) else None
 
--- what is made of a reading, or the fault
+-- what is made of a reading, or the error
 abbrev pub made_of : {X : Type 0} → (Reading → X) → Result Reading Fault → Result X Fault
 made_of make (Ok reading) = Ok (make reading)
 made_of make (Err fault) = Err fault

@@ -1,4 +1,4 @@
--- When two groups, two options and two matches are the same, as `==` computes it.
+-- When two groups, options, matches or errors are the same, as `==` computes it.
 use Rattle.std.specs.Prelude.{◌==◌, ℕ, Bool}
 use Rattle.std.specs.Bool.{beq}
 use Rattle.std.specs.Cmp.Lexicographic.{pointwise}
@@ -56,11 +56,11 @@ same_options = eq_of_both (on (λ options. options.groups) (pointwise same_group
     (eq_of_both (on (λ options. style_index options.style) ◌==◌)
     (on (λ options. options.long_only) beq))
 
--- whether two faults are of one kind, with the same name
+-- whether two errors are of one kind, with the same name
 abbrev pub same_fault : Fault → Fault → Bool
 same_fault = eq_of_both (on fault_index ◌==◌) (on fault_name (pointwise ◌==◌))
 
--- whether two refusals are the same
+-- whether two values of `Fail` are the same
 abbrev pub same_fail : Fail → Fail → Bool
 same_fail = on fault_of (option_eq same_fault)
 

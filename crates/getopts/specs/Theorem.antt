@@ -14,19 +14,21 @@ use Rattle.getopts.specs.declared.groups.ParsingStyle.{ParsingStyle}
 use Rattle.getopts.specs.CanonAnswers.{IsWritten}
 use Rattle.getopts.specs.Gives.{HasResults}
 
--- words have one reading at most
+-- Any words have at most one reading.
 abbrev pub OneReading : Declared → Type 0
 OneReading options = (words : List Text) → AtMostOne (Reads options words)
 
--- Words are accepted exactly when they have a reading that keeps the counts, with what it gives.
+-- The matches are what that reading gives.
+-- Words are accepted if and only if they have a reading that keeps the counts.
 abbrev pub AcceptedExactlyWhen : Declared → Type 0
 AcceptedExactlyWhen options = (words : List Text) (matches : Matched)
     → IsAccepted options words matches
     ↔ ((reading : Reading) × IsCountKeeping options reading words
     × (matches ≡ matches_of options reading))
 
--- Words are refused exactly when no reading of them keeps the counts.
--- The fault is the first: their scan fault, or the count fault of a reading of them.
+-- The words are UTF-8. The error is the first: their scan error, or the count error of a reading of
+-- them.
+-- Words are rejected if and only if no reading of them keeps the counts.
 abbrev pub RefusedExactlyWhen : Declared → Type 0
 RefusedExactlyWhen options = (words : List Text) (fault : Fault) → AreTexts words
     → IsRefused options words fault
@@ -35,11 +37,11 @@ RefusedExactlyWhen options = (words : List Text) (fault : Fault) → AreTexts wo
     ⊎ ((reading : Reading) × Reads options words reading
     × IsCountFault (matches_of options reading).groups fault)))
 
--- any words have one result of each call, and no other
+-- Any UTF-8 words have exactly one result of each call.
 abbrev pub HaveResults : Declared → Type 0
 HaveResults options = (words : List Text) → AreTexts words → HasResults options words
 
--- Each occurrence of each name has the same value, or none in both, and free words are the same.
+-- Each occurrence of each name has the same value, or none in both; the free words are the same.
 -- Two matches hold the same; positions and the trailing start may differ.
 pub record HoldSame (matches other : Matched) : Type 0 where
   pub values : (name : Text)
@@ -56,20 +58,21 @@ OneContentHoldsSame options = (words others : List Text) (reading other : Readin
     → IsAccepted options others (matches_of options other)
     × HoldSame matches (matches_of options other)
 
--- A line is accepted, with matches that hold the same as these.
+-- The line is accepted, with matches that hold the same as these.
 pub record ReadAgain (options : Declared) (line : List Text) (matches : Matched) : Type 0 where
   pub again : Matched
   pub accepted : IsAccepted options line again
   pub same : HoldSame matches again
 
--- A canonical line of words, read again in any style and mode, gives matches that hold the same as theirs.
+-- This is true in any style and mode.
+-- A canonical line, read again, gives matches that hold the same as those of the words.
 abbrev pub LinesReadAgain : Declared → Type 0
 LinesReadAgain options = (words line : List Text) (matches : Matched) → IsWritten options words line
     → HasReading options words matches → (style : ParsingStyle) (long_only : Bool)
     → ReadAgain (with_setting options style long_only) line matches
 
--- The styles and modes, by which lines say the contents, may differ.
--- Two plain contents have equal canonical lines exactly if they are equal.
+-- Some command lines say these contents, in styles and modes that may differ.
+-- Two plain contents have equal canonical lines if and only if they are equal.
 abbrev pub OneLineOneContent : Declared → Type 0
 OneLineOneContent options = (words others : List Text) (content other : Content)
     → Says options words content → IsPlain options.groups content

@@ -1,5 +1,5 @@
--- What the first word of a line gives, with the words after it. The clauses of `scan` say that the
--- code finds this, and the lemmas on readings, that it is what those of `Reading` say.
+-- What the first word of a command line gives, with the words after it. Clauses of `scan` say that
+-- the code finds this, and lemmas on readings that it agrees with `Reading`.
 use Rattle.std.specs.Prelude.{◌≡◌, ◌≢◌, ◌==◌, ℕ, List, [], ◌∷◌, ◌++◌, length, map, Option}
 use Rattle.std.specs.Prelude.{Some, None, Result, Ok, Err, if◌then◌else◌, false, encode_utf8}
 use Rattle.std.specs.Option.{option_map_or}
@@ -14,8 +14,9 @@ use Rattle.getopts.specs.Reading.{Occurrence, at_position, mentions}
 use Rattle.getopts.specs.declared.groups.HasArg.{HasArg}
 use Rattle.getopts.specs.declared.groups.HasArg.TheVariants.{Yes, No, Maybe}
 
--- What the first word gives: a tail that ends the line; an item, with the argument of its last
--- option, which may be the next word; or a fault.
+-- This is a tail, which ends the line; an item, with the argument of its last option, which may be
+-- the next word; or an error.
+-- what the first word gives
 pub data Turn : Type 0 where
   ends : Tail → Turn
   takes : Item → Argument → Turn
@@ -25,22 +26,23 @@ pub data Turn : Type 0 where
 abbrev pub with_equals : Option Text → Text
 with_equals argument = option_map_or (λ text. equals_sign ∷ text) argument []
 
--- a word in long form, which is its dashes and this text
+-- These dashes may precede this text, which isn't empty.
+-- The word is in long form: its dashes, and this text.
 pub record IsInLongForm (grammar : Grammar) (dashes : Dashes) (word text : Text) : Type 0 where
   pub before : MayStandBefore grammar.long_only dashes text
   pub word_is : word ≡ dash_text dashes ++ text
   pub filled : word ≢ dash_text dashes
 
--- a word in short form: in ordinary mode, `-` and this text, which isn't empty and doesn't begin
--- with `-`
+-- The mode is ordinary. The text isn't empty, and doesn't begin with `-`.
+-- The word is in short form: `-`, and this text.
 pub record IsShortForm (grammar : Grammar) (word text : Text) : Type 0 where
   pub ordinary : grammar.long_only ≡ false
   pub word_is : word ≡ dash ∷ text
   pub filled : text ≢ []
   pub second : begins_with_dash text ≡ false
 
--- the argument of an option in long form, by the one attached to it and the words after its own;
--- or its fault
+-- It depends on the argument attached to the option, and on the words after its own.
+-- the argument of an option in long form, or its error
 abbrev pub chosen_long : HasArg → Text → Option Text → List Text → Result Argument Fault
 chosen_long No name None after = Ok none
 chosen_long No name (Some argument) after = Err (unexpected_argument name)
@@ -50,8 +52,8 @@ chosen_long Yes name (Some argument) after = Ok (attached argument)
 chosen_long Maybe name None after = Ok none
 chosen_long Maybe name (Some argument) after = Ok (attached argument)
 
--- the argument of an option that ends a cluster, by the text after it and the words after its own;
--- or its fault
+-- It depends on the text after the option, and on the words after its own.
+-- the argument of an option that ends a cluster, or its error
 abbrev pub chosen_end : HasArg → Text → Text → List Text → Result Argument Fault
 chosen_end kind name (byte ∷ text) after = Ok (attached (byte ∷ text))
 chosen_end No name [] after = Ok none
@@ -60,24 +62,24 @@ chosen_end Yes name [] (word ∷ after) = Ok (separate word)
 chosen_end Maybe name [] [] = Ok none
 chosen_end Maybe name [] (word ∷ after) = if is_dashed word then Ok none else Ok (separate word)
 
--- an item with the argument that was chosen
+-- an item with the argument that was chosen, or the error
 abbrev pub chosen_turn : (Argument → Item) → Result Argument Fault → Turn
 chosen_turn item (Ok argument) = takes (item argument) argument
 chosen_turn item (Err fault) = faults fault
 
--- a name in long form, by its kind and the argument attached to it
+-- what a name in long form gives, by its kind and the argument attached to it
 abbrev pub named_turn : Option HasArg → Dashes → Text → Option Text → List Text → Turn
 named_turn None dashes name argument after = faults (unrecognized_option name)
 named_turn (Some kind) dashes name argument after =
     chosen_turn (λ a. long dashes name a) (chosen_long kind name argument after)
 
--- a text in long form, cut at its first `=`: the name, and the argument attached to it
+-- a text in long form, split at its first `=`: the name, and the argument attached to it
 abbrev pub cut_at_equals : Text → Text × Option Text
 cut_at_equals [] = ([], None)
 cut_at_equals (c ∷ text) = if c == equals_sign then ([], Some text)
     else (c ∷ (cut_at_equals text).0, (cut_at_equals text).1)
 
--- a word in long form, by its text after the dashes
+-- what a word in long form gives, by its text after the dashes
 abbrev pub long_turn : Grammar → Dashes → Text → List Text → Turn
 long_turn grammar dashes text after =
     let cut = cut_at_equals text in
@@ -90,28 +92,28 @@ first_char text = of_chars (chars text) where
   of_chars [] = []
   of_chars (c ∷ cs) = encode_utf8 c
 
--- a byte of a cluster after flags, by its kind, with what a flag more gives
+-- what a byte after flags in a cluster gives, by its kind; if it is a flag too, this is `more`
 abbrev pub byte_turn : Option HasArg → List ℕ → ℕ → Text → List Text → Turn → Turn
 byte_turn None bytes byte text after more = faults (unrecognized_option (first_char (byte ∷ text)))
 byte_turn (Some No) bytes byte text after more = more
 byte_turn (Some kind) bytes byte text after more =
     chosen_turn (λ a. cluster bytes (ends_in byte a)) (chosen_end kind (byte ∷ []) text after)
 
--- a cluster, by the flags that were read and the text that is left
+-- what a cluster gives, by the flags that were read and the remaining text
 unfoldable pub cluster_turn : Grammar → List ℕ → Text → List Text → Turn
 cluster_turn grammar bytes [] after = takes (cluster bytes flags) none
 cluster_turn grammar bytes (byte ∷ text) after =
     byte_turn (grammar.kind (byte ∷ [])) bytes byte text after
     (cluster_turn grammar (bytes ++ byte ∷ []) text after)
 
--- An argument was chosen, which gives this value and uses so many words.
+-- An argument was chosen, which gives this value and uses this many words.
 pub record Chooses (chosen : Result Argument Fault) (value : Option Text) (used : ℕ) : Type 0 where
   pub argument : Argument
   pub chosen_is : chosen ≡ Ok argument
   pub value_is : value ≡ value_of argument
   pub used_is : used ≡ length (argument_words argument)
 
--- A dashed word begins an item, which uses so many words after it and adds its occurrences.
+-- A dashed word begins an item, which uses this many words after it and adds its occurrences.
 pub record AddsItem (grammar : Grammar) (turn : Turn) (position used : ℕ)
     (old new : List Occurrence) : Type 0 where
   pub item : Item

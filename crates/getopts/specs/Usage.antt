@@ -1,4 +1,4 @@
--- What usage texts say: the line of all options, and the rows of options with their descriptions.
+-- What usage texts say: all options in one line, and rows of options with their descriptions.
 use Rattle.std.specs.Prelude.{◌≡◌, ℕ, ◌-◌, Bool, not, nat_lt, List, [], ◌++◌, map}
 use Rattle.std.specs.Prelude.{codes, if◌then◌else◌}
 use Rattle.std.specs.List.{AllZip, list_any, repeat}
@@ -11,13 +11,13 @@ use Rattle.getopts.specs.declared.groups.HasArg.TheVariants as argument
 use Rattle.getopts.specs.declared.groups.Occur.{Occur}
 use Rattle.getopts.specs.declared.groups.Occur.TheVariants as occurrence
 
--- the text grows by what alone meets the fact
+-- The text grows by the only text that has the property.
 abbrev pub AddsTheOnly : (Text → Type 0) → Text → Text → Type 0
 AddsTheOnly Fact old new = (added : Text) × IsTheOnly Fact added × (new ≡ old ++ added)
 
 -- ---- texts
 
--- so many spaces
+-- this many spaces
 abbrev pub spaces : ℕ → Text
 spaces count = repeat count (codes " ")
 
@@ -27,7 +27,7 @@ has_columns text = nat_lt 0 (width_of text)
 
 -- ---- arguments
 
--- the hint, which stands in brackets where the argument may be left out
+-- the hint, in brackets if the argument is optional
 abbrev pub argument_part : HasArg → Text → Text
 argument_part argument.Yes hint = hint
 argument_part argument.No hint = []
@@ -35,17 +35,17 @@ argument_part argument.Maybe hint = codes "[" ++ (hint ++ codes "]")
 
 -- ---- the short usage
 
--- the short name with one dash, or where there is none the long name with two
+-- the short name with one dash or, if there is none, the long name with two
 abbrev pub option_name : Names → Text
 option_name names =
     if is_empty names.short then codes "--" ++ names.long else codes "-" ++ names.short
 
--- an argument in the short usage: a space, and the hint as it stands in a head
+-- an argument in the short usage: a space, and the hint as in a head
 abbrev pub option_argument : HasArg → Text → Text
 option_argument argument.No hint = []
 option_argument kind hint = codes " " ++ argument_part kind hint
 
--- brackets round what may be left out, and two dots after what may come again
+-- brackets around what is optional, and two dots after what may be repeated
 abbrev pub bracketed : Occur → Text → Text
 bracketed occurrence.Req text = text
 bracketed occurrence.Optional text = codes "[" ++ (text ++ codes "]")
@@ -69,8 +69,8 @@ short_usage_text options program =
 abbrev pub any_short : List Group → Bool
 any_short groups = list_any (λ group. not (is_empty group.signature.names.short)) groups
 
--- the short name with a dash, and what parts it from what follows; where there is none, four spaces
--- if another group has one
+-- If there is no short name, these are four spaces if another group has one.
+-- the short name with a dash, and what separates it from what follows
 abbrev pub short_part : Bool → Names → Text
 short_part among_shorts names =
     if is_empty names.short
@@ -84,38 +84,38 @@ long_part long_only long =
     then (if long_only then codes "-" else codes "--") ++ (long ++ codes " ")
     else []
 
--- what stands before the description of a group
+-- what precedes the description of a group
 abbrev pub head : Bool → Bool → Group → Text
 head long_only among_shorts group =
     spaces 4
     ++ (short_part among_shorts group.signature.names
     ++ (long_part long_only group.signature.names.long ++ argument_part group.signature.kind group.hint))
 
--- a line end, and the spaces under a head
+-- a line end, and the spaces below a head
 abbrev pub next_row : Text
 next_row = codes "\n" ++ spaces 24
 
--- what stands between a head and its description: spaces up to 24 columns, or else
--- the next row
+-- what separates a head from its description: spaces up to 24 columns, or else the next row
 abbrev pub padding : Text → Text
 padding head = if nat_lt (width_of head) 24 then spaces (24 - width_of head) else next_row
 
--- what a head becomes with the rows of its description
+-- a head, followed by the rows of its description
 abbrev pub row_text : Text → List Text → Text
 row_text head description = head ++ (padding head ++ joined next_row description)
 
--- a group's row: its head, its padding, and the rows of its description within 54 columns
+-- This is the group's row: its head, its padding, and the description's rows in 54 columns.
 abbrev pub IsUsageRow : Bool → Bool → Group → Text → Type 0
 IsUsageRow long_only among_shorts group row =
     (description : List Text) × IsDescriptionRows 54 group.description description
     × (row ≡ row_text (head long_only among_shorts group) description)
 
--- each group's row, in order of definition
+-- These are the rows of the groups, in order of declaration.
 abbrev pub AreUsageRows : Declared → List Text → Type 0
 AreUsageRows options rows =
     AllZip (IsUsageRow options.long_only (any_short options.groups)) options.groups rows
 
--- the text grows by these rows, parted by line ends, and no other rows are the options' rows
+-- These are the only rows of the options.
+-- The text grows by the options' rows, separated by line ends.
 abbrev pub AddsRows : Declared → Text → Text → Type 0
 AddsRows options old new =
     (rows : List Text) × IsTheOnly (AreUsageRows options) rows
@@ -123,12 +123,12 @@ AddsRows options old new =
 
 -- ---- the usage text
 
--- the brief, an empty line, a line that says `Options:`, the rows parted by line ends, a line end
+-- the brief, an empty line, a line `Options:`, the rows separated by line ends, and a line end
 abbrev pub usage_text : Text → List Text → Text
 usage_text brief rows =
     brief ++ (codes "\n\nOptions:\n" ++ (joined (codes "\n") rows ++ codes "\n"))
 
--- the usage text of these options
+-- This is the usage text of these options.
 abbrev pub IsUsageText : Declared → Text → Text → Type 0
 IsUsageText options brief text =
     (rows : List Text) × AreUsageRows options rows × (text ≡ usage_text brief rows)

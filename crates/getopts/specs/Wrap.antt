@@ -1,4 +1,5 @@
--- How a description stands in rows: its lines, their words, and the ways to break a line's words.
+-- Descriptions in rows: the lines of a description, their words, and the ways to break a line's
+-- words.
 use Rattle.std.specs.Prelude.{◌≡◌, ℕ, ◌+◌, ◌-◌, ◌<◌, ◌≤◌, ◌==◌, nat_lt, Bool, false, ◌||◌, ◌⊎◌}
 use Rattle.std.specs.Prelude.{List, [], ◌∷◌, ◌++◌, length, take, map, filter, sum_by, All}
 use Rattle.std.specs.Prelude.{chars, encode_utf8_all, if◌then◌else◌}
@@ -9,7 +10,7 @@ use Rattle.unicode_width.specs.Width.{str_width}
 
 -- ---- words and runs
 
--- words, by their bytes, that stand in one row
+-- words in one row, as their bytes
 abbrev pub Run : Type 0
 Run = List Text
 
@@ -17,7 +18,7 @@ Run = List Text
 unfoldable pub width_of : Text → ℕ
 width_of word = str_width false (chars word)
 
--- the columns of a run: those of each word, and one for each gap between two words
+-- the columns of a run: those of each word, and one for each gap between words
 abbrev pub columns_of : Run → ℕ
 columns_of run = sum_by width_of run + (length run - 1)
 
@@ -27,28 +28,28 @@ text_of run = join_with_byte 32 run
 
 -- ---- breakings
 
--- a run fits where it is one word, or its columns are at most the limit
+-- A run fits if it is a single word, or its columns are at most the limit.
 abbrev pub FitsIn : ℕ → Run → Type 0
 FitsIn limit run = (length run ≡ 1) ⊎ (columns_of run ≤ limit)
 
--- the words are cut into runs: none is empty, and each fits
+-- The words are broken into these runs: none is empty, and each fits.
 pub record IsFittingBreaking (limit : ℕ) (words : List Text) (runs : List Run) : Type 0 where
   pub all_words : flat_map (λ run. run) runs ≡ words
   pub nonempty : All (λ run. 0 < length run) runs
   pub fits : All (FitsIn limit) runs
 
--- no run, followed by the first word of the next run, fits
+-- No run still fits with the first word of the next run added.
 abbrev pub NoneTakesMore : ℕ → List Run → Type 0
 NoneTakesMore limit (run ∷ next ∷ more) =
     (¬ FitsIn limit (run ++ take 1 next)) × NoneTakesMore limit (next ∷ more)
 NoneTakesMore limit runs = Unit {0}
 
--- a fitting breaking in which no run could take in the word that comes next
+-- This is a fitting breaking in which no run has room for the next word.
 pub record IsTightBreaking (limit : ℕ) (words : List Text) (runs : List Run) : Type 0 where
   pub fitting : IsFittingBreaking limit words runs
   pub tight : NoneTakesMore limit runs
 
--- a tight breaking, and no fitting breaking of the same words has fewer runs
+-- This is a tight breaking, and no fitting breaking of the same words has fewer runs.
 pub record IsFewestBreaking (limit : ℕ) (words : List Text) (runs : List Run) : Type 0 where
   pub tight : IsTightBreaking limit words runs
   pub fewest : (others : List Run) → IsFittingBreaking limit words others
@@ -56,57 +57,58 @@ pub record IsFewestBreaking (limit : ℕ) (words : List Text) (runs : List Run) 
 
 -- ---- descriptions
 
--- the lines of a description, which is cut at U+000A
+-- the lines of a description, which is split at U+000A
 abbrev pub lines_of : Text → List Text
 lines_of desc = slice_split (λ byte. byte == 10) desc
 
--- the words of a line: it is cut at each character of white space, and the pieces that are not
--- empty are its words, so each word is a run of other characters that is as long as it can be
+-- So each word is as long as it can be without white space.
+-- the words of a line: the pieces that aren't empty, when it is split at white space
 abbrev pub words_of : Text → List Text
 words_of line =
     map encode_utf8_all
     (filter (λ piece. nat_lt 0 (length piece)) (slice_split is_whitespace (chars line)))
 
--- the description breaks into the rows, where `IsBroken` says how a line's words may be broken: the
--- rows are the texts of the runs of each line in turn
+-- `IsBroken` says how the words of a line may be broken. The rows are the texts of each line's runs
+-- in turn.
+-- The description breaks into these rows.
 pub record BreaksInto (IsBroken : List Text → List Run → Type 0) (desc : Text)
     (rows : List Text) : Type 0 where
   pub breakings : List (List Run)
   pub each_line : AllZip IsBroken (map words_of (lines_of desc)) breakings
   pub rows_are : rows ≡ map text_of (flat_map (λ runs. runs) breakings)
 
--- the rows of a description for a limit: those of each line's tight breaking
+-- These are the rows of the description: those of each line's tight breaking.
 abbrev pub IsDescriptionRows : ℕ → Text → List Text → Type 0
 IsDescriptionRows limit desc rows = BreaksInto (IsTightBreaking limit) desc rows
 
 -- ---- rows in one text
 
--- the texts in order, with the separator between each two
+-- the texts in order, with the separator between them
 abbrev pub joined : Text → List Text → Text
 joined separator texts = join_by (λ text. text) separator texts
 
--- what stands between a text and those before it, where the flag tells whether any came
+-- what separates a text from those before it, if the flag says that there are any
 abbrev pub parting : Bool → Text → Text
 parting begun separator = if begun then separator else []
 
--- the texts in order, each after the separator, but for the first where none came before it
+-- the texts in order, each after the separator, the first only if any came before it
 abbrev pub continued : Bool → Text → List Text → Text
 continued begun separator texts =
     if begun then flat_map (λ text. separator ++ text) texts else joined separator texts
 
--- the text grows by the rows of a description, with the separator between each two
+-- The text grows by the rows of a description, with the separator between them.
 abbrev pub AddsDescription : ℕ → Text → Text → Text → Text → Type 0
 AddsDescription limit separator desc old new =
     (rows : List Text) × IsDescriptionRows limit desc rows
     × (new ≡ old ++ joined separator rows)
 
--- the rows of a line are the texts of the runs of its tight breaking
+-- The rows are the texts of the runs of the line's tight breaking.
 abbrev pub IsLineRows : ℕ → Text → List Text → Type 0
 IsLineRows limit line rows =
     (runs : List Run) × IsTightBreaking limit (words_of line) runs × (rows ≡ map text_of runs)
 
--- The text grows by the rows of a line, with the separator between each two. The flags tell whether
--- any row, of this line or another, stands in the text before and after.
+-- The flags say whether the text has any row before and after, of this line or another.
+-- The text grows by the rows of a line, with the separator between them.
 abbrev pub AddsLine : ℕ → Text → Text → Bool → Bool → Text → Text → Type 0
 AddsLine limit separator line before after old new =
     (rows : List Text) × IsLineRows limit line rows

@@ -1,4 +1,4 @@
-//! What matches return when they are asked for an option by a name.
+//! What matches return for an option's name.
 
 ghost use Rattle.std.specs.Prelude.{◌≡◌, ◌↔◌, Some, Ok, IsTrue, map, length, vec_len, ◌<◌, IfOk};
 ghost use Rattle.std.specs.Prelude.{MatchOption};
@@ -28,10 +28,11 @@ fn copied(alloc: Global, text: Option<&str>) -> Result<Option<String>, AllocErro
 }
 
 impl Matches {
-    /// The place of the option group that a name resolves to, from 0, in the order of declaration.
+    /// Returns the index of the option group that a name resolves to, in the order of declaration.
     ///
-    /// Names of one group have the same place. The result is `None` where `opt_defined` is false. After
-    /// `optopt("o",..)` and `optflag("v",..)` it is `Some(1)` of `v`. The Rust crate has no such call.
+    /// Names that resolve to the same group give the same index. Returns `None` if `opt_defined` is
+    /// false. After `optopt("o",..)` and `optflag("v",..)`, `v` gives `Some(1)`. The Rust crate has
+    /// no such method.
     #[inline]
     pub fn opt_place(&self, name: &str) -> Option<usize>
         ensures place { result ≡ place_of self.now.groups name.now }
@@ -41,11 +42,11 @@ impl Matches {
         self.held.place_of(name)
     }
 
-    /// The occurrences of the option group at a place, in the order of the line, lent and not copied.
+    /// Borrows the occurrences of the option group at an index, in command-line order.
     ///
-    /// `opt_place` returns the place of a name. There are none where the option wasn't given, nor past
-    /// the last group. After `-v -o x` by `optopt("o",..)` and `optflag("v",..)` those at 0 are one of
-    /// position 1 and value `x`. The Rust crate has no such call.
+    /// `opt_place` gives the index of a name. The result is empty if the option wasn't given, or if
+    /// there is no such group. After `-v -o x`, with `optopt("o",..)` and `optflag("v",..)`, index
+    /// 0 has one occurrence, with position 1 and the value `x`. The Rust crate has no such method.
     #[inline]
     pub fn occurrences_at(&self, place: usize) -> Occurrences<'_>
         ensures { result ≡ found_in self.now.groups place }
@@ -53,14 +54,15 @@ impl Matches {
         self.held.occurrences_at(place)
     }
 
-    /// The groups that matches hold are lawfully named.
+    /// A lemma for proofs, which compiles to nothing: the groups that matches hold have valid
+    /// names.
     pub(crate) fn are_held_lawfully(&self)
         ensures { AreHeldLawfully self.now.groups }
     {
         self.held.are_lawful();
     }
 
-    /// Whether an option was given. An undefined one wasn't.
+    /// Whether an option was given. An undefined option counts as not given.
     fn has(&self, name: &str) -> bool
         ensures { result ≡ is_present self.now.groups name.now }
     {
@@ -69,10 +71,8 @@ impl Matches {
 
     /// Whether a name resolves to a group.
     ///
-    /// This is the test for the condition of the calls that ask for one option. Such a call panics in
-    /// the Rust crate where the name is undefined; here the caller shows that it is defined. A name is given
-    /// without dashes: `opt_defined("verbose")`. Two names of one group get the same result from each
-    /// call.
+    /// Use this to test the precondition of the methods that take one name; the Rust crate panics
+    /// there if the name is undefined. Names are written without dashes: `opt_defined("verbose")`.
     pub fn opt_defined(&self, name: &str) -> bool
         ensures defined { IsTrue result ↔ IsDefined self.now.groups name.now }
         ensures lawful { AreHeldLawfully self.now.groups }
@@ -80,9 +80,9 @@ impl Matches {
         self.opt_place(name).is_some()
     }
 
-    /// How often an option was given, by any of its names: 0 where it wasn't, and 3 after `-vv --verbose`.
+    /// How often an option was given, by either name: 3 after `-vv --verbose`, and 0 if it wasn't.
     ///
-    /// The name has to be defined, which `opt_defined` tests. The Rust crate panics where it isn't.
+    /// Requires a defined name (see `opt_defined`); the Rust crate panics on others.
     pub fn opt_count(&self, name: &str) -> usize
         requires { IsDefined self.now.groups name.now }
         ensures { result ≡ length (found_of self.now.groups name.now) }
@@ -90,9 +90,9 @@ impl Matches {
         self.held.occurrences_of(name).len()
     }
 
-    /// Whether an option was given at least once, by any of its names.
+    /// Whether an option was given, by either name.
     ///
-    /// The name has to be defined, which `opt_defined` tests. The Rust crate panics where it isn't.
+    /// Requires a defined name (see `opt_defined`); the Rust crate panics on others.
     pub fn opt_present(&self, name: &str) -> bool
         requires { IsDefined self.now.groups name.now }
         ensures present { result ≡ is_present self.now.groups name.now }
@@ -101,14 +101,14 @@ impl Matches {
         self.has(name)
     }
 
-    /// The positions of an option's occurrences, in the order of the line.
+    /// Returns the positions of an option's occurrences, in command-line order.
     ///
-    /// A position is the index, from 0, of the word in which the occurrence's item begins, so options of
-    /// one cluster share it. A separate argument is a word of its own. After `-v -o x -vv` the positions
-    /// of `v` are 0, 3 and 3. There are none where the option wasn't given. The name has to be defined,
-    /// which `opt_defined` tests. An error comes only where memory was refused.
+    /// A position is the index, from 0, of the word in which the option (or its cluster) begins;
+    /// the options of a cluster share it, and a separate argument counts as a word. After
+    /// `-v -o x -vv` the positions of `v` are 0, 3 and 3. The result is empty if the option wasn't
+    /// given. Requires a defined name (see `opt_defined`). Fails only if an allocation fails.
     ///
-    /// The Rust crate counts items: there a separate argument adds nothing.
+    /// The Rust crate doesn't count separate arguments.
     pub fn opt_positions(&self, alloc: Global, name: &str) -> Result<Vec<usize>, AllocError>
         requires { IsDefined self.now.groups name.now }
         ensures positions { IfOk result (λ positions. positions.items
@@ -119,11 +119,11 @@ impl Matches {
         self.held.occurrences_of(name).positions(alloc)
     }
 
-    /// The values of an option's occurrences, in the order of the line.
+    /// Returns the values of an option's occurrences, in command-line order.
     ///
-    /// After `-La -L b` those of `L` are `a` and `b`. An occurrence without a value gives none, so there may be
-    /// fewer values than `opt_count` says, and there are none where the option wasn't given. The name has to be defined, which `opt_defined`
-    /// tests. An error comes only where memory was refused.
+    /// After `-La -L b` the values of `L` are `a` and `b`. Occurrences without a value are skipped,
+    /// so there may be fewer values than `opt_count` says. The result is empty if the option wasn't
+    /// given. Requires a defined name (see `opt_defined`). Fails only if an allocation fails.
     pub fn opt_strs(&self, alloc: Global, name: &str) -> Result<Vec<String>, AllocError>
         requires { IsDefined self.now.groups name.now }
         ensures { IfOk result (λ values. map string_bytes values.items
@@ -132,12 +132,12 @@ impl Matches {
         self.held.occurrences_of(name).values(alloc)
     }
 
-    /// The positions and values of those of an option's occurrences that have a value, in the order of
-    /// the line.
+    /// Returns the position and value of each of an option's occurrences that has a value, in
+    /// command-line order.
     ///
-    /// Positions are those of `opt_positions`: a separate argument has its option's, not its own. The
-    /// texts are what `opt_strs` gives, and there are none where the option wasn't given. The name has
-    /// to be defined, which `opt_defined` tests. An error comes only where memory was refused.
+    /// Positions are as in `opt_positions`: where the option is, even if its argument is a separate
+    /// word. Values are as in `opt_strs`. The result is empty if the option wasn't given. Requires
+    /// a defined name (see `opt_defined`). Fails only if an allocation fails.
     pub fn opt_strs_pos(
         &self,
         alloc: Global,
@@ -152,12 +152,12 @@ impl Matches {
         self.held.occurrences_of(name).pairs(alloc)
     }
 
-    /// The value of an option's first occurrence.
+    /// Returns the value of an option's first occurrence.
     ///
-    /// After `-ofile` that of `o` is `file`. The result is `None` where the option wasn't given, and also where its first occurrence has no
-    /// value, even if a later one has: `opt_strs` gives those. Of a required option that needs an
-    /// argument it is there. The name has to be defined, which `opt_defined` tests. An error comes only
-    /// where memory was refused.
+    /// After `-ofile` the value of `o` is `file`. Returns `None` if the option wasn't given or if
+    /// its first occurrence has no value, even if a later one does (see `opt_strs`). A required
+    /// option with a mandatory argument always has a value. Requires a defined name (see
+    /// `opt_defined`). Fails only if an allocation fails.
     pub fn opt_str(&self, alloc: Global, name: &str) -> Result<Option<String>, AllocError>
         requires { IsDefined self.now.groups name.now }
         ensures { IfOk result (λ value. option_map string_bytes value
@@ -166,11 +166,11 @@ impl Matches {
         copied(alloc, self.held.occurrences_of(name).first_value())
     }
 
-    /// The value of an option's first occurrence, or `def` where that has none.
+    /// Returns the value of an option's first occurrence, or `def` if that has none.
     ///
-    /// The result is `None` only where the option wasn't given. After `--color` alone
-    /// `opt_default(alloc, "color", "always")` is `always`. The name has to be defined, which
-    /// `opt_defined` tests. An error comes only where memory was refused.
+    /// Returns `None` only if the option wasn't given. After `--color` alone,
+    /// `opt_default(alloc, "color", "always")` is `always`. Requires a defined name (see
+    /// `opt_defined`). Fails only if an allocation fails.
     pub fn opt_default(
         &self,
         alloc: Global,
@@ -184,11 +184,12 @@ impl Matches {
         copied(alloc, self.held.occurrences_of(name).first_value_or(def))
     }
 
-    /// The value of an option's first occurrence, read as a `T`.
+    /// Parses the value of an option's first occurrence as a `T`.
     ///
-    /// After `-n 7` `opt_get::<u8>("n")` is `Ok(Some(7))`. The result is `Ok(None)` where there is no such value, as where the option wasn't given, and the
-    /// error is the one that reading gives. The name has to be defined, which `opt_defined` tests. The
-    /// text is lent to the reading, where the Rust crate copies it first.
+    /// After `-n 7`, `opt_get::<u8>("n")` is `Ok(Some(7))`. Returns `Ok(None)` if there is no
+    /// value, for example because the option wasn't given, and the error of `T` if parsing fails.
+    /// Requires a defined name (see `opt_defined`). Parses the text in place; the Rust crate copies
+    /// it first.
     pub fn opt_get<T: FromStr>(&self, name: &str) -> Result<Option<T>, T::Err>
         requires { IsDefined self.now.groups name.now }
         ensures { IsReadAs T.from_str_gives
@@ -200,11 +201,12 @@ impl Matches {
         }
     }
 
-    /// The value of an option's first occurrence, read as a `T`, or `def` where there is no such value.
+    /// Parses the value of an option's first occurrence as a `T`, or returns `def` if there is no
+    /// value.
     ///
-    /// The result is `def` where the option wasn't given. The error is the one that reading gives: a text
-    /// that can't be read isn't replaced by `def`. The name has to be defined, which `opt_defined`
-    /// tests. The text is lent to the reading, where the Rust crate copies it first.
+    /// Returns the error of `T` if parsing fails; `def` doesn't replace a value that can't be
+    /// parsed. Requires a defined name (see `opt_defined`). Parses the text in place; the Rust
+    /// crate copies it first.
     pub fn opt_get_default<T: FromStr + Drop>(&self, name: &str, def: T) -> Result<T, T::Err>
         requires { IsDefined self.now.groups name.now }
         ensures { MatchOption (first_value (found_of self.now.groups name.now))
@@ -216,20 +218,20 @@ impl Matches {
         }
     }
 
-    /// Where the words after `--` begin among the free words.
+    /// Returns the index among the free words at which the words after `--` begin.
     ///
-    /// After `a -- b` it is `Some(1)`: the number of free words before `--`, where the line had one that ended its options and
-    /// a word follows it. It is the number that reading the line gave: a change of `free` doesn't
-    /// change it.
+    /// After `a -- b` it is `Some(1)`. Returns `None` if no word follows a `--` that ends the
+    /// options. The index is that of the parsed command line: later changes to `free` don't affect
+    /// it.
     pub fn free_trailing_start(&self) -> Option<usize>
         ensures { result ≡ self.now.trailing_start }
     {
         self.trailing_start
     }
 
-    /// Whether the option of some name in the list was given.
+    /// Whether any of the named options was given.
     ///
-    /// A name that no option has counts as not given, so any names may be asked for.
+    /// Accepts any names; undefined ones count as not given.
     pub fn opts_present(&self, names: &[String]) -> bool
         ensures { result
             ≡ list_any (λ name. is_present self.now.groups (string_bytes name)) names.now }
@@ -237,10 +239,10 @@ impl Matches {
         names.iter().any(|name| self.has(name.as_str()))
     }
 
-    /// Whether the option of some name in the list was given, where all names are defined.
+    /// Whether any of the named options was given, for defined names.
     ///
-    /// `opt_defined` tests a name. The result is false where none of the options was given. The Rust crate takes
-    /// any list of texts, and doesn't look at the names after the first that was given.
+    /// Requires every name to be defined (see `opt_defined`). The Rust crate accepts any list of
+    /// texts, and stops at the first option that was given.
     pub fn opts_present_any(&self, names: &[&str]) -> bool
         requires { AreDefined self.now.groups (texts names.now) }
         ensures { result ≡ list_any (λ name. is_present self.now.groups name.now) names.now }
@@ -248,7 +250,7 @@ impl Matches {
         names.iter().any(|name| self.has(name))
     }
 
-    /// The value of the first occurrence, by the first of these names whose option has one there.
+    /// The value of the first listed option whose first occurrence has one.
     fn first_among<T: AsStr>(&self, names: &[T]) -> Option<&str>
         ensures { option_copied result
             ≡ first_value_among self.now.groups (map T.text names.now) }
@@ -261,11 +263,11 @@ impl Matches {
         None
     }
 
-    /// The value for the first name in the list whose option's first occurrence has a value.
+    /// Returns the value of the first listed option whose first occurrence has one.
     ///
-    /// All names have to be defined, which `opt_defined` tests of each, where the Rust crate doesn't look at the
-    /// names after that one. The result is `None` where no option of them has a value in its first
-    /// occurrence, also where a later one has. An error comes only where memory was refused.
+    /// Returns `None` if there is no such option, even if a later occurrence has a value. Requires
+    /// every name to be defined (see `opt_defined`); the Rust crate stops at the first match. Fails
+    /// only if an allocation fails.
     pub fn opts_str(&self, alloc: Global, names: &[String]) -> Result<Option<String>, AllocError>
         requires { AreDefined self.now.groups (map string_bytes names.now) }
         ensures { IfOk result (λ value. option_map string_bytes value
@@ -274,12 +276,12 @@ impl Matches {
         copied(alloc, self.first_among(names))
     }
 
-    /// The value for the first name in the list whose option's first occurrence has a value, as
-    /// `opts_str` gives it.
+    /// Returns the value of the first listed option whose first occurrence has one, like
+    /// `opts_str`.
     ///
-    /// All names have to be defined, which `opt_defined` tests of each. The result is `None` where no option
-    /// of them has a value in its first occurrence, also where a later one has. The Rust crate takes any list of
-    /// texts. An error comes only where memory was refused.
+    /// Returns `None` if there is no such option, even if a later occurrence has a value. Requires
+    /// every name to be defined (see `opt_defined`). The Rust crate accepts any list of texts.
+    /// Fails only if an allocation fails.
     pub fn opts_str_first(
         &self,
         alloc: Global,

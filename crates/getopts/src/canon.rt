@@ -1,4 +1,4 @@
-//! The canonical line: what a line says, written again with main names alone.
+//! Canonical lines: accepted command lines, rewritten with main names alone.
 
 ghost use Rattle.std.specs.Prelude.{◌≡◌, ◌<◌, length, map, IfOk, IfErr, IfSome, IfNone, OnOk, not};
 ghost use Rattle.std.specs.List.{AllByRecursion, list_all};
@@ -22,14 +22,14 @@ use crate::scan::Line;
 use std::alloc::{AllocError, Global};
 use std::convert::AsStr;
 
-/// Whether a text holds `=`.
+/// Whether a text contains `=`.
 fn holds_equals(text: &str) -> bool
     ensures { result ≡ holds_equals text.now }
 {
     text.contains('=')
 }
 
-/// Whether no group with an occurrence has a main name that holds `=`.
+/// Whether no group that occurs has a main name with `=` in it.
 fn are_plain(groups: &Groups, read: &ReadLine) -> bool
     requires { IsOfSignatures (signatures_of groups.now) read.now }
     ensures { result
@@ -44,7 +44,7 @@ fn are_plain(groups: &Groups, read: &ReadLine) -> bool
     true
 }
 
-/// The word of an occurrence: `--main`, or `--main=value` where it has a value.
+/// The word for an occurrence: `--main`, or `--main=value` if it has a value.
 fn canonical_word(alloc: Global, main: &str, value: Option<&str>) -> Result<String, AllocError>
     ensures { IfOk result (λ word.
         string_bytes word ≡ long_word two main.now (option_copied value.entry)) }
@@ -60,7 +60,7 @@ fn canonical_word(alloc: Global, main: &str, value: Option<&str>) -> Result<Stri
     Ok(word)
 }
 
-/// The words of the occurrences, with capacity for so many words more.
+/// The words for the occurrences, with room for `more` words after them.
 fn option_words(
     alloc: Global,
     groups: &Groups,
@@ -80,7 +80,7 @@ fn option_words(
     Ok(words)
 }
 
-/// The words of the occurrences, then `--`, then the free words.
+/// The words for the occurrences, then `--`, then the free words.
 fn canonical_line(alloc: Global, groups: &Groups, line: Line) -> Result<Vec<String>, AllocError>
     requires { AllByRecursion (λ o. o.mention.group < length groups.now) line.found }
     ensures { IfOk result (λ words. map string_bytes words.items
@@ -104,23 +104,24 @@ impl Options {
     ghost use Rattle.getopts.specs.CanonAnswers.{IsWritten, IsUnwritable, KeepsLineLaws};
     ghost use Rattle.getopts.specs.Theorem.{LinesReadAgain};
 
-    /// Writes an accepted line again with main names alone, for a program that logs, compares or caches
-    /// by command lines.
+    /// Rewrites an accepted command line with main names alone, for programs that log, compare or
+    /// cache command lines.
     ///
-    /// The canonical line has `--main` or `--main=value` for each option that the line gives, in the order
-    /// of the line, then always `--`, then the free words. Here `main` is the long name where the option
-    /// has one, else the short name. With the options `v`/`verbose` and `o`/`output`, the latter with an
-    /// argument, `["-vofile", "x"]` and `["x", "--verbose", "--output", "file"]` both give
-    /// `["--verbose", "--output=file", "--", "x"]`, and no words give `["--"]`. Positions, and where free
-    /// words stood among the options, are not kept.
+    /// The canonical line has `--main` or `--main=value` for each option, in order, then always
+    /// `--`, then the free words. Here `main` is the option's long name or, if it has none, its
+    /// short name. With the options `v`/`verbose` and `o`/`output`, the latter with an argument,
+    /// `["-vofile", "x"]` and `["x", "--verbose", "--output", "file"]` both give
+    /// `["--verbose", "--output=file", "--", "x"]`, and an empty command line gives `["--"]`.
+    /// Positions aren't kept, nor where free words occurred among options.
     ///
-    /// The result is `None` where an option that the line gives has a main name that holds `=`: the
-    /// long name `p=x` can't be written with two dashes, since `--p=x` is the name `p` with the argument
-    /// `x`. Such an option does no harm where it is declared and not given.
+    /// Returns `None` if the command line gives an option whose main name contains `=`: `--p=x`
+    /// can't stand for an option called `p=x`, since it means the option `p` with the argument `x`.
+    /// Such an option does no harm as long as it isn't given.
     ///
-    /// Errors come where `parse` gives them, and are the same. `Fail::OutOfMemory` comes where memory was
-    /// refused, in place of any other result. As in `parse`, the iterator has to end, all its items are
-    /// taken before any result but that one, and the options stay as they are. The Rust crate has no such call.
+    /// Fails exactly as `parse` does, or with `Fail::OutOfMemory` if an allocation fails. As in
+    /// `parse`, the iterator has to end, all items are taken before anything but
+    /// `Fail::OutOfMemory` is returned, and the options aren't changed. The Rust crate has no such
+    /// method.
     pub fn canonical<'a, I: Iterator<Item = &'a str> + Drop>(
         &self,
         alloc: Global,
@@ -144,10 +145,10 @@ impl Options {
         self.canonical_words(alloc, &words)
     }
 
-    /// Writes an accepted line again, as `canonical` does, from a list of words that is lent.
+    /// Rewrites an accepted command line like `canonical`, from a borrowed list of words.
     ///
-    /// No list of words is made for it, and its clauses are over the list itself. The Rust crate has no such
-    /// call.
+    /// It doesn't copy the list, and its contract is about the list itself. The Rust crate has no
+    /// such method.
     pub fn canonical_words<S: AsStr>(
         &self,
         alloc: Global,

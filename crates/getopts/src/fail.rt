@@ -1,4 +1,4 @@
-//! The refusals of `parse`.
+//! The errors of `parse`.
 
 ghost use Rattle.std.specs.Prelude.{◌≡◌, ◌↔◌, Some, IfOk, IsTrue};
 ghost use Rattle.std.specs.Cmp.Rules.{comparing};
@@ -12,34 +12,37 @@ use std::alloc::{AllocError, AllocFailed, Global};
 use std::error::Error;
 use std::fmt;
 
-/// Why a line was refused.
+/// Why a command line was rejected.
 ///
-/// Faults of the words come first: of `ArgumentMissing`, `UnrecognizedOption` and `UnexpectedArgument` that of the
-/// first word that has one, with the name as typed. Only a line without these has its counts checked:
-/// `OptionMissing` and `OptionDuplicated` name the first option, in order of definition, by its main name, which is
-/// the long one, or the short one where there is no long one. A fault prints as in the Rust crate; `?` turns an
-/// `AllocError` into `OutOfMemory`.
+/// `ArgumentMissing`, `UnrecognizedOption` and `UnexpectedArgument` report the first word that
+/// can't be read, with the name as typed. Only if every word can be read are occurrences counted:
+/// `OptionMissing` and `OptionDuplicated` report the first option, in order of declaration, that is
+/// missing or was given too often. They hold its main name, which is the long name or, if there is
+/// none, the short name.
+///
+/// The printed texts are those of the Rust crate. The `?` operator turns an `AllocError` into
+/// `OutOfMemory`.
 #[derive(Debug, Drop)]
 pub enum Fail {
-    /// The option needs an argument, and the line ends. Holds the name as typed.
+    /// The command line ends where the option needs an argument. Holds the name as typed.
     ArgumentMissing(String),
-    /// No option has this name. Holds the name as typed; in a cluster, the character.
+    /// No option has this name. Holds the name as typed or, in a cluster, the character.
     UnrecognizedOption(String),
-    /// A required option isn't there. Holds its main name.
+    /// A required option is missing. Holds its main name.
     OptionMissing(String),
-    /// An option that may come once came again. Holds its main name.
+    /// An option that may occur once occurs again. Holds its main name.
     OptionDuplicated(String),
-    /// The option takes no argument, and one was attached. Holds the name as typed.
+    /// An argument is attached to an option that takes none. Holds the name as typed.
     UnexpectedArgument(String),
-    /// Memory was refused. The Rust crate ends the process there, and has no such variant.
+    /// An allocation failed. The Rust crate aborts the process instead, and has no such variant.
     OutOfMemory,
 }
 
 impl Clone for Fail {
     ghost is_clone = { λ a b. fault_of b ≡ fault_of a };
 
-    /// The same refusal with a copy of the name. An error comes only where memory was refused, and
-    /// `OutOfMemory` is copied without any.
+    /// Copies the error with its name. Fails only if an allocation fails; copying `OutOfMemory`
+    /// allocates nothing.
     fn clone(&self) -> Result<Fail, AllocError>
         ensures same { IfOk result (λ copy. fault_of copy ≡ fault_of self.now) }
     {
@@ -61,7 +64,7 @@ impl PartialEq for Fail {
 
     ghost laws = { Prim.search (comparing, rules) depth 12 };
 
-    /// Whether both are of one variant, with the same name.
+    /// Whether both are the same variant, with the same name.
     fn eq(&self, other: &Fail) -> bool
         ensures answer { result ≡ same_fail self.now other.now }
         ensures same { IsTrue result ↔ (fault_of self.now ≡ fault_of other.now) }
@@ -117,7 +120,8 @@ impl<T: Drop> From<AllocFailed<T>> for Fail {
     }
 }
 
-// Each of these makes a fault with a copy of the name, or says that memory was refused.
+// Each of these returns an error with a copy of the name, or `OutOfMemory` if the name can't be
+// copied.
 impl Fail {
     pub(crate) fn argument_missing(alloc: Global, name: &str) -> Fail
         ensures { Tells result (λ fault. fault ≡ argument_missing name.now) }

@@ -1,4 +1,4 @@
-//! Option groups: their kinds, and the names and kinds of many held together.
+//! Option groups: their kinds, and storage for the names and kinds of many groups.
 
 ghost use Rattle.std.specs.Prelude.{◌≡◌, ◌++◌, ◌∷◌, [], Some, ◌+◌, ◌*◌, ◌≤◌, ◌<◌, ◌^◌, length};
 ghost use Rattle.std.specs.Prelude.{slice_get, OnOk, OnErr};
@@ -16,45 +16,47 @@ use crate::names::{Names, is_of_bytes, key_of, short_byte};
 use std::alloc::{AllocError, Global};
 use std::marker::Model;
 
-/// The capacity once a first group is added: so many groups need no second request.
+/// Initial capacity: up to this many groups fit without reallocating.
 pub(crate) const FIRST_GROUPS: usize = 32;
 
-/// The bytes of their names, likewise.
+/// Initial capacity for the names of groups, in bytes.
 const FIRST_NAMES: usize = 512;
 
-/// What the first free word does to the words after it.
+/// Whether options may follow the first free word.
 #[derive(Debug, Clone, Copy, PartialEq, Eq)]
 pub enum ParsingStyle {
-    /// Options and free words may stand in any order. This is the style of `Options::new`.
+    /// Options and free words may be mixed. This is the style of `Options::new`.
     FloatingFrees,
-    /// All words from the first free one on are free, also those that begin with a dash.
+    /// All words from the first free one on are free, even if they begin with a dash.
     StopAtFirstFree,
 }
 
 /// Whether an option takes an argument.
 #[derive(Debug, Clone, Copy, PartialEq, Eq)]
 pub enum HasArg {
-    /// The option needs an argument, in the same word or as the next.
+    /// The option needs an argument, in the same word or as the next one.
     Yes,
     /// The option takes no argument.
     No,
-    /// The option may have an argument: after `=`, or, of a short name in ordinary mode, right after the name or as
-    /// the next word, where that is `-` or doesn't begin with a dash.
+    /// The argument is optional. It follows `=` or, for a short name in ordinary mode, it follows
+    /// the name directly or is the next word, unless that begins with a dash and is longer than
+    /// `-`.
     Maybe,
 }
 
-/// How often an option may come.
+/// How often an option may occur.
 #[derive(Debug, Clone, Copy, PartialEq, Eq)]
 pub enum Occur {
-    /// The option comes exactly once, or else the line fails with `OptionMissing` or `OptionDuplicated`.
+    /// Exactly once. Otherwise the command line is rejected with `OptionMissing` or
+    /// `OptionDuplicated`.
     Req,
-    /// The option comes at most once, or else the line fails with `OptionDuplicated`.
+    /// At most once. Otherwise the command line is rejected with `OptionDuplicated`.
     Optional,
-    /// The option may come any number of times.
+    /// Any number of times.
     Multi,
 }
 
-/// Whether a group takes an argument, and how often it may come.
+/// The kinds of a group: whether it takes an argument, and how often it may occur.
 #[derive(Debug, Clone, Copy)]
 pub(crate) struct Kinds {
     pub kind: HasArg,
@@ -74,7 +76,7 @@ impl PartialEq for Kinds {
     }
 }
 
-/// What reading asks of a group, borrowed.
+/// What parsing needs of a group, borrowed: its names and kinds.
 #[derive(Clone, Copy)]
 pub(crate) struct Signature<'g> {
     pub names: Names<'g>,
@@ -95,7 +97,7 @@ impl<'g> PartialEq for Signature<'g> {
     }
 }
 
-/// Where two texts stand, one after the other, in a text.
+/// Where two adjacent texts are in a longer one: the start of the first, and the end of each.
 #[derive(Debug, Clone, Copy)]
 pub(crate) struct Ends {
     pub start: usize,
@@ -103,8 +105,8 @@ pub(crate) struct Ends {
     pub second: usize,
 }
 
-/// A group among others: where its names stand in the text of all names, what they are looked up by, and
-/// its kinds.
+/// A stored group: where its names are in the text of all names, what to look them up by, and its
+/// kinds.
 #[derive(Debug, Clone, Copy)]
 pub(crate) struct SignatureRecord {
     pub names: Ends,
@@ -123,7 +125,7 @@ impl PartialEq for SignatureRecord {
 
     ghost laws = { Prim.search (comparing, rules) depth 12 };
 
-    /// Whether their names stand at the same places and their kinds are the same.
+    /// Whether the names are at the same places and the kinds are equal.
     #[inline(always)]
     fn eq(&self, other: &SignatureRecord) -> bool {
         self.names.start == other.names.start
@@ -133,7 +135,7 @@ impl PartialEq for SignatureRecord {
     }
 }
 
-/// Adds a text that there is room for, and returns where it ends.
+/// Appends a text that there is room for, and returns its end.
 #[inline(always)]
 pub(crate) fn push_reserved(texts: &mut String, text: &str) -> usize
     requires { string_len texts.old + length text.now ≤ string_capacity texts.old }
@@ -150,7 +152,7 @@ pub(crate) fn push_reserved(texts: &mut String, text: &str) -> usize
     }
 }
 
-/// Adds two texts that there is room for, and returns where they stand.
+/// Appends two texts that there is room for, and returns where they are.
 #[inline(always)]
 pub(crate) fn push_two(texts: &mut String, first: &str, second: &str) -> Ends
     requires { string_len texts.old + (length first.now + length second.now)
@@ -168,7 +170,7 @@ pub(crate) fn push_two(texts: &mut String, first: &str, second: &str) -> Ends
     }
 }
 
-/// The first of the two texts that stand there.
+/// The first of the two texts at `ends`.
 #[inline(always)]
 pub(crate) fn first_at(text: &str, ends: Ends) -> &str
     requires { AreEndsOf text.now ends }
@@ -177,7 +179,7 @@ pub(crate) fn first_at(text: &str, ends: Ends) -> &str
     &text[ends.start..ends.first]
 }
 
-/// The second of them.
+/// The second of the two texts at `ends`.
 #[inline(always)]
 pub(crate) fn second_at(text: &str, ends: Ends) -> &str
     requires { AreEndsOf text.now ends }
@@ -186,8 +188,8 @@ pub(crate) fn second_at(text: &str, ends: Ends) -> &str
     &text[ends.first..ends.second]
 }
 
-/// What reading asks of lawfully named groups: one text of all their names, of each group the short
-/// and the long one, and a record of each group.
+/// What parsing needs of validly named groups: one text with the short and long name of each group
+/// in turn, and a record for each group.
 #[derive(Debug)]
 pub(crate) struct Signatures {
     text: String,
@@ -218,7 +220,7 @@ impl Model for Signatures {
 impl Signatures {
     ghost use Rattle.getopts.specs.Held.Groups.{kinds_of};
 
-    /// Of no groups. Takes no memory.
+    /// No groups. Allocates nothing.
     pub(crate) fn new(alloc: Global) -> Signatures
         ensures { result ≡ [] }
     {
@@ -236,8 +238,8 @@ impl Signatures {
         self.records.len()
     }
 
-    /// The groups may be declared, and each name is of bytes: laws to cite, of which nothing is left once
-    /// built.
+    /// A lemma for proofs, which compiles to nothing: the groups may be declared, and their names
+    /// consist of bytes.
     pub(crate) fn are_lawful(&self)
         ensures lawful { AreLawfulSignatures self.now }
         ensures bytes { HaveNamesOfBytes (names_in self.now) }
@@ -245,7 +247,7 @@ impl Signatures {
         is_of_bytes(&self.text);
     }
 
-    /// What is held of the group at a place.
+    /// The record of the group at `place`.
     #[inline(always)]
     pub(crate) fn record(&self, place: usize) -> SignatureRecord
         requires { place < length self.now }
@@ -256,7 +258,7 @@ impl Signatures {
         self.records[place]
     }
 
-    /// The short name of the group at a place.
+    /// The short name of the group at `place`.
     #[inline(always)]
     pub(crate) fn short(&self, place: usize) -> &str
         requires { place < length self.now }
@@ -265,7 +267,7 @@ impl Signatures {
         first_at(&self.text, self.records[place].names)
     }
 
-    /// The long name of the group at a place.
+    /// The long name of the group at `place`.
     #[inline(always)]
     pub(crate) fn long(&self, place: usize) -> &str
         requires { place < length self.now }
@@ -274,7 +276,7 @@ impl Signatures {
         second_at(&self.text, self.records[place].names)
     }
 
-    /// The two names of the group at a place.
+    /// Both names of the group at `place`.
     #[inline]
     pub(crate) fn names(&self, place: usize) -> Names<'_>
         requires { place < length self.now }
@@ -286,7 +288,7 @@ impl Signatures {
         }
     }
 
-    /// The main name of the group at a place.
+    /// The main name of the group at `place`.
     #[inline]
     pub(crate) fn main(&self, place: usize) -> &str
         requires { place < length self.now }
@@ -299,8 +301,8 @@ impl Signatures {
         }
     }
 
-    /// The main name of the group at a place. Past the last it is empty: the calls that sort and search a
-    /// table want closures which take every entry.
+    /// The main name of the group at `place`, or an empty text past the last group. Sorting and
+    /// searching a table need closures that accept any entry.
     pub(crate) fn main_or_empty(&self, place: usize) -> &str
         ensures { result.now ≡ main_name (names_at (names_in self.now) place) }
     {
@@ -311,7 +313,7 @@ impl Signatures {
         }
     }
 
-    /// What reading asks of the group at a place.
+    /// The names and kinds of the group at `place`.
     #[inline(always)]
     pub(crate) fn get(&self, place: usize) -> Signature<'_>
         requires { place < length self.now }
@@ -323,7 +325,7 @@ impl Signatures {
         }
     }
 
-    /// Adds those of a group as the last. An error leaves them as they were.
+    /// Appends the names and kinds of a group. After an error nothing has changed.
     #[inline]
     pub(crate) fn push(&mut self, short: &str, long: &str, kinds: Kinds) -> Result<(), AllocError>
         requires { AreLawful short.now long.now }

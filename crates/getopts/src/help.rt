@@ -1,4 +1,4 @@
-//! Groups as they are declared: what reading asks of them, and their hints and descriptions.
+//! Declared groups: their names and kinds, with their hints and descriptions.
 
 ghost use Rattle.std.specs.Prelude.{◌≡◌, ◌++◌, ◌∷◌, [], Some, ◌<◌, length};
 ghost use Rattle.std.specs.Prelude.{slice_get, OnOk, OnErr};
@@ -15,10 +15,10 @@ use crate::groups::{
 use std::alloc::{AllocError, Global};
 use std::marker::Model;
 
-/// The bytes of the hints and descriptions of the first groups: so many need no second request.
+/// Initial capacity for hints and descriptions, in bytes.
 const FIRST_HELP: usize = 1024;
 
-/// A group with its texts for usage, borrowed.
+/// A group with its hint and description, borrowed.
 #[derive(Clone, Copy)]
 pub(crate) struct Group<'g> {
     pub signature: Signature<'g>,
@@ -38,8 +38,8 @@ impl<'g> PartialEq for Group<'g> {
     }
 }
 
-/// Lawfully named groups: what reading asks of them, and one text of their hints and descriptions, with
-/// where those of each group stand.
+/// Validly named groups: their names and kinds, one text with all hints and descriptions, and where
+/// those of each group are.
 #[derive(Debug)]
 pub(crate) struct Groups {
     signatures: Signatures,
@@ -72,7 +72,7 @@ impl Model for Groups {
 impl Groups {
     ghost use Rattle.getopts.specs.Held.Help.{group_view};
 
-    /// No groups. Takes no memory.
+    /// No groups. Allocates nothing.
     pub(crate) fn new(alloc: Global) -> Groups
         ensures { result ≡ [] }
     {
@@ -89,21 +89,21 @@ impl Groups {
         self.ends.len()
     }
 
-    /// What reading asks of the groups.
+    /// The names and kinds of the groups.
     pub(crate) fn signatures(&self) -> &Signatures
         ensures { result.now ≡ signatures_of self.now }
     {
         &self.signatures
     }
 
-    /// The groups may be declared: a law to cite, of which nothing is left once built.
+    /// A lemma for proofs, which compiles to nothing: the groups may be declared.
     pub(crate) fn may_be_declared(&self)
         ensures { MayBeDeclared self.now }
     {
         self.signatures.are_lawful();
     }
 
-    /// The main name of the group at a place.
+    /// The main name of the group at `place`.
     pub(crate) fn main(&self, place: usize) -> &str
         requires { place < length self.now }
         ensures { result.now ≡ main_at self.now place }
@@ -111,7 +111,7 @@ impl Groups {
         self.signatures.main(place)
     }
 
-    /// The group at a place.
+    /// The group at `place`.
     pub(crate) fn get(&self, place: usize) -> Group<'_>
         requires { place < length self.now }
         ensures { Some (group_view result) ≡ slice_get self.now place }
@@ -124,7 +124,7 @@ impl Groups {
         }
     }
 
-    /// Adds a group as the last. An error leaves the groups as they were.
+    /// Appends a group. After an error nothing has changed.
     #[inline]
     pub(crate) fn push(
         &mut self,

@@ -1,4 +1,5 @@
-//! Laws to cite: the main theorem, and what else holds of all options, words and matches. They do nothing.
+//! Lemmas for proofs: the main theorem, and other facts about all options, words and matches. They
+//! do nothing.
 
 ghost use Rattle.getopts.specs.Canon.{Content, Says, IsSound, IsPlain, HasCanonicalLine};
 ghost use Rattle.getopts.specs.Canon.{with_setting};
@@ -20,18 +21,22 @@ ghost use Rattle.getopts.specs.Theorem.{OneLineOneContent};
 use crate::matches::Matches;
 use crate::options::Options;
 
-/// The main theorem: memory refusals aside, `parse` returns `Ok` exactly when the words have a
-/// reading that keeps the counts, holding that only reading, and otherwise the first fault; and
-/// where no used main name holds `=`, two accepted lines, in styles and modes that may differ, have
-/// equal canonical lines exactly if they read to the same occurrences and free words, and a
-/// canonical line reads to them in both styles and both modes.
+/// The main theorem.
 ///
-/// Occurrences are the same where they are of the same options, in the same order, with the same
-/// values; their positions may differ. This is a law to cite, which does nothing.
+/// Unless an allocation fails, `parse` accepts words if and only if they have a reading that keeps
+/// the counts. That reading is the only one, and the matches hold it. Other words are rejected with
+/// their first error.
+///
+/// If no main name in use contains `=`, two accepted command lines have equal canonical lines if
+/// and only if they give the same occurrences and free words, even in different styles and modes. A
+/// canonical line gives these in both styles and both modes.
+///
+/// Occurrences are the same if they are of the same options, in the same order, with the same
+/// values; their positions may differ. This is a lemma for proofs, which does nothing.
 pub fn one_reading_one_canonical_line(options: &Options)
-    // Words have one reading at most, in each style and each mode. They are accepted exactly when it is
-    // there and keeps the counts, and else refused with the first fault: of three cases one holds, and
-    // no two. `parse_result` and its kin compute which.
+    // Words have at most one reading, in each style and each mode. They are accepted if and only if
+    // it exists and keeps the counts, and otherwise rejected with the first error. Exactly one of
+    // three cases holds; functions such as `parse_result` compute which.
     ensures one_reading { OneReading options.now }
     ensures one_reading_in_each { (style : ParsingStyle) (long_only : Bool)
         → OneReading (with_setting options.now style long_only) }
@@ -39,13 +44,13 @@ pub fn one_reading_one_canonical_line(options: &Options)
     ensures refused { RefusedExactlyWhen options.now }
     ensures results { HaveResults options.now }
 
-    // Words that say the same give the same values to each name and the same free words; positions and the
-    // trailing start may differ.
+    // Words with the same content give the same values to each name, and the same free words.
+    // Positions and the trailing start may differ.
     ensures holds_same { OneContentHoldsSame options.now }
 
-    // Canonical lines are equal exactly if they say the same: those of contents, and those that are
-    // returned. Each reads back in both styles and both modes, says nothing else, and is that of no
-    // other content.
+    // Canonical lines are equal if and only if their contents are equal; this is stated for
+    // contents and for the lines that are returned. Each line reads back in both styles and both
+    // modes, has no other content, and is the canonical line of no other content.
     ensures one_line_one_content { OneLineOneContent options.now }
     ensures canonical_lines { (words : List Text) (content : Content)
         → Says options.now words content → IsPlain options.now.groups content
@@ -53,18 +58,20 @@ pub fn one_reading_one_canonical_line(options: &Options)
     ensures line_laws { KeepsLineLaws options.now }
     ensures read_again { LinesReadAgain options.now }
 
-    // Other spellings of a line, lines one after the other, and where free words and occurrences stand.
+    // Other spellings of a command line, command lines one after the other, and where free words
+    // and occurrences are.
     ensures reading_laws { KeepsReadingLaws (grammar_of options.now) }
 
-    // Each option that a line mentions is what its main name resolves to.
+    // Each option that a command line mentions is what its main name resolves to.
     ensures sound { (words : List Text) (content : Content)
         → Says options.now words content → IsSound options.now.groups content }
 {
     let _groups = options.groups();
 }
 
-/// The laws of readings and of canonical lines, and that words of one content have matches with the same values
-/// and free words, for all options that may be declared: a law to cite, which does nothing.
+/// For all options that may be declared: the laws of readings and of canonical lines, and that
+/// words with equal content have matches with the same values and free words. This is a lemma for
+/// proofs, which does nothing.
 pub fn declared_options_keep_laws()
     ensures reading_laws { (options : Declared) → MayBeDeclared options.groups
         → KeepsReadingLaws (grammar_of options) }
@@ -74,11 +81,11 @@ pub fn declared_options_keep_laws()
         → OneContentHoldsSame options }
 {}
 
-/// Three facts of how the names of options resolve, and that the options may be declared: a law to
-/// cite, which does nothing.
+/// Three facts about how the names of options resolve, and that the options may be declared. This
+/// is a lemma for proofs, which does nothing.
 ///
 /// The main name of a resolved group resolves to that same group. A name of one byte that resolves
-/// is a short name, and no long one. The empty name resolves to none.
+/// is a short name, and no long one. The empty name doesn't resolve.
 pub fn names_resolve(options: &Options)
     ensures main_name { MainNameResolves (names_of options.now.groups) }
     ensures one_byte { OneByteIsShort (names_of options.now.groups) }
@@ -90,7 +97,8 @@ pub fn names_resolve(options: &Options)
     let _groups = options.groups();
 }
 
-/// The same three facts of the names that matches hold: a law to cite, which does nothing.
+/// The three facts of `names_resolve`, about the names that matches hold. This is a lemma for
+/// proofs, which does nothing.
 pub fn held_names_resolve(matches: &Matches)
     ensures main_name { MainNameResolves (held_names matches.now.groups) }
     ensures one_byte { OneByteIsShort (held_names matches.now.groups) }
@@ -99,10 +107,10 @@ pub fn held_names_resolve(matches: &Matches)
     matches.are_held_lawfully();
 }
 
-/// Equal input, equal answers: one set of options and one list of words have one result of `parse`, and
-/// one of `canonical`. Out of memory, which may come in place of either, is not one.
+/// Equal input gives equal results: for given options and words, there is one result of `parse` and
+/// one of `canonical`. Running out of memory, which may happen instead, doesn't count as a result.
 ///
-/// This is a law to cite, which does nothing.
+/// This is a lemma for proofs, which does nothing.
 pub fn equal_input_equal_answers()
     ensures parse { (options : Declared) (words : List Text)
         → AtMostOne (IsParseAnswer options words) }
@@ -110,7 +118,8 @@ pub fn equal_input_equal_answers()
         → AtMostOne (IsCanonicalAnswer options words) }
 {}
 
-/// The results, computed: a law to cite, which does nothing.
+/// The results of the calls are those that functions such as `parse_result` compute. This is a
+/// lemma for proofs, which does nothing.
 pub fn results_are_computed()
     ensures { (options : Declared) (words : List Text) → MayBeDeclared options.groups
         → AreTexts words → HasResults options words }

@@ -1,39 +1,40 @@
-//! Command-line options: declared groups, a list of words, and the one reading of those words.
+//! Command-line options: declared groups, a list of words, and the only reading of those words.
 #![tactic(auto)]
 
-// Which pairs of names are lawful.
+// Which pairs of names are valid.
 mod names;
-// Names and kinds of option groups, held together: their names as one text, and a record of each.
+// The names and kinds of option groups, stored together: one text with all names, and a record for
+// each group.
 mod groups;
-// Groups as they are declared, with their hints and descriptions.
+// Declared groups, with their hints and descriptions.
 mod help;
-// The groups that a caller declares, with a style and a mode, and the calls that declare them.
+// What a caller declares: groups, a style and a mode.
 mod options;
-// Why a line is refused.
+// Why a command line is rejected.
 mod fail;
-// The table that a name is looked up in.
+// The table that names are looked up in.
 mod table;
-// The options that a line gives, held together, and those of one group.
+// The occurrences of options in a command line, all together and of one group.
 mod occurrences;
 // Reading words as items, from the first to the last.
 mod scan;
-// Where each group's occurrences stand.
+// Which occurrences belong to which group.
 mod index;
-// What an accepted line gave: copies and comparisons.
+// The result of parsing: copies and comparisons.
 mod matches;
 // What matches return for a name.
 mod accessors;
-// Reading a line: its words are scanned, and then its counts are checked.
+// Parsing: words are scanned, then counts are checked.
 mod parse;
-// Writing a line again with main names alone.
+// Rewriting a command line with main names alone.
 mod canon;
 // Descriptions in rows.
 pub mod wrap;
-// The row of one group in a usage text.
+// One group's row in a usage text.
 mod row;
 // Usage texts.
 mod usage;
-// The main theorem, and other laws to cite.
+// The main theorem, and other lemmas for proofs.
 mod laws;
 
 pub use fail::Fail;
@@ -49,5 +50,5 @@ pub use options::Options;
 pub use scan::are_texts;
 pub use usage::UsageRows;
 
-/// What `parse` returns: the matches of an accepted line, or why the line was refused.
+/// What `parse` returns: the matches of an accepted command line, or why it was rejected.
 pub type Result = std::result::Result<Matches, Fail>;

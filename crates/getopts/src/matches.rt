@@ -1,4 +1,4 @@
-//! What an accepted line gave, as it is held: options with their values by group, and free words.
+//! The result of parsing, as it is stored: options with their values by group, and free words.
 
 ghost use Rattle.std.specs.Prelude.{◌≡◌, ◌==◌, ◌↔◌, IsTrue, map, IfOk};
 ghost use Rattle.std.specs.Cmp.Lexicographic.{pointwise};
@@ -17,7 +17,8 @@ use crate::table::Table;
 use std::alloc::AllocError;
 use std::marker::Model;
 
-/// A line that was read, with the table of the names that it was read by, and where its options stand.
+/// A command line that was read, with the table of names that it was read by, and its occurrences
+/// indexed by group.
 #[derive(Drop)]
 pub(crate) struct ReadLine {
     pub table: Table,
@@ -25,14 +26,14 @@ pub(crate) struct ReadLine {
     pub index: Index,
 }
 
-/// What a line gave: the options by name, and the words that are no option.
+/// The result of parsing a command line: its options by name, and its free words.
 ///
-/// After `let matches = options.parse_words(alloc, &["-v", "a"])?` the result of `matches.opt_present("v")` is
-/// true, and `matches.free` holds `a`.
+/// After `let matches = options.parse_words(alloc, &["-v", "a"])?`, `matches.opt_present("v")` is
+/// true and `matches.free` holds `a`.
 #[derive(Debug, Drop)]
 pub struct Matches {
-    /// The free words, in the order of the line. They are the caller's to change: no call that asks for an
-    /// option, and not `free_trailing_start` either, reads them; `==` and `clone` do.
+    /// The free words, in command-line order. You may change them: accessors ignore this field,
+    /// even `free_trailing_start`. Only `==`, `clone` and `{:?}` use it.
     pub free: Vec<String>,
     pub(crate) held: MatchedGroups,
     pub(crate) trailing_start: Option<usize>,
@@ -53,7 +54,7 @@ impl Model for Matches {
 }
 
 impl Matches {
-    /// What a line gives to groups.
+    /// The matches of a command line, for groups with these names and kinds.
     #[inline(always)]
     pub(crate) fn of_line(signatures: Signatures, read: ReadLine) -> Matches
         requires { IsOfSignatures signatures read }
@@ -85,8 +86,7 @@ impl Matches {
 impl Clone for Matches {
     ghost is_clone = { λ a b. b ≡ a };
 
-    /// The same options with the same values, and the same free words. An error comes only where
-    /// memory was refused.
+    /// Copies the options with their values, and the free words. Fails only if an allocation fails.
     fn clone(&self) -> Result<Matches, AllocError>
         ensures same { IfOk result (λ copy. copy ≡ self.now) }
     {
@@ -98,7 +98,7 @@ impl Clone for Matches {
     }
 }
 
-/// Whether two lists of words are the same.
+/// Whether two lists of words are equal.
 fn same_words(words: &[String], others: &[String]) -> bool
     ensures { result
         ≡ pointwise (pointwise ◌==◌) (map string_bytes words.now) (map string_bytes others.now) }
@@ -113,11 +113,11 @@ impl PartialEq for Matches {
 
     ghost laws = { Prim.search (comparing, rules) depth 14 };
 
-    /// Whether both hold the same: the groups' names and kinds, each group's positions and values, the
-    /// free words and the trailing start.
+    /// Whether both hold the same: the names and kinds of the groups, each group's positions and
+    /// values, the free words and the trailing start.
     ///
-    /// Hints and descriptions don't count, nor does the order between options of different groups in
-    /// one cluster: after `-ab` and after `-ba` the matches are equal. Takes no memory; reads the
+    /// Hints and descriptions don't count, nor does the order of different options within a
+    /// cluster: the matches of `-ab` and `-ba` are equal. Allocates nothing, and visits the
     /// occurrences of both once.
     fn eq(&self, other: &Matches) -> bool
         ensures answer { result ≡ same_matches self.now other.now }
@@ -133,7 +133,7 @@ impl Eq for Matches {
     ghost laws = { Prim.search (comparing, rules) depth 14 };
 }
 
-/// Groups, and what a line gave to each of them.
+/// Groups, with the occurrences of each in a command line.
 #[derive(Debug)]
 pub(crate) struct MatchedGroups {
     signatures: Signatures,
@@ -183,14 +183,14 @@ impl MatchedGroups {
         self.table.resolve(&self.signatures, name)
     }
 
-    /// The groups are lawfully named: a law to cite, of which nothing is left once built.
+    /// A lemma for proofs, which compiles to nothing: the groups have valid names.
     pub(crate) fn are_lawful(&self)
         ensures { AreHeldLawfully self.now }
     {
         self.signatures.are_lawful();
     }
 
-    /// The occurrences of the group at a place.
+    /// The occurrences of the group at `place`.
     #[inline]
     pub(crate) fn occurrences_at(&self, place: usize) -> Occurrences<'_>
         ensures { result ≡ found_in self.now place }
@@ -198,7 +198,7 @@ impl MatchedGroups {
         Occurrences::of(&self.found, self.index.places(place))
     }
 
-    /// The occurrences of the group that a name resolves to. Of an undefined name there are none.
+    /// The occurrences of the group that a name resolves to, none if it is undefined.
     pub(crate) fn occurrences_of(&self, name: &str) -> Occurrences<'_>
         ensures { result ≡ found_of self.now name.now }
     {
@@ -208,7 +208,7 @@ impl MatchedGroups {
         }
     }
 
-    /// Whether the groups are the same, with their occurrences.
+    /// Whether the groups are the same, and so are their occurrences.
     #[inline(never)]
     pub(crate) fn same(&self, other: &MatchedGroups) -> bool
         ensures { result ≡ pointwise same_matched_group self.now other.now }

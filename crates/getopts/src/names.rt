@@ -1,4 +1,4 @@
-//! Names of options: which pairs are lawful.
+//! Names of options: which pairs are valid, and the keys that names are looked up by.
 
 ghost use Rattle.std.specs.Prelude.{◌≡◌, ◌↔◌, ◌+◌, ◌*◌, ◌^◌, ◌<◌, ◌∷◌, [], IsTrue, length};
 ghost use Rattle.std.specs.Int.{from_be_bytes, w64};
@@ -6,21 +6,21 @@ ghost use Rattle.getopts.specs.Names.{AreLawful};
 ghost use Rattle.getopts.specs.Held.Names.{key_of, key_bytes, short_code};
 ghost use Rattle.getopts.specs.Held.Pieces.{IsOfBytes};
 
-/// What shifts a number by one byte.
+/// Multiplying by this shifts a number by one byte.
 const ONE_BYTE: u64 = 1 << 8;
 
-/// What shifts a number by four bytes.
+/// Multiplying by this shifts a number by four bytes.
 const FOUR_BYTES: u64 = 1 << 32;
 
-/// What stands in the place of a short name's byte where there is no short name.
+/// Takes the place of a short name's byte if there is no short name.
 pub(crate) const NO_BYTE: u16 = 256;
 
 /// Whether an option group may have these two names.
 ///
-/// The short name has at most one byte, the long name has none or at least two, and one of them is
-/// there. Lengths are bytes, so a long name may be one character of several bytes. This is the test
-/// for the condition of the calls that add a group. The Rust crate has no such call: it panics where a
-/// name is too long or too short, and in `parse` where both are empty.
+/// The short name has at most one byte, the long name has none or at least two, and at least one of
+/// them isn't empty. Lengths are in bytes, so a long name may be a single character of several
+/// bytes. The methods that add a group require this. The Rust crate has no such function: it panics
+/// if a name is too long or too short, and its `parse` panics if both are empty.
 ///
 /// `names_lawful("o", "output")` is true, `names_lawful("", "o")` is false.
 pub fn names_lawful(short: &str, long: &str) -> bool
@@ -29,7 +29,7 @@ pub fn names_lawful(short: &str, long: &str) -> bool
     short.len() <= 1 && long.len() != 1 && !(short.is_empty() && long.is_empty())
 }
 
-/// The two names of a group, borrowed. Either may be empty.
+/// Both names of a group, borrowed. Either may be empty.
 #[derive(Clone, Copy)]
 pub(crate) struct Names<'g> {
     pub short: &'g str,
@@ -40,7 +40,7 @@ impl<'g> Names<'g> {
     ghost use Rattle.getopts.specs.Names.{main_name};
     ghost use Rattle.getopts.specs.Held.Groups.{names_view};
 
-    /// The main name: the long name where there is one, else the short name.
+    /// The main name: the long name or, if that is empty, the short name.
     pub(crate) fn main(self) -> &'g str
         ensures { result.now ≡ main_name (names_view self.entry) }
     {
@@ -52,14 +52,14 @@ impl<'g> Names<'g> {
     }
 }
 
-/// A `&str` is of bytes: a law to cite, of which nothing is left once built.
+/// A lemma for proofs, which compiles to nothing: a `&str` consists of bytes.
 pub(crate) fn is_of_bytes(text: &str)
     ensures { IsOfBytes text.now }
 {}
 
-/// Seven bytes of a text as one number, and in its lowest byte the length, up to eight: texts of less
-/// than eight bytes with one key are the same. Many tables have names that begin alike, and some have
-/// names that end alike, so a key has bytes of both ends.
+/// Packs seven bytes of a name into a key, and its length (8 if longer) into the lowest byte. Names
+/// under eight bytes are equal if their keys are. Many tables have names that begin alike, and some
+/// have names that end alike, so the bytes are from both ends.
 #[inline]
 pub(crate) fn key_of(text: &str) -> u64
     ensures { result ≡ key_of text.now }
@@ -68,15 +68,15 @@ pub(crate) fn key_of(text: &str) -> u64
     seven_of(bytes) + bytes.len().min(8) as u64
 }
 
-/// All of up to seven bytes, and else the first three and the last four, as one number before a byte of
-/// zero, with zeros in the place of those that are missing.
+/// Packs up to seven bytes of a name (the first three and last four if longer) into a `u64`,
+/// zero-padded; the low byte is zero.
 fn seven_of(bytes: &[u8]) -> u64
     ensures worth { result ≡ from_be_bytes w64 (key_bytes bytes.now) }
     ensures below { result + 8 < 2 ^ 64 }
 {
     match bytes {
         [a, b, c, .., d, e, f, g] => {
-            // Each half is one read of memory.
+            // Each half is a single read from memory.
             let front = u32::from_be_bytes([*a, *b, *c, 0]) as u64;
             let back = u32::from_be_bytes([*d, *e, *f, *g]) as u64;
             front * FOUR_BYTES + back * ONE_BYTE
@@ -85,7 +85,7 @@ fn seven_of(bytes: &[u8]) -> u64
     }
 }
 
-/// Up to six bytes as one number, likewise.
+/// Packs up to six bytes in the same way.
 fn up_to_six(bytes: &[u8]) -> u64
     requires { length bytes.now < 7 }
     ensures worth { result ≡ from_be_bytes w64 bytes.now }
@@ -99,7 +99,7 @@ fn up_to_six(bytes: &[u8]) -> u64
     }
 }
 
-/// Less than four bytes as one number of four, with zeros in the place of those that are missing.
+/// Packs up to three bytes into four, zero-padded.
 fn short_key(bytes: &[u8]) -> u64
     requires { length bytes.now < 4 }
     ensures below { result + 8 < 2 ^ 32 }
@@ -113,7 +113,7 @@ fn short_key(bytes: &[u8]) -> u64
     }
 }
 
-/// The byte of a short name, if there is one.
+/// The byte of a short name, or `NO_BYTE` if it is empty.
 #[inline(always)]
 pub(crate) fn short_byte(short: &str) -> u16
     ensures { result ≡ short_code short.now }

@@ -1,4 +1,4 @@
-//! What a line gives: its options with their values, held together, and those of one group.
+//! The options that a command line gives, with their values: all together, and by group.
 
 ghost use Rattle.std.specs.Prelude.{◌≡◌, ◌↔◌, ◌<◌, ◌∷◌, ◌++◌};
 ghost use Rattle.std.specs.Prelude.{[], Some, IfOk, OnOk, OnErr, IsTrue, map, length};
@@ -17,15 +17,15 @@ ghost use Rattle.getopts.specs.Same.{same_found};
 use std::alloc::{AllocError, Global};
 use std::marker::Model;
 
-/// Where a text stands in a text.
+/// Where a text is in a longer one.
 #[derive(Clone, Copy, Debug)]
 pub(crate) struct Span {
     pub start: usize,
     pub end: usize,
 }
 
-/// One option that a line gives: the place of its group, the index of its item's first word, and where its
-/// value stands among those of the line, if it has one.
+/// A stored occurrence of an option: the place of its group, the index of its item's first word,
+/// and where its value is in the text of all values, if it has one.
 #[derive(Clone, Copy, Debug)]
 pub(crate) struct OccurrenceRecord {
     pub group: usize,
@@ -33,8 +33,8 @@ pub(crate) struct OccurrenceRecord {
     pub value: Option<Span>,
 }
 
-/// One option that a line gives, borrowed: the place of its group, the index of its item's first word, and its
-/// value if it has one.
+/// An occurrence of an option, borrowed: the place of its group, the index of its item's first
+/// word, and its value if it has one.
 #[derive(Clone, Copy)]
 pub(crate) struct Occurrence<'l> {
     pub group: usize,
@@ -42,12 +42,13 @@ pub(crate) struct Occurrence<'l> {
     pub value: Option<&'l str>,
 }
 
-/// The bytes reserved for each option once one has a value, so that short values need no second request.
+/// Bytes reserved for each option along with the first value, so that short values fit without
+/// reallocating.
 const VALUE_BYTES: usize = 8;
 /// The most bytes that `VALUE_BYTES` reserves.
 const MOST_BYTES: usize = 8192;
 
-/// Adds a value, the first with room for so many, and returns where it stands.
+/// Appends a value, and returns where it is. The first value reserves memory for `room` values.
 #[inline(always)]
 fn push_value(values: &mut String, value: &str, room: usize) -> Result<Span, AllocError>
     ensures ok { IfOk result (λ span.
@@ -67,7 +68,7 @@ fn push_value(values: &mut String, value: &str, room: usize) -> Result<Span, All
     })
 }
 
-/// The options that a line gives, in order, and their values as one text.
+/// The options that a command line gives, in order, and their values as one text.
 #[derive(Debug)]
 pub(crate) struct LineOccurrences {
     pub records: Vec<OccurrenceRecord>,
@@ -96,7 +97,7 @@ impl Model for LineOccurrences {
 }
 
 impl LineOccurrences {
-    /// No options, with room for so many.
+    /// No options, with this much room.
     pub(crate) fn with_capacity(alloc: Global, room: usize) -> Result<LineOccurrences, AllocError>
         ensures { IfOk result (λ found. found ≡ []) }
     {
@@ -106,7 +107,7 @@ impl LineOccurrences {
         })
     }
 
-    /// Makes room for so many options more.
+    /// Makes room for this many more options.
     pub(crate) fn reserve(&mut self, room: usize) -> Result<(), AllocError>
         ensures { self.new ≡ self.old }
     {
@@ -119,7 +120,7 @@ impl LineOccurrences {
         self.records.len()
     }
 
-    /// The occurrence at a place.
+    /// The occurrence at `place`.
     #[inline(always)]
     pub(crate) fn at(&self, place: usize) -> Occurrence<'_>
         requires { place < length self.now }
@@ -137,7 +138,7 @@ impl LineOccurrences {
         }
     }
 
-    /// Adds an occurrence as the last.
+    /// Appends an occurrence.
     #[inline(always)]
     pub(crate) fn push(
         &mut self,
@@ -174,10 +175,10 @@ impl Clone for LineOccurrences {
     }
 }
 
-/// The occurrences of one option group, in the order of the line, lent by the matches.
+/// The occurrences of one option group, in command-line order, borrowed from the matches.
 ///
-/// `Matches::occurrences_at` returns them. No text is copied. The Rust crate has no such type. They can be gone
-/// over:
+/// `Matches::occurrences_at` returns them. No text is copied. The Rust crate has no such type.
+/// Iterate over them with `for`:
 ///
 /// ```
 /// for (position, value) in matches.occurrences_at(place) { .. }
@@ -201,7 +202,7 @@ impl<'m> Model for Occurrences<'m> {
 }
 
 impl<'m> Occurrences<'m> {
-    /// The occurrences of a line at these places.
+    /// The occurrences at these places of a command line.
     #[inline]
     pub(crate) fn of(found: &'m LineOccurrences, places: &'m [usize]) -> Occurrences<'m>
         requires { ArePlacesOf found.now places.now }
@@ -210,7 +211,7 @@ impl<'m> Occurrences<'m> {
         Occurrences { found, places }
     }
 
-    /// How many they are.
+    /// The number of occurrences.
     #[inline]
     pub fn len(&self) -> usize
         ensures { result ≡ length self.now }
@@ -218,7 +219,7 @@ impl<'m> Occurrences<'m> {
         self.places.len()
     }
 
-    /// Whether there are none.
+    /// Whether there are no occurrences.
     #[inline]
     pub fn is_empty(&self) -> bool
         ensures { IsTrue result ↔ (self.now ≡ []) }
@@ -226,8 +227,7 @@ impl<'m> Occurrences<'m> {
         self.len() == 0
     }
 
-    /// The position of the occurrence at this place, from 0 on, and its value if it has one; `None` past the
-    /// last.
+    /// Returns the position of an occurrence and its value, if it has one, or `None` past the last.
     #[inline]
     pub fn get(&self, nth: usize) -> Option<(usize, Option<&'m str>)>
         ensures { option_map held_found result ≡ slice_get self.now nth }
@@ -239,7 +239,7 @@ impl<'m> Occurrences<'m> {
         Some((occurrence.position, occurrence.value))
     }
 
-    /// One that is there.
+    /// The occurrence at an index that is in range.
     #[inline]
     fn at(&self, nth: usize) -> Occurrence<'m>
         requires { nth < length self.now }
@@ -283,7 +283,7 @@ impl<'m> Occurrences<'m> {
         Ok(pairs)
     }
 
-    /// The value of the first occurrence.
+    /// The value of the first occurrence, if that has one.
     pub(crate) fn first_value(&self) -> Option<&'m str>
         ensures { option_copied result ≡ first_value self.now }
     {
@@ -291,7 +291,7 @@ impl<'m> Occurrences<'m> {
         value
     }
 
-    /// The value of the first occurrence, or this text where that has none.
+    /// The value of the first occurrence, or `fallback` if that has none.
     pub(crate) fn first_value_or(&self, fallback: &'m str) -> Option<&'m str>
         ensures { option_copied result ≡ first_value_or self.now fallback.now }
     {
@@ -299,7 +299,7 @@ impl<'m> Occurrences<'m> {
         Some(value.unwrap_or(fallback))
     }
 
-    /// Whether two groups have occurrences of the same positions and values in the same order.
+    /// Whether both have the same positions and values, in the same order.
     #[inline]
     pub(crate) fn same(&self, other: &Occurrences<'_>) -> bool
         ensures { result ≡ pointwise same_found self.now other.now }
@@ -332,7 +332,7 @@ impl<'m> IntoIterator for Occurrences<'m> {
     }
 }
 
-/// The occurrences of one option group that are still to come, each with its position and its value.
+/// Iterates over the occurrences of one option group, each with its position and value.
 #[derive(Debug, Drop)]
 pub struct OccurrencesIter<'m> {
     occurrences: Occurrences<'m>,

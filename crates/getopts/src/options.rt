@@ -14,8 +14,8 @@ use crate::help::{Group, Groups};
 use std::alloc::{AllocError, Global};
 use std::marker::Model;
 
-/// Option groups, a parsing style and a mode: what `optflag` and its kin declare, `parse` reads words by, and
-/// `usage` prints help of.
+/// The options of a program: option groups, a parsing style and a mode. Methods such as `optflag`
+/// add groups, `parse` reads a command line, and `usage` formats help.
 #[derive(Debug)]
 pub struct Options {
     alloc: Global,
@@ -48,8 +48,9 @@ impl Model for Options {
 }
 
 impl Options {
-    /// Options with no groups, in `FloatingFrees` and ordinary mode. Takes no memory; the calls that
-    /// add a group grow the options with this allocator, which the Rust crate doesn't ask for.
+    /// Creates options without groups, in the style `FloatingFrees` and in ordinary mode.
+    ///
+    /// Allocates nothing. Methods that add a group use `alloc`, which the Rust crate doesn't take.
     pub fn new(alloc: Global) -> Options
         ensures { result ≡ record {
           groups = [];
@@ -65,14 +66,15 @@ impl Options {
         }
     }
 
-    /// Adds an option with any kind of argument and any kind of occurrence, as the last group.
+    /// Adds an option, with any kind of argument and any number of occurrences, as the last group.
     ///
-    /// `options.add_group("o", "output", "write to FILE", "FILE", HasArg::Yes, Occur::Multi)?` does what
-    /// `opt` does. It is for whoever goes on after an error: its contract says that the options are then
-    /// as they were, and options may be added to in a loop. The calls named as in the Rust crate call it;
-    /// they return the options for a chain, and so can't say what an error leaves. The names have to be
-    /// lawful, which `names_lawful` tests. An error comes only where memory was refused. The Rust crate has no
-    /// such call.
+    /// `options.add_group("o", "output", "write to FILE", "FILE", HasArg::Yes, Occur::Multi)?` does
+    /// the same as `opt`. Use it to continue after an error, or to add options in a loop: its
+    /// contract promises that the options are unchanged after an error. The methods named as in the
+    /// Rust crate call it, but return the options for chaining, and therefore can't promise that.
+    ///
+    /// Requires valid names (see `names_lawful`). Fails only if an allocation fails. The Rust crate
+    /// has no such method.
     pub fn add_group(
         &mut self,
         short_name: &str,
@@ -94,11 +96,11 @@ impl Options {
         self.groups.push(short_name, long_name, hint, desc, kinds)
     }
 
-    /// Sets what the first free word does to the words after it. The groups and the mode stay.
+    /// Sets whether options may follow the first free word. Groups and mode stay as they are.
     ///
-    /// `options.parsing_style(ParsingStyle::StopAtFirstFree)` makes all words from the first free one on
-    /// free, as a program that runs another one wants. The result is the same options. As in the Rust
-    /// crate, it takes no memory.
+    /// With `options.parsing_style(ParsingStyle::StopAtFirstFree)` every word from the first free
+    /// one on is free, which suits programs that run another program. Returns the same options. As
+    /// in the Rust crate, it allocates nothing.
     pub fn parsing_style(&mut self, style: ParsingStyle) -> &mut Options
         ensures set { result.now ≡ record self.old { style = style } }
         ensures same_options { result.ghost_name ≡ self.entry.ghost_name }
@@ -107,11 +109,11 @@ impl Options {
         self
     }
 
-    /// Sets whether the mode is long-only. The groups and the style stay.
+    /// Turns long-only mode on or off. Groups and style stay as they are.
     ///
-    /// In long-only mode a long name follows one dash or two, and no short names are joined in a word:
-    /// after `options.long_only(true)` the word `-verbose` is the option `verbose`. The result is the same
-    /// options. As in the Rust crate, it takes no memory.
+    /// In long-only mode a long name may follow one dash or two, and short options can't be
+    /// combined in one word: after `options.long_only(true)` the word `-verbose` is the option
+    /// `verbose`. Returns the same options. As in the Rust crate, it allocates nothing.
     pub fn long_only(&mut self, long_only: bool) -> &mut Options
         ensures set { result.now ≡ record self.old { long_only = long_only } }
         ensures same_options { result.ghost_name ≡ self.entry.ghost_name }
@@ -121,20 +123,21 @@ impl Options {
     }
 }
 
-// The calls that add a group, named as in the Rust crate.
+// Methods that add a group, named as in the Rust crate.
 impl Options {
-    /// Adds an option with any kind of argument and any kind of occurrence, as the last group.
+    /// Adds an option, with any kind of argument and any number of occurrences, as the last group.
     ///
-    /// `hint` stands for the argument in usage texts, `desc` is the description there. With the names `c`
-    /// and `color`, `HasArg::Maybe` and `Occur::Multi`, a line may have `-c` and `--color=auto` any number
-    /// of times.
+    /// Usage texts show `hint` in place of the argument, and `desc` as the description. With the
+    /// names `c` and `color`, `HasArg::Maybe` and `Occur::Multi`, a command line may contain `-c`
+    /// and `--color=auto` any number of times.
     ///
-    /// What differs from the Rust crate: the names have to be lawful, which `names_lawful` tests. The Rust crate
-    /// panics in this call where one is too long or too short, and takes two empty names, on which
-    /// `parse` then panics. The result is a `Result`, so calls are chained with `?`: in it is a reference
-    /// to the same options. An error comes only where memory was refused, and leaves the options as they
-    /// were: that is proved of `add_group`, on which this call stands, and can't be said of this call, whose
-    /// result borrows from the options.
+    /// Requires valid names (see `names_lawful`). Fails only if an allocation fails; the options
+    /// are then unchanged. This is proved for `add_group`, which this method calls, but can't be
+    /// stated here, because the result borrows the options. Returns the same options, so that calls
+    /// can be chained with `?`.
+    ///
+    /// The Rust crate panics here if a name is too long or too short, and accepts two empty names,
+    /// on which its `parse` panics.
     pub fn opt(
         &mut self,
         short_name: &str,
@@ -154,11 +157,11 @@ impl Options {
         Ok(self)
     }
 
-    /// Adds an option that takes no argument and may come once.
+    /// Adds an option without an argument that may occur once.
     ///
-    /// `options.optflag("q", "quiet", "say less")?` reads `-q` and `--quiet`, once on a line. As in the
-    /// Rust, usage texts show no hint for it. The condition on the names, the result and an error are
-    /// those of `opt`.
+    /// `options.optflag("q", "quiet", "say less")?` accepts `-q` or `--quiet`, once per command
+    /// line. As in the Rust crate, usage texts show no hint for it. Requirements, result and errors
+    /// are the same as for `opt`.
     pub fn optflag(
         &mut self,
         short_name: &str,
@@ -174,11 +177,11 @@ impl Options {
         self.opt(short_name, long_name, desc, "", HasArg::No, Occur::Optional)
     }
 
-    /// Adds an option that takes no argument and may come any number of times.
+    /// Adds an option without an argument that may occur any number of times.
     ///
-    /// `options.optflagmulti("v", "verbose", "say more")?` reads `-v`, `-vvv` and `-v --verbose`. As in the
-    /// Rust, usage texts show no hint for it. The condition on the names, the result and an error are those
-    /// of `opt`.
+    /// `options.optflagmulti("v", "verbose", "say more")?` accepts `-v`, `-vvv` and `-v --verbose`.
+    /// As in the Rust crate, usage texts show no hint for it. Requirements, result and errors are
+    /// the same as for `opt`.
     pub fn optflagmulti(
         &mut self,
         short_name: &str,
@@ -194,13 +197,14 @@ impl Options {
         self.opt(short_name, long_name, desc, "", HasArg::No, Occur::Multi)
     }
 
-    /// Adds an option that may have an argument and may come once.
+    /// Adds an option with an optional argument that may occur once.
     ///
-    /// `options.optflagopt("c", "color", "colour the output", "WHEN")?` reads `--color`, `--color=auto`,
-    /// `-cauto`, and `-c auto`. A long name has its argument after `=` alone, so `--color auto` leaves `auto`
-    /// as a free word. A short name leaves a next word that begins with a dash and goes on: after `-c -v`
-    /// the option has no argument, and `-v` is an option of its own; `-c -` has the argument `-`. The
-    /// condition on the names, the result and an error are those of `opt`.
+    /// `options.optflagopt("c", "color", "colour the output", "WHEN")?` accepts `--color`,
+    /// `--color=auto`, `-cauto` and `-c auto`. A long name takes an argument only after `=`: in
+    /// `--color auto`, `auto` is a free word. A short name doesn't take the next word if that
+    /// begins with a dash and is longer than `-`: `-c -v` gives `c` no argument and is followed by
+    /// the option `-v`, and `-c -` gives it the argument `-`. Requirements, result and errors are
+    /// the same as for `opt`.
     pub fn optflagopt(
         &mut self,
         short_name: &str,
@@ -224,10 +228,10 @@ impl Options {
         )
     }
 
-    /// Adds an option that needs an argument and may come any number of times.
+    /// Adds an option with a mandatory argument that may occur any number of times.
     ///
-    /// `options.optmulti("L", "", "add a folder", "DIR")?` reads `-L a -Lb` as two folders. The condition on
-    /// the names, the result and an error are those of `opt`.
+    /// `options.optmulti("L", "", "add a folder", "DIR")?` reads `-L a -Lb` as two folders.
+    /// Requirements, result and errors are the same as for `opt`.
     pub fn optmulti(
         &mut self,
         short_name: &str,
@@ -244,10 +248,10 @@ impl Options {
         self.opt(short_name, long_name, desc, hint, HasArg::Yes, Occur::Multi)
     }
 
-    /// Adds an option that needs an argument and may come once.
+    /// Adds an option with a mandatory argument that may occur once.
     ///
-    /// `options.optopt("o", "output", "set the output file", "NAME")?` reads `-o a`, `-oa`, `--output a` and
-    /// `--output=a`. The condition on the names, the result and an error are those of `opt`.
+    /// `options.optopt("o", "output", "set the output file", "NAME")?` accepts `-o a`, `-oa`,
+    /// `--output a` and `--output=a`. Requirements, result and errors are the same as for `opt`.
     pub fn optopt(
         &mut self,
         short_name: &str,
@@ -271,11 +275,11 @@ impl Options {
         )
     }
 
-    /// Adds an option that needs an argument and comes exactly once: a line without it is refused.
+    /// Adds a required option with a mandatory argument: it has to occur exactly once.
     ///
-    /// `options.reqopt("i", "input", "read this file", "NAME")?` reads `-i a`, and refuses a line without
-    /// `input` by `Fail::OptionMissing`. The condition on the names, the result and an error are those of
-    /// `opt`.
+    /// `options.reqopt("i", "input", "read this file", "NAME")?` accepts `-i a`, and rejects a
+    /// command line without `input` with `Fail::OptionMissing`. Requirements, result and errors are
+    /// the same as for `opt`.
     pub fn reqopt(
         &mut self,
         short_name: &str,
@@ -293,7 +297,7 @@ impl Options {
     }
 }
 
-// What the other modules read of options.
+// Accessors for other modules.
 impl Options {
     pub(crate) fn style(&self) -> ParsingStyle
         ensures { result ≡ self.now.style }
@@ -316,7 +320,7 @@ impl Options {
         &self.groups
     }
 
-    /// What reading asks of the groups.
+    /// The names and kinds of the groups.
     pub(crate) fn signatures(&self) -> &Signatures
         ensures signatures { result.now ≡ signatures_of self.now.groups }
         ensures declared { MayBeDeclared self.now.groups }
@@ -328,8 +332,7 @@ impl Options {
 impl Clone for Options {
     ghost is_clone = { λ a b. b ≡ a };
 
-    /// The same groups in the same order, the same style and the same mode. An error comes only where
-    /// memory was refused.
+    /// Copies the groups in order, the style and the mode. Fails only if an allocation fails.
     fn clone(&self) -> Result<Options, AllocError>
         ensures same { IfOk result (λ copy. copy ≡ self.now) }
     {
@@ -349,7 +352,7 @@ impl PartialEq for Options {
 
     ghost laws = { Prim.search (comparing, rules) depth 12 };
 
-    /// Whether all six parts of each group in order, the style and the mode are the same.
+    /// Whether all six parts of each group in order, the style and the mode are equal.
     fn eq(&self, other: &Options) -> bool
         ensures answer { result ≡ same_options self.now other.now }
         ensures same { IsTrue result ↔ (self.now ≡ other.now) }

@@ -1,4 +1,4 @@
-//! Reading a line: its words are scanned, and then its counts are checked.
+//! Parsing a command line: its words are scanned, then its counts are checked.
 
 ghost use Rattle.std.specs.Prelude.{◌≡◌, ◌↔◌, IsTrue, IfOk, IfErr, IfSome, OnOk, length, map};
 ghost use Rattle.std.specs.Iterator.{IsFinite};
@@ -30,24 +30,24 @@ impl Options {
     ghost use Rattle.getopts.specs.Holds.{EndsInTrailing};
     ghost use Rattle.getopts.specs.Held.Matches.{IsReadLine, IsAcceptedLine};
 
-    /// Reads the words of a line, without the program's own name.
+    /// Parses a command line, given without the program's own name.
     ///
-    /// The result is what the words give, or else their first fault: that of the first word that can't be read, or,
-    /// where all can, that of the first option, in order of definition, that is required and missing or came too
-    /// often. `Fail::OutOfMemory` comes where memory was refused, in place of any other result. The options stay as
-    /// they are.
+    /// Returns what the words give, or their first error. It is about the first word that can't be
+    /// read or, if all can be read, about the first option, in order of declaration, that is
+    /// missing or was given too often. Returns `Fail::OutOfMemory` instead if an allocation fails.
+    /// The options aren't changed.
     ///
-    /// With an option `o`/`output` that needs an argument, `["-ofile", "x"]`, `["-o", "file", "x"]` and
-    /// `["--output=file", "x"]` all give `output` the value `file`, and the free word `x`.
+    /// With an option `o`/`output` that needs an argument, `["-ofile", "x"]`, `["-o", "file", "x"]`
+    /// and `["--output=file", "x"]` all give `output` the value `file`, and the free word `x`.
     ///
-    /// The Rust crate has no such call: its `parse` takes an iterator.
+    /// The Rust crate has no such method: its `parse` takes an iterator.
     pub fn parse_words<S: AsStr>(&self, alloc: Global, words: &[S]) -> crate::Result
         ensures result { GivesResult result (parse_result self.now (map S.text words.now)) }
         ensures accepted { IfOk result (IsAccepted self.now (map S.text words.now)) }
         ensures refused { IfErr result (λ fail. Tells fail
             (IsRefused self.now (map S.text words.now))) }
 
-        // What was found of each declared option is as it is declared.
+        // The matches hold each declared option, with occurrences that fit its declaration.
         ensures declared { IfOk result (λ matches. HoldDeclared self.now matches.groups) }
         ensures positions_below { IfOk result (λ matches.
             HavePositionsBelow (length words.now) matches.groups) }
@@ -56,21 +56,21 @@ impl Options {
         ensures trailing { IfOk result (λ matches. IfSome matches.trailing_start
             (EndsInTrailing (map S.text words.now) matches)) }
 
-        // By these options: other spellings of a line, lines one after the other, and where free words and
-        // occurrences stand.
+        // For these options: other spellings of a command line, command lines one after the other,
+        // and where free words and occurrences are.
         ensures laws { OnOk result (KeepsReadingLaws (grammar_of self.now)) }
     {
         let accepted = self.accepted_line(alloc, words)?;
         Ok(Matches::of_line(self.signatures().clone()?, accepted))
     }
 
-    /// Reads the words of a line, as `parse_words` does, whatever their counts.
+    /// Parses a command line like `parse_words`, but doesn't check how often options occur.
     ///
-    /// It is for a program that prints its help also where a required option is missing: it calls this
-    /// first, prints its help where the help option was given, and then calls `parse_words`. `Ok` comes
-    /// exactly where all words can be read. Then the matches are what the words give, though a required
-    /// option may be missing and an option that may come once may have come again. The faults of
-    /// the words themselves come as from `parse_words`. The Rust crate has no such call.
+    /// Use it to print help even if a required option is missing: call it first, print help if the
+    /// help option was given, and otherwise call `parse_words`. Succeeds if and only if every word
+    /// can be read. A required option may then be missing, and an option that may occur once may
+    /// occur several times. Other errors are the same as for `parse_words`. The Rust crate has no
+    /// such method.
     pub fn parse_ignoring_counts<S: AsStr>(&self, alloc: Global, words: &[S]) -> crate::Result
         ensures result { GivesResult result (read_result self.now (map S.text words.now)) }
         ensures read { IfOk result (HasReading self.now (map S.text words.now)) }
@@ -84,11 +84,11 @@ impl Options {
         Ok(Matches::of_line(self.signatures().clone()?, read))
     }
 
-    /// Reads the words of a line, as `parse_words` does, over the items of an iterator.
+    /// Parses a command line like `parse_words`, from an iterator.
     ///
-    /// The iterator has to end; that of `options.parse(alloc, words.iter().copied())?` does. All its items are taken
-    /// before any result but `Fail::OutOfMemory`. The Rust crate takes words that may be no UTF-8, and refuses
-    /// those.
+    /// Requires an iterator that ends, as in `options.parse(alloc, words.iter().copied())?`. All
+    /// items are taken before anything but `Fail::OutOfMemory` is returned. The Rust crate also
+    /// accepts words that aren't UTF-8, and rejects them at run time.
     pub fn parse<'a, I: Iterator<Item = &'a str> + Drop>(
         &self,
         alloc: Global,
@@ -109,7 +109,7 @@ impl Options {
         self.parse_words(alloc, &words)
     }
 
-    /// Reads a line, and checks its counts.
+    /// Reads a command line, and checks its counts.
     #[inline(always)]
     pub(crate) fn accepted_line<S: AsStr>(
         &self,
@@ -126,7 +126,7 @@ impl Options {
         Ok(read)
     }
 
-    /// Reads a line, whatever its counts.
+    /// Reads a command line without checking its counts.
     #[inline(always)]
     fn read_line<S: AsStr>(&self, alloc: Global, words: &[S]) -> Result<ReadLine, Fail>
         ensures read { IfOk result (IsReadLine self.now (map S.text words.now)) }
@@ -147,7 +147,7 @@ impl Options {
     }
 }
 
-/// The words that an iterator gives, in order. Each request for memory that fails is reported.
+/// The words that an iterator yields, in order. Every failed allocation is reported.
 pub(crate) fn words_from<'a, I: Iterator<Item = &'a str> + Drop>(
     alloc: Global,
     args: I,
@@ -164,7 +164,7 @@ pub(crate) fn words_from<'a, I: Iterator<Item = &'a str> + Drop>(
     Ok(words)
 }
 
-/// Checks how often the options of a line came, group by group in order of definition.
+/// Checks how often each option of a command line occurs, in order of declaration.
 #[inline(always)]
 fn check_counts(alloc: Global, signatures: &Signatures, read: &ReadLine) -> Result<(), Fail>
     requires { IsOfSignatures signatures.now read.now }
@@ -182,7 +182,7 @@ fn check_counts(alloc: Global, signatures: &Signatures, read: &ReadLine) -> Resu
     Ok(())
 }
 
-/// Whether an option may come so many times.
+/// Whether an option may occur this often.
 #[inline(always)]
 fn fits_count(occurrence: Occur, count: usize) -> bool
     ensures { IsTrue result ↔ FitsCount occurrence count }
@@ -194,7 +194,7 @@ fn fits_count(occurrence: Occur, count: usize) -> bool
     }
 }
 
-/// The fault of an option that came so many times.
+/// The error for an option that occurs this often.
 fn count_fault(alloc: Global, main: &str, count: usize) -> Fail
     ensures { Tells result (λ fault. fault ≡ count_fault main.now count) }
 {

@@ -1,4 +1,4 @@
-//! The row of one group in a usage text: its head, and its description beside or below that.
+//! One group's row in a usage text: its head, with the description beside or below it.
 ghost use Rattle.std.specs.Prelude.{◌≡◌, ◌++◌, string_bytes, OnOk};
 ghost use Rattle.getopts.specs.Wrap.{width_of};
 ghost use Rattle.getopts.specs.Usage.{AddsTheOnly, IsUsageRow, argument_part, has_columns, head};
@@ -13,23 +13,23 @@ use crate::wrap::push_description;
 use std::alloc::AllocError;
 use unicode_width::UnicodeWidthStr;
 
-/// The columns before a description.
+/// The number of columns before a description.
 const MARGIN: usize = 24;
 
-/// The columns that a row of a description may take.
+/// The most columns in a row of a description.
 const DESCRIPTION_COLUMNS: usize = 54;
 
-/// A line end, and as many spaces as there are columns before a description.
+/// A line end, and a space for each column before a description.
 const NEXT_ROW: &str = "\n                        ";
 
-/// What the heads of one usage text share.
+/// What the heads in one usage text have in common.
 #[derive(Clone, Copy)]
 pub(crate) struct Layout {
     pub long_only: bool,
     pub any_short: bool,
 }
 
-/// Adds the row of one group.
+/// Appends the row of one group.
 pub(crate) fn push_row(
     text: &mut String,
     layout: Layout,
@@ -46,7 +46,7 @@ pub(crate) fn push_row(
     push_description(text, group.desc, DESCRIPTION_COLUMNS, NEXT_ROW)
 }
 
-/// Adds what stands before a group's description.
+/// Appends the head of a group's row, which precedes the description.
 fn push_head(text: &mut String, layout: Layout, group: Group<'_>) -> Result<(), AllocError>
     ensures { OnOk result (string_bytes text.new ≡ string_bytes text.old
         ++ head layout.long_only layout.any_short (group_view group.entry)) }
@@ -59,8 +59,8 @@ fn push_head(text: &mut String, layout: Layout, group: Group<'_>) -> Result<(), 
     push_argument(text, kinds.kind, group.hint)
 }
 
-/// Adds the short name with its dash, or what stands in its place. `wide` says whether the long name takes a
-/// column.
+/// Appends the short name with its dash, or what replaces it. `wide` says whether the long name
+/// takes a column.
 fn push_short(
     text: &mut String,
     layout: Layout,
@@ -80,7 +80,7 @@ fn push_short(
     }
 }
 
-/// Adds the long name with its dashes, where it takes a column, as `wide` says.
+/// Appends the long name with its dashes if it takes a column, as `wide` says.
 fn push_long(text: &mut String, layout: Layout, long: &str, wide: bool) -> Result<(), AllocError>
     requires { wide ≡ has_columns long.now }
     ensures { OnOk result (string_bytes text.new ≡ string_bytes text.old
@@ -94,7 +94,7 @@ fn push_long(text: &mut String, layout: Layout, long: &str, wide: bool) -> Resul
     text.push(' ')
 }
 
-/// Adds the hint, in brackets where the argument may be left out.
+/// Appends the hint, in brackets if the argument is optional.
 pub(crate) fn push_argument(text: &mut String, kind: HasArg, hint: &str) -> Result<(), AllocError>
     ensures { OnOk result (string_bytes text.new ≡ string_bytes text.old
         ++ argument_part kind hint.now) }
@@ -110,7 +110,7 @@ pub(crate) fn push_argument(text: &mut String, kind: HasArg, hint: &str) -> Resu
     }
 }
 
-/// What stands between a head and its description.
+/// What separates a head from its description.
 fn padding_after(head: &str) -> &'static str
     ensures { result.now ≡ padding head.now }
 {

@@ -18,16 +18,17 @@ use crate::table::Table;
 use std::alloc::{AllocError, Global};
 use std::convert::AsStr;
 
-/// The first capacity of a list of words, and of what words give, at most: an iterator may give fewer than it
-/// promises. More words than that are counted before the first is read.
+/// The most capacity that is requested at first for words and for what they give: an iterator may
+/// yield fewer words than it promises. If there are more words, they are counted before the first
+/// is read.
 pub(crate) const FIRST_ROOM: usize = 32;
 
-/// A `&str` is a text.
+/// A lemma: a `&str` is a text.
 fn is_text(word: &str)
     ensures { IsUtf8 word.now }
 {}
 
-/// Each word is UTF-8, as its type says: a law to cite, of which nothing is left once built.
+/// A lemma for proofs, which compiles to nothing: each word is UTF-8, as its type says.
 pub fn are_texts<S: AsStr>(words: &[S])
     ensures { AreTexts (map S.text words.now) }
 {
@@ -36,7 +37,7 @@ pub fn are_texts<S: AsStr>(words: &[S])
     }
 }
 
-/// What a line gives.
+/// What a command line gives.
 #[derive(Drop)]
 pub(crate) struct Line {
     pub found: LineOccurrences,
@@ -47,7 +48,7 @@ pub(crate) struct Line {
 impl Line {
     ghost use Rattle.getopts.specs.Held.Line.{IsEmptyLine};
 
-    /// A line that gives nothing, with room for so many options and so many free words.
+    /// An empty line, with room for this many options and this many free words.
     pub(crate) fn with_capacity(alloc: Global, room: usize) -> Result<Line, AllocError>
         ensures { IfOk result IsEmptyLine }
     {
@@ -58,7 +59,7 @@ impl Line {
         })
     }
 
-    /// Reserves for what many words give. Few words fit in what is there.
+    /// Makes room for what many words give. What few words give fits already.
     #[inline(always)]
     fn reserve<S: AsStr>(&mut self, words: &[S], stops: bool) -> Result<(), AllocError>
         requires { IsEmptyLine self.old }
@@ -70,8 +71,9 @@ impl Line {
         self.reserve_many(words, stops)
     }
 
-    /// Reserves for as many options as there are dashed words, and for as many free words as there are others.
-    // Inlined it would make the scan slower.
+    /// Makes room for as many options as there are dashed words, and for as many free words as
+    /// there are others.
+    // Inlining it would slow down the scan.
     #[inline(never)]
     fn reserve_many<S: AsStr>(&mut self, words: &[S], stops: bool) -> Result<(), AllocError>
         requires { IsEmptyLine self.old }
@@ -83,7 +85,7 @@ impl Line {
     }
 }
 
-/// The options by which words are read, and the table of their names.
+/// The options that words are read by, and the table of their names.
 #[derive(Clone, Copy)]
 pub(crate) struct Scanner<'o> {
     pub options: &'o Options,
@@ -97,27 +99,27 @@ pub(crate) struct Named {
     pub kind: HasArg,
 }
 
-/// The value that an option takes, if any, and how many of the words after its own that uses.
+/// The value that an option takes, if any, and how many of the following words it uses.
 #[derive(Clone, Copy)]
 struct Argument<'w> {
     value: Option<&'w str>,
     used: usize,
 }
 
-/// What a word is to a line.
+/// How a word is read.
 #[derive(Clone, Copy)]
 pub(crate) enum Shape<'w> {
-    /// It isn't dashed.
+    /// As a free word: it isn't dashed.
     Free,
-    /// It is `--`.
+    /// As the `--` after which all words are free.
     Stop,
-    /// It begins an item in long form, with this text after the dashes.
+    /// As a long item, with this text after the dashes.
     Long(&'w str),
-    /// It begins a cluster, with this text after the dash.
+    /// As a cluster, with this text after the dash.
     Cluster(&'w str),
 }
 
-/// Adds a copy of a word.
+/// Appends a copy of a word.
 fn push_copy(alloc: Global, copies: &mut Vec<String>, word: &str) -> Result<(), AllocError>
     ensures { OnOk result (map string_bytes copies.new.items
         ≡ map string_bytes copies.old.items ++ word.now ∷ []) }
@@ -126,7 +128,7 @@ fn push_copy(alloc: Global, copies: &mut Vec<String>, word: &str) -> Result<(), 
     Ok(())
 }
 
-/// Adds copies of words.
+/// Appends copies of words.
 fn push_copies<S: AsStr>(
     alloc: Global,
     copies: &mut Vec<String>,
@@ -142,7 +144,7 @@ fn push_copies<S: AsStr>(
     Ok(())
 }
 
-/// The text after a dash at the front.
+/// The text after a leading dash, if there is one.
 fn after_dash(text: &str) -> Option<&str>
     ensures { MatchOption result ((rest : Text) → text.now ≢ dash ∷ rest)
         (λ rest. text.now ≡ dash ∷ rest.now) }
@@ -153,8 +155,8 @@ fn after_dash(text: &str) -> Option<&str>
     Some(&text[1..])
 }
 
-/// The name of a text in long form, and its attached argument. Names are short, so its bytes are
-/// looked at one by one.
+/// The name in the text of a long item, and the attached argument. Names are short, so it checks
+/// one byte at a time.
 fn name_and_argument(text: &str) -> (&str, Option<&str>)
     ensures name { holds_equals result.0.now ≡ false }
     ensures text { text.now ≡ result.0.now ++ with_equals (option_copied result.1) }
@@ -168,7 +170,7 @@ fn name_and_argument(text: &str) -> (&str, Option<&str>)
     (text, None)
 }
 
-/// Whether a word is dashed: it begins with `-` and goes on.
+/// Whether a word is dashed: it begins with `-` and is longer than that.
 fn is_dashed(word: &str) -> bool
     ensures { result ≡ is_dashed word.now }
 {
@@ -178,8 +180,8 @@ fn is_dashed(word: &str) -> bool
     }
 }
 
-/// How many words are dashed, up to where the rest is free. It only says how much to reserve: a wrong
-/// number would cost memory alone.
+/// How many words are dashed, up to where all words are free. This only determines how much to
+/// reserve: a wrong number would only waste memory.
 fn dashed_words<S: AsStr>(words: &[S], stops: bool) -> usize {
     let mut dashed: usize = 0;
     'words: for word in words {
@@ -203,7 +205,8 @@ fn first_character(text: &str) -> &str
     }
 }
 
-/// What an option of kind Yes or Maybe takes in a cluster, by the rest of its word and the words after that.
+/// The argument of an option of kind `Yes` or `Maybe` in a cluster, by the rest of its word and the
+/// following words.
 fn ending<'w, S: AsStr>(
     alloc: Global,
     kind: HasArg,
@@ -243,8 +246,8 @@ impl<'o> Scanner<'o> {
         Some(Named { place, kind })
     }
 
-    /// Reads an item in long form, by its text after the dashes and the words after its first. Adds
-    /// its occurrence, and returns how many of those words it used.
+    /// Reads a long item, by its text after the dashes and the words after its first. Appends its
+    /// occurrence, and returns how many of those words it used.
     fn long<'w, S: AsStr>(
         &self,
         alloc: Global,
@@ -281,8 +284,8 @@ impl<'o> Scanner<'o> {
         Ok(used)
     }
 
-    /// The option that a byte in a cluster names; only names of one byte resolve there, and one that isn't
-    /// ASCII is no text.
+    /// The option that a byte in a cluster names. Only names of one byte resolve there, and a byte
+    /// that isn't ASCII is no text.
     #[inline(always)]
     fn option_at(&self, byte: u8) -> Option<Named>
         requires { IsLawfulScanner self.now }
@@ -299,8 +302,8 @@ impl<'o> Scanner<'o> {
         Some(Named { place, kind })
     }
 
-    /// Reads a cluster, by its text after the dash and the words after its first. Adds its occurrences,
-    /// and returns how many of those words it used.
+    /// Reads a cluster, by its text after the dash and the words after its first. Appends its
+    /// occurrences, and returns how many of those words it used.
     fn cluster<S: AsStr>(
         &self,
         alloc: Global,
@@ -341,7 +344,7 @@ impl<'o> Scanner<'o> {
         Ok(0)
     }
 
-    /// What a word is to a line: in long-only mode one dash is as good as two.
+    /// How a word is read: in long-only mode, one dash is as good as two.
     fn shape<'w>(&self, word: &'w str) -> Shape<'w>
         ensures { HasShape (scanner_grammar self.now) word.now result }
     {
@@ -358,7 +361,7 @@ impl<'o> Scanner<'o> {
         }
     }
 
-    /// Reads a line: its items, and what follows the stop or the first free word.
+    /// Reads a command line: its items, and what follows `--` or the first free word.
     pub(crate) fn scan<S: AsStr>(&self, alloc: Global, words: &[S]) -> Result<Line, Fail>
         requires lawful { IsLawfulScanner self.now }
         requires texts { AreTexts (map S.text words.now) }

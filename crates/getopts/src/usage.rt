@@ -1,4 +1,4 @@
-//! Usage texts: the line of all options, and the rows of options with their descriptions.
+//! Usage texts: all options in one line, and a row for each option with its description.
 ghost use Rattle.std.specs.Prelude.{◌≡◌, ◌++◌, List, codes, map, string_bytes, IfOk, OnOk};
 ghost use Rattle.std.specs.Iterator.{YieldsFirstBy, item_count};
 ghost use Rattle.getopts.specs.Held.Groups.{names_view};
@@ -19,19 +19,19 @@ use std::alloc::{AllocError, Global};
 use std::marker::Model;
 use std::vec;
 
-/// The bytes that most rows take.
+/// The bytes that most rows need.
 const ROW_ROOM: usize = 80;
 
-/// The bytes that most options of the short usage take, with the space before them.
+/// The bytes that most options need in the short usage, with the space before them.
 const OPTION_ROOM: usize = 16;
 
-/// The rows of a usage text, one for each option group, in order of definition.
+/// The rows of a usage text, one for each option group, in order of declaration.
 ///
-/// `Options::usage_with_format` passes them to its closure. All of them are made by then, so `next`
-/// takes no memory. A row has no line end after it; inside it has one before each row of the
-/// description that begins a line of its own.
+/// `Options::usage_with_format` passes them to its closure. They have all been built by then, so
+/// `next` allocates nothing. A row doesn't end with a line end, but contains one before each row of
+/// the description that begins a new line.
 ///
-/// In the Rust crate the closure gets a `&mut dyn Iterator`, which makes each row as it is asked for.
+/// In the Rust crate the closure gets a `&mut dyn Iterator`, which builds each row on demand.
 #[derive(Debug, Drop)]
 pub struct UsageRows {
     rows: vec::IntoIter<String>,
@@ -60,11 +60,10 @@ impl Iterator for UsageRows {
 }
 
 impl Options {
-    /// All options in one line, for the head of a usage text.
+    /// Returns all options in one line, for the top of a usage text.
     ///
-    /// An option stands there by its short name, or by its long name where it has no short one,
-    /// then with two dashes in long-only mode too. The line has no line end, and with no options it
-    /// ends with a space.
+    /// Each option is shown by its short name or, if it has none, by its long name, with two dashes
+    /// even in long-only mode. The line has no line end; without options it ends with a space.
     ///
     /// ```
     /// options.reqopt("b", "banana", "Desc", "VAL")?.optflag("k", "kiwi", "Desc")?;
@@ -72,7 +71,7 @@ impl Options {
     /// // "Usage: fruits -b VAL [-k]"
     /// ```
     ///
-    /// The only error is `AllocError`, where memory was refused. In the Rust crate this call cannot fail.
+    /// Fails only if an allocation fails. In the Rust crate this method can't fail.
     pub fn short_usage(&self, alloc: Global, program_name: &str) -> Result<String, AllocError>
         ensures text { IfOk result (λ text.
             string_bytes text ≡ short_usage_text self.now program_name.now) }
@@ -86,12 +85,12 @@ impl Options {
         Ok(text)
     }
 
-    /// The brief, and each option with its description, for a help screen.
+    /// Returns the brief, then each option with its description, for a help screen.
     ///
-    /// A description stands after 24 columns, in rows of at most 54; a wider word has a row of its
-    /// own. A head of 24 columns or more stands on a line by itself. Columns are those that
-    /// `unicode_width` gives for a text: they are not bytes, so descriptions stand below one
-    /// another also where names are not ASCII. A line may end in spaces.
+    /// Descriptions begin after 24 columns, in rows of at most 54; a wider word has a row of its
+    /// own. A head of 24 columns or more has a line of its own. Columns are counted by
+    /// `unicode_width`, not in bytes, so descriptions are aligned even if names aren't ASCII. A
+    /// line may end in spaces.
     ///
     /// ```
     /// options
@@ -105,12 +104,13 @@ impl Options {
     /// //     -h, --help          print this
     /// ```
     ///
-    /// The only error is `AllocError`, where memory was refused.
+    /// Fails only if an allocation fails.
     ///
-    /// In the Rust crate this call cannot fail. There a short name that takes no column is left out, and one
-    /// that takes more than one panics. Here a short name is written wherever it is not empty.
+    /// In the Rust crate this method can't fail. That crate leaves out a short name that takes no
+    /// column, and panics if one takes more than one column. Here every short name that isn't empty
+    /// is written.
     pub fn usage(&self, alloc: Global, brief: &str) -> Result<String, AllocError>
-        // This is the usage text, byte for byte, and no other text is.
+        // This is the only usage text, byte for byte.
         ensures text { IfOk result (λ text.
             IsTheOnly (IsUsageText self.now brief.now) (string_bytes text)) }
     {
@@ -123,10 +123,10 @@ impl Options {
         Ok(text)
     }
 
-    /// What a closure makes of the rows of the usage text.
+    /// Passes the usage rows to a closure, and returns its result.
     ///
-    /// All rows are made first. Then the closure is called once, with the rows, and its result is
-    /// handed back as it is. Where memory for the rows is refused, the closure is not called.
+    /// All rows are built first. Then the closure is called, once. If an allocation for the rows
+    /// fails, it isn't called.
     ///
     /// ```
     /// let text = options.usage_with_format(alloc, |rows| {
@@ -135,9 +135,10 @@ impl Options {
     /// })?;
     /// ```
     ///
-    /// The error is `AllocError`: that of the closure, or one for the rows.
+    /// Fails if the closure does, or if an allocation for the rows fails.
     ///
-    /// In the Rust crate the closure takes a `&mut dyn Iterator`, and neither it nor this call can fail.
+    /// In the Rust crate the closure takes a `&mut dyn Iterator`, and neither it nor this method
+    /// can fail.
     pub fn usage_with_format<F: FnMut(UsageRows) -> Result<String, AllocError> + Drop>(
         &self,
         alloc: Global,
@@ -145,7 +146,7 @@ impl Options {
     ) -> Result<String, AllocError>
         requires { F.IsAlwaysCallable formatter }
 
-        // The closure, as it was passed, returns this for the usage rows. No other list of
+        // This is what the closure, as it was passed, returns for the usage rows. Only one list of
         // texts is the usage rows.
         ensures called { OnOk result ((rows : List Text) ×
             IsTheOnly (AreUsageRows self.now) rows × F.post formatter rows result) }
@@ -154,8 +155,8 @@ impl Options {
         formatter(UsageRows { rows })
     }
 
-    /// The rows of the usage text, each in a text of its own, as `usage_with_format` passes them to its
-    /// closure. The Rust crate has no such call. The only error is `AllocError`, where memory was refused.
+    /// Returns the rows of the usage text as separate texts, as `usage_with_format` passes them to
+    /// its closure. Fails only if an allocation fails. The Rust crate has no such method.
     pub fn usage_rows(&self, alloc: Global) -> Result<Vec<String>, AllocError>
         ensures { IfOk result (λ rows.
             IsTheOnly (AreUsageRows self.now) (map string_bytes rows.items)) }
@@ -171,7 +172,7 @@ impl Options {
         Ok(rows)
     }
 
-    /// Adds the rows of the usage text, with a line end between each two.
+    /// Appends the rows of the usage text, separated by line ends.
     fn push_rows(&self, text: &mut String) -> Result<(), AllocError>
         ensures { OnOk result (AddsRows self.now (string_bytes text.old) (string_bytes text.new)) }
     {
@@ -184,7 +185,7 @@ impl Options {
         Ok(())
     }
 
-    /// Adds the options of the short usage, with a space between each two.
+    /// Appends the options of the short usage, separated by spaces.
     fn push_options(&self, text: &mut String) -> Result<(), AllocError>
         ensures { OnOk result (string_bytes text.new ≡ string_bytes text.old
             ++ joined (codes " ") (map option_text self.now.groups)) }
@@ -197,7 +198,7 @@ impl Options {
         Ok(())
     }
 
-    /// What the heads of the usage text share.
+    /// What the heads in the usage text have in common.
     fn layout(&self) -> Layout
         ensures long_only { result.long_only ≡ self.now.long_only }
         ensures any_short { result.any_short ≡ any_short self.now.groups }
@@ -214,13 +215,13 @@ impl Options {
     }
 }
 
-/// The room for a text that begins with another, and for so many parts after it. It is a guess:
-/// where it is too small, the text grows.
+/// The capacity for a text that begins with another and goes on with this many parts. It is a
+/// guess: if it is too small, the text grows.
 fn room_for(start: &str, count: usize, each: usize) -> usize {
     start.len().saturating_add(count.saturating_mul(each))
 }
 
-/// Adds one option of the short usage.
+/// Appends one option of the short usage.
 fn push_option(text: &mut String, group: Group<'_>) -> Result<(), AllocError>
     ensures { OnOk result (string_bytes text.new ≡ string_bytes text.old
         ++ option_text (group_view group.entry)) }
@@ -240,7 +241,7 @@ fn push_option(text: &mut String, group: Group<'_>) -> Result<(), AllocError>
     text.push_str(after)
 }
 
-/// Adds the name of an option, as it stands in the short usage.
+/// Appends the name of an option, as the short usage shows it.
 fn push_name(text: &mut String, names: Names<'_>) -> Result<(), AllocError>
     ensures { OnOk result (string_bytes text.new ≡ string_bytes text.old
         ++ option_name (names_view names.entry)) }

@@ -1,4 +1,4 @@
-//! Descriptions in rows: the lines of a text, each broken into as few rows as its words allow.
+//! Descriptions in rows: each line is broken into as few rows as its words allow.
 ghost use Rattle.std.specs.Prelude.{◌≡◌, ◌+◌, ◌<◌, ◌≤◌, ◌∷◌, ◌++◌, map, string_bytes, IfOk, OnOk};
 ghost use Rattle.std.specs.Str.Lines.{lines};
 ghost use Rattle.getopts.specs.Wrap.{AddsDescription, AddsLine, BreaksInto, IsDescriptionRows};
@@ -8,16 +8,16 @@ ghost use Rattle.getopts.specs.Only.{IsTheOnly};
 use std::alloc::{AllocError, Global};
 use unicode_width::UnicodeWidthStr;
 
-/// The rows in which a description is printed where `lim` columns are free.
+/// Breaks a description into rows of at most `lim` columns.
 ///
-/// The description is cut into lines at U+000A, and each line into its words at white space. The
-/// words of a line fill its rows in order, parted by one space: a word joins the row where the
-/// row's columns stay within `lim`, and else begins a row. A word that is wider than `lim` has a
-/// row of its own, and with a `lim` of 0 each word has one. A line with no word gives no row. No
-/// other way to break a line into rows that fit has fewer of them.
+/// The description is split into lines at U+000A, and each line into words at white space. The
+/// words of a line fill its rows in order, separated by one space: a word joins the current row if
+/// that then has at most `lim` columns, and otherwise begins a new row. A word wider than `lim` has
+/// a row of its own; with a `lim` of 0 every word does. A line without words gives no row. No other
+/// way to break a line into fitting rows has fewer of them.
 ///
-/// Columns are those of `unicode_width`, each word measured by itself, plus one for each joining
-/// space. They are not bytes: `日本` has six bytes and four columns. Any `lim` will do, up to
+/// Columns are counted by `unicode_width` for each word by itself, plus one for each space between
+/// words. They aren't bytes: `日本` has six bytes and four columns. `lim` may be any number up to
 /// `usize::MAX`.
 ///
 /// ```
@@ -25,21 +25,22 @@ use unicode_width::UnicodeWidthStr;
 /// // "Mary had a", "little lamb", "Little lamb"
 /// ```
 ///
-/// The only error is `AllocError`, where memory for the rows was refused.
+/// Fails only if an allocation fails.
 ///
-/// In the Rust crate this function is private, cannot fail, and measures the row so far as one text. Here it
-/// is public and measures word by word, and nothing is said of the width of a row as one text.
+/// In the Rust crate this function is private, can't fail, and measures the row so far as one text.
+/// Here it is public and measures word by word; it promises nothing about the width of a row as one
+/// text.
 pub fn each_split_within(alloc: Global, desc: &str, lim: usize) -> Result<Vec<String>, AllocError>
     // These are the description's rows, byte for byte, and no other list is: in each line every row
-    // fits or is one word, and none could take in the line's next word.
+    // fits or is one word, and none has room for the next word of the line.
     ensures rows { IfOk result (λ rows.
         IsTheOnly (IsDescriptionRows lim desc.now) (map string_bytes rows.items)) }
 
-    // In each line no fitting way to break its words has fewer rows.
+    // No fitting way to break the words of a line has fewer rows.
     ensures fewest { IfOk result (λ rows.
         BreaksInto (IsFewestBreaking lim) desc.now (map string_bytes rows.items)) }
 {
-    // A row holds no line end, and all rows together are no longer than the description.
+    // No row contains a line end, and all rows together are no longer than the description.
     let mut text = String::with_capacity(alloc, desc.len())?;
     push_description(&mut text, desc, lim, "\n")?;
     rows_in(alloc, text.as_str())
@@ -57,8 +58,8 @@ fn rows_in(alloc: Global, text: &str) -> Result<Vec<String>, AllocError>
     Ok(rows)
 }
 
-/// Adds the rows of a description, with the separator between each two. Where memory fails, the
-/// contract says nothing of the text.
+/// Appends the rows of a description, with the separator between them. If an allocation fails, the
+/// contract says nothing about the text.
 pub(crate) fn push_description(
     text: &mut String,
     desc: &str,
@@ -75,8 +76,8 @@ pub(crate) fn push_description(
     Ok(())
 }
 
-/// Adds the rows of one line, where `begun` says whether any row came before them. The result is
-/// whether any has come now.
+/// Appends the rows of one line. `begun` says whether there are rows before them, the result
+/// whether there are any now.
 fn push_line(
     text: &mut String,
     begun: bool,
@@ -101,8 +102,8 @@ fn push_line(
     Ok(true)
 }
 
-/// Adds a word after a row of so many columns: to that row where it has room, and else to a new one.
-/// The result is the columns of the row that the word stands in.
+/// Appends a word after a row of this many columns: to that row if it fits there, otherwise to a
+/// new one. Returns the number of columns of the word's row.
 #[tactic(auto, unfolding(crate::specs::Wrap::width_of))]
 fn push_word(
     text: &mut String,
@@ -130,7 +131,7 @@ fn push_word(
     Ok(now)
 }
 
-/// Adds the separator, where `begun` says that anything came before.
+/// Appends the separator if `begun` says that something precedes it.
 pub(crate) fn push_parting(
     text: &mut String,
     begun: bool,

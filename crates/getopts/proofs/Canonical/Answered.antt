@@ -1,4 +1,4 @@
--- What the code finds in accepted words is what they say, and words have one answer.
+-- The code finds the content of accepted words, and words have one result.
 use Rattle.std.proofs.Common.{◌≡◌, ◌==◌, ◌<◌, ℕ, Bool, true, false, not, List, [], ◌∷◌, ◌++◌}
 use Rattle.std.proofs.Common.{length, get_or, map, Option, Some, None, Result, Ok, Err, IfSome}
 use Rattle.std.proofs.Common.{IfNone, refl, sym, ap, ◌∙◌, subst, inl, inr}
@@ -31,7 +31,7 @@ use Rattle.getopts.proofs.Parsing.Only.{meets}
 use Rattle.getopts.proofs.Parsing.Parsed.{only_reads, named_here, groups_are, HasReading-reading}
 use Rattle.getopts.proofs.Scanner.Words.{holds_equals-none}
 
--- a test that finds `=` just where it is
+-- a test that finds `=` exactly if it is there
 pub holds_equals-found : (text : Text) (found : Bool)
     → (found ≡ true → (k : ℕ) × (k < length text) × (get_or text k 0 ≡ equals_sign))
     → ((k : ℕ) → k < length text → get_or text k 0 ≡ equals_sign → found ≡ true)
@@ -42,7 +42,7 @@ holds_equals-found text true there at =
 holds_equals-found text false there at =
     sym (holds_equals-none text (λ k within is. true≢false (sym (at k within is))))
 
--- occurrences of groups whose main names hold no `=`
+-- occurrences of groups whose main names contain no `=`
 pub plain-list_all : (groups : List Group) (found : List Occurrence)
     → list_all (λ o. not (holds_equals (main_at groups o.mention.group))) found ≡ true
     → AllByRecursion (λ m. holds_equals (main_at groups m.group) ≡ false)
@@ -52,7 +52,7 @@ plain-list_all groups found all =
     (list_all-map (λ m. not (holds_equals (main_at groups m.group)))
     (λ (o : Occurrence). o.mention) found ∙ all)
 
--- an occurrence of a group whose main name holds `=`
+-- an occurrence of a group whose main name contains `=`
 pub not_plain-list_all : (groups : List Group) (found : List Occurrence)
     → list_all (λ o. not (holds_equals (main_at groups o.mention.group))) found ≡ false
     → ¬ (AllByRecursion (λ m. holds_equals (main_at groups m.group) ≡ false)
@@ -62,7 +62,7 @@ not_plain-list_all groups found some =
     (list_all-map (λ m. not (holds_equals (main_at groups m.group)))
     (λ (o : Occurrence). o.mention) found ∙ some)
 
--- what words are accepted with is what a reading says that keeps the counts
+-- words are accepted with the content of a reading that keeps the counts
 pub count_keeping : (options : Declared) (words : List Text) (content : Content)
     (is : IsAcceptedWith options words content) → IsCountKeeping options is.reading words
 count_keeping options words content is =
@@ -108,7 +108,7 @@ module _ (options : Declared) (words : List Text) (accepted : ReadLine)
       (AllByRecursion-unmap (FitsGroup options.groups) (λ (o : Occurrence). o.mention)
       (occurrences_of (grammar_of options) reading) fits))
 
-  -- the words are accepted with what the line says
+  -- the words are accepted with the line's content
   pub IsAcceptedWith-line : IsAcceptedWith options words (line_content accepted.line)
   IsAcceptedWith-line =
       let reading = is.is_read.reads.reading in
@@ -125,12 +125,12 @@ module _ (options : Declared) (words : List Text) (accepted : ReadLine)
         content_is = λ i. record { mentions = told i; free = is.is_read.reads.free i };
       }
 
-  -- and the line says it
+  -- and the line has this content
   Says-line : Says options words (line_content accepted.line)
   Says-line = Says-accepted options options.style options.long_only words
       (line_content accepted.line) IsAcceptedWith-line
 
-  -- where they hold no group whose main name holds `=`, the line that is made is theirs
+  -- if no occurring main name contains `=`, the line is their canonical line
   pub IsWritten-line : list_all
       (λ o. not (holds_equals (main_at options.groups o.mention.group))) accepted.line.found ≡ true
       → (answer : List Text) → answer ≡ canonical_line options.groups (line_content accepted.line)
@@ -142,7 +142,7 @@ module _ (options : Declared) (words : List Text) (accepted : ReadLine)
     line_is = answer_is;
   }
 
-  -- else some mention can't be written
+  -- otherwise some mention can't be written
   pub IsUnwritable-line : list_all
       (λ o. not (holds_equals (main_at options.groups o.mention.group))) accepted.line.found ≡ false
       → IsUnwritable options words
@@ -164,7 +164,7 @@ KeepsLineLaws-lawful options declared words line written =
     (Says-accepted options options.style options.long_only words written.content written.accepted)
     written.plain
 
--- what an answered line meets, and what holds where none is answered
+-- the properties of a returned line, and what holds if there is none
 pub IfSome-weaker : {X : Type 0} (answer : Option X) (P Q : X → Type 0) → ((x : X) → P x → Q x)
     → IfSome answer P → IfSome answer Q
 IfSome-weaker None P Q follows holds = tt
@@ -175,7 +175,7 @@ pub IfNone-weaker : {X : Type 0} (answer : Option X) (P Q : Type 0) → (P → Q
 IfNone-weaker None P Q follows holds = follows holds
 IfNone-weaker (Some x) P Q follows holds = tt
 
--- a group keeps its count where all do
+-- a group keeps its count if all do
 KeepsCount-at : (before : List MatchedGroup) (group : MatchedGroup) (after : List MatchedGroup)
     → KeepsCounts (before ++ group ∷ after) → KeepsCount group
 KeepsCount-at [] group after keeps = keeps.0
@@ -216,7 +216,7 @@ module _ (options : Declared) (words : List Text) where
   pub reads_of : (m : Matched) (has : HasReading options words m) → Reads options words has.reading
   reads_of m has = meets (Reads options words) has.reading has.only
 
-  -- that of accepted words keeps the counts
+  -- the reading of accepted words keeps the counts
   pub keeps_accepted : (m : Matched) (is : IsAccepted options words m)
       → IsCountKeeping options is.read.reading words
   keeps_accepted m is = record {
@@ -244,7 +244,7 @@ module _ (options : Declared) (words : List Text) where
       (subst (λ (m : Matched). IsCountFault m.groups fault)
       (only_matches is.matches is_other.matches is.read is_other.read) is.breaks) is_other.breaks
 
-  -- words with a reading that keeps the counts aren't refused
+  -- words with a reading that keeps the counts aren't rejected
   pub not_refused : (reading : Reading) (fault : Fault) → IsCountKeeping options reading words
       → IsRefused options words fault → ⊥
   not_refused reading fault keeps (inl is) = is.no_reading reading keeps.reads
@@ -254,7 +254,7 @@ module _ (options : Declared) (words : List Text) where
       no_count_fault is.matches.groups fault
       (subst (λ (m : Matched). KeepsCounts m.groups) same keeps.keeps) is.breaks
 
-  -- words have one answer of `parse`
+  -- words have one result of `parse`
   pub only_parse_answer : (answer other : Result Matched Fault) → IsParseAnswer options words answer
       → IsParseAnswer options words other → answer ≡ other
   only_parse_answer (Ok m) (Ok n) is is_other = ap Ok (only_matches m n is.read is_other.read)
@@ -285,7 +285,7 @@ module _ (options : Declared) (words : List Text) where
   not_both line is is_other = is_other.not_plain (subst (IsPlain options.groups)
       (only_content is.content is_other.content is.accepted is_other.accepted) is.plain)
 
-  -- words have one answer of `canonical`
+  -- words have one result of `canonical`
   pub only_canonical_answer : (answer other : Result (Option (List Text)) Fault)
       → IsCanonicalAnswer options words answer → IsCanonicalAnswer options words other
       → answer ≡ other

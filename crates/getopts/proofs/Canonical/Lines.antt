@@ -38,7 +38,7 @@ use Rattle.getopts.proofs.Reading.Readings.{only_reading}
 use Rattle.getopts.proofs.Reading.Texts.{begins_with_dash-append, cut_at_equals-append}
 use Rattle.getopts.proofs.Reading.Turns.{IsNamed}
 
--- the group at this place has a main name that holds no `=`
+-- the main name of the group at this place contains no `=`
 abbrev HasPlainMain : List Group → ℕ → Type 0
 HasPlainMain groups place = holds_equals (main_at groups place) ≡ false
 
@@ -91,7 +91,7 @@ record IsGood (groups : List Group) (m : Mention) : Type 0 where
   own : AnswersMain groups m.group
   fits : FitsGroup groups m
 
--- what a name mentions that resolves to a group of this kind
+-- the mention of a name that resolves to a group of this kind
 IsGood-mention : (options : Declared) (name : Text) (kind : HasArg) (value : Option Text)
     → kind_of options.groups name ≡ Some kind → FitsKind kind value
     → IsGood options.groups (mention_of (grammar_of options) name value)
@@ -191,7 +191,7 @@ IsFitting-reading options reading words reads =
     AllByRecursion-follows (IsGood options.groups) (FitsGroup options.groups)
     (λ m good. good.fits) _ (IsGood-reading options reading reads.items)
 
--- what a value gives as an attached argument
+-- a value as an attached argument
 attached_argument-attached_value : (value : Option Text)
     → attached_argument (attached_value value) ≡ value
 attached_argument-attached_value None = refl
@@ -224,7 +224,7 @@ spelled_all-canonical groups (m ∷ ms) more = rw (
   spelled_all-canonical groups ms more,
 ) refl
 
--- a canonical item is lawful, where the main name holds no `=`
+-- a canonical item is lawful, if the main name contains no `=`
 IsLawfulItem-canonical : (options : Declared) (m : Mention) → IsGood options.groups m
     → HasPlainMain options.groups m.group
     → IsLawfulItem (grammar_of options) (canonical_item options.groups m)
@@ -264,13 +264,13 @@ mentions-canonical_all options (m ∷ ms) good =
     (map (canonical_item options.groups) ms)) (mentions-canonical options m good.0)
     ∙ ap (λ (others : List Mention). m ∷ others) (mentions-canonical_all options ms good.1)
 
--- none is free
+-- no canonical item is free
 free_items-canonical : (groups : List Group) (ms : List Mention)
     → free_items (map (canonical_item groups) ms) ≡ []
 free_items-canonical groups [] = refl
 free_items-canonical groups (m ∷ ms) = free_items-canonical groups ms
 
--- none is bare
+-- no canonical item is bare
 AreWellFollowed-canonical : (groups : List Group) (ms : List Mention) (more : List Text)
     → AreWellFollowed (map (canonical_item groups) ms) more
 AreWellFollowed-canonical groups [] more = tt
@@ -333,7 +333,7 @@ KeepsCounts-mentions signatures grammar other_grammar reading other same keeps =
     (λ k. length-found_at k grammar reading ∙ ap (count_at k) same
     ∙ sym (length-found_at k other_grammar other)) keeps
 
--- words that are accepted with a content, in some style and mode, say it
+-- words that are accepted with a content, in some style and mode, have this content
 pub Says-accepted : (options : Declared) (style : ParsingStyle) (long_only : Bool)
     (words : List Text) (content : Content)
     → IsAcceptedWith (with_setting options style long_only) words content
@@ -346,7 +346,7 @@ Says-accepted options style long_only words content accepted = record {
   content_is = accepted.content_is;
 }
 
--- what a line says is sound
+-- the content of a line is sound
 pub IsSound-says : (options : Declared) (words : List Text) (content : Content)
     → Says options words content → IsSound options.groups content
 IsSound-says options words content says =
@@ -359,7 +359,7 @@ abbrev ReadsBackEverywhere : Declared → Content → Type 0
 ReadsBackEverywhere options content = (style : ParsingStyle) (long_only : Bool)
     → ReadsBack (with_setting options style long_only) content
 
--- what a line says reads back, where it is plain
+-- the content of a line reads back, if it is plain
 ReadsBackEverywhere-says : (options : Declared) (words : List Text) (content : Content)
     → Says options words content → IsPlain options.groups content
     → ReadsBackEverywhere options content
@@ -401,7 +401,7 @@ says_nothing_else-reads_back options content named back other says =
     says.reads.reads there.reads.reads in
     says.content_is ∙ ap (content_of set) same ∙ there.same
 
--- a text that holds no `=` is cut off at one place only
+-- a text without `=` can be split off in only one way
 cut_once-with_equals : (a b : Text) (v w : Option Text) → holds_equals a ≡ false
     → holds_equals b ≡ false → a ++ with_equals v ≡ b ++ with_equals w → (a ≡ b) × (v ≡ w)
 cut_once-with_equals a b v w none_a none_b same =
@@ -415,7 +415,7 @@ canonical_word-text : (groups : List Group) (m : Mention) (text : Text)
     → main_at groups m.group ++ with_equals m.value ≡ text
 canonical_word-text groups m text same = cc
 
--- the word tells the mention
+-- the word determines the mention
 canonical_word-cancel : (groups : List Group) (m o : Mention) → AnswersMain groups m.group
     → AnswersMain groups o.group → HasPlainMain groups m.group → HasPlainMain groups o.group
     → canonical_word groups m ≡ canonical_word groups o → m ≡ o
@@ -437,7 +437,7 @@ canonical_word-no_stop groups m lawful own plain same =
     (canonical_word-text groups m [] same) in
     main_at-filled groups m.group lawful own parts.0
 
--- the line tells the mentions and the free words
+-- the line determines the mentions and the free words
 canonical_line-parts : (groups : List Group) (ms os : List Mention) (frees others : List Text)
     → AreLawfullyNamed groups → AllByRecursion (λ m. AnswersMain groups m.group) ms
     → AllByRecursion (λ m. AnswersMain groups m.group) os
@@ -481,7 +481,7 @@ canonical_line-same groups content other lawful sound plain sound_other plain_ot
           ap (λ told. content_with told content.free) parts.0
           ∙ ap (content_with other.mentions) parts.1
 
--- the laws of the canonical line of a plain content that a line says
+-- the laws of the canonical line of a line's plain content
 pub HasCanonicalLine-says : (options : Declared) (words : List Text) (content : Content)
     → AreLawfullyNamed options.groups → IsNamed (grammar_of options) → Says options words content
     → IsPlain options.groups content → HasCanonicalLine options content
@@ -498,7 +498,7 @@ HasCanonicalLine-says options words content lawful named says plain =
           plain;
     }
 
--- two canonical lines are equal exactly if they say the same
+-- two canonical lines are equal exactly if they have the same content
 pub OneLineOneContent-lawful : (options : Declared) → AreLawfullyNamed options.groups
     → OneLineOneContent options
 OneLineOneContent-lawful options lawful words others content other
@@ -507,7 +507,7 @@ OneLineOneContent-lawful options lawful words others content other
     (IsSound-says options words content says) plain
     (IsSound-says options others other says_other) plain_other
 
--- a text whose front holds `=` holds it
+-- a text whose front contains `=` contains it
 holds_equals-append : (a b : Text) → holds_equals a ≡ true → holds_equals (a ++ b) ≡ true
 holds_equals-append [] b holds = cc
 holds_equals-append (c ∷ a) b holds = elim (or_cases (c == equals_sign) (holds_equals a) holds) [
@@ -515,7 +515,7 @@ holds_equals-append (c ∷ a) b holds = elim (or_cases (c == equals_sign) (holds
   | inr later ↦ or_right (c == equals_sign) (holds_equals (a ++ b)) (holds_equals-append a b later)
 ]
 
--- a name that holds no `=`, with an argument, isn't a main name that holds `=`, with the same value
+-- a name without `=`, with an argument, differs from a main name with `=`, with the same value
 no_name-equals : (name main : Text) (argument : Argument) → holds_equals name ≡ false
     → holds_equals main ≡ true
     → name ++ with_equals (attached_argument argument) ≡ main ++ with_equals (value_of argument) → ⊥
@@ -529,7 +529,7 @@ no_name-equals name main (separate word) cut_once holds same =
     true≢false (sym (holds_equals-append main (equals_sign ∷ word) holds)
     ∙ ap holds_equals (sym same ∙ append-nil name) ∙ cut_once)
 
--- the canonical word is that of no lawful item with just its mention, where the main name holds `=`
+-- if the main name contains `=`, no lawful item with this one mention spells the canonical word
 pub HasNoItem-equals : (options : Declared) (m : Mention)
     → holds_equals (main_at options.groups m.group) ≡ true → HasNoItem options m
 HasNoItem-equals options m holds style long_only (free word) lawful just same = absurd cc
@@ -551,11 +551,11 @@ HasNoItem-equals options m holds style long_only (cluster names end) lawful just
     ∷ (main_at options.groups m.group ++ with_equals m.value) = cc in
     true≢false (sym (ap begins_with_dash text) ∙ lawful.short_form)
 
--- whether no mentioned group has a main name that holds `=`
+-- whether no mentioned group has a main name that contains `=`
 abbrev pub is_plain : List Group → List Mention → Bool
 is_plain groups mentions = list_all (λ m. not (holds_equals (main_at groups m.group))) mentions
 
--- where none has, they are plain
+-- if none has, they are plain
 pub is_plain-true : (groups : List Group) (mentions : List Mention)
     → is_plain groups mentions ≡ true → AllByRecursion (λ m. HasPlainMain groups m.group) mentions
 is_plain-true groups [] plain = tt
@@ -569,7 +569,7 @@ is_plain-from : (groups : List Group) (mentions : List Mention)
 is_plain-from groups [] plain = refl
 is_plain-from groups (m ∷ ms) plain = rw (plain.0) (is_plain-from groups ms plain.1)
 
--- and else they aren't
+-- otherwise they aren't
 pub is_plain-false : (groups : List Group) (mentions : List Mention)
     → is_plain groups mentions ≡ false
     → ¬ (AllByRecursion (λ m. HasPlainMain groups m.group) mentions)

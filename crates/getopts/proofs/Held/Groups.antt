@@ -1,4 +1,4 @@
--- Signatures and groups by what is held of them: which stands at a place, and what one more adds.
+-- Signatures and groups as they are held: which one is at a place, and what one more adds.
 use Rattle.std.proofs.Common.{◌≡◌, ℕ, zero, suc, ◌-◌, ◌<◌, List, [], ◌∷◌, map, ◌++◌, length}
 use Rattle.std.proofs.Common.{get_or, drop, slice_get, Some, refl, ap, sym, ◌∙◌, subst, arith}
 use Rattle.std.specs.List.{AllByRecursion}
@@ -23,7 +23,7 @@ use Rattle.getopts.proofs.Lists.{AllByRecursion-map, AllByRecursion-unmap, AllBy
 use Rattle.getopts.proofs.Lists.{slice_get-read, each_kept}
 use Rattle.getopts.proofs.Held.Twos.{two-append}
 
--- the record of a signature that is there
+-- the record of an existing signature
 pub record_within : (text : Text) (records : List SignatureRecord) (signatures : List Signature)
     (place : ℕ) → map (signature_in text) records ≡ signatures → place < length signatures
     → place < length records
@@ -35,7 +35,7 @@ record_within text records signatures place are within =
       length-map records (signature_in text),
     )
 
--- what is held of the record at a place, and the signature there
+-- the record at a place, and the signature there
 pub held_at : (text : Text) (records : List SignatureRecord) (signatures : List Signature)
     (place : ℕ) (r : SignatureRecord) → AllByRecursion (IsHeld text) records
     → map (signature_in text) records ≡ signatures → place < length signatures
@@ -51,7 +51,7 @@ held_at text records signatures place r held are within is =
 
 -- ---- names
 
--- the names at a place are those of the signature there
+-- the names at a place are those of its signature
 pub names_at-signature : (signatures : List Signature) (place : ℕ) (signature : Signature)
     → slice_get signatures place ≡ Some signature
     → names_at (names_in signatures) place ≡ signature.names
@@ -61,7 +61,7 @@ names_at-signature (first ∷ signatures) zero signature is =
 names_at-signature (first ∷ signatures) (suc place) signature is =
     names_at-signature signatures place signature is
 
--- of lawfully named groups those at a place are
+-- if groups are lawfully named, the names at a place are lawful
 pub fits_at : (groups : List Names) → AllByRecursion IsLawfullyNamed groups → (i : ℕ)
     → i < length groups → IsLawfullyNamed (names_at groups i)
 fits_at [] lawful i within = absurd (omega (arith, within))
@@ -74,7 +74,7 @@ pub lawful_names : (signatures : List Signature) → AreLawfulSignatures signatu
 lawful_names signatures lawful = AllByRecursion-map IsLawfullyNamed (λ (s : Signature). s.names)
     signatures lawful.named
 
--- where the text of all is of bytes, each name is
+-- if the common text consists of bytes, so does each name
 pub HaveNamesOfBytes-in : (text : Text) → IsOfBytes text → (records : List SignatureRecord)
     → HaveNamesOfBytes (names_in (map (signature_in text) records))
 HaveNamesOfBytes-in text bytes [] place =
@@ -114,7 +114,7 @@ signatures-push text more utf8 records held added last =
           ∙ ap (λ (ss : List Signature). ss ++ signature_in (text ++ more) added ∷ []) kept.1,
     )
 
--- with more text, two texts of each group stand as before, and two more are the last
+-- with more text, the two texts of each group are as before, and two more are the last
 pub twos-push : (text more : Text) → IsUtf8 more → (ends : List Ends)
     → AllByRecursion (AreEndsOf text) ends → (added : Ends) (two : Text × Text)
     → StandAt (text ++ more) added two
@@ -188,7 +188,7 @@ length-groups_with signatures twos as_many =
     ∙ ap (λ (signatures : List Signature). length signatures)
     (signatures_of-with signatures twos as_many)
 
--- what is held of groups: as many signatures, which are theirs
+-- the signatures that are held are those of the groups
 pub signatures_held : (inside : Inside) (groups : List Group) → HoldGroups inside
     → groups_view inside ≡ groups
     → (inside.signatures ≡ signatures_of groups) × (length groups ≡ length inside.signatures)

@@ -1,4 +1,4 @@
--- Occurrences whose values stand in one text.
+-- Occurrences whose values are in one text.
 use Rattle.std.proofs.Common.{◌≡◌, ◌++◌, ◌∷◌, ℕ, List, [], map, length, Option, Some, None}
 use Rattle.std.proofs.Common.{refl, ap, ◌∙◌, arith, length-append}
 use Rattle.std.specs.List.{AllByRecursion}
@@ -14,7 +14,7 @@ use Rattle.getopts.specs.declared.occurrences.OccurrenceRecord.{OccurrenceRecord
 use Rattle.getopts.proofs.Lists.{AllByRecursion-append, each_kept}
 use Rattle.getopts.proofs.Held.Texts.{IsCharBoundary-append, between-append, between-added}
 
--- a text stands there with more after it
+-- a text is still there with more after it
 stands-append : (text more : Text) → IsUtf8 more → (span : Span) → IsSpanOf text span
     → StandsAt (text ++ more) span (text_at text span)
 stands-append text more utf8 span of = record {
@@ -25,7 +25,7 @@ stands-append text more utf8 span of = record {
   is = between-append text more span.start span.end of.end.0 of.end.1.0;
 }
 
--- a text that was added stands at the end
+-- an added text is at the end
 pub stands-added : (text more : Text) → IsUtf8 more → (span : Span) → span.start ≡ length text
     → span.end ≡ length (text ++ more) → StandsAt (text ++ more) span more
 stands-added text more utf8 span starts ends = rw (starts, ends) (record {
@@ -36,7 +36,7 @@ stands-added text more utf8 span starts ends = rw (starts, ends) (record {
   is = between-added text more;
 })
 
--- a value stands there with more values after it
+-- a value is still there with more values after it
 value-append : (values more : Text) → IsUtf8 more → (span : Option Span) → (group position : ℕ)
     → HasItsValue values (record { group = group; position = position; value = span })
     → HasItsValue (values ++ more) (record { group = group; position = position; value = span })

@@ -1,4 +1,4 @@
--- What matches hold, by the groups and the one list that the code has.
+-- What matches hold, in terms of the code's groups and list.
 use Rattle.std.proofs.Common.{◌≡◌, ℕ, suc, zero, ◌+◌, ◌<◌, ◌≤◌, true, false, List, [], ◌∷◌, map}
 use Rattle.std.proofs.Common.{length, Option, Some, None, unwrap_or, slice_get, refl, ap, sym, ◌∙◌}
 use Rattle.std.proofs.Common.{subst, inl, inr, arith, zero-add}
@@ -35,7 +35,7 @@ names-matched first (signature ∷ signatures) occurrences =
     ap (λ (more : List Names). signature.names ∷ more)
     (names-matched (first + 1) signatures occurrences)
 
--- what is known of the groups that matches hold
+-- the signatures of the groups that matches hold
 pub signatures-matched : (first : ℕ) (signatures : List Signature) (occurrences : List Occurrence)
     → map (λ (group : MatchedGroup). group.signature) (matched first signatures occurrences)
     ≡ signatures
@@ -55,7 +55,7 @@ found-matched first (signature ∷ signatures) occurrences (suc i) within =
     found-matched (first + 1) signatures occurrences i (omega arith)
     ∙ ap (λ (n : ℕ). found_at n occurrences) (omega arith)
 
--- lawfully named groups are held so
+-- lawfully named groups are held as such
 pub AreHeldLawfully-matched : (first : ℕ) (signatures : List Signature)
     (occurrences : List Occurrence)
     → AllByRecursion (λ signature. IsLawfullyNamed signature.names) signatures
@@ -71,11 +71,11 @@ place_of-matched signatures occurrences name = ap (λ (names : List Names). reso
     (sym (names-matched 0 signatures occurrences))
 
 module _ (signatures : List Signature) (occurrences : List Occurrence) (place : ℕ) where
-  -- where the occurrences of the group at this place stand
+  -- the places of the occurrences of the group at this place
   abbrev pub held_places : List ℕ
   held_places = unwrap_or (slice_get (index_of (length signatures) occurrences) place) []
 
-  -- of a group that is there, those of its number
+  -- for an existing group, those with its number
   places-there : place < length signatures
       → held_places ≡ places_of place (map (λ (o : Occurrence). o.mention.group) occurrences)
   places-there there =
@@ -83,7 +83,7 @@ module _ (signatures : List Signature) (occurrences : List Occurrence) (place : 
       (slice_get-places_by_group (length signatures) place
       (map (λ (o : Occurrence). o.mention.group) occurrences) there)
 
-  -- of any other, none
+  -- for any other, none
   places-past : length signatures ≤ place → held_places ≡ []
   places-past past =
       let mentioned = map (λ (o : Occurrence). o.mention.group) occurrences in
@@ -91,7 +91,7 @@ module _ (signatures : List Signature) (occurrences : List Occurrence) (place : 
       (slice_get_past (index_of (length signatures) occurrences) place
       (omega (arith, length-places_by_group (length signatures) mentioned)))
 
-  -- they stand among the occurrences
+  -- they are within the occurrences
   pub held_places-within : AllByRecursion (λ p. p < length occurrences) held_places
   held_places-within = elim (cases_lt place (length signatures)) [
     | inl there ↦
@@ -138,7 +138,7 @@ texts_of_pairs (found ∷ founds) = of_value found.value (texts_of_pairs founds)
   of_value None same = same
   of_value (Some text) same = ap (λ (more : List Text). text ∷ more) same
 
--- the same, as the code holds pairs
+-- the same for pairs as the code holds them
 pub texts_of_held_pairs : (pairs : List (ℕ × String Global)) (founds : List Found)
     → map pair_view pairs ≡ pairs_of founds
     → map (λ (pair : ℕ × String Global). string_bytes pair.1) pairs ≡ values_of founds
@@ -150,7 +150,7 @@ texts_of_held_pairs pairs founds same = views pairs ∙ ap (map (λ (pair : ℕ 
       views [] = refl
       views (pair ∷ ps) = ap (λ (more : List Text). string_bytes pair.1 ∷ more) (views ps)
 
--- groups with their occurrences are not the same where what is known of them isn't
+-- groups with occurrences differ if their signatures do
 pub differ_signature : (groups others : List MatchedGroup)
     → pointwise same_signature (map (λ (group : MatchedGroup). group.signature) groups)
     (map (λ (group : MatchedGroup). group.signature) others) ≡ false
@@ -164,7 +164,7 @@ differ_signature (a ∷ groups) (b ∷ others) differ =
       | inr rest ↦ and_right (same_matched_group a b) _ (differ_signature groups others rest)
     ]
 
--- nor where the occurrences at some place aren't
+-- or if the occurrences at some place do
 pub differ_found : (groups others : List MatchedGroup) (i : ℕ)
     → pointwise same_found (found_in groups i) (found_in others i) ≡ false
     → pointwise same_matched_group groups others ≡ false
@@ -176,7 +176,7 @@ differ_found (a ∷ groups) (b ∷ others) zero differ =
 differ_found (a ∷ groups) (b ∷ others) (suc i) differ =
     and_right (same_matched_group a b) _ (differ_found groups others i differ)
 
--- else they are the same
+-- otherwise they are equal
 pub same_found_everywhere : (groups others : List MatchedGroup)
     → pointwise same_signature (map (λ (group : MatchedGroup). group.signature) groups)
     (map (λ (group : MatchedGroup). group.signature) others) ≡ true

@@ -1,4 +1,4 @@
--- The occurrences of a group, by the places where they stand.
+-- The occurrences of a group, by their places.
 use Rattle.std.proofs.Common.{◌≡◌, ◌<◌, ◌+◌, ℕ, zero, suc, ◌==◌, ◌&&◌, Bool, true, false, List}
 use Rattle.std.proofs.Common.{[], ◌∷◌, ◌++◌, map, length, take, slice_get, Option, Bor, Some, None}
 use Rattle.std.proofs.Common.{refl, ap, sym, ◌∙◌, arith}
@@ -53,7 +53,7 @@ module _ (occurrences : List Occurrence) (places : List ℕ)
   length-founds = length-map (filter_map (λ place. slice_get occurrences place) places) found_part
       ∙ length-at_places occurrences places all
 
-  -- an occurrence that is there has its place
+  -- an existing occurrence has its place
   pub place_within : (seen : List Found) (i : ℕ) → founds ≡ seen → i < length seen
       → i < length places
   place_within seen i are within =
@@ -69,7 +69,7 @@ module _ (occurrences : List Occurrence) (places : List ℕ)
 
 module _ (founds : List Found) (i : ℕ) (next : Option (ℕ × Option (Bor Text)))
     (is : option_map held_found next ≡ slice_get founds i) where
-  -- one more occurrence of a front, as it is read
+  -- one more occurrence of a prefix, as it is read
   pub founds-more : take (i + 1) founds
       ≡ take i founds ++ cons_option (option_map held_found next) []
   founds-more = take-more founds i
@@ -95,13 +95,13 @@ module _ (founds : List Found) (i : ℕ) (next : Option (ℕ × Option (Bor Text
   pairs-more = ap pairs_of founds-more
       ∙ filter_map-append pair_of (take i founds) (cons_option (option_map held_found next) [])
 
--- two occurrences as they are read, compared as the code compares them
+-- two occurrences as they are read, compared like in the code
 abbrev pub same_read : Option (ℕ × Option (Bor Text)) → Option (ℕ × Option (Bor Text)) → Bool
 same_read =
     option_eq (λ a b. a.0 == b.0 && option_eq
     (λ text other. pointwise ◌==◌ text.now other.now) a.1 b.1)
 
--- this is how occurrences are compared
+-- this comparison is that of occurrences
 same_read-found : (a b : Option (ℕ × Option (Bor Text)))
     → option_eq same_found (option_map held_found a) (option_map held_found b) ≡ same_read a b
 same_read-found None None = refl
@@ -122,11 +122,11 @@ module _ (founds others : List Found) (i : ℕ) (a b : Option (ℕ × Option (Bo
   here : option_eq same_found (slice_get founds i) (slice_get others i) ≡ same_read a b
   here = (λ j. option_eq same_found (sym is j) (sym other_is j)) ∙ same_read-found a b
 
-  -- occurrences that are read as different ones
+  -- occurrences that read as different
   pub founds-differ : same_read a b ≡ false → pointwise same_found founds others ≡ false
   founds-differ differ = pointwise-differ same_found founds others i (here ∙ differ)
 
-  -- one more occurrence that is read as the same
+  -- one more occurrence that reads as equal
   pub founds-same : same_read a b ≡ true
       → pointwise same_found (take i founds) (take i others) ≡ true
       → pointwise same_found (take (i + 1) founds) (take (i + 1) others) ≡ true

@@ -1,4 +1,4 @@
--- The tests of `==` of options say exactly that what they compare is equal.
+-- `==` on options decides equality.
 use Rattle.std.proofs.Common.{◌≡◌, refl, ap}
 use Rattle.std.specs.Bool.{Decides}
 use Rattle.std.specs.Cmp.{booleans_Decides}
@@ -43,14 +43,14 @@ same_style FloatingFrees StopAtFirstFree h = cc
 same_style StopAtFirstFree FloatingFrees h = cc
 same_style StopAtFirstFree StopAtFirstFree h = refl
 
--- the test of two names says exactly that they are equal
+-- the comparison of two names decides equality
 pub same_names-decides : (a b : Names) → Decides (same_names a b) (a ≡ b)
 same_names-decides a b =
     Decides-like (same_names a b) (λ h. λ i. record { short = h.0 i; long = h.1 i })
     (λ e. (ap (λ n. n.short) e, ap (λ n. n.long) e))
     (Decides-and _ _ (bytes_decides a.short b.short) (bytes_decides a.long b.long))
 
--- the test of what is known of two groups says exactly that it is equal
+-- the comparison of two signatures decides equality
 pub same_signature-decides : (a b : Signature) → Decides (same_signature a b) (a ≡ b)
 same_signature-decides a b = Decides-like (same_signature a b)
     (λ h. λ i. record {
@@ -69,7 +69,7 @@ same_signature-decides a b = Decides-like (same_signature a b)
     (Decides-and _ _ (Decides-eqb (kind_index a.kind) (kind_index b.kind))
     (Decides-eqb (occurrence_index a.occurrence) (occurrence_index b.occurrence))))
 
--- the test of two groups says exactly that they are equal
+-- the comparison of two groups decides equality
 pub same_group-decides : (a b : Group) → Decides (same_group a b) (a ≡ b)
 same_group-decides a b = Decides-like (same_group a b)
     (λ h. λ i. record { signature = h.0 i; hint = h.1.0 i; description = h.1.1 i })
@@ -77,7 +77,7 @@ same_group-decides a b = Decides-like (same_group a b)
     (Decides-and _ _ (same_signature-decides a.signature b.signature)
     (Decides-and _ _ (bytes_decides a.hint b.hint) (bytes_decides a.description b.description)))
 
--- the test of two options says exactly that they are equal
+-- the comparison of two options decides equality
 pub same_options-decides : (a b : Declared) → Decides (same_options a b) (a ≡ b)
 same_options-decides a b = Decides-like (same_options a b)
     (λ h. λ i. record {

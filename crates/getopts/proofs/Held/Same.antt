@@ -1,4 +1,4 @@
--- The tests of `==` say exactly that what they compare is equal.
+-- `==` decides equality.
 use Rattle.std.proofs.Common.{◌≡◌, ◌==◌, Bool, Option, Some, None, refl, ap}
 use Rattle.std.specs.Bool.{Decides}
 use Rattle.std.specs.Cmp.Lexicographic.{pointwise, pointwise_decides, bytes_decides}
@@ -9,7 +9,7 @@ use Rattle.getopts.specs.Matches.{Found, MatchedGroup, Matched}
 use Rattle.getopts.specs.Same.{same_found, same_matched_group, same_matches}
 use Rattle.getopts.proofs.Held.Options.{same_signature-decides}
 
--- a test of options says exactly that they are equal, where that of their values does
+-- the comparison of two `Option`s decides equality, if that of their values does
 pub options_decide : {X : Type 0} (E : X → X → Bool) → ((a b : X) → Decides (E a b) (a ≡ b))
     → (o p : Option X) → Decides (option_eq E o p) (o ≡ p)
 options_decide E decides None None = (λ _. refl, λ _. refl)
@@ -18,7 +18,7 @@ options_decide E decides (Some x) None = (λ e. absurd (false≢true e), λ e. c
 options_decide E decides (Some x) (Some y) =
     (λ e. ap (λ z. Some z) ((decides x y).0 e), λ e. (decides x y).1 (cc e))
 
--- the test of two occurrences says exactly that they are equal
+-- the comparison of two occurrences decides equality
 same_found-decides : (a b : Found) → Decides (same_found a b) (a ≡ b)
 same_found-decides a b = Decides-like (same_found a b)
     (λ h. λ i. record { position = h.0 i; value = h.1 i })
@@ -26,7 +26,7 @@ same_found-decides a b = Decides-like (same_found a b)
     (Decides-and _ _ (Decides-eqb a.position b.position)
     (options_decide (pointwise ◌==◌) bytes_decides a.value b.value))
 
--- the test of two groups says exactly that they are equal
+-- the comparison of two groups decides equality
 same_matched_group-decides : (a b : MatchedGroup) → Decides (same_matched_group a b) (a ≡ b)
 same_matched_group-decides a b = Decides-like (same_matched_group a b)
     (λ h. λ i. record { signature = h.0 i; found = h.1 i })
@@ -34,7 +34,7 @@ same_matched_group-decides a b = Decides-like (same_matched_group a b)
     (Decides-and _ _ (same_signature-decides _ _)
     (pointwise_decides same_found-decides a.found b.found))
 
--- the test of two matches says exactly that they are equal
+-- the comparison of two matches decides equality
 pub same_matches-decides : (a b : Matched) → Decides (same_matches a b) (a ≡ b)
 same_matches-decides a b = Decides-like (same_matches a b)
     (λ h. λ i. record { groups = h.0 i; free = h.1.0 i; trailing_start = h.1.1 i })

@@ -1,4 +1,4 @@
--- What is known of groups, beside the groups.
+-- Signatures, beside their groups.
 use Rattle.std.proofs.Common.{◌≡◌, ℕ, zero, suc, List, [], ◌∷◌, map, length, slice_get, refl, ap}
 use Rattle.std.proofs.Common.{Option, Some, None}
 use Rattle.std.proofs.lemmas.List.{length-map}
@@ -8,11 +8,11 @@ use Rattle.getopts.specs.Options.{Signature, Group, signatures_of, names_of}
 use Rattle.getopts.specs.Held.Groups.{kinds_of}
 use Rattle.getopts.specs.declared.groups.Kinds.{Kinds}
 
--- there is as much known as there are groups
+-- there are as many signatures as groups
 pub length-signatures_of : (groups : List Group) → length (signatures_of groups) ≡ length groups
 length-signatures_of groups = length-map groups (λ group. group.signature)
 
--- the names of what is known are those of the groups
+-- the names of the signatures are those of the groups
 pub names-signatures_of : (groups : List Group)
     → map (λ (signature : Signature). signature.names) (signatures_of groups) ≡ names_of groups
 names-signatures_of [] = refl
@@ -27,7 +27,7 @@ kinds-signatures_of [] place = refl
 kinds-signatures_of (group ∷ groups) zero = refl
 kinds-signatures_of (group ∷ groups) (suc place) = kinds-signatures_of groups place
 
--- the kind of argument, by the kinds of the group
+-- the kind of argument, from the kinds of the group
 pub kind_of-kinds : (group : Option Group)
     → option_map (λ (k : Kinds). k.kind) (option_map (λ (g : Group). kinds_of g.signature) group)
     ≡ option_map (λ (g : Group). g.signature.kind) group

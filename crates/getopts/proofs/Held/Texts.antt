@@ -1,4 +1,4 @@
--- A text in a text of all: where it may be cut, and what stands between two places, also with more after it.
+-- A text within a common text: where it may be split, and the part between two places.
 use Rattle.std.proofs.Common.{◌≡◌, ℕ, ◌-◌, ◌≤◌, List, ◌++◌, length, get_or, take, drop, subst, inl}
 use Rattle.std.proofs.Common.{inr, refl, ap, ◌∙◌, arith, length-append}
 use Rattle.std.specs.Str.{IsUtf8, IsCharBoundary}
@@ -10,7 +10,7 @@ use Rattle.std.proofs.Math.Seq.{drop-append_seam}
 use Rattle.getopts.specs.Names.{Text}
 use Rattle.getopts.specs.Held.Pieces.{between}
 
--- where a text may be cut, it may also be cut with more after it
+-- a text may still be split at a place with more after it
 pub IsCharBoundary-append : (text more : List ℕ) → IsUtf8 more → (place : ℕ)
     → IsCharBoundary text place
     → IsCharBoundary (text ++ more) place
@@ -25,14 +25,14 @@ IsCharBoundary-append text more utf8 place cut = elim (cases_lt place (length te
       (IsCharBoundary-at_seam (text ++ more) text more refl utf8)
 ]
 
--- what stands in a text stands there with more after it
+-- a part of a text is still there with more after it
 pub between-append : (text more : Text) (start end : ℕ) → start ≤ end → end ≤ length text
     → between (text ++ more) start end ≡ between text start end
 between-append text more start end ordered within =
     ap (λ (rest : Text). take (end - start) rest) (drop-append-le start text more (omega arith))
     ∙ take-append-le (end - start) (drop start text) more (omega (arith, length-drop start text))
 
--- what was added stands from the old end to the new one
+-- the added part is between the old and the new end
 pub between-added : (text more : Text) → between (text ++ more) (length text) (length (text ++ more)) ≡ more
 between-added text more =
     rw (drop-append_seam text more)

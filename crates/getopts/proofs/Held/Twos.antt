@@ -1,4 +1,4 @@
--- Two texts in a text of all: they stay where they are when more is added, and two that were added stand
+-- Two texts in a common text: they stay where they are when more is added, and two added texts are
 -- at its end.
 use Rattle.std.proofs.Common.{◌≡◌, ◌++◌, length, ◌∙◌, arith, length-append}
 use Rattle.std.specs.Str.{IsUtf8}
@@ -8,7 +8,7 @@ use Rattle.getopts.specs.Held.Groups.{two_at, AreEndsOf, StandAt}
 use Rattle.getopts.specs.declared.groups.Ends.{Ends}
 use Rattle.getopts.proofs.Held.Texts.{IsCharBoundary-append, between-append, between-added}
 
--- two texts stand there too
+-- two texts are there too
 pub two-append : (text more : Text) → IsUtf8 more → (e : Ends) → AreEndsOf text e
     → StandAt (text ++ more) e (two_at text e)
 two-append text more utf8 e ends = record {
@@ -23,7 +23,7 @@ two-append text more utf8 e ends = record {
   );
 }
 
--- two texts that were added one after the other stand at the end
+-- two texts added one after the other are at the end
 pub two-added : (text first second : Text) → IsUtf8 first → IsUtf8 second → (e : Ends)
     → e.start ≡ length text → e.first ≡ length (text ++ first)
     → e.second ≡ length ((text ++ first) ++ second)

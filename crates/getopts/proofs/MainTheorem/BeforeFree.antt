@@ -61,7 +61,7 @@ lawful_cut grammar line_end = tt
 lawful_cut grammar (stop words) = tt
 lawful_cut grammar (rest words) = tt
 
--- the cut reading gives nothing free, and no trailing start
+-- the shortened reading has no free words and no trailing start
 cut_matches : (options : Declared) (items : List Item) (tail : Tail) → free_items items ≡ []
     → record (matches_of options (record { items = items; tail = tail })) { free = []; trailing_start = None }
     ≡ matches_of options (record { items = items; tail = cut_tail tail })
@@ -102,7 +102,7 @@ HaveLastWordsFree-accepted options declared words m accepted style =
           (record { read = read; counts = accepted.counts });
     }
 
--- what an answer tells of accepted words
+-- what a result says about accepted words
 pub Accepts-answered : {E : Type 0} (options : Declared) (words : List (Bor Text))
     → (answer : Result Matched E) → IfOk answer (IsAccepted options (texts words))
     → IfOk answer (HaveLastWordsFree options (texts words)) → IfOk answer (Accepts options words)

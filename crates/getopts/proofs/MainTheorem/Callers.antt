@@ -30,14 +30,14 @@ use Rattle.getopts.proofs.MainTheorem.Plain.{are_plain, lawful_groups}
 use Rattle.getopts.proofs.Parsing.Holds.{place_of-groups}
 use Rattle.getopts.proofs.Parsing.Parsed.{only_reads}
 
--- options that are written out may be declared where this test of their names says so
+-- literal options may be declared if their names pass this test
 pub MayBeDeclared-plain : (options : Declared) → are_plain options.groups ≡ true
     → MayBeDeclared options.groups
 MayBeDeclared-plain options plain = lawful_groups options.groups plain
 
--- ---- lines that say the same
+-- ---- lines with the same content
 
--- the values of the occurrences of a group, by what is mentioned
+-- the values of a group's occurrences, from the mentions
 abbrev values_at : ℕ → List Mention → List (Option Text)
 values_at place ms = map (λ (m : Mention). m.value) (filter (λ (m : Mention). m.group == place) ms)
 
@@ -68,7 +68,7 @@ values-found_in (signature ∷ signatures) first zero old new same = values-foun
 values-found_in (signature ∷ signatures) first (suc i) old new same =
     values-found_in signatures (first + 1) i old new same
 
--- Readings that mention the same, in styles and modes that may differ, have the same values of each name.
+-- Readings with the same mentions, in any styles and modes, give each name the same values.
 values-found_of : (options : Declared) (style : ParsingStyle) (long_only : Bool)
     → (old new : Reading)
     → mentions_of (grammar_of (with_setting options style long_only)) new
@@ -125,7 +125,7 @@ each_value-values founds others same =
     values_of-each founds ∙ ap (filter_map (λ (value : Option Text). value)) same
     ∙ sym (values_of-each others)
 
--- readings with one content give matches that hold the same
+-- readings with the same content give matches that hold the same
 HoldSame-content : (options : Declared) (style : ParsingStyle) (long_only : Bool)
     → (old new : Reading)
     → mentions_of (grammar_of (with_setting options style long_only)) new
@@ -187,7 +187,7 @@ LinesReadAgain_lem options declared line_laws words line matches written has sty
           (ap (λ (content : Content). content.free) said));
     }
 
--- What is seen of a line's matches is seen of its canonical line's too, in each style and mode.
+-- The matches of a line and of its canonical line are seen alike, in all styles and modes.
 pub results_again : {X : Type 0} (see : Matched → X)
     → ((m n : Matched) → HoldSame m n → see n ≡ see m) → (options : Declared)
     → MayBeDeclared options.groups → LinesReadAgain options
@@ -209,17 +209,17 @@ results_again {X} see same options declared law words line written style long_on
     rw (first, second) (ap (λ (x : X). Ok x) (same m back.again back.same))
 
 module _ (matches other : Matched) (same : HoldSame matches other) where
-  -- Of matches that hold the same, an option's first value is the same.
+  -- In matches that hold the same, an option has the same first value.
   pub same_first : (name : Text)
       → first_value (found_of other.groups name) ≡ first_value (found_of matches.groups name)
   same_first name = each_value-first _ _ (same.values name)
 
-  -- Of matches that hold the same, an option's values are the same.
+  -- In matches that hold the same, an option has the same values.
   pub same_values : (name : Text)
       → values_of (found_of other.groups name) ≡ values_of (found_of matches.groups name)
   same_values name = each_value-values _ _ (same.values name)
 
-  -- Of matches that hold the same, an option came as often in both.
+  -- In matches that hold the same, an option has the same count.
   pub same_count : (name : Text)
       → length (found_of other.groups name) ≡ length (found_of matches.groups name)
   same_count name =
@@ -227,6 +227,6 @@ module _ (matches other : Matched) (same : HoldSame matches other) where
       ∙ ap length (same.values name)
       ∙ length-map (found_of matches.groups name) (λ (found : Found). found.value)
 
-  -- Of matches that hold the same, an option was given in both or in neither.
+  -- In matches that hold the same, an option was given in both or in neither.
   pub same_present : (name : Text) → is_present other.groups name ≡ is_present matches.groups name
   same_present name = ap (λ (count : ℕ). nat_lt 0 count) (same_count name)

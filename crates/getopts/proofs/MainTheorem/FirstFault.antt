@@ -60,7 +60,7 @@ HaveFault-first group groups others false breaks = record {
   fault_is = refl;
 }
 
--- what is computed is the fault of groups
+-- the computed fault is the groups' fault
 pub first_count_fault-is : (groups : List MatchedGroup)
     → HaveFault groups (first_count_fault groups)
 first_count_fault-is [] = tt

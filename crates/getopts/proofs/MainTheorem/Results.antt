@@ -1,4 +1,4 @@
--- What is computed is what the relations say.
+-- The computed results are those of the relations.
 use Rattle.std.proofs.Common.{◌≡◌, Bool, true, false, List, Option, Some, None, Result, Ok, Err}
 use Rattle.std.proofs.Common.{IfOk, IfErr, option_map, refl, ap, sym, inl, inr}
 use Rattle.std.specs.List.{list_all}
@@ -57,7 +57,7 @@ module _ (options : Declared) (declared : MayBeDeclared options.groups) (words :
         unwritable = HasUnwritable-content options content not_plain;
       }
 
-  -- what the line gives, by the fault of its counts
+  -- the result of the line, by the fault of its counts
   counted : (reading : Reading) → IsReading (grammar_of options) reading words
       → (fault : Option Fault)
       → HaveFault (matches_of options reading).groups fault
@@ -169,7 +169,7 @@ module _ (options : Declared) (declared : MayBeDeclared options.groups) (words :
             (canonical_result options words) is line.2);
       }
 
--- A call that answers what is accepted, or the fault that words are refused with, answers the result.
+-- A call that returns what is accepted, or the fault for which words are rejected, is right.
 pub GivesResult-parse : (options : Declared) (words : List Text) → HasResults options words
     → (answer : Result Matched Fail) → IfOk answer (IsAccepted options words)
     → IfErr answer (λ fail. Tells fail (IsRefused options words))
@@ -206,7 +206,7 @@ GivesResult-canonical options words has see (Err fail) is none_is refused =
     (λ fault. canonical_result options words ≡ Err fault) refused
     (λ fault why. sym ((has.canonical (Err fault)).0 why))
 
--- what is made of a reading is made of one
+-- a result made of an outcome is made of a reading
 pub made_of-ok : {X : Type 0} (make : Reading → X) (outcome : Result Reading Fault) (x : X)
     → made_of make outcome ≡ Ok x
     → (reading : Reading) × (outcome ≡ Ok reading) × (make reading ≡ x)

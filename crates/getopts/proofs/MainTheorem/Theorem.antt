@@ -1,4 +1,4 @@
--- The main theorem, of options that are lawfully named, by texts.
+-- The main theorem, for options that are lawfully named, with texts.
 use Rattle.std.proofs.Common.{◌⊎◌, List, refl, sym, subst, inl, inr}
 use Rattle.getopts.specs.Names.{Text, AreTexts}
 use Rattle.getopts.specs.Options.{Declared, MayBeDeclared, grammar_of}
@@ -20,7 +20,7 @@ module _ (options : Declared) (declared : MayBeDeclared options.groups) where
   named : IsNamed (grammar_of options)
   named = named_here options declared
 
-  -- words have one reading at most
+  -- words have at most one reading
   pub OneReading-options : OneReading options
   OneReading-options words reading other reads other_reads =
       only_reading (grammar_of options) named words reading other reads other_reads
@@ -87,7 +87,7 @@ module _ (options : Declared) (declared : MayBeDeclared options.groups) where
       inl (HasNoReading-fault options declared words texts fault scan)
   refused words fault texts (inr count) = inr (breaks_counts words fault count.0 count.1 count.2)
 
-  -- refused exactly when none does
+  -- rejected exactly when none does
   pub RefusedExactlyWhen-options : RefusedExactlyWhen options
   RefusedExactlyWhen-options words fault texts = (
     λ is. (

@@ -32,7 +32,7 @@ each_computed long_only among (group ∷ groups) = (
   each_computed long_only among groups,
 )
 
--- the computed text is the usage text, and no other is
+-- the computed text is the only usage text
 pub usage_computed : (options : Declared) (brief : Text)
     → IsTheOnly (IsUsageText options brief) (usage_result options brief)
 usage_computed options brief = text_is_the_only options brief

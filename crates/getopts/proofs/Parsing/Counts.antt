@@ -18,7 +18,7 @@ use Rattle.getopts.specs.declared.groups.Kinds.{Kinds}
 use Rattle.getopts.proofs.Lists.{AllByRecursion-append, take-get, slice_get-drop}
 use Rattle.getopts.proofs.Held.Index.{length-places_of, slice_get-places_by_group}
 
--- a known group with its occurrences, at this place
+-- the signature at this place with its occurrences
 abbrev pub matched_at : ℕ → Signature → List Occurrence → MatchedGroup
 matched_at place signature occurrences =
     record { signature = signature; found = found_at place occurrences }
@@ -44,7 +44,7 @@ matched-from first (k ∷ signatures) occurrences (suc i) signature there =
     ∷ drop (i + 1) (matched (first + 1) signatures occurrences)) place
     ∙ ap (λ n. matched_at (first + suc i) signature occurrences ∷ drop n whole) (sym later)
 
--- how many occurrences of a group there are, by the index
+-- the number of a group's occurrences, from the index
 pub length-found_at : (count : ℕ) (occurrences : List Occurrence) (i : ℕ) → i < count
     → length (unwrap_or (slice_get (index_of count occurrences) i) [])
     ≡ length (found_at i occurrences)
@@ -56,7 +56,7 @@ length-found_at count occurrences i within =
     (map (λ (o : Occurrence). o.mention.group) occurrences) within)
     ∙ length-places_of (λ (o : Occurrence). o.mention.group) i occurrences ∙ sym founds
 
--- as many matched groups as known ones
+-- there are as many matched groups as signatures
 pub length-matched : (first : ℕ) (signatures : List Signature) (occurrences : List Occurrence)
     → length (matched first signatures occurrences) ≡ length signatures
 length-matched first [] occurrences = refl
@@ -72,7 +72,7 @@ module _ (signatures : List Signature) (occurrences : List Occurrence) (i : ℕ)
       ≡ matched_at i signature occurrences ∷ drop (i + 1) (matched 0 signatures occurrences)
   here = simp zero-add at (matched-from 0 signatures occurrences i signature there)
 
-  -- the groups up to a place and the one there keep their counts
+  -- the groups up to and including a place keep their counts
   pub KeepsCounts-more : FitsCount signature.occurrence count
       → KeepsCounts (take (i + 1) (matched 0 signatures occurrences))
   KeepsCounts-more fits =
@@ -112,7 +112,7 @@ signature-there (signature ∷ signatures) zero kinds there =
 signature-there (signature ∷ signatures) (suc i) kinds there =
     signature-there signatures i kinds there
 
--- a test of groups that passes for each group with occurrences passes for each occurrence
+-- a test that passes for each group with occurrences passes for each occurrence
 pub list_all-by_group : (p : ℕ → Bool) (occurrences : List Occurrence)
     → ((group : ℕ) → 0 < length (found_at group occurrences) → p group ≡ true)
     → list_all (λ o. p o.mention.group) occurrences ≡ true

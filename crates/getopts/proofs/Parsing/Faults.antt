@@ -1,4 +1,4 @@
--- What a refusal tells.
+-- What an error says.
 use Rattle.std.proofs.Common.{◌≡◌, Option, Some, None, MatchOption, sym, subst}
 use Rattle.std.specs.Prelude.{⊤}
 use Rattle.getopts.specs.Fail.{Fault, Tells, fault_of}
@@ -9,7 +9,7 @@ told_of : (told : Option Fault) (fault : Fault) (Q : Fault → Type 0)
 told_of None fault Q tells holds = tt
 told_of (Some f) fault Q tells holds = subst Q (sym tells) holds
 
--- a refusal that tells this fault tells one that meets what this fault meets
+-- an error with this fault has a fault with the properties of this fault
 pub Tells-one : (fail : Fail) (fault : Fault) (Q : Fault → Type 0) → Tells fail (λ f. f ≡ fault)
     → Q fault → Tells fail Q
 Tells-one fail fault Q tells holds = told_of (fault_of fail) fault Q tells holds
@@ -19,7 +19,7 @@ weaker_of : (told : Option Fault) (P Q : Fault → Type 0) → MatchOption told 
 weaker_of None P Q tells holds = tt
 weaker_of (Some f) P Q tells holds = holds f tells
 
--- what a refusal tells meets whatever follows from what it meets
+-- the fault of an error has all properties that follow from its properties
 pub Tells-weaker : (fail : Fail) (P Q : Fault → Type 0) → Tells fail P
     → ((fault : Fault) → P fault → Q fault) → Tells fail Q
 Tells-weaker fail P Q tells holds = weaker_of (fault_of fail) P Q tells holds

@@ -1,4 +1,4 @@
--- What accepted matches hold of the names that the options declare.
+-- What accepted matches hold about the declared names.
 use Rattle.std.proofs.Common.{◌≡◌, ◌==◌, ◌<◌, ◌+◌, ℕ, zero, suc, Bool, true, false, cond, List, []}
 use Rattle.std.proofs.Common.{◌∷◌, drop, length, map, slice_get, Option, Some, None, IfSome, IsSome}
 use Rattle.std.proofs.Common.{refl, ap, sym, subst, ◌∙◌, arith, add-zero, zero-add}
@@ -29,7 +29,7 @@ use Rattle.getopts.proofs.Reading.Readings.{spelled_all-append}
 use Rattle.getopts.proofs.Held.Signatures.{names-signatures_of}
 use Rattle.getopts.proofs.Parsing.Parsed.{HavePositionsInOrder-read}
 
--- each occurrence has a value, or none, as this kind of argument wants
+-- each occurrence has a value or none, as this kind of argument requires
 abbrev HaveValuesFor : HasArg → List Found → Type 0
 HaveValuesFor kind founds = AllByRecursion (λ found. FitsKind kind found.value) founds
 
@@ -48,7 +48,7 @@ names-signature groups signatures same = names-map groups
       names-map (group ∷ groups) =
           ap (λ (more : List Names). group.signature.names ∷ more) (names-map groups)
 
--- a name resolves alike among groups and among those that matches hold of them
+-- a name resolves alike among groups and among the matched groups
 pub place_of-groups : (options : Declared) (groups : List MatchedGroup) → AreGroupsOf options groups
     → (name : Text) → resolution (names_of options.groups) name ≡ place_of groups name
 place_of-groups options groups are name =
@@ -56,13 +56,13 @@ place_of-groups options groups are name =
     (sym (names-signature groups (signatures_of options.groups) are
     ∙ names-signatures_of options.groups))
 
--- each name that the options declare is defined
+-- each declared name is defined
 defined-groups : (options : Declared) (groups : List MatchedGroup) → AreGroupsOf options groups
     → (name : Text) → Declares options name → IsDefined groups name
 defined-groups options groups are name declares =
     subst (λ (place : Option ℕ). IsSome place) (place_of-groups options groups are name) declares
 
--- what is found of a group at a place among those that match these
+-- the group at a place among the matched groups
 module _ (P : Signature → List Found → Type 0) where
   at_place : (signatures : List Signature) (groups : List MatchedGroup)
       → map (λ (group : MatchedGroup). group.signature) groups ≡ signatures
@@ -119,7 +119,7 @@ module _ (options : Declared) (groups : List MatchedGroup) (are : AreGroupsOf op
             ap (λ (at : Option ℕ). length (option_map_or (found_in groups) at []))
             (sym (place_of-groups options groups are name) ∙ resolves) ∙ once
 
-  -- occurrences that have values have a first
+  -- occurrences that have values have a first one
   first_there : (founds : List Found) → HaveValuesFor Yes founds → 0 < length founds
       → IsSome (first_value founds)
   first_there [] each some = absurd (omega arith)
@@ -159,7 +159,7 @@ FitsKind-place groups o place kind there fits here =
     let same : fits.0 ≡ kind = same_Some _ _ (sym fits.1 ∙ ap (kind_at groups) here ∙ there) in
     subst (λ (k : HasArg). FitsKind k o.mention.value) same fits.2
 
--- the occurrences of one group have values as its kind wants
+-- the occurrences of one group have values as its kind requires
 HaveValuesFor-found_at : (groups : List Group) (place : ℕ) (kind : HasArg)
     → kind_at groups place ≡ Some kind → (occurrences : List Occurrence)
     → AllByRecursion (λ o. FitsGroup groups o.mention) occurrences
@@ -180,7 +180,7 @@ HaveValuesFor-found_at groups place kind there (o ∷ occurrences) each =
       )
       here false is others = others
 
--- the groups of matches have values as their kinds want
+-- the groups of matches have values as their kinds require
 HaveValuesByKind-matched : (groups : List Group) (first : ℕ) (signatures : List Signature)
     (occurrences : List Occurrence)
     → ((i : ℕ) (signature : Signature) → slice_get signatures i ≡ Some signature
@@ -219,7 +219,7 @@ module _ (options : Declared) (words : List Text) (matches : Matched)
       ∙ signatures-matched 0 (signatures_of options.groups)
       (occurrences_of (grammar_of options) has.reading)
 
-  -- and values as their kinds want
+  -- and values as their kinds require
   HaveValuesByKind-read : HaveValuesByKind matches.groups
   HaveValuesByKind-read =
       let occurrences = occurrences_of (grammar_of options) has.reading in
@@ -233,7 +233,7 @@ module _ (options : Declared) (words : List Text) (matches : Matched)
       (sym (zero-add i))
       (kind_at-signature options.groups i signature there)) each)
 
-  -- and what the options declare of their groups
+  -- and the declared facts about their groups
   pub HoldGiven-read : HoldGiven options matches.groups
   HoldGiven-read = record {
     same_groups = AreGroupsOf-read;
@@ -243,7 +243,7 @@ module _ (options : Declared) (words : List Text) (matches : Matched)
     needed = needed-groups options matches.groups AreGroupsOf-read HaveValuesByKind-read;
   }
 
--- accepted matches keep the counts besides
+-- accepted matches also keep the counts
 pub HoldDeclared-accepted : (options : Declared) (words : List Text) (matches : Matched)
     → IsAccepted options words matches → HoldDeclared options matches.groups
 HoldDeclared-accepted options words matches accepted =
@@ -254,7 +254,7 @@ HoldDeclared-accepted options words matches accepted =
       required = required-groups options matches.groups given.same_groups accepted.counts;
     }
 
--- the words end in the free words from the trailing start on, after `--`
+-- the words end with the free words from the trailing start on, after `--`
 pub EndsInTrailing-read : (options : Declared) (words : List Text) (matches : Matched)
     → HasReading options words matches
     → IfSome matches.trailing_start (EndsInTrailing words matches)

@@ -1,4 +1,4 @@
--- What is found in words by lawfully named options is what `parse` answers.
+-- What lawfully named options find in words is what `parse` returns.
 use Rattle.std.proofs.Common.{◌≡◌, ℕ, List, length, Option, ap, sym, subst}
 use Rattle.getopts.specs.Only.{IsTheOnly}
 use Rattle.getopts.specs.Names.{Text, AreTexts}
@@ -20,12 +20,12 @@ use Rattle.getopts.proofs.Reading.Readings.{only_reading, only_fault, no_reading
 use Rattle.getopts.proofs.Reading.Turns.{IsNamed}
 
 module _ (options : Declared) (declared : MayBeDeclared options.groups) where
-  -- the grammar is one of names
+  -- the grammar has names
   pub named_here : IsNamed (grammar_of options)
   named_here = named_grammar options declared
 
   module _ (words : List Text) where
-    -- a reading is the only one
+    -- a reading is unique
     pub only_reads : (reading : Reading) → Reads options words reading
         → IsTheOnly (Reads options words) reading
     only_reads reading reads = IsTheOnly-from (Reads options words) reading reads
@@ -70,7 +70,7 @@ module _ (options : Declared) (declared : MayBeDeclared options.groups) where
         };
       }
 
-  -- readings keep the laws
+  -- readings obey the laws
   pub keeps_laws : KeepsReadingLaws (grammar_of options)
   keeps_laws = record {
     long_argument = LongAttachedOrSeparate_lem (grammar_of options);

@@ -1,4 +1,4 @@
--- The laws of readings, proved of every grammar.
+-- The laws of readings, proved for every grammar.
 use Rattle.std.proofs.Common.{◌≡◌, ◌≢◌, ◌==◌, ℕ, zero, suc, ◌+◌, ◌<◌, ◌≤◌, Bool, true, false, List}
 use Rattle.std.proofs.Common.{[], ◌∷◌, ◌++◌, length, map, get_or, Some, refl, sym, ap, ◌∙◌, subst}
 use Rattle.std.proofs.Common.{arith, inl, inr}
@@ -47,21 +47,21 @@ is_dashed-long : (grammar : Grammar) (dashes : Dashes) (name text : Text)
 is_dashed-long grammar one name text before ordinary = cc (before.0, ordinary)
 is_dashed-long grammar two name text before ordinary = refl
 
--- a lawful cluster's word is dashed
+-- the word of a lawful cluster is dashed
 is_dashed-cluster : (grammar : Grammar) (names : List ℕ) (end : End)
     → IsLawfulCluster grammar names end → is_dashed (dash ∷ (names ++ end_text end)) ≡ true
 is_dashed-cluster grammar names end lawful =
     short_dashed grammar _ _ (lawful_short grammar names end lawful)
 
--- What lets new items stand where old ones stood, before these words: they are lawful and well
--- followed where the old ones are, and begin with a dashed word in ordinary mode.
+-- When new items may replace old ones before these words: they are lawful and well
+-- followed if the old ones are, and begin with a dashed word in ordinary mode.
 record FitInPlace (grammar : Grammar) (old new : List Item) (more : List Text) : Type 0 where
   lawful : AllByRecursion (IsLawfulItem grammar) old → AllByRecursion (IsLawfulItem grammar) new
   dashed : AllByRecursion (IsLawfulItem grammar) new → grammar.long_only ≡ false
       → EndsOrIsDashed (spelled_all new more)
   followed : AreWellFollowed old more → AreWellFollowed new more
 
--- items in front begin with a dashed word before the new ones too
+-- items in front still begin with a dashed word
 EndsOrIsDashed-in_place : (front old new : List Item) (more : List Text)
     → EndsOrIsDashed (spelled_all new more) → EndsOrIsDashed (spelled_all (front ++ old) more)
     → EndsOrIsDashed (spelled_all (front ++ new) more)
@@ -69,7 +69,7 @@ EndsOrIsDashed-in_place [] old new more dashed begins = dashed
 EndsOrIsDashed-in_place (item ∷ front) old new more dashed begins =
     EndsOrIsDashed-spelled item _ _ begins
 
--- items in front are well followed by the new ones too
+-- items in front are still well followed
 AreWellFollowed-in_place : (grammar : Grammar) (front old new : List Item) (more : List Text)
     → AllByRecursion (IsLawfulItem grammar) front
     → (grammar.long_only ≡ false → EndsOrIsDashed (spelled_all new more))
@@ -82,7 +82,7 @@ AreWellFollowed-in_place grammar (item ∷ front) old new more lawful dashed fol
   AreWellFollowed-in_place grammar front old new more lawful.1 dashed followed before.1,
 )
 
--- with new items that fit in place of old ones a reading stays a reading, of the words that it
+-- if new items that fit replace old ones, a reading stays a reading of the words that it
 -- spells
 IsReading-in_place : (grammar : Grammar) (front old new : List Item) (tail : Tail)
     (words : List Text) → FitInPlace grammar old new (tail_words tail)
@@ -102,7 +102,7 @@ IsReading-in_place grammar front old new tail words fit reads =
           (fit.dashed lawful) fit.followed reads.followed;
     }
 
--- items in front leave the same occurrences where the new items have those of the old ones
+-- items in front preserve equal occurrences
 occurrences_after-in_place : (grammar : Grammar) (front old new : List Item)
     → ((before : ℕ) → occurrences_after before grammar new ≡ occurrences_after before grammar old)
     → (before : ℕ)
@@ -121,13 +121,13 @@ free_items-append (free word ∷ items) others =
     ap (λ words. word ∷ words) (free_items-append items others)
 free_items-append (item ∷ items) others = free_items-append items others
 
--- items in front leave the same free words where the new items have those of the old ones
+-- items in front preserve equal free words
 free_items-in_place : (front old new : List Item) → free_items new ≡ free_items old
     → free_items (front ++ new) ≡ free_items (front ++ old)
 free_items-in_place front old new same =
     rw (free_items-append front new, same, ← free_items-append front old)
 
--- items in front leave the same mentions where the new items have those of the old ones
+-- items in front preserve equal mentions
 mentions_of-in_place : (grammar : Grammar) (front old new : List Item) (tail : Tail)
     → flat_map (mentions grammar) new ≡ flat_map (mentions grammar) old
     → mentions_of grammar (record { items = front ++ new; tail = tail })
@@ -141,7 +141,7 @@ mentions_of-in_place grammar front old new tail same =
     ) refl
     ∙ sym (mentions_of-items grammar (record { items = front ++ old; tail = tail }))
 
--- new items that fit, with the same mentions and free words and with alike positions, read alike
+-- new items that fit, with the same mentions and free words and like positions, read alike
 ReadsAlike-in_place : (grammar : Grammar) (Alike : List ℕ → List ℕ → Type 0)
     (front old new : List Item) (tail : Tail) (words : List Text)
     → FitInPlace grammar old new (tail_words tail)
@@ -163,13 +163,13 @@ ReadsAlike-in_place grammar Alike front old new tail words fit same alike same_f
       positions = alike;
     }
 
--- Of two items with the same mentions and no free word, one spells one word more: either may stand
--- for the other where it fits, and later positions are one higher with the longer one.
+-- Two items with the same mentions and no free word, one of which spells one word more: each may
+-- replace the other if it fits, and the longer one moves later positions up by one.
 module _ (grammar : Grammar) (item longer : Item)
     (same : mentions grammar longer ≡ mentions grammar item)
     (same_free : free_items (longer ∷ []) ≡ free_items (item ∷ []))
     (one_more : word_count (longer ∷ []) ≡ word_count (item ∷ []) + 1) where
-  -- the longer one for the other
+  -- replacing the shorter one
   Respells-longer : ((back : List Item) (more : List Text)
       → FitInPlace grammar (item ∷ back)
       (longer ∷ back) more) → Respells grammar item (longer ∷ []) AreHigherAfter
@@ -181,7 +181,7 @@ module _ (grammar : Grammar) (item longer : Item)
       (free_items-append (longer ∷ []) back ∙ ap (λ frees. frees ++ free_items back) same_free
       ∙ sym (free_items-append (item ∷ []) back)) reads
 
-  -- the other for the longer one
+  -- replacing the longer one
   Respells-shorter : ((back : List Item) (more : List Text)
       → FitInPlace grammar (longer ∷ back) (item ∷ back) more)
       → Respells grammar longer (item ∷ []) (λ position old new. AreHigherAfter position new old)
@@ -216,7 +216,7 @@ IsLawfulLong-yes grammar dashes name argument new_argument kind fits lawful = re
   resolves = (Yes, kind, fits);
 }
 
--- a long argument attached or separate
+-- a long option's argument, attached or separate
 pub LongAttachedOrSeparate_lem : (grammar : Grammar) → LongAttachedOrSeparate grammar
 LongAttachedOrSeparate_lem grammar = record {
   either = λ dashes name argument kind. record {
@@ -231,7 +231,7 @@ LongAttachedOrSeparate_lem grammar = record {
   };
 }
 
--- in long-only mode either dashes may stand before a name that doesn't begin with `-`
+-- in long-only mode one dash or two may precede a name that doesn't begin with `-`
 MayStandBefore-long_only : (long_only : Bool) (dashes : Dashes) (name : Text) → long_only ≡ true
     → begins_with_dash name ≡ false → MayStandBefore long_only dashes name
 MayStandBefore-long_only long_only one name only plain = (only, plain)
@@ -283,7 +283,7 @@ FitInPlace-cluster grammar names option argument new_argument back more kind fit
   followed = λ each. (λ bare. cc (bare, filled), each.1);
 }
 
--- a short argument attached or separate
+-- a short option's argument, attached or separate
 pub ShortAttachedOrSeparate_lem : (grammar : Grammar) → ShortAttachedOrSeparate grammar
 ShortAttachedOrSeparate_lem grammar = record {
   either = λ names option argument kind filled. record {
@@ -312,14 +312,14 @@ is_bare-rest flag names flags bare = bare
 is_bare-rest flag names (ends_in option none) bare = bare
 is_bare-rest flag names (ends_in option argument) bare = bare
 
--- the rest of a cluster ends lawfully, where it has a text
+-- the rest of a cluster ends lawfully, if it isn't empty
 IsLawfulEnd-rest : (grammar : Grammar) (flag : ℕ) (names : List ℕ) (end : End)
     → names ++ end_text end ≢ [] → IsLawfulEnd grammar (flag ∷ names) end
     → IsLawfulEnd grammar names end
 IsLawfulEnd-rest grammar flag names flags filled lawful = λ nil. filled (append-nil names ∙ nil)
 IsLawfulEnd-rest grammar flag names (ends_in option argument) filled lawful = lawful
 
--- a cluster may stand split after its first flag
+-- a cluster may be split after its first flag
 Respells-split : (grammar : Grammar) (flag : ℕ) (names : List ℕ) (end : End)
     → names ++ end_text end ≢ [] → begins_with_dash (names ++ end_text end) ≡ false
     → Respells grammar (cluster (flag ∷ names) end)
@@ -358,7 +358,7 @@ Respells-split grammar flag names end filled plain front back tail words reads =
 pub ClusterSplits_lem : (grammar : Grammar) → ClusterSplits grammar
 ClusterSplits_lem grammar = record { after_flag = Respells-split grammar }
 
--- bare clusters stay followed as they may be where others stand after the last item, which isn't
+-- bare clusters stay well followed if other items follow the last item, and this isn't
 -- bare
 AreWellFollowed-append : (items others : List Item) (more : List Text) → is_last_bare items ≡ false
     → AreWellFollowed items [] → AreWellFollowed others more
@@ -370,7 +370,7 @@ AreWellFollowed-append (item ∷ next ∷ items) others more last before after =
   AreWellFollowed-append (next ∷ items) others more last before.1 after,
 )
 
--- two readings joined have the content of both
+-- the concatenation of two readings has the content of both
 HasContentOfBoth-joined : (grammar : Grammar) (first second : Reading) → first.tail ≡ line_end
     → HasContentOfBoth grammar first second (joined_reading first second)
 HasContentOfBoth-joined grammar first second ends = record {
@@ -406,7 +406,7 @@ IsReading-joined grammar first second words more reads ends last after = record 
       (rw ends at reads.followed) after.followed;
 }
 
--- lines compose, where a line has one reading at most
+-- lines compose, if a line has at most one reading
 pub LinesCompose_lem : (grammar : Grammar)
     → ((reading other : Reading) (words : List Text) → IsReading grammar reading words
     → IsReading grammar other words → reading ≡ other) → LinesCompose grammar
@@ -420,7 +420,7 @@ LinesCompose_lem grammar only = record {
       );
 }
 
--- the trailing start of a tail after so many free words
+-- the trailing start of a tail after this number of free words
 IsAfterStop-tail : (frees : List Text) (items : List Item) (tail : Tail) (start : ℕ)
     → free_items items ≡ frees → trailing_after (length frees) tail ≡ Some start
     → IsAfterStop (record { items = items; tail = tail }) start
@@ -441,7 +441,7 @@ TrailingStartIsAfterStop_lem grammar = record {
       (free_items reading.items) reading.items reading.tail start refl at;
 }
 
--- the texts are the words with some left out, word by word
+-- the texts are a subsequence of the words, defined word by word
 pub data IsPart : List Text → List Text → Type 0 where
   empty : IsPart [] []
   kept : {texts words : List Text} (word : Text) → IsPart texts words
@@ -469,7 +469,7 @@ IsPart-tail line_end = empty
 IsPart-tail (stop words) = left_out _ (IsPart-refl words)
 IsPart-tail (rest words) = IsPart-refl words
 
--- words in front are left out
+-- words in front may be left out
 IsPart-after : (front words others : List Text) → IsPart words others
     → IsPart words (front ++ others)
 IsPart-after [] words others among = among
@@ -495,7 +495,7 @@ abbrev RiseFrom : ℕ → List Found → Type 0
 RiseFrom low [] = Unit {0}
 RiseFrom low (found ∷ founds) = (low ≤ found.position) × RiseFrom found.position founds
 
--- so they do from a lower one
+-- the same from a lower position
 RiseFrom-lower : (low high : ℕ) (founds : List Found) → low ≤ high → RiseFrom high founds
     → RiseFrom low founds
 RiseFrom-lower low high [] below rise = tt
@@ -516,7 +516,7 @@ RiseFrom-get_or low (found ∷ founds) rise (suc index) default in_range =
 abbrev NeverDecrease : List Found → Type 0
 NeverDecrease founds = IsNonDecreasingBy (λ found. found.position) founds
 
--- positions that rise never decrease
+-- rising positions never decrease
 NeverDecrease-from_rise : (low : ℕ) (founds : List Found) → RiseFrom low founds
     → NeverDecrease founds
 NeverDecrease-from_rise low [] rise i j default ordered in_range = absurd (omega arith)
@@ -528,7 +528,7 @@ NeverDecrease-from_rise low (found ∷ founds) rise (suc i) zero default ordered
 NeverDecrease-from_rise low (found ∷ founds) rise (suc i) (suc j) default ordered in_range =
     NeverDecrease-from_rise found.position founds rise.1 i j default (omega arith) (omega arith)
 
--- the occurrences of one item rise from its position, where the later ones do
+-- the occurrences of an item rise from its position, if the later ones do
 RiseFrom-item : (place position : ℕ) (told : List Mention) (later : List Occurrence)
     → RiseFrom position (found_at place later)
     → RiseFrom position (found_at place (map (at_position position) told ++ later))
@@ -557,7 +557,7 @@ NeverDecrease-reading : (grammar : Grammar) (reading : Reading) (place : ℕ)
 NeverDecrease-reading grammar reading place =
     NeverDecrease-from_rise 0 _ (RiseFrom-items grammar place 0 reading.items)
 
--- positions in order, of the groups that matches of a reading hold
+-- the positions of groups in a reading's matches are in order
 pub HavePositionsInOrder-matched : (grammar : Grammar) (reading : Reading) (place : ℕ)
     (signatures : List Signature)
     → HavePositionsInOrder (matched place signatures (occurrences_of grammar reading))

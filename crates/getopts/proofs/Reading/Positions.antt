@@ -1,4 +1,4 @@
--- Positions: how many words items spell, which occurrences are one higher, and what stands at a
+-- Positions: how many words items spell, which occurrences move up by one, and what is at a
 -- position.
 use Rattle.std.proofs.Common.{◌≡◌, ◌==◌, ℕ, zero, suc, ◌+◌, ◌<◌, ◌≤◌, true, false, List, [], ◌∷◌}
 use Rattle.std.proofs.Common.{◌++◌, length, map, refl, ap, ◌∙◌, sym, subst, inl, inr, add-zero}
@@ -21,18 +21,18 @@ use Rattle.getopts.proofs.Lists.{AllByRecursion-append, slice_get-append}
 use Rattle.getopts.proofs.Reading.Readings.{spelled_all-append, spelled_all-joined}
 use Rattle.getopts.proofs.Reading.Turns.{spelled}
 
--- the words of items, and those that follow
+-- the words of items, and the following words
 pub length-spelled_all : (items : List Item) (more : List Text)
     → length (spelled_all items more) ≡ word_count items + length more
 length-spelled_all items more = ap length (spelled_all-append items [] more)
     ∙ length-append (spelled_all items []) more
 
--- the words of an item, and those of the items after it
+-- the words of an item, and of the items after it
 pub word_count-cons : (item : Item) (items : List Item)
     → word_count (item ∷ items) ≡ word_count (item ∷ []) + word_count items
 word_count-cons item items = length-spelled_all (item ∷ []) (spelled_all items [])
 
--- an item spells a word
+-- an item spells at least one word
 pub spells_word : (item : Item) (more : List Text) → 0 < length (spelled item more)
 spells_word (free word) more = omega arith
 spells_word (long dashes name argument) more = omega arith
@@ -54,12 +54,12 @@ mention-occurrences_after before grammar (item ∷ items) =
     let after = mention-occurrences_after (before + word_count (item ∷ [])) grammar items in
     simp (map-append, here, after)
 
--- what a reading mentions is what its items mention, one after the other
+-- a reading's mentions are those of its items, in order
 pub mentions_of-items : (grammar : Grammar) (reading : Reading)
     → mentions_of grammar reading ≡ flat_map (mentions grammar) reading.items
 mentions_of-items grammar reading = mention-occurrences_after 0 grammar reading.items
 
--- an occurrence, one position higher where it stands after this one
+-- an occurrence, one position higher if it comes after this one
 abbrev raised_after : ℕ → Occurrence → Occurrence
 raised_after position o = record {
   mention = o.mention;
@@ -74,7 +74,7 @@ position-raised_after position (o ∷ os) =
     ap (λ (ps : List ℕ). one_higher_after position o.position ∷ ps)
     (position-raised_after position os)
 
--- mentions that aren't after this position stay where they are
+-- mentions up to this position stay where they are
 raised_after-stays : (at position : ℕ) (told : List Mention) → position ≤ at
     → map (raised_after at) (map (at_position position) told) ≡ map (at_position position) told
 raised_after-stays at position [] within = refl
@@ -107,12 +107,12 @@ occurrences_after-moves grammar at before (item ∷ items) past =
       later,
     )
 
--- With an item that spells one word more and mentions the same, the occurrences of later items are
--- one higher.
+-- If an item is replaced by one that spells one more word and mentions the same, later occurrences
+-- move up by one.
 module _ (grammar : Grammar) (item other : Item) (back : List Item)
     (same : mentions grammar other ≡ mentions grammar item)
     (longer : word_count (other ∷ []) ≡ word_count (item ∷ []) + 1) where
-  -- where the item is the first
+  -- if the item is the first
   occurrences_after-here : (before : ℕ)
       → map (raised_after before) (occurrences_after before grammar (item ∷ back))
       ≡ occurrences_after before grammar (other ∷ back)
@@ -128,7 +128,7 @@ module _ (grammar : Grammar) (item other : Item) (back : List Item)
         same,
       )
 
-  -- where items stand before it
+  -- if there are items before it
   occurrences_after-one_higher : (front : List Item) (before : ℕ)
       → map (raised_after (before + word_count front))
       (occurrences_after before grammar (front ++ item ∷ back))
@@ -156,7 +156,7 @@ module _ (grammar : Grammar) (item other : Item) (back : List Item)
       rw (← whole) (position-raised_after (word_count front)
       (occurrences_after 0 grammar (front ++ item ∷ back)))
 
--- the item of an occurrence, among items with so many words before them
+-- the item of an occurrence, among items after this number of words
 record IsOfItem (grammar : Grammar) (first : ℕ) (items : List Item)
     (occurrence : Occurrence) : Type 0 where
   before : List Item
@@ -184,7 +184,7 @@ IsOfItem-later grammar first item items occurrence found =
           found.mentioned;
     }
 
--- each occurrence is of an item
+-- each occurrence belongs to an item
 IsOfItem-from_contains : (grammar : Grammar) (first : ℕ) (items : List Item)
     (occurrence : Occurrence) → Contains (occurrences_after first grammar items) occurrence
     → IsOfItem grammar first items occurrence
@@ -204,7 +204,7 @@ IsOfItem-from_contains grammar first (item ∷ items) occurrence held =
           (IsOfItem-from_contains grammar (first + word_count (item ∷ [])) items occurrence later)
     ]
 
--- what is mentioned at a position has it
+-- a mention at a position has that position
 position-mentioned : (position : ℕ) (told : List Mention) (occurrence : Occurrence)
     → Contains (map (at_position position) told) occurrence → occurrence.position ≡ position
 position-mentioned position [] occurrence held = absurd (omega (arith, held.1))
@@ -253,14 +253,14 @@ PositionsAreWords_lem grammar = record { of_occurrence = stands } where
             ∙ first_word-spelled found.item more;
       }
 
--- mentions at a position are below what the position is below
+-- mentions at a position below a bound are below it
 below-mentioned : (count position : ℕ) (told : List Mention) → position < count
     → AllByRecursion (λ o. o.position < count) (map (at_position position) told)
 below-mentioned count position [] below = tt
 below-mentioned count position (first ∷ told) below =
     (below, below-mentioned count position told below)
 
--- the occurrences of items are below the number of words
+-- the positions of items are below the number of words
 below-occurrences_after : (grammar : Grammar) (count before : ℕ) (items : List Item)
     → before + word_count items ≤ count
     → AllByRecursion (λ o. o.position < count) (occurrences_after before grammar items)
@@ -275,7 +275,7 @@ below-occurrences_after grammar count before (item ∷ items) within =
     (below-occurrences_after grammar count (before + word_count (item ∷ [])) items
     (omega (arith, words)))
 
--- the occurrences of one group are
+-- so are those of one group
 below-found_at : (count place : ℕ) (occurrences : List Occurrence)
     → AllByRecursion (λ o. o.position < count) occurrences
     → AllByRecursion (λ (found : Found). found.position < count) (found_at place occurrences)
@@ -288,7 +288,7 @@ below-found_at count place (first ∷ occurrences) all =
       | inr other ↦ rw other later
     ]
 
--- the occurrences of a reading are
+-- so are those of a reading
 below-occurrences_of : (grammar : Grammar) (reading : Reading) (words : List Text)
     → IsReading grammar reading words
     → AllByRecursion (λ o. o.position < length words) (occurrences_of grammar reading)
@@ -301,7 +301,7 @@ below-occurrences_of grammar reading words reads =
           (tail_words reading.tail),
     ))
 
--- positions are below the number of words, of the groups that matches of a reading hold
+-- so are those of the groups in a reading's matches
 pub HavePositionsBelow-matched : (grammar : Grammar) (reading : Reading) (words : List Text)
     → IsReading grammar reading words → (place : ℕ) (signatures : List Signature)
     → HavePositionsBelow (length words) (matched place signatures (occurrences_of grammar reading))

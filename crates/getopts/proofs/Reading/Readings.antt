@@ -51,7 +51,7 @@ pub read_nil : (grammar : Grammar) → read grammar [] ≡ Ok (record { items = 
 unfolding read
 read_nil grammar = refl
 
--- an item that the turn takes stands before what the words after it give
+-- an item goes in front of the outcome of the words after it
 pub taken_read : (grammar : Grammar) (words : List Text) (item : Item) (others : List Text)
     → TakesItem grammar words item others
     → read grammar words ≡ with_items (item ∷ []) (read grammar others)
@@ -70,7 +70,7 @@ pub with_items-append : (items others : List Item) (outcome : Result Reading Fau
 with_items-append items others (Ok reading) = rw append_assoc refl
 with_items-append items others (Err fault) = refl
 
--- lawful items stand before what the words after them give
+-- lawful items go in front of the outcome of the words after them
 pub items_read : (grammar : Grammar) → IsNamed grammar → (items : List Item) (more : List Text)
     → AllByRecursion (IsLawfulItem grammar) items → AreWellFollowed items more
     → read grammar (spelled_all items more) ≡ with_items items (read grammar more)
@@ -93,7 +93,7 @@ tail_read grammar (rest (word ∷ words)) lawful =
     (turn_free grammar word words lawful.0
     ∙ ap (λ (style : ParsingStyle). free_turn style word words) lawful.1)
 
--- `read` gives a reading that a line has
+-- if a line has a reading, `read` returns it
 pub reading_read : (grammar : Grammar) → IsNamed grammar → (reading : Reading) (words : List Text)
     → IsReading grammar reading words → read grammar words ≡ Ok reading
 reading_read grammar named reading words is =
@@ -130,12 +130,12 @@ ends-append : (xs ys : List Text) → EndsOrIsDashed xs → EndsOrIsDashed ys
 ends-append [] ys front more = more
 ends-append (x ∷ xs) ys front more = front
 
--- the front of such words
+-- the first of such words
 ends-front : (xs ys : List Text) → EndsOrIsDashed (xs ++ ys) → EndsOrIsDashed xs
 ends-front [] ys whole = tt
 ends-front (x ∷ xs) ys whole = whole
 
--- items that end a line are followed as they may be by a dashed word, too
+-- items that may end a line may also precede a dashed word
 followed-append : (items : List Item) (more : List Text) → AreWellFollowed items []
     → EndsOrIsDashed more → AreWellFollowed items more
 followed-append [] more followed dashed = tt
@@ -145,7 +145,7 @@ followed-append (item ∷ items) more followed dashed = (
   followed-append items more followed.1 dashed,
 )
 
--- `read` gives a fault that a line has
+-- if a line has a fault, `read` returns it
 pub fault_read : (grammar : Grammar) → IsNamed grammar → (words : List Text) (fault : Fault)
     → AreTexts words → IsScanFault grammar words fault → read grammar words ≡ Err fault
 fault_read grammar named words fault texts is =
@@ -165,14 +165,14 @@ fault_read grammar named words fault texts is =
 
 -- The laws of a line: at most one reading, at most one fault, and never both.
 module _ (grammar : Grammar) (named : IsNamed grammar) (words : List Text) where
-  -- two readings of a line are one
+  -- two readings of a line are equal
   pub only_reading : (r s : Reading) → IsReading grammar r words → IsReading grammar s words → r ≡ s
   only_reading r s first second =
       let read_r = reading_read grammar named r words first in
       let read_s = reading_read grammar named s words second in
       cc
 
-  -- two faults of a line are one
+  -- two faults of a line are equal
   pub only_fault : (f g : Fault) → AreTexts words → IsScanFault grammar words f
       → IsScanFault grammar words g → f ≡ g
   only_fault f g texts first second =
@@ -188,7 +188,7 @@ module _ (grammar : Grammar) (named : IsNamed grammar) (words : List Text) where
       let read_r = reading_read grammar named r words reading in
       cc
 
--- What an outcome says of a line is so: it has this reading, or this fault.
+-- The line has the reading or fault of its outcome.
 abbrev pub IsSoundOutcome : Grammar → List Text → Result Reading Fault → Type 0
 IsSoundOutcome grammar words (Ok reading) = IsReading grammar reading words
 IsSoundOutcome grammar words (Err fault) = IsScanFault grammar words fault
@@ -239,7 +239,7 @@ item_sound grammar words item others (Ok reading) begins sound =
 item_sound grammar words item others (Err fault) begins sound =
     fault_step grammar words item others fault begins sound
 
--- a line that is a tail
+-- a line that consists of a tail
 tail_sound : (grammar : Grammar) (words : List Text) (tail : Tail) → IsLawfulTail grammar tail
     → tail_words tail ≡ words → IsReading grammar (record { items = []; tail = tail }) words
 tail_sound grammar words tail lawful spells =
@@ -294,7 +294,7 @@ both_sound grammar named (word ∷ more) texts =
       after.0,
     )
 
--- what `read` gives for a line of texts is so
+-- the outcome of `read` is right for a line of texts
 pub read_sound : (grammar : Grammar) → IsNamed grammar → (words : List Text) → AreTexts words
     → (outcome : Result Reading Fault) → read grammar words ≡ outcome
     → IsSoundOutcome grammar words outcome

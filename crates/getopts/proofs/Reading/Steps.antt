@@ -1,4 +1,4 @@
--- One word: what `turn` says of it is what the definitions say.
+-- One word: `turn` agrees with the definitions.
 use Rattle.std.proofs.Common.{◌≡◌, ◌≢◌, ◌==◌, ℕ, ◌<◌, Bool, true, false, List, [], ◌∷◌, ◌++◌}
 use Rattle.std.proofs.Common.{length, Option, Some, None, Ok, refl, sym, ap, ◌∙◌, subst, inl, inr}
 use Rattle.std.proofs.Common.{arith, encode_utf8, unwrap_or, append_assoc, append-nil}
@@ -41,7 +41,7 @@ pub record BeginsWith (grammar : Grammar) (words : List Text) (item : Item) (mor
   pub lawful : IsLawfulItem grammar item
   pub followed : is_bare item ≡ true → EndsOrIsDashed more
 
--- What a turn says of a line that begins with this word is so: its tail, its item or its fault.
+-- A turn is right about a line that begins with this word: its tail, its item or its fault.
 abbrev pub IsSoundTurn : Grammar → Text → List Text → Turn → Type 0
 IsSoundTurn grammar word more (ends tail) = IsLawfulTail grammar tail
     × (tail_words tail ≡ word ∷ more)
@@ -49,7 +49,7 @@ IsSoundTurn grammar word more (takes item argument) = (others : List Text)
     × (more ≡ argument_words argument ++ others) × BeginsWith grammar (word ∷ more) item others
 IsSoundTurn grammar word more (faults fault) = IsUtf8 word → IsFaultAt grammar word more fault
 
--- dashes that may stand before a text may stand before a name at its front
+-- dashes that may precede a text may precede a name at its front
 before_front : (long_only : Bool) (dashes : Dashes) (name more : Text)
     → MayStandBefore long_only dashes (name ++ more) → MayStandBefore long_only dashes name
 before_front long_only one name more before = (before.0, begins_with_dash-front name more before.1)
@@ -58,7 +58,7 @@ before_front long_only two name more before = tt
 -- Words in long form with this name.
 module _ (grammar : Grammar) (dashes : Dashes) (word name : Text)
     (plain : holds_equals name ≡ false) where
-  -- its dashes stand before it, and before `=` and an argument where there is one
+  -- its dashes precede it, and `=` and an argument follow if there is one
   long_form : (argument : Option Text)
       → IsInLongForm grammar dashes word (name ++ with_equals argument)
       → IsLongForm grammar word name argument
@@ -91,7 +91,7 @@ module _ (grammar : Grammar) (dashes : Dashes) (word name : Text)
     },
   )
 
-  -- each kind, and no kind
+  -- each kind, and an unknown name
   named_sound : (kind : Option HasArg) (argument : Option Text) (more : List Text)
       → IsInLongForm grammar dashes word (name ++ with_equals argument)
       → grammar.kind name ≡ kind
@@ -127,7 +127,7 @@ flags_ascii grammar named (byte ∷ names) each = (
   flags_ascii grammar named names each.1,
 )
 
--- what stands after flags is a text
+-- the rest after flags is a text
 IsUtf8-after_flags : (grammar : Grammar) → IsNamed grammar → (word : Text) (bytes text : Text)
     → IsShortForm grammar word (bytes ++ text) → AllByRecursion (IsFlag grammar) bytes
     → IsUtf8 word → IsUtf8 text
@@ -135,7 +135,7 @@ IsUtf8-after_flags grammar named word bytes text form each utf8 =
     IsUtf8-past_asciis bytes text (flags_ascii grammar named bytes each)
     (IsUtf8-past_ascii dash (bytes ++ text) (omega arith) (subst IsUtf8 form.word_is utf8))
 
--- Words in short form with these flags at the front.
+-- Words in short form that begin with these flags.
 module _ (grammar : Grammar) (word : Text) (bytes : List ℕ)
     (each : AllByRecursion (IsFlag grammar) bytes) where
   -- a line that begins with a cluster
@@ -167,7 +167,7 @@ module _ (grammar : Grammar) (word : Text) (bytes : List ℕ)
         (kind, resolved, fits) followed,
   )
 
-  -- what doesn't resolve
+  -- a name that doesn't resolve
   unknown_flag : IsNamed grammar → (byte : ℕ) (text : Text) (more : List Text)
       → IsShortForm grammar word (bytes ++ byte ∷ text) → grammar.kind (byte ∷ []) ≡ None
       → IsUtf8 word → IsFaultAt grammar word more (unrecognized_option (first_char (byte ∷ text)))
@@ -195,7 +195,7 @@ module _ (grammar : Grammar) (word : Text) (bytes : List ℕ)
         each = each;
       }
 
-  -- one more byte, by its kind, with what a flag more gives
+  -- one more byte, by its kind, given the result of one more flag
   byte_sound : IsNamed grammar → (byte : ℕ) (kind : Option HasArg) (text : Text) (more : List Text)
       (after : Turn) → IsShortForm grammar word (bytes ++ byte ∷ text)
       → grammar.kind (byte ∷ []) ≡ kind
@@ -227,7 +227,7 @@ module _ (grammar : Grammar) (word : Text) (bytes : List ℕ)
             (λ bare. cc bare))
       ]
 
--- a cluster, by the flags that were read and the text that is left
+-- a cluster, by the flags that were read and the remaining text
 cluster_sound : (grammar : Grammar) → IsNamed grammar
     → (word : Text) (bytes : List ℕ) (text : Text) (more : List Text)
     → IsShortForm grammar word (bytes ++ text) → AllByRecursion (IsFlag grammar) bytes
@@ -338,7 +338,7 @@ turn_sound grammar named (first ∷ second ∷ text) more = elim (cases_Bool (fi
   two_sound (c ∷ others) = in_long two (dash ∷ dash ∷ c ∷ others) (c ∷ others)
       (record { before = tt; word_is = refl; filled = λ e. cc e })
 
--- Now the other way: what a line begins with settles the turn of its first word.
+-- Conversely, the beginning of a line determines the turn of its first word.
 
 -- a text in long form, by its name, its kind and its attached argument
 pub long_turn_cut : (grammar : Grammar) (dashes : Dashes) (name : Text) (argument : Option Text)
@@ -349,7 +349,7 @@ pub long_turn_cut : (grammar : Grammar) (dashes : Dashes) (name : Text) (argumen
 long_turn_cut grammar dashes name argument more kind plain resolved =
     rw (cut_at_equals-append name argument plain, resolved) refl
 
--- dashes that may stand before a name may stand before it and its argument
+-- dashes that may precede a name may precede it and its argument
 before_more : (long_only : Bool) (dashes : Dashes) (name : Text) (argument : Option Text)
     → MayStandBefore long_only dashes name
     → MayStandBefore long_only dashes (name ++ with_equals argument)
@@ -369,7 +369,7 @@ long_form_turn grammar word name argument more kind form resolved =
       filled = form.filled;
     }) ∙ long_turn_cut grammar form.dashes name argument more kind form.cut_once resolved
 
--- the word of a name that resolves, with its dashes and its argument, is more than its dashes
+-- the word of a name that resolves is longer than its dashes
 resolved_word : (grammar : Grammar) → IsNamed grammar
     → (dashes : Dashes) (name : Text) (argument : Option Text) (kind : HasArg)
     → grammar.kind name ≡ Some kind
@@ -379,7 +379,7 @@ resolved_word grammar named dashes [] argument kind resolved = let empty =
 resolved_word grammar named one (c ∷ name) argument kind resolved = λ e. cc e
 resolved_word grammar named two (c ∷ name) argument kind resolved = λ e. cc e
 
--- flags go before what is left
+-- flags precede the rest
 pub cluster_flags : (grammar : Grammar) (before names : List ℕ) (text : Text) (more : List Text)
     → AllByRecursion (IsFlag grammar) names
     → cluster_turn grammar before (names ++ text) more
@@ -442,7 +442,7 @@ end_chosen Maybe name none [] fits followed = refl
 end_chosen Maybe name none (next ∷ others) fits followed = rw (followed refl) refl
 end_chosen Maybe name (separate next) more fits followed = rw fits refl
 
--- a cluster whose end is lawful has a text after its dash
+-- a cluster with a lawful end isn't empty after its dash
 filled_from_lawful : (grammar : Grammar) (names : List ℕ) (end : End)
     → IsLawfulEnd grammar names end → names ++ end_text end ≢ []
 filled_from_lawful grammar names flags last nil = last (sym (append-nil names) ∙ nil)
@@ -517,7 +517,7 @@ spelled_turn grammar named (cluster bytes (ends_in option argument)) more lawful
       refl,
     )
 
--- a wide character is unknown by its first byte
+-- a wide character is unknown, by its first byte
 wide_unknown : (grammar : Grammar) → IsNamed grammar → (c byte : ℕ) (others text : Text)
     → byte ∷ others ≡ encode_utf8 c ++ text → 1 < length (encode_utf8 c)
     → grammar.kind (byte ∷ []) ≡ None

@@ -1,4 +1,4 @@
--- Texts alone: a text in long form, cut at its first `=`.
+-- Texts: a text in long form, split at its first `=`.
 use Rattle.std.proofs.Common.{◌≡◌, ◌≢◌, ◌==◌, ℕ, ◌<◌, ◌≤◌, true, false, List, [], ◌∷◌, ◌++◌, length}
 use Rattle.std.proofs.Common.{Option, Some, None, refl, sym, ap, subst, inl, inr, arith}
 use Rattle.std.proofs.Common.{encode_utf8}
@@ -14,7 +14,7 @@ use Rattle.std.proofs.lemmas.Str.{char_from_byte, byte_from_char, length-encode}
 use Rattle.std.proofs.lemmas.Bool.Decides.{nat_tests}
 use lib.Utf8.{scalars, encodes, encode, scalar as scalar_test}
 
--- a text in long form is its name, and `=` and its argument where it has one
+-- a text in long form is its name, followed by `=` and its argument if it has one
 pub cut_at_equals-joined : (text : Text)
     → (cut_at_equals text).0 ++ with_equals (cut_at_equals text).1 ≡ text
 cut_at_equals-joined [] = refl
@@ -23,7 +23,7 @@ cut_at_equals-joined (c ∷ text) = elim (cases_Bool (c == equals_sign)) [
   | inr other ↦ rw other (ap (λ (rest : Text). c ∷ rest) (cut_at_equals-joined text))
 ]
 
--- the name in a text in long form holds no `=`
+-- the name in a text in long form contains no `=`
 pub holds_equals-name : (text : Text) → holds_equals (cut_at_equals text).0 ≡ false
 holds_equals-name [] = refl
 holds_equals-name (c ∷ text) = elim (cases_Bool (c == equals_sign)) [
@@ -31,7 +31,7 @@ holds_equals-name (c ∷ text) = elim (cases_Bool (c == equals_sign)) [
   | inr other ↦ rw (other, other) (holds_equals-name text)
 ]
 
--- the name is what stands before `=`, where it holds none, and the argument what stands after it
+-- the name is the part before the first `=`, and the argument the part after it
 pub cut_at_equals-append : (name : Text) (argument : Option Text) → holds_equals name ≡ false
     → cut_at_equals (name ++ with_equals argument) ≡ (name, argument)
 cut_at_equals-append [] None plain = refl
@@ -40,20 +40,20 @@ cut_at_equals-append (c ∷ name) argument plain =
     let parts = or_parts (c == equals_sign) (holds_equals name) plain in
     rw (parts.0, cut_at_equals-append name argument parts.1) refl
 
--- a text that begins with a name begins with a dash only where the name does
+-- a text that begins with a name begins with a dash only if the name does
 pub begins_with_dash-append : (name : Text) (argument : Option Text) → begins_with_dash name ≡ false
     → begins_with_dash (name ++ with_equals argument) ≡ false
 begins_with_dash-append [] None plain = refl
 begins_with_dash-append [] (Some argument) plain = refl
 begins_with_dash-append (c ∷ name) argument plain = plain
 
--- the name begins with a dash only where the text that it begins does
+-- the name begins with a dash only if the text does
 pub begins_with_dash-front : (name more : Text) → begins_with_dash (name ++ more) ≡ false
     → begins_with_dash name ≡ false
 begins_with_dash-front [] more plain = refl
 begins_with_dash-front (c ∷ name) more plain = plain
 
--- `-` and a text that isn't empty is a dashed word
+-- `-` followed by a nonempty text is a dashed word
 pub is_dashed-text : (text : Text) → text ≢ [] → is_dashed (dash ∷ text) ≡ true
 is_dashed-text [] filled = absurd (filled refl)
 is_dashed-text (c ∷ text) filled = refl
@@ -70,7 +70,7 @@ IsUtf8-past_asciis [] text ascii utf8 = utf8
 IsUtf8-past_asciis (byte ∷ bytes) text ascii utf8 =
     IsUtf8-past_asciis bytes text ascii.1 (IsUtf8-past_ascii byte (bytes ++ text) ascii.0 utf8)
 
--- the first character of a text, by its characters
+-- the first character of a text, from its characters
 first_char-chars : (text : Text) (c : ℕ) (cs : List ℕ) → chars text ≡ c ∷ cs
     → first_char text ≡ encode_utf8 c
 first_char-chars text c cs e = rw e refl

@@ -1,4 +1,4 @@
--- A tool of the proofs: reading word by word, by what each word gives. The definitions in
+-- A tool for the proofs: reads word by word. The definitions in
 -- `specs/Reading.antt` don't use it.
 use Rattle.std.proofs.Common.{◌≡◌, ◌⊎◌, ℕ, ◌<◌, List, [], ◌∷◌, ◌++◌, None}
 use Rattle.getopts.specs.Names.{Text}
@@ -12,7 +12,7 @@ unfoldable pub use Rattle.getopts.specs.Results.{turn, read_both, read}
 abbrev pub spelled : Item → List Text → List Text
 spelled item more = item_words item ++ more
 
--- Names are texts: the empty one doesn't resolve, nor does a byte that is no ASCII.
+-- Names are texts: the empty name doesn't resolve, nor does a byte that isn't ASCII.
 pub record IsNamed (grammar : Grammar) : Type 0 where
   pub empty : grammar.kind [] ≡ None
   pub ascii : (byte : ℕ) → byte < 128 ⊎ (grammar.kind (byte ∷ []) ≡ None)

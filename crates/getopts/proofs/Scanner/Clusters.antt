@@ -1,4 +1,4 @@
--- What a cluster gives, by the flags that were read and the text that is left.
+-- The result of a cluster, by the flags that were read and the remaining text.
 use Rattle.std.proofs.Common.{◌≡◌, ◌≢◌, ◌<◌, ◌≤◌, ◌+◌, ℕ, List, [], ◌∷◌, ◌++◌, length, map, take}
 use Rattle.std.proofs.Common.{drop, slice_index, Option, Some, None, refl, ap, ◌∙◌, sym}
 use Rattle.std.proofs.Common.{append_assoc, add-one, drop-cons}
@@ -27,7 +27,7 @@ pub record FlagsRead (grammar : Grammar) (position : ℕ) (text : Text) (after :
   pub boundary : IsCharBoundary text at
   pub added : new ≡ old ++ flag_occurrences grammar position (take at text)
 
--- what is left of a text from a place on is the byte there, and what follows
+-- the rest of a text from a place on is the byte there, and what follows
 pub text_from : (text : Text) (at : ℕ) → at < length text
     → drop at text ≡ slice_index text at ∷ drop (at + 1) text
 text_from text at within = rw (add-one, drop-cons text at 0) refl
@@ -108,7 +108,7 @@ module _ {grammar : Grammar} {position : ℕ} {text : Text} {after : List Text} 
               ∙ rw more (simp (append-nil, map-append));
         }
 
-    -- flags, and an option that ends the cluster, once its occurrence was added
+    -- flags, and an option that ends the cluster, after its occurrence was added
     pub AddsItem-ends : (group : ℕ) (kind : HasArg) (value : Option Text) (used : ℕ)
         (newer : List Occurrence) → grammar.place (slice_index text at ∷ []) ≡ Some group
         → kind ≢ No → grammar.kind (slice_index text at ∷ []) ≡ Some kind

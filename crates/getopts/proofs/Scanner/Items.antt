@@ -1,4 +1,4 @@
--- The option that a word in long form begins, by its name, its kind and its argument.
+-- The option that begins with a word in long form, by its name, its kind and its argument.
 use Rattle.std.proofs.Common.{map, ◌≡◌, ℕ, false, List, [], ◌∷◌, ◌++◌, length, drop, Option, Some, None}
 use Rattle.std.proofs.Common.{Ok, refl, ap, ◌∙◌, slice_get}
 use Rattle.getopts.specs.Names.{Text}
@@ -14,7 +14,7 @@ use Rattle.getopts.specs.declared.groups.HasArg.TheVariants.{Maybe}
 use Rattle.getopts.proofs.Parsing.Faults.{Tells-one}
 use Rattle.getopts.proofs.Reading.Steps.{long_turn_cut}
 
--- an argument that is chosen, with its value and as many words as it has
+-- a chosen argument, with its value and its number of words
 pub Chooses-ok : (argument : Argument)
     → Chooses (Ok argument) (value_of argument) (length (argument_words argument))
 Chooses-ok argument = record {
@@ -24,23 +24,23 @@ Chooses-ok argument = record {
   used_is = refl;
 }
 
--- an option that may have an argument takes the one that is attached, where there is one
+-- an option that may have an argument takes an attached one
 pub Chooses-maybe : (name : Text) (value : Option Text) (after : List Text)
     → Chooses (chosen_long Maybe name value after) value 0
 Chooses-maybe name None after = Chooses-ok none
 Chooses-maybe name (Some text) after = Chooses-ok (attached text)
 
--- A text in long form, by its name and the argument that is attached.
+-- A text in long form, by its name and its attached argument.
 module _ (grammar : Grammar) (dashes : Dashes) (text name : Text) (argument : Option Text)
     (after : List Text) (text_is : text ≡ name ++ with_equals argument)
     (cut_once : holds_equals name ≡ false) where
-  -- what it gives, by its kind
+  -- its result, by its kind
   long_turn-named : (kind : Option HasArg) → grammar.kind name ≡ kind
       → long_turn grammar dashes text after ≡ named_turn kind dashes name argument after
   long_turn-named kind kind_is = ap (λ (t : Text). long_turn grammar dashes t after) text_is
       ∙ long_turn_cut grammar dashes name argument after kind cut_once kind_is
 
-  -- a refusal that tells its fault
+  -- an error with its fault
   pub Tells-long : (kind : Option HasArg) → grammar.kind name ≡ kind
       → (fail : Fail) (fault : Fault)
       → named_turn kind dashes name argument after ≡ faults fault → Tells fail (λ f. f ≡ fault)
@@ -48,7 +48,7 @@ module _ (grammar : Grammar) (dashes : Dashes) (text name : Text) (argument : Op
   Tells-long kind kind_is fail fault is told = Tells-one fail fault
       (λ f. long_turn grammar dashes text after ≡ faults f) told (long_turn-named kind kind_is ∙ is)
 
-  -- an item, once its occurrence was added
+  -- an item, after its occurrence was added
   pub AddsItem-long : (kind : HasArg) (group position used : ℕ) (value : Option Text)
       (old new : List Occurrence) → grammar.kind name ≡ Some kind
       → grammar.place name ≡ Some group
@@ -65,7 +65,7 @@ module _ (grammar : Grammar) (dashes : Dashes) (text name : Text) (argument : Op
     added = added ∙ rw (place_is, chooses.value_is) refl;
   }
 
--- a list of borrowed words that has a first one
+-- a nonempty list of borrowed words
 pub texts-first : {X : Type 0} (text : X → Text) (words : List X) (word : X)
     → slice_get words 0 ≡ Some word → map text words ≡ text word ∷ drop 1 (map text words)
 texts-first text [] word h = cc
@@ -73,7 +73,7 @@ texts-first {X} text (x ∷ words) word h =
     let same : x ≡ word = cc in
     ap (λ (y : X). text y ∷ map text words) same
 
--- a list of borrowed words that has no first one
+-- an empty list of borrowed words
 pub texts-none : {X : Type 0} (text : X → Text) (words : List X) → slice_get words 0 ≡ None
     → map text words ≡ []
 texts-none text [] h = refl

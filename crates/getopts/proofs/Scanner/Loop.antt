@@ -1,5 +1,5 @@
--- A line that was read up to a place: its items so far, one more item, and each way in which it
--- goes on.
+-- A line that was read up to a place: its items so far, one more item, and all ways in which it
+-- continues.
 use Rattle.std.proofs.Common.{Err, drop-cons, ◌≡◌, ◌≤◌, ◌+◌, ℕ, List, [], ◌∷◌, ◌++◌, length}
 use Rattle.std.proofs.Common.{map, drop, refl, ap, ◌∙◌, sym, subst, append_assoc, arith, add-one}
 use Rattle.std.proofs.Common.{zero-add, false, add-zero, suc, not, eqb, Ok}
@@ -63,7 +63,7 @@ ReadSoFar-none grammar words = record {
   free_are = refl;
 }
 
--- what is left of borrowed words from a place on is the word there, and the others
+-- the rest of borrowed words from a place on is the word there, and the others
 pub texts_from : {X : Type 0} (text : X → Text) (words : List X) (word : X) (at : ℕ)
     → slice_get words at ≡ Some word
     → drop at (map text words) ≡ text word ∷ map text (drop (at + 1) words)
@@ -76,7 +76,7 @@ texts_from text words word at there =
       get_or_from_slice_get words at word word there,
     ) refl
 
--- where the words after a stop begin
+-- the start of the words after a stop
 pub trailing_after-stop : {X : Type 0} (text : X → Text) (start : ℕ) (words : List X)
     → then_some (not (eqb (length words) 0)) start ≡ trailing_after start (stop (map text words))
 trailing_after-stop text start [] = refl
@@ -84,7 +84,7 @@ trailing_after-stop text start (word ∷ words) =
     let some : eqb (suc (length words)) 0 ≡ false = grind (arith, nat_tests) in
     rw some refl
 
--- as many texts as words
+-- there are as many texts as words
 pub length-texts : {X : Type 0} (text : X → Text) (words : List X)
     → length (map text words) ≡ length words
 length-texts text words = simp length-map
@@ -94,7 +94,7 @@ module _ {grammar : Grammar} (named : IsNamed grammar) {X : Type 0} (text : X �
     (words : List X)
     (are_texts : AreTexts (map text words)) {at : ℕ} {occurrences : List Occurrence} {frees : List Text}
     (before : ReadSoFar grammar (map text words) at occurrences frees) where
-  -- what is left is a tail
+  -- the rest is a tail
   pub IsReading-tail : (tail : Tail)
       → read grammar (drop at (map text words)) ≡ Ok (record { items = []; tail = tail })
       → IsReading grammar (record { items = before.items; tail = tail }) (map text words)
@@ -102,7 +102,7 @@ module _ {grammar : Grammar} (named : IsNamed grammar) {X : Type 0} (text : X �
       (Ok (record { items = before.items; tail = tail }))
       (before.reads ∙ ap (with_items before.items) left ∙ rw append-nil refl)
 
-  -- A word stands there.
+  -- There is a word.
   module _ (d : X) (there : slice_get words at ≡ Some d) where
     -- an item that it begins
     ReadSoFar-item : (item : Item) (argument : Argument) (newer : List Occurrence)
@@ -213,7 +213,7 @@ module _ {grammar : Grammar} (named : IsNamed grammar) {X : Type 0} (text : X �
         (ap (λ (w : Text). turn grammar w (map text (drop (at + 1) words))) stops
         ∙ turn_stop grammar (map text (drop (at + 1) words)))
 
-    -- a refusal that tells the fault of the word there
+    -- an error with the fault of the word there
     pub Tells-word : (said : Turn) (fail : Fail)
         → turn grammar (text d) (map text (drop (at + 1) words)) ≡ said
         → Tells fail (λ fault. said ≡ faults fault)

@@ -1,4 +1,4 @@
--- Lemmas on single words.
+-- Lemmas about single words.
 use Rattle.std.proofs.Common.{◌≡◌, ◌≢◌, ◌<◌, ◌+◌, ℕ, false, eqb, [], ◌∷◌, length, get_or}
 use Rattle.std.proofs.Common.{slice_index, slice_range, arith}
 use Rattle.std.proofs.lemmas.List.{get_or_default}
@@ -8,7 +8,7 @@ use Rattle.std.proofs.lemmas.Grind.{common_steps}
 use Rattle.getopts.specs.Names.{Text}
 use Rattle.getopts.specs.Reading.{equals_sign, holds_equals}
 
--- a text with no byte `=` doesn't hold it
+-- a text without a byte `=` doesn't contain it
 pub holds_equals-none : (text : Text) → ((i : ℕ) → i < length text → get_or text i 0 ≢ equals_sign)
     → holds_equals text ≡ false
 holds_equals-none text h = list_any_none (λ c. eqb c equals_sign) text

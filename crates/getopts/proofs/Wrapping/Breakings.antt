@@ -13,13 +13,13 @@ use Rattle.getopts.specs.Wrap.{Run, width_of, columns_of, FitsIn, IsFittingBreak
 use Rattle.getopts.specs.Wrap.{IsTightBreaking, IsFewestBreaking}
 use Rattle.getopts.proofs.Lists.{Within, cuts}
 
--- ---- filling one row after the other
+-- ---- filling row after row
 
 -- whether the word still fits in the row after the run
 abbrev pub has_room : ℕ → Run → Text → Bool
 has_room limit run word = nat_le (columns_of (run ++ word ∷ [])) limit
 
--- the runs that come of a row begun with the run, and the words after it
+-- the runs from filling a row that begins with the run, and the words after it
 abbrev pub runs_from : ℕ → Run → List Text → List Run
 runs_from limit run [] = run ∷ []
 runs_from limit run (word ∷ words) =
@@ -42,7 +42,7 @@ pub runs_from-refused : (limit : ℕ) (run : Run) (word : Text) (words : List Te
     → runs_from limit run (word ∷ words) ≡ run ∷ runs_from limit (word ∷ []) words
 runs_from-refused limit run word words e = cond-false (has_room limit run word) _ _ e
 
--- ---- a run inside a fitting run fits
+-- ---- a run within a fitting run fits
 
 columns_of-inside : (front run back : Run) → columns_of run ≤ columns_of (front ++ (run ++ back))
 columns_of-inside front run back = omega (
@@ -66,7 +66,7 @@ FitsIn-inside limit front run back has_word fits =
 
 -- ---- filling gives a tight breaking
 
--- a run with no room for the first word of a tight breaking stands tightly before it
+-- a run without room for the first word of a tight breaking extends it to a tight breaking
 tight-cons : (limit : ℕ) (run : Run) (word : Text) (words : List Text) (runs : List Run)
     → 0 < length run → FitsIn limit run → ¬ FitsIn limit (run ++ word ∷ [])
     → IsTightBreaking limit (word ∷ words) runs
@@ -133,13 +133,13 @@ runs_of-tight limit [] = record {
 runs_of-tight limit (word ∷ words) =
     runs_from-tight limit (word ∷ []) words (omega arith) (inl refl)
 
--- ---- of any tight breaking
+-- ---- all tight breakings
 
 -- the words of some runs
 abbrev words_in : List Run → List Text
 words_in runs = flat_map (λ run. run) runs
 
--- the runs after the first break what is left of the words
+-- the runs after the first break the rest of the words
 fitting-tail : (limit : ℕ) (words rest : List Text) (run : Run) (runs : List Run)
     → IsFittingBreaking limit words (run ∷ runs) → words_in runs ≡ rest
     → IsFittingBreaking limit rest runs
@@ -163,7 +163,7 @@ tight-tail limit words rest run runs is joined = record {
     none_after run [] tight = tt
     none_after run (next ∷ runs) tight = tight.1
 
--- a fitting run that holds the first run to its end holds nothing after it
+-- a fitting run that contains the first run to its end contains nothing after it
 nothing_after : (limit : ℕ) (front middle rest words : List Text) (run : Run) (runs : List Run)
     → IsTightBreaking limit words (run ∷ runs) → FitsIn limit (front ++ (run ++ middle))
     → words_in runs ≡ middle ++ rest → middle ≡ []
@@ -179,7 +179,7 @@ nothing_after limit front (word ∷ middle) rest words run ((first ∷ more) ∷
     (subst (λ (inner : Run). FitsIn limit (front ++ inner))
     (sym (append_assoc run (word ∷ []) middle)) fits))))
 
--- the first run, where a fitting run begins with it, is that run
+-- if a fitting run begins with the first run, they are equal
 first_same : (limit : ℕ) (words rest : List Text) (run other : Run) (runs : List Run)
     → IsTightBreaking limit words (run ∷ runs) → FitsIn limit other
     → Within run (words_in runs) other rest → (run ≡ other) × (words_in runs ≡ rest)
@@ -190,7 +190,7 @@ first_same limit words rest run other runs is fits within =
       within.2 ∙ ap (λ (middle : Run). middle ++ rest) none,
     )
 
--- no words break into no runs and into some
+-- no words break into no runs, or into some
 none_or_some : (limit : ℕ) (words : List Text) (run : Run) (runs : List Run)
     → IsFittingBreaking limit words (run ∷ runs) → words ≢ []
 none_or_some limit words run runs fitting none = omega (
@@ -228,7 +228,7 @@ pub runs_of-only : (limit : ℕ) (words : List Text) (others : List Run)
 runs_of-only limit words others tight =
     tight_once limit words others _ tight (runs_of-tight limit words)
 
--- a tight breaking has no more runs than any fitting breaking, also of words that begin earlier
+-- a tight breaking has no more runs than any fitting breaking, even one of words that begin earlier
 few_runs : (limit : ℕ) (front words : List Text) (runs others : List Run)
     → IsTightBreaking limit words runs → IsFittingBreaking limit (front ++ words) others
     → length runs ≤ length others

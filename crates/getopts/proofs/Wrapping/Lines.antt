@@ -1,4 +1,4 @@
--- The rows of a description, line after line, and what holds of all of them.
+-- The rows of a description, line after line, and their properties.
 use Rattle.std.proofs.Common.{◌≡◌, ℕ, ◌+◌, Bool, false, List, [], ◌∷◌, ◌++◌, length, map, sym, refl}
 use Rattle.std.proofs.Common.{ap, ◌∙◌, subst, append_assoc, append-nil, arith, length-append}
 use Rattle.std.specs.Prelude.{◌↔◌, ◌||◌, nat_lt}
@@ -21,9 +21,9 @@ abbrev pub rows_of : ℕ → List Text → List Text
 rows_of limit lines =
     map text_of (flat_map (λ runs. runs) (map (runs_of limit) (map words_of lines)))
 
--- ---- what is filled, line after line
+-- ---- filling, line after line
 
--- one more line, with rows that are those of its words
+-- one more line, with the rows of its words
 rows_of-push : (limit : ℕ) (lines : List Text) (line : Text) (runs : List Run) (rows : List Text)
     → IsTightBreaking limit (words_of line) runs → rows ≡ map text_of runs
     → rows_of limit (lines ++ line ∷ []) ≡ rows_of limit lines ++ rows
@@ -33,7 +33,7 @@ rows_of-push limit lines line runs rows tight rows_are =
     (sym (runs_of-only limit (words_of line) runs tight))
     ∙ ap (λ (rows : List Text). rows_of limit lines ++ rows) (sym rows_are)
 
--- The text has grown by the rows of the lines so far, and the flag tells whether there is any.
+-- The text has grown by the rows of the lines so far, and the flag says whether there are any.
 pub record LinesSoFar (limit : ℕ) (separator : Text) (lines : List Text) (begun : Bool)
     (old text : Text) : Type 0 where
   pub begun_is : begun ≡ nat_lt 0 (length (rows_of limit lines))
@@ -43,7 +43,7 @@ pub record LinesSoFar (limit : ℕ) (separator : Text) (lines : List Text) (begu
 pub lines_none : (limit : ℕ) (separator text : Text) → LinesSoFar limit separator [] false text text
 lines_none limit separator text = record { begun_is = refl; text_is = sym (append-nil text) }
 
--- one more line, with the rows that it adds
+-- one more line, with its rows
 pub lines_add : (limit : ℕ) (separator : Text) (lines : List Text) (line : Text)
     (begun now_begun : Bool) (old text new_text : Text)
     → LinesSoFar limit separator lines begun old text
@@ -71,7 +71,7 @@ lines_add limit separator lines line begun now_begun old text new_text so_far ad
     some_of_both : (m n : ℕ) → (nat_lt 0 m || nat_lt 0 n) ≡ nat_lt 0 (m + n)
     some_of_both m n = grind (arith, nat_tests)
 
--- ---- of all lines
+-- ---- all lines
 
 each_tight : (limit : ℕ) (lines : List (List Text))
     → AllZip (IsTightBreaking limit) lines (map (runs_of limit) lines)
@@ -87,7 +87,7 @@ rows_of-are limit desc = record {
   rows_are = refl;
 }
 
--- with the last line done, these are what was added
+-- after the last line, these are the added rows
 pub lines_end : (limit : ℕ) (separator desc : Text) (lines : List Text) (begun : Bool)
     (old text : Text) → LinesSoFar limit separator lines begun old text → lines ≡ lines_of desc
     → AddsDescription limit separator desc old text
@@ -118,7 +118,7 @@ rows_exactly limit desc rows others are_rows = (
   λ same. subst (IsDescriptionRows limit desc) (sym same) are_rows,
 )
 
--- each line of them has as few rows as any fitting breaking
+-- each line has as few rows as any fitting breaking
 pub rows_fewest : (limit : ℕ) (desc : Text) (rows : List Text) → IsDescriptionRows limit desc rows
     → BreaksInto (IsFewestBreaking limit) desc rows
 rows_fewest limit desc rows are_rows = record {

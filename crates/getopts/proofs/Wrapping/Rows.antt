@@ -13,7 +13,7 @@ use Rattle.getopts.proofs.Wrapping.Breakings.{has_room, runs_from, runs_of, runs
 use Rattle.getopts.proofs.Wrapping.Breakings.{runs_from-refused, runs_of-tight}
 use Rattle.getopts.proofs.Wrapping.Texts.{joined-longer, joined-next, continued-some}
 
--- one more word at the end of a run: its columns and its text
+-- one more word at the end of a run: columns and text
 columns_of-push : (run : Run) (word : Text) → 0 < length run
     → columns_of (run ++ word ∷ []) ≡ columns_of run + (1 + width_of word)
 columns_of-push run word has_word =
@@ -27,8 +27,8 @@ text_of-push (first ∷ second ∷ run) word has_word =
     ap (λ (more : List ℕ). first ++ 32 ∷ more) (text_of-push (second ∷ run) word (omega arith))
     ∙ simp append_assoc
 
--- The text so far holds rows and the row in hand. These and the rows that the words to come will
--- give are the line's rows.
+-- The text so far has rows and the current row. Together with the rows of the words to come, these
+-- are the line's rows.
 pub record RowsSoFar (limit : ℕ) (separator line start text : List ℕ) (columns : ℕ)
     (rest : List ℕ) : Type 0 where
   pub rows : List (List ℕ)
@@ -40,7 +40,7 @@ pub record RowsSoFar (limit : ℕ) (separator line start text : List ℕ) (colum
   pub to_come : rows ++ map text_of (runs_from limit run (words_of rest))
       ≡ map text_of (runs_of limit (words_of line))
 
--- a line with no word adds nothing
+-- a line without words adds nothing
 pub adds_none : (limit : ℕ) (separator line : List ℕ) (begun : Bool) (text : List ℕ)
     → words_of line ≡ [] → AddsLine limit separator line begun begun text text
 adds_none limit separator line begun text none = (
@@ -75,7 +75,7 @@ rows_begin limit separator line start text word columns rest next text_is column
 
 module _ {limit : ℕ} {separator line start text : List ℕ} {columns : ℕ} {rest : List ℕ}
     (so_far : RowsSoFar limit separator line start text columns rest) where
-  -- a word that fits joins the row in hand
+  -- a word that fits joins the current row
   pub rows_take : (word after new_text : List ℕ) (new_columns : ℕ)
       → IsUtf8 after × (words_of rest ≡ word ∷ words_of after)
       → columns + (1 + width_of word) ≤ limit
@@ -107,7 +107,7 @@ module _ {limit : ℕ} {separator line start text : List ℕ} {columns : ℕ} {r
             ∙ so_far.to_come;
       }
 
-  -- a word that doesn't fit ends the row in hand and begins one
+  -- a word that doesn't fit ends the current row and begins a new one
   pub rows_end : (word after new_text : List ℕ) (new_columns : ℕ)
       → IsUtf8 after × (words_of rest ≡ word ∷ words_of after)
       → limit < columns + (1 + width_of word)
@@ -140,7 +140,7 @@ module _ {limit : ℕ} {separator line start text : List ℕ} {columns : ℕ} {r
             ∙ so_far.to_come;
       }
 
-  -- with no word left, the row in hand is the last
+  -- with no words left, the current row is the last
   pub rows_finish : (begun : Bool) (old : List ℕ) → words_of rest ≡ []
       → start ≡ old ++ parting begun separator → AddsLine limit separator line begun true old text
   rows_finish begun old none start_is =

@@ -1,4 +1,4 @@
--- Rows in one text: how the text grows, and that its lines are the rows again.
+-- Rows in one text: how the text grows, and that its lines are the rows.
 use Rattle.std.proofs.Common.{◌≡◌, ◌==◌, ℕ, ◌-◌, ◌<◌, ◌≤◌, Bool, true, false, List, [], ◌∷◌, ◌++◌}
 use Rattle.std.proofs.Common.{length, map, take, get_or, ⊎_elim, refl, ap, sym, ◌∙◌, subst}
 use Rattle.std.proofs.Common.{append_assoc, append-nil, arith, length-append}
@@ -23,7 +23,7 @@ use Rattle.getopts.proofs.Lists.{all_before, all_after}
 
 -- ---- texts joined
 
--- more texts go on from those before
+-- further texts follow those before
 pub joined-append : (separator : List ℕ) (texts more : List (List ℕ))
     → joined separator (texts ++ more)
     ≡ joined separator texts ++ continued (nat_lt 0 (length texts)) separator more
@@ -65,7 +65,7 @@ joined-next separator texts text next =
     joined-push separator (texts ++ text ∷ []) next
     ∙ ap (λ begun. joined separator (texts ++ text ∷ []) ++ (parting begun separator ++ next)) some
 
--- texts after what parts them from those before
+-- texts after a separator from those before
 pub continued-some : (begun : Bool) (separator : List ℕ) (texts : List (List ℕ)) → 0 < length texts
     → parting begun separator ++ joined separator texts ≡ continued begun separator texts
 continued-some begun separator [] some = absurd (omega arith)
@@ -73,9 +73,9 @@ continued-some true separator (text ∷ texts) some =
     sym (append_assoc separator text (flat_map (λ (text : List ℕ). separator ++ text) texts))
 continued-some false separator (text ∷ texts) some = refl
 
--- ---- rows hold no line end
+-- ---- rows contain no newline
 
--- whether the character ends a line, or may stand before its end
+-- whether the character ends a line, or may precede its end
 abbrev ends_line : ℕ → Bool
 ends_line c = (c == 10) || (c == 13)
 
@@ -83,19 +83,19 @@ ends_line c = (c == 10) || (c == 13)
 abbrev EndsNone : ℕ → Type 0
 EndsNone byte = ends_line byte ≡ false
 
--- a text that is one line: it isn't empty, and no byte of it ends a line
+-- a text that is one line: it isn't empty, and none of its bytes ends a line
 IsLine : List ℕ → Type 0
 IsLine text = (0 < length text) × All EndsNone text
 
 solid_character : (c : ℕ) → is_whitespace c ≡ false → ends_line c ≡ false
 solid_character c solid = grind (arith, nat_tests)
 
--- characters without white space hold no line end
+-- characters without white space contain no newline
 solid_line : (cs : List ℕ) → NonePass is_whitespace cs → NonePass ends_line cs
 solid_line [] solid = tt
 solid_line (c ∷ cs) solid = (solid_character c solid.0, solid_line cs solid.1)
 
--- the pieces between white space have none
+-- nor do the pieces between white space
 onto_first_solid : (c : ℕ) (pieces : List (List ℕ)) → is_whitespace c ≡ false
     → All (NonePass is_whitespace) pieces → All (NonePass is_whitespace) (onto_first c pieces)
 onto_first_solid c [] solid all =
@@ -218,7 +218,7 @@ parts_lines (text ∷ next ∷ texts) all =
     ∙ ap (λ (rest : List (List ℕ)). text ∷ rest)
     (parts_lines (next ∷ texts) (All-tail IsLine text (next ∷ texts) all))
 
--- the lines of rows that are joined by line ends are the rows
+-- rows joined by newlines have the rows as their lines
 pub lines_joined : (limit : ℕ) (desc : List ℕ) (rows : List (List ℕ))
     → IsDescriptionRows limit desc rows → lines (joined (10 ∷ []) rows) ≡ rows
 lines_joined limit desc rows are_rows = of_lines rows (rows_lines limit desc rows are_rows)

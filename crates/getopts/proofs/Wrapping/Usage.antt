@@ -1,4 +1,4 @@
--- Groups one after the other, and what the rows of a usage text are.
+-- Groups one after the other, and the rows of a usage text.
 use Rattle.std.proofs.Common.{◌≡◌, ℕ, zero, suc, ◌+◌, ◌-◌, ◌<◌, ◌≤◌, Bool, true, not, ◌||◌, List}
 use Rattle.std.proofs.Common.{[], ◌∷◌, ◌++◌, Some, length, take, drop, refl, ap, sym}
 use Rattle.std.proofs.Common.{◌∙◌, subst, arith, codes, append_assoc}
@@ -21,14 +21,14 @@ use Rattle.getopts.specs.declared.help.Group.{Group as Borrowed}
 use Rattle.getopts.proofs.Wrapping.Lines.{rows_exactly}
 use Rattle.getopts.proofs.Wrapping.Texts.{joined-push}
 
--- what holds anyway holds where the answer is `Ok`
+-- a property that always holds, holds if the result is `Ok`
 pub on_ok : {T E P : Type 0} (r : Result T E) → P → OnOk r P
 on_ok (Ok x) holds = holds
 on_ok (Err e) holds = tt
 
 -- ---- the only value
 
--- what is made of the only value is the only value that is made so
+-- a function of the only value has the only result
 pub made_of_the_only : {X Y : Type 0} (P : X → Type 0) (make : X → Y) (x : X) (y : Y)
     → IsTheOnly P x → y ≡ make x → IsTheOnly (λ (other : Y). (z : X) × P z × (other ≡ make z)) y
 made_of_the_only {X} P make x y only made = λ other. (
@@ -36,7 +36,7 @@ made_of_the_only {X} P make x y only made = λ other. (
   (λ same. (x, (only x).1 refl, same ∙ made)),
 )
 
--- a list whose elements are each the only one is the only list
+-- a list of unique elements is unique
 pub each_is_the_only : {X Y : Type 0} (R : X → Y → Type 0) (xs : List X) (ys : List Y)
     → AllZip (λ x y. IsTheOnly (R x) y) xs ys → IsTheOnly (AllZip R xs) ys
 each_is_the_only R [] [] all = λ other. (nothing other, λ same. subst (AllZip R []) (sym same) tt)
@@ -60,7 +60,7 @@ each_is_the_only {X} {Y} R (x ∷ xs) (y ∷ ys) all = λ other. (
 
 -- ---- groups, one after the other
 
--- one more group, where this one is the next
+-- one more group, which is the next
 pub group_more : (groups : List Group) (place : ℕ) (group : Group)
     → Some group ≡ slice_get groups place
     → take (place + 1) groups ≡ take place groups ++ group ∷ []
@@ -86,7 +86,7 @@ any_short_more groups place group at so_far now so_far_is now_is =
     ∙ sym (list_any-append has_short (take place groups) (group ∷ []))
     ∙ ap any_short (sym (group_more groups place group (sym at)))
 
--- one more text after the texts of the groups before it
+-- one more text after those of the groups before it
 pub text_more : (separator : Text) (texts : List Text) (place : ℕ)
     (old so_far parted new text : Text) → length texts ≡ place
     → so_far ≡ old ++ joined separator texts → parted ≡ so_far ++ parting (nat_lt 0 place) separator
@@ -119,7 +119,7 @@ padding_narrow own columns is narrow =
 
 -- ---- rows
 
--- a row that is made of the only description rows is the only row
+-- a row made of the only description rows is the only row
 pub row_added : (long_only among_shorts : Bool) (group : Group) (old headed padded new : Text)
     → headed ≡ old ++ head long_only among_shorts group
     → padded ≡ headed ++ padding (drop (length old) headed)
@@ -162,7 +162,7 @@ rows_more options place group is long_only among_shorts long_only_is among_short
     (all_zipped_more Only (take place options.groups) rows (group_view group) row each
     (rw (long_only_is, among_shorts_is) at only))
 
--- with the last one these are the only usage rows
+-- with the last one, these are the only usage rows
 pub rows_all : (options : Declared) (place : ℕ) (rows : List Text) → length options.groups ≤ place
     → AreRowsBefore options place rows → IsTheOnly (AreUsageRows options) rows
 rows_all options place rows all each =
@@ -171,14 +171,14 @@ rows_all options place rows all each =
     (subst (λ (groups : List Group). AllZip (λ group row. IsTheOnly (Row group) row) groups rows)
     (take_all place options.groups all) each)
 
--- the text has grown by the rows of the groups before a place, with a line end between each two
+-- the text has grown by the rows of the groups before a place, separated by newlines
 pub record RowsInText (options : Declared) (place : ℕ) (old text : Text) : Type 0 where
   pub rows : List Text
   pub count : length rows ≡ place
   pub each : AreRowsBefore options place rows
   pub text_is : text ≡ old ++ joined (codes "\n") rows
 
--- a text that is made of the only usage rows is the only usage text
+-- a text made of the only usage rows is the only usage text
 pub text_is_the_only : (options : Declared) (brief : Text) (rows : List Text) (text : Text)
     → IsTheOnly (AreUsageRows options) rows → text ≡ usage_text brief rows
     → IsTheOnly (IsUsageText options brief) text

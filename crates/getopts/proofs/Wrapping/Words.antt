@@ -1,4 +1,4 @@
--- The words of a line, one after the other, as `split_whitespace` gives them.
+-- The words of a line, one after the other, as `split_whitespace` returns them.
 use Rattle.std.proofs.Common.{◌≡◌, ℕ, ◌<◌, Bool, true, false, List, [], ◌∷◌, ◌++◌, length, map}
 use Rattle.std.proofs.Common.{Some, sym, refl, ap, ◌∙◌, subst, append_assoc, append-nil, arith}
 use Rattle.std.specs.Prelude.{nat_lt, filter, chars, encode_utf8, encode_utf8_all, not}
@@ -14,11 +14,11 @@ use Rattle.std.proofs.lemmas.List.Splits.{slice_split-cons_yes, slice_split_none
 use Rattle.std.proofs.lemmas.Str.{IsUtf8-past_char, chars_past_char, chars-nil}
 use Rattle.getopts.specs.Wrap.{words_of}
 
--- the parts between the characters that pass, without those that are empty
+-- the nonempty parts between the characters that pass
 abbrev pub parts_by : (ℕ → Bool) → List ℕ → List (List ℕ)
 parts_by p cs = filter (λ part. nat_lt 0 (length part)) (slice_split p cs)
 
--- characters that pass add no part in front
+-- characters that pass at the front add no part
 parts_by-gap : (p : ℕ → Bool) (gap cs : List ℕ) → NonePass (λ c. not (p c)) gap
     → parts_by p (gap ++ cs) ≡ parts_by p cs
 parts_by-gap p [] cs none = refl
@@ -70,9 +70,9 @@ some_chars : (cs : List ℕ) → 0 < length (encode_utf8_all cs) → 0 < length 
 some_chars [] not_empty = not_empty
 some_chars (c ∷ cs) not_empty = omega arith
 
--- ---- the two answers of `next`
+-- ---- the two results of `next`
 
--- the first part, before the text that is left
+-- the first part, before the remaining text
 parts_by-next : (part rest more : List ℕ) → IsUtf8 rest → 0 < length part
     → NonePass is_whitespace part → EmptyOrStartsWithPassing is_whitespace rest more
     → parts_by is_whitespace (part ++ chars rest) ≡ part ∷ parts_by is_whitespace (chars rest)
@@ -86,7 +86,7 @@ parts_by-next part (b ∷ rest) more utf8 not_empty solid next =
     (sym begins)
     (parts_by-first is_whitespace part white.0 (chars more) not_empty solid white.1)
 
--- no word is left
+-- no words are left
 pub words_of-none : (bs : List ℕ) → IsUtf8 bs → NoCharPasses is_not_whitespace bs → words_of bs ≡ []
 words_of-none bs utf8 none =
     let split : bs ≡ encode_utf8_all none.0 ++ [] =
@@ -96,7 +96,7 @@ words_of-none bs utf8 none =
     ap (λ (cs : List ℕ). map encode_utf8_all (parts_by is_whitespace cs)) all_white
     ∙ ap (map encode_utf8_all) (parts_by-gap is_whitespace none.0 [] none.2)
 
--- a word came off the front
+-- a word was removed from the front
 pub words_of-step : (s t : SplitWhitespace) (word : Bor (List ℕ)) → IsUtf8 (split_whitespace_rest s)
     → split_whitespace_steps s (Some word) t
     → IsUtf8 (split_whitespace_rest t)

@@ -1,4 +1,4 @@
--- What is seen of the names and kinds of groups that are held or borrowed.
+-- The names and kinds of groups, as they are stored or borrowed.
 use Rattle.std.specs.Prelude.{◌≡◌, ◌==◌, ◌≤◌, Bool, not, List, [], map}
 use Rattle.std.specs.List.{AllByRecursion}
 use Rattle.std.specs.Ordering.{on, eq_of_both}
@@ -40,23 +40,23 @@ names_in signatures = map (λ signature. signature.names) signatures
 abbrev pub same_kinds : Kinds → Kinds → Bool
 same_kinds = on (λ kinds. signature_with kinds [] []) same_signature
 
--- whether two records' names stand at the same places, and their kinds are the same
+-- whether two records' names are at the same places, and their kinds are the same
 abbrev pub same_record : SignatureRecord → SignatureRecord → Bool
 same_record = eq_of_both (on (λ group. group.names.start) ◌==◌)
     (eq_of_both (on (λ group. group.names.first) ◌==◌)
     (eq_of_both (on (λ group. group.names.second) ◌==◌) (on (λ group. group.kinds) same_kinds)))
 
--- the two texts that stand there
+-- the two texts at these places
 abbrev pub two_at : Text → Ends → Text × Text
 two_at text e = (between text e.start e.first, between text e.first e.second)
 
--- the places are in order, and between characters
+-- The places are in order, and between characters.
 pub record AreEndsOf (text : Text) (e : Ends) : Type 0 where
   pub start : IsCharBoundary text e.start
   pub first : (e.start ≤ e.first) × IsCharBoundary text e.first
   pub second : (e.first ≤ e.second) × IsCharBoundary text e.second
 
--- there stand these two texts
+-- These two texts are at these places.
 pub record StandAt (text : Text) (e : Ends) (two : Text × Text) : Type 0 where
   pub ends : AreEndsOf text e
   pub are : two_at text e ≡ two
@@ -66,27 +66,27 @@ abbrev pub signature_in : Text → SignatureRecord → Signature
 signature_in text group =
     let names = two_at text group.names in signature_with group.kinds names.0 names.1
 
--- what is held of names and kinds
+-- the names and kinds that are stored
 abbrev pub signatures_view : Inside → List Signature
 signatures_view inside = map (signature_in (string_bytes inside.text)) inside.records.items
 
--- each group is lawfully named, and its short name is a text
+-- Each group has valid names, and its short name is UTF-8.
 pub record AreLawfulSignatures (signatures : List Signature) : Type 0 where
   pub named : AllByRecursion (λ signature. IsLawfullyNamed signature.names) signatures
   pub shorts : AllByRecursion (λ signature. IsUtf8 signature.names.short) signatures
 
--- a record has the key of the main name, the byte of the short one, and whether there is a long one
+-- The record has the main name's key, the short name's byte, and whether there is a long name.
 pub record HasKeys (group : SignatureRecord) (names : Names) : Type 0 where
   pub key : group.key ≡ key_of (main_name names)
   pub short : group.short ≡ short_code names.short
   pub has_long : group.has_long ≡ not (is_empty names.long)
 
--- the names of a record stand in the text of all names, and it has their keys
+-- The names of the record are in the text of all names, and it has their keys.
 pub record IsHeld (text : Text) (group : SignatureRecord) : Type 0 where
   pub ends : AreEndsOf text group.names
   pub keys : HasKeys group (signature_in text group).names
 
--- each record is held, and its group is lawful
+-- Each record has its names and keys, and the groups are valid.
 pub record HoldSignatures (inside : Inside) : Type 0 where
   pub held : AllByRecursion (IsHeld (string_bytes inside.text)) inside.records.items
   pub lawful : AreLawfulSignatures (signatures_view inside)

@@ -1,4 +1,4 @@
--- What is seen of groups that are held, with their hints and descriptions, or borrowed.
+-- Groups with their hints and descriptions, as they are stored or borrowed.
 use Rattle.std.specs.Prelude.{◌≡◌, Bool, List, [], ◌∷◌, length, map}
 use Rattle.std.specs.List.{AllByRecursion}
 use Rattle.std.specs.Ordering.{on}
@@ -10,7 +10,7 @@ use Rattle.getopts.specs.Held.Groups.{two_at, AreEndsOf, signature_view}
 use Rattle.getopts.specs.declared.help.Group.{Group as HeldGroup}
 use Rattle.getopts.specs.declared.help.Groups.TheInside.{Inside}
 
--- groups by their signatures, each with the next two texts
+-- groups with these signatures, each with the next two texts
 abbrev pub groups_with : List Signature → List (Text × Text) → List Group
 groups_with (signature ∷ signatures) (texts ∷ more) = record {
   signature = signature;
@@ -19,12 +19,12 @@ groups_with (signature ∷ signatures) (texts ∷ more) = record {
 } ∷ groups_with signatures more
 groups_with signatures more = []
 
--- the groups that are held
+-- the groups that are stored
 abbrev pub groups_view : Inside → List Group
 groups_view inside =
     groups_with inside.signatures (map (two_at (string_bytes inside.help)) inside.ends.items)
 
--- each group has a hint and a description in the text of all
+-- Each group has a hint and a description in the text of all.
 pub record HoldGroups (inside : Inside) : Type 0 where
   pub held : AllByRecursion (AreEndsOf (string_bytes inside.help)) inside.ends.items
   pub as_many : length inside.ends.items ≡ length inside.signatures

@@ -18,17 +18,17 @@ use Rattle.getopts.specs.declared.scan.Shape.TheVariants as shape
 abbrev pub scanner_grammar : Scanner → Grammar
 scanner_grammar scanner = grammar_of scanner.options.now
 
--- the options of a scanner are declared, and its table is that of their names
+-- The scanner's options may be declared, and its table is the one of their names.
 pub record IsLawfulScanner (scanner : Scanner) : Type 0 where
   pub declared : MayBeDeclared scanner.options.now.groups
   pub table : IsTableOf (names_of scanner.options.now.groups) scanner.table.now
 
--- the option that a name resolves to
+-- The name resolves to this option.
 pub record IsNamedBy (grammar : Grammar) (name : Text) (option : Named) : Type 0 where
   pub place : grammar.place name ≡ Some option.place
   pub kind : grammar.kind name ≡ Some option.kind
 
--- what a word is to a line
+-- The word is read in this way.
 abbrev pub HasShape : Grammar → Text → Shape → Type 0
 HasShape grammar word shape.Free = is_dashed word ≡ false
 HasShape grammar word shape.Stop = word ≡ stop_word
@@ -36,7 +36,7 @@ HasShape grammar word (shape.Long text) =
     (dashes : Dashes) × IsInLongForm grammar dashes word text.now
 HasShape grammar word (shape.Cluster text) = IsShortForm grammar word text.now
 
--- The words have a reading with what the line holds.
+-- The words have a reading, and the line holds what it gives.
 pub record ReadsLine (grammar : Grammar) (words : List Text) (line : Line) : Type 0 where
   pub reading : Reading
   pub reads : IsReading grammar reading words
@@ -44,13 +44,13 @@ pub record ReadsLine (grammar : Grammar) (words : List Text) (line : Line) : Typ
   pub free : map string_bytes line.free.items ≡ free_words reading
   pub trailing : line.trailing_start ≡ trailing_start reading
 
--- a line that gives nothing
+-- The line gives nothing.
 pub record IsEmptyLine (line : Line) : Type 0 where
   pub found : line.found ≡ []
   pub free : line.free.items ≡ []
   pub trailing : line.trailing_start ≡ None
 
--- what a line says
+-- the content of a line
 abbrev pub line_content : Line → Content
 line_content line = record {
   mentions = map (λ o. o.mention) line.found;

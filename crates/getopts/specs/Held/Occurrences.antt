@@ -1,4 +1,4 @@
--- What is seen of the occurrences of a line, and of those of one group.
+-- The occurrences of a command line, and those of one group, as they are stored.
 use Rattle.std.specs.Prelude.{◌≡◌, ◌<◌, ◌≤◌, ℕ, List, length, map, slice_get, MatchOption, ⊤}
 use Rattle.std.specs.List.{AllByRecursion, filter_map}
 use Rattle.std.specs.Option.{option_map}
@@ -12,16 +12,16 @@ use Rattle.getopts.specs.declared.occurrences.Span.{Span}
 use Rattle.getopts.specs.declared.occurrences.OccurrenceRecord.{OccurrenceRecord}
 use Rattle.getopts.specs.declared.occurrences.LineOccurrences.TheInside.{Inside}
 
--- the text that stands there
+-- the text at this place
 abbrev pub text_at : Text → Span → Text
 text_at text span = between text span.start span.end
 
--- the places are in order, and between characters
+-- The places are in order, and between characters.
 pub record IsSpanOf (text : Text) (span : Span) : Type 0 where
   pub start : IsCharBoundary text span.start
   pub end : (span.start ≤ span.end) × IsCharBoundary text span.end
 
--- there stands this text
+-- This text is at this place.
 pub record StandsAt (text : Text) (span : Span) (part : Text) : Type 0 where
   pub span_of : IsSpanOf text span
   pub is : text_at text span ≡ part
@@ -40,11 +40,11 @@ occurrence_in values held = record {
 abbrev pub found_view : Inside → List Occurrence
 found_view inside = map (occurrence_in (string_bytes inside.values)) inside.records.items
 
--- the value of a record stands among all values
+-- The value of the record, if it has one, is among all values.
 abbrev pub HasItsValue : Text → OccurrenceRecord → Type 0
 HasItsValue values held = MatchOption held.value ⊤ (IsSpanOf values)
 
--- so does that of each
+-- The value of each record, if it has one, is among all values.
 abbrev pub HaveTheirValues : Inside → Type 0
 HaveTheirValues inside =
     AllByRecursion (HasItsValue (string_bytes inside.values)) inside.records.items
@@ -54,6 +54,6 @@ abbrev pub founds_at : List Occurrence → List ℕ → List Found
 founds_at occurrences places =
     map found_part (filter_map (λ place. slice_get occurrences place) places)
 
--- places of occurrences
+-- These are places of occurrences.
 abbrev pub ArePlacesOf : List Occurrence → List ℕ → Type 0
 ArePlacesOf occurrences places = AllByRecursion (λ place. place < length occurrences) places

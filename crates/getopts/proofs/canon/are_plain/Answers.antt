@@ -1,4 +1,4 @@
--- Each group that has an occurrence is tested, up to one that fails.
+-- Each group with an occurrence is tested, up to one that fails.
 use Rattle.std.proofs.Common.{◌≡◌, ◌<◌, ◌≤◌, ℕ, List, [], true, not, length, slice_get, unwrap_or}
 use Rattle.std.proofs.Common.{sym, ap, ◌∙◌, inl, inr, arith, below_more}
 use Rattle.std.proofs.lemmas.Bool.{cases_lt}
@@ -29,13 +29,13 @@ counted groups found index place count is within asked =
     asked ∙ ap (λ (index : List (List ℕ)). length (unwrap_or (slice_get index place) [])) is
     ∙ length-found_at (length groups) found place within
 
--- the index is that of as many groups
+-- the index is for this number of groups
 index_is : (groups : List Group) (read : ReadLine) → IsOfSignatures (signatures_of groups) read
     → read.index ≡ index_of (length groups) read.line.found
 index_is groups read is =
     is.index ∙ ap (λ n. index_of n read.line.found) (length-signatures_of groups)
 
--- past the last group the main name is empty
+-- after the last group the main name is empty
 plain_past : (groups : List Group) (place : ℕ) → length groups ≤ place
     → not (holds_equals (main_at groups place)) ≡ true
 plain_past groups place past =

@@ -1,4 +1,4 @@
--- No group so far that has an occurrence has a main name that holds `=`.
+-- No group so far with an occurrence has a main name that contains `=`.
 use Rattle.std.proofs.Common.{◌≡◌, ◌<◌, ℕ, true, length, not}
 use Rattle.getopts.specs.Matches.{found_at}
 use Rattle.getopts.specs.Reading.{holds_equals}

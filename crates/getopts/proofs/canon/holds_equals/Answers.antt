@@ -1,4 +1,4 @@
--- `contains` finds `=` just where it is.
+-- `contains` finds `=` exactly if it is there.
 use Rattle.std.proofs.Common.{lit<}
 use Rattle.std.proofs.lemmas.Str.Pattern.{contains_char}
 use Rattle.getopts.proofs.Canonical.Answered.{holds_equals-found}

@@ -1,4 +1,4 @@
--- Two texts that are added stand at the end.
+-- Two added texts are at the end.
 use Rattle.std.proofs.Common.{arith}
 use Rattle.std.proofs.lemmas.Grind.{common_steps}
 use Rattle.getopts.proofs.Held.Twos.{two-added}

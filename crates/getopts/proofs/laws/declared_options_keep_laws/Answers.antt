@@ -1,4 +1,4 @@
--- What is declared is lawfully named, by texts, and so the laws hold.
+-- Declared options are lawfully named, with texts, so the laws hold.
 use Rattle.getopts.proofs.MainTheorem.Callers.{OneContentHoldsSame_lem}
 use Rattle.getopts.proofs.Parsing.Parsed.{keeps_laws}
 use Rattle.getopts.proofs.MainTheorem.Theorem.{AcceptedExactlyWhen-options}

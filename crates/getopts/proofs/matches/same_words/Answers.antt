@@ -1,4 +1,4 @@
--- Words are the same where their bytes are.
+-- Words are equal if their bytes are.
 use Rattle.std.proofs.Common.{◌==◌}
 use Rattle.std.specs.Cmp.Derive.Mapped.{pointwise-map}
 use Rattle.std.specs.Cmp.Lexicographic.{pointwise}

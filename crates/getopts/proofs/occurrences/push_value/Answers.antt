@@ -1,4 +1,4 @@
--- A value that is added stands at the end.
+-- An added value is at the end.
 use Rattle.std.proofs.Common.{◌≡◌, ◌++◌, arith}
 use Rattle.std.proofs.lemmas.Grind.{common_steps}
 use Rattle.std.specs.String.{string_bytes}

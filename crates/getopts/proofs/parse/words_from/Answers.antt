@@ -1,4 +1,4 @@
--- After the last word the run is whole.
+-- After the last word the iteration is complete.
 use Rattle.std.proofs.Common.{◌∙◌, sym, subst}
 use Rattle.std.proofs.iter.SoFar.{exit_by}
 use Rattle.getopts.proofs.parse.words_from.Goals as goal

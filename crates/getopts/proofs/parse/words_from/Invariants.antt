@@ -1,4 +1,4 @@
--- The words are those that the iterator gave so far.
+-- The words are those of the iterator so far.
 use Rattle.std.proofs.Common.{◌≡◌}
 use Rattle.getopts.proofs.parse.words_from.Given as goal
 

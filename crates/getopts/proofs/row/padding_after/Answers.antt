@@ -2,7 +2,7 @@ use Rattle.std.proofs.Common.{◌∙◌, rules}
 use Rattle.getopts.proofs.Wrapping.Usage.{padding_narrow}
 use Rattle.getopts.proofs.row.padding_after.Goals as goal
 
--- the padding is the end of the next row
+-- the padding ends the next row
 pub returns-then-columns-lt-MARGIN : goal.returns-then-columns-lt-MARGIN
 returns-then-columns-lt-MARGIN c = c.range_from.ensures.value
     ∙ padding_narrow c.args.head.now _ (search rules) c.if-columns-lt-MARGIN.true

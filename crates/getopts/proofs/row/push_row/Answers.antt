@@ -1,4 +1,4 @@
--- The row is the head, its padding and the description's rows, which are the only ones.
+-- The row is the head, its padding and the description's rows, which are unique.
 use Rattle.std.proofs.Common.{◌≡◌, ◌++◌, ◌∙◌, ap, arith, drop, length, string_bytes}
 use Rattle.std.proofs.lemmas.Result.{on_ok_weaker}
 use Rattle.getopts.specs.Held.Help.{group_view}

@@ -1,4 +1,4 @@
--- A text may be cut after its dash.
+-- A text may be split after its dash.
 use Rattle.std.proofs.Common.{◌≡◌, ◌<◌, get_or, length, arith}
 use Rattle.std.proofs.lemmas.Grind.{common_steps}
 use Rattle.std.proofs.lemmas.Str.{IsCharBoundary-after_ascii}

@@ -1,4 +1,4 @@
--- A text may be cut after its first character.
+-- A text may be split after its first character.
 use Rattle.std.proofs.Common.{◌≡◌, ◌++◌, ◌∙◌, sym, encode_utf8, zero-le, zero-add}
 use Rattle.std.specs.Str.Iter.{chars_rest}
 use Rattle.std.proofs.lemmas.Str.{IsCharBoundary-past_char}

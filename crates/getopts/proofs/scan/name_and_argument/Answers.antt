@@ -1,4 +1,4 @@
--- A text may be cut after its first `=`.
+-- A text may be split after its first `=`.
 use Rattle.std.proofs.Common.{◌≡◌, get_or, arith}
 use Rattle.std.proofs.lemmas.Str.{IsCharBoundary-after_ascii}
 use Rattle.getopts.specs.Reading.{equals_sign}

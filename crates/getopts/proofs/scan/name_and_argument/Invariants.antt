@@ -1,4 +1,4 @@
--- The text before this place holds no `=`.
+-- The text before this place contains no `=`.
 use Rattle.std.proofs.Common.{◌≡◌, false, take}
 use Rattle.getopts.specs.Reading.{holds_equals}
 use Rattle.getopts.proofs.scan.name_and_argument.Given as goal

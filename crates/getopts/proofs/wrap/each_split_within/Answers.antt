@@ -1,4 +1,4 @@
--- The text holds the rows, and its lines are these rows again.
+-- The text has the rows, and its lines are these rows.
 use Rattle.std.proofs.Common.{ℕ, [], List, ◌∙◌, ap, ◌∷◌, ◌++◌, map, string_bytes, subst, sym}
 use Rattle.std.specs.Prelude.{IfOk}
 use Rattle.std.specs.Str.Lines.{lines}
@@ -8,7 +8,7 @@ use Rattle.getopts.proofs.Wrapping.Lines.{rows_exactly, rows_fewest}
 use Rattle.getopts.proofs.Wrapping.Texts.{lines_joined}
 use Rattle.getopts.proofs.wrap.each_split_within.Goals as goal
 
--- what the rows are
+-- the rows
 are_description_rows : (c : goal.After-drop-text-2)
     → IfOk c.rows_in.result
     (λ rows. IsDescriptionRows c.args.lim c.args.desc.now (map string_bytes rows.items))

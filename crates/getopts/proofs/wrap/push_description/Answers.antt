@@ -9,7 +9,7 @@ use Rattle.getopts.proofs.wrap.push_description.Goals as goal
 pub loop-line-init : goal.loop-line-init
 loop-line-init c = lines_none c.args.lim c.args.separator.now (string_bytes c.args.text.now)
 
--- one more line, with the rows that it adds
+-- one more line, with its rows
 pub loop-line-preserved : goal.loop-line-preserved
 loop-line-preserved c =
     let lines = map (λ line. line.now) c.loop-line.yielded in
@@ -19,7 +19,7 @@ loop-line-preserved c =
     (lines_add c.args.lim c.args.separator.now lines c.in-Some.line.now _ _ _ _ _
     c.loop-line.invariant c.in_ok-begun.ensures)
 
--- the lines that `split` gave are all the lines
+-- the lines from `split` are all the lines
 pub returns : goal.returns
 returns c =
     let start = c.into_iter-line-iterator.ensures.into_iter_gives in

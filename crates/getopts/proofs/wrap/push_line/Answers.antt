@@ -30,7 +30,7 @@ loop-word-init c =
     ∙ ap (λ (text : List ℕ). text ++ c.in-Some.first.now) c.in_ok-push_parting.ensures)
     c.width-columns.ensures.value)
 
--- the word joins the row in hand, or ends it and begins one
+-- the word joins the current row, or ends it and begins a new one
 pub loop-word-preserved : goal.loop-word-preserved
 loop-word-preserved c =
     let so_far = c.loop-word.invariant in
@@ -43,7 +43,7 @@ loop-word-preserved c =
       | inr fits ↦ rows_take so_far word _ _ _ next fits (says.joins fits)
     ]
 
--- no word is left
+-- no words are left
 pub returns : goal.returns
 returns c =
     let none = words_of-none _ c.loop-word.invariant.utf8 c.in-None-word.ensures.steps.1 in

@@ -1,4 +1,4 @@
--- The names are parts of one text, which is of bytes.
+-- The names are parts of one text, which consists of bytes.
 use Rattle.std.proofs.Common.{subst}
 use Rattle.std.specs.String.{string_bytes}
 use Rattle.getopts.specs.Held.Groups.{names_in}

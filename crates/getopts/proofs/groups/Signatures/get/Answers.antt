@@ -1,4 +1,4 @@
--- What reading asks of a group are its names and kinds.
+-- Reading needs a group's names and kinds.
 use Rattle.std.proofs.Common.{◌≡◌, Some, ap, ◌∙◌}
 use Rattle.std.proofs.lemmas.Option.{same_Some}
 use Rattle.std.specs.Option.{option_map}

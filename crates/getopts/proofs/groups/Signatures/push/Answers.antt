@@ -1,4 +1,4 @@
--- One more group has its names at the end of the text of all.
+-- One more group has its names at the end of the common text.
 use Rattle.std.proofs.Common.{◌≡◌, not, List, [], ◌∷◌, ◌++◌, map, ap, sym, ◌∙◌, subst, arith}
 use Rattle.std.proofs.lemmas.Grind.{common_steps}
 use Rattle.std.proofs.lemmas.Str.{IsUtf8-append}
@@ -18,7 +18,7 @@ use Rattle.getopts.proofs.groups.Signatures.push.Goals.{
   else-is_empty+in_ok-reserve-3+in_ok-reserve-4,
 }
 
--- the record that is added
+-- the added record
 abbrev added : goal.After-push_reserved → SignatureRecord
 added c = record {
   names = c.push_two-names.result;
@@ -28,7 +28,7 @@ added c = record {
   kinds = c.args.kinds;
 }
 
--- the signature that is added
+-- the added signature
 abbrev signature : goal.After-push_reserved → Signature
 signature c = signature_with c.args.kinds c.args.short.now c.args.long.now
 
@@ -42,7 +42,7 @@ items c = c.push_reserved.ensures.items
           rw w.self-inside-is w.in_ok-reserve-3.ensures.items
     ])
 
--- the texts that are added
+-- the added texts
 abbrev more : goal.After-push_reserved → Text
 more c = c.args.short.now ++ c.args.long.now
 

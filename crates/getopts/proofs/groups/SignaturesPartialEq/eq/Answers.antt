@@ -1,4 +1,4 @@
--- They are the same where they are as many, and the same at each place.
+-- They are equal if there are as many, and those at each place are equal.
 use Rattle.std.proofs.Common.{sym, ◌∙◌, ◌≡◌, true, map, List, [], ◌∷◌, ◌==◌, ap}
 use Rattle.std.specs.Cmp.Lexicographic.{pointwise}
 use Rattle.getopts.specs.Names.{Text}
@@ -28,7 +28,7 @@ loop-place-preserved c = record {
       ∙ not-false _ (sym c.ne.ensures ∙ c.if-ne.false));
 }
 
--- records alike have the same signatures in one text
+-- equal records have the same signatures in one text
 one : (text : Text) (r q : SignatureRecord) → same_record r q ≡ true
     → same_signature (signature_in text r) (signature_in text q) ≡ true
 one text r q same =

@@ -1,4 +1,4 @@
--- The hint and the description of a group stand where its ends say.
+-- A group's ends say where its hint and description are.
 use Rattle.std.proofs.Common.{◌≡◌, Some, slice_get, sym, ap, ◌∙◌, arith}
 use Rattle.std.proofs.lemmas.Option.{slice_get-map}
 use Rattle.std.specs.Option.{option_map}

@@ -1,4 +1,4 @@
--- The main name is that of the signature.
+-- The main name comes from the signature.
 use Rattle.std.proofs.Common.{List, sym, ap, ◌∙◌, arith}
 use Rattle.getopts.specs.Names.{main_name}
 use Rattle.getopts.specs.Options.{Signature}

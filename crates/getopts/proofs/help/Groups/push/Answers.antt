@@ -1,4 +1,4 @@
--- One more group has its signature, and its texts at the end of the text of all.
+-- One more group has its signature, and its texts at the end of the common text.
 use Rattle.std.proofs.Common.{◌≡◌, ◌+◌, List, [], ◌∷◌, ◌++◌, map, length, ap, ◌∙◌, sym, arith}
 use Rattle.std.proofs.Common.{refl, length-append}
 use Rattle.std.proofs.lemmas.Grind.{common_steps}
@@ -26,7 +26,7 @@ items c = c.push_reserved.ensures.items
           rw w.self-inside-is w.in_ok-reserve-3.ensures.items
     ])
 
--- the signatures with the one that is added
+-- the signatures with the added one
 signatures : (c : goal.After-push_reserved) → c.push.new.self
     ≡ c.self.inside.signatures
     ++ signature_with c.args.kinds c.args.short.now c.args.long.now ∷ []

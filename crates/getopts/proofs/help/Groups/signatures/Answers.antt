@@ -1,4 +1,4 @@
--- The signatures that are held are those of the groups.
+-- The stored signatures are those of the groups.
 use Rattle.getopts.proofs.Held.Groups.{signatures_held}
 use Rattle.getopts.proofs.help.Groups.signatures.Goals as goal
 

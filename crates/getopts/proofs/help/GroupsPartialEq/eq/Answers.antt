@@ -1,4 +1,4 @@
--- They are the same where they are as many, and the same at each place.
+-- They are equal if there are as many, and those at each place are equal.
 use Rattle.std.proofs.Common.{sym, ◌∙◌}
 use Rattle.std.proofs.lemmas.Bool.{not-true, not-false}
 use Rattle.std.specs.Option.{option_eq}

@@ -1,4 +1,4 @@
--- What matches keep of names holds of the groups that are seen.
+-- The invariant of matches about names holds for the groups that are seen.
 use Rattle.getopts.proofs.Held.Matches.{AreHeldLawfully-matched}
 use Rattle.getopts.proofs.matches.MatchedGroups.are_lawful.Goals as goal
 

@@ -1,4 +1,4 @@
--- The places that the index has for a group are those of its occurrences.
+-- The index has the places of each group's occurrences.
 use Rattle.std.proofs.Common.{◌≡◌, ◌∙◌, ap, List, ℕ, [], slice_get, unwrap_or}
 use Rattle.getopts.proofs.Held.Matches.{held_places, held_places-within, held_places-found}
 use Rattle.getopts.proofs.matches.MatchedGroups.occurrences_at.Goals as goal

@@ -1,4 +1,4 @@
--- A name resolves among the groups held as among their names.
+-- A name resolves among the stored groups as among their names.
 use Rattle.getopts.proofs.Held.Matches.{place_of-matched}
 use Rattle.getopts.proofs.matches.MatchedGroups.place_of.Goals as goal
 

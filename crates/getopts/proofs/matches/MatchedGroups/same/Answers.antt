@@ -1,4 +1,4 @@
--- The groups are the same where their names and kinds are, and the occurrences at each place.
+-- Groups are equal if their names and kinds are, and the occurrences at each place.
 use Rattle.std.proofs.Common.{◌≡◌, ◌∙◌, List, map, length, sym, ap, arith}
 use Rattle.std.proofs.lemmas.Bool.{not-true, not-false}
 use Rattle.std.specs.Cmp.Lexicographic.{pointwise}

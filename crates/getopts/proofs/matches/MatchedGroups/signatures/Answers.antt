@@ -1,4 +1,4 @@
--- The signatures that are lent are those of what is seen.
+-- The borrowed signatures are those of the groups that are seen.
 use Rattle.getopts.proofs.Held.Matches.{signatures-matched}
 use Rattle.getopts.proofs.matches.MatchedGroups.signatures.Goals as goal
 

@@ -1,4 +1,4 @@
--- The test of two matches says exactly that they are equal.
+-- The comparison of two matches decides whether they are equal.
 use Rattle.std.proofs.Common.{◌≡◌, arith}
 use Rattle.std.proofs.lemmas.Grind.{common_steps}
 use Rattle.std.proofs.lemmas.Bool.Decides.{Decides-at}

@@ -1,4 +1,4 @@
--- There are as many occurrences as are held.
+-- The count is that of the occurrences that are held.
 use Rattle.std.proofs.Common.{arith}
 use Rattle.std.proofs.lemmas.List.{length-map}
 use Rattle.std.specs.String.{string_bytes}

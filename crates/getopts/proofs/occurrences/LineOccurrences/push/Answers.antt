@@ -1,4 +1,4 @@
--- The occurrence is the last one, and its value stands where the text of all ends.
+-- The occurrence comes last, and its value is at the end of the common text.
 use Rattle.std.proofs.Common.{◌≡◌, ◌++◌, ◌∷◌, [], map, Option, Some, None, append-nil, ap, ◌∙◌}
 use Rattle.std.proofs.lemmas.Str.{IsUtf8-nil}
 use Rattle.std.specs.List.{AllByRecursion}

@@ -1,4 +1,4 @@
--- The occurrence at a place of the group is the one at its place in the line.
+-- The group's occurrence at a place is the line's occurrence at its place there.
 use Rattle.std.proofs.Common.{get_or, ap, arith, ◌∙◌}
 use Rattle.std.specs.Option.{option_map}
 use Rattle.getopts.specs.Matches.{found_part}

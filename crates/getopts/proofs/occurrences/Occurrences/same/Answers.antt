@@ -1,4 +1,4 @@
--- Occurrences are the same where they are read as the same.
+-- Occurrences are equal if they read as equal.
 use Rattle.std.proofs.Common.{sym}
 use Rattle.std.proofs.lemmas.Bool.{not-true, not-false}
 use Rattle.getopts.proofs.Held.Occurrences.{founds-differ, founds-same}

@@ -1,4 +1,4 @@
--- As many occurrences, of which the ones so far are the same.
+-- There are as many occurrences, and those so far are equal.
 use Rattle.std.proofs.Common.{◌≡◌, true, length, take}
 use Rattle.std.specs.Cmp.Lexicographic.{pointwise}
 use Rattle.getopts.specs.Same.{same_found}

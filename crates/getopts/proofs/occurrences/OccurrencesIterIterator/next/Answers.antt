@@ -1,4 +1,4 @@
--- The next occurrence is the first of those that are left.
+-- The next occurrence is the first of the rest.
 use Rattle.getopts.specs.Accessors.{held_found}
 use Rattle.getopts.proofs.Lists.{drop-next}
 use Rattle.getopts.proofs.occurrences.OccurrencesIterIterator.next.Goals as goal

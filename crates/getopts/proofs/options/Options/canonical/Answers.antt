@@ -1,4 +1,4 @@
--- The words that were taken are those that the iterator gives.
+-- The collected words are those of the iterator.
 use Rattle.std.proofs.Common.{◌∙◌}
 use Rattle.std.proofs.lemmas.Result.{IfOk-weaker, IfErr-weaker, MatchResult-weaker}
 use Rattle.getopts.proofs.Canonical.Answered.{IfSome-weaker, IfNone-weaker}

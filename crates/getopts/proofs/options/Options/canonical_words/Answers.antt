@@ -1,4 +1,4 @@
--- What the line says is what the words are accepted with.
+-- The content of the line is the one with which the words are accepted.
 use Rattle.std.proofs.Common.{◌∙◌, sym, Ok, Err, Some, None, List}
 use Rattle.getopts.specs.Names.{Text}
 use Rattle.getopts.specs.Options.{Declared, MayBeDeclared}
@@ -55,7 +55,7 @@ returns-else-are_plain-clause-result g c =
     GivesResult-canonical {Y = List Text} _ _ c.in_ok-accepted.ensures.results (λ line. line)
     (Ok None) tt (returns-else-are_plain-clause-unwritable g c) tt
 
--- canonical lines are read again, by the laws above
+-- canonical lines read back, by the laws above
 again : (options : Declared) → MayBeDeclared options.groups → LinesReadAgain options
 again options declared =
     LinesReadAgain_lem options declared (KeepsLineLaws-lawful options declared)

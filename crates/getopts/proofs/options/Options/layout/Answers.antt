@@ -14,7 +14,7 @@ loop-place-preserved c =
     c.loop-place.any_short _ c.loop-place.invariant
     (ap (λ (empty : Bool). c.loop-place.any_short || not empty) c.is_empty.ensures)
 
--- all groups were asked
+-- all groups were visited
 pub returns-clause-any_short : goal.returns-clause-any_short
 returns-clause-any_short c =
     c.loop-place.invariant

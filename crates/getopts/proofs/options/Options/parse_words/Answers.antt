@@ -1,4 +1,4 @@
--- The line that was read gives accepted matches, and its options keep the laws of readings.
+-- The line that was read gives accepted matches, and the laws of readings hold for its options.
 use Rattle.std.proofs.Common.{◌≡◌, ◌∙◌, subst, Ok, Err}
 use Rattle.std.proofs.lemmas.Result.{err_from_is_err_and}
 use Rattle.getopts.specs.Options.{signatures_of}

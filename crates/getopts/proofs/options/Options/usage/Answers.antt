@@ -1,4 +1,4 @@
--- The text is made of the usage rows, which are the only ones.
+-- The text consists of the usage rows, which are unique.
 use Rattle.std.proofs.Common.{◌≡◌, rules, string_bytes, append_assoc}
 use Rattle.getopts.specs.Usage.{usage_text}
 use Rattle.getopts.proofs.Wrapping.Usage.{text_is_the_only}

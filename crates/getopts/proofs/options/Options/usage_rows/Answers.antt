@@ -31,7 +31,7 @@ loop-place-preserved c =
     c.layout-layout.ensures.long_only c.layout-layout.ensures.any_short
     (map string_bytes c.loop-place.rows.items) row c.loop-place.invariant only)
 
--- all rows are there
+-- all rows were added
 pub returns : goal.returns
 returns c =
     let all : length c.args.self.now.groups ≤ c.loop-place.place =

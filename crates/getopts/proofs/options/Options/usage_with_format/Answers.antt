@@ -1,4 +1,4 @@
--- The closure was given the usage rows.
+-- The closure got the usage rows.
 use Rattle.std.proofs.Common.{map, string_bytes, rules}
 use Rattle.std.specs.Vec.Iter.{into_iter_items}
 use Rattle.getopts.proofs.Wrapping.Usage.{on_ok}

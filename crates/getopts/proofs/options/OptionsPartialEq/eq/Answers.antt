@@ -1,5 +1,5 @@
--- The code's tests of the groups, the style and the mode are the test of the options, which says
--- that they are equal.
+-- The code compares groups, style and mode. Together this compares the options: it decides
+-- whether they are equal.
 use Rattle.std.proofs.Common.{arith}
 use Rattle.std.proofs.lemmas.Grind.{common_steps}
 use Rattle.std.proofs.lemmas.Bool.Decides.{Decides-at}

@@ -1,4 +1,4 @@
--- The table finds what a byte resolves to, and one that isn't ASCII names no option.
+-- The table finds what a byte resolves to; a byte that isn't ASCII names no option.
 use Rattle.std.proofs.Common.{◌≤◌, ◌∷◌, [], sym, ap, ◌∙◌, refl, arith}
 use Rattle.std.proofs.lemmas.Grind.{common_steps}
 use Rattle.std.proofs.lemmas.List.{length-map}
