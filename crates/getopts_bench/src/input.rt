@@ -1,4 +1,4 @@
-//! What a job declares and reads, as the rows of a file say.
+//! The options and words of a job, from the rows of a file.
 
 ghost use Rattle.getopts.specs.Names.{AreLawful};
 
@@ -14,7 +14,7 @@ enum Kind {
     Maybe,
 }
 
-/// An option to declare, by lawful names.
+/// An option to declare, with valid names.
 #[derive(Clone, Copy)]
 pub struct Named<'t> {
     short: &'t str,
@@ -36,7 +36,7 @@ impl<'t> Named<'t> {
         Ok(())
     }
 
-    /// The long name where there is one, else the short name.
+    /// The long name if there is one, else the short name.
     pub fn main(&self) -> &str {
         if self.long.is_empty() {
             self.short
@@ -46,14 +46,14 @@ impl<'t> Named<'t> {
     }
 }
 
-/// Options to declare, and the words to read by them.
+/// Options to declare, and words to parse.
 #[derive(Drop)]
 pub struct Input<'t> {
     pub options: Vec<Named<'t>>,
     pub words: Vec<&'t str>,
 }
 
-/// What the rows of a text say: how many words there are, then an option or a word each.
+/// Reads the rows of a text: the number of words, then an option or a word each.
 pub fn input_of(alloc: Global, text: &str) -> Result<Input<'_>, Trouble> {
     let mut input = Input {
         options: Vec::new(alloc),
@@ -66,7 +66,7 @@ pub fn input_of(alloc: Global, text: &str) -> Result<Input<'_>, Trouble> {
 }
 
 impl<'t> Input<'t> {
-    /// Adds what a row says.
+    /// Adds a row.
     fn add(&mut self, row: &'t str) -> Result<(), Trouble> {
         let (call, rest) = row.split_once('\t').unwrap_or((row, ""));
         match call {
@@ -79,7 +79,7 @@ impl<'t> Input<'t> {
         }
     }
 
-    /// Makes room for so many words, which take no more than they need.
+    /// Reserves exactly the capacity for this many words.
     fn expect(&mut self, count: &str) -> Result<(), Trouble> {
         match count.parse::<usize>() {
             Ok(count) => match self.words.reserve_exact(count) {
@@ -90,7 +90,7 @@ impl<'t> Input<'t> {
         }
     }
 
-    /// Adds a word as the last.
+    /// Appends a word.
     fn say(&mut self, word: &'t str) -> Result<(), Trouble> {
         match self.words.push(word) {
             Ok(()) => Ok(()),
@@ -98,7 +98,7 @@ impl<'t> Input<'t> {
         }
     }
 
-    /// Adds an option as the last: its names, its description and its hint.
+    /// Appends an option: its names, its description and its hint.
     fn declare(&mut self, fields: &'t str, kind: Kind) -> Result<(), Trouble> {
         let (short, rest) = fields.split_once('\t').unwrap_or((fields, ""));
         let (long, rest) = rest.split_once('\t').unwrap_or((rest, ""));

@@ -1,31 +1,31 @@
-//! The jobs by their names.
+//! The jobs and their names.
 
 use std::str::FromStr;
 
-/// What a turn does.
+/// What an iteration does.
 #[derive(Clone, Copy)]
 pub enum Job {
-    /// Declares, reads, and takes each count and value.
+    /// Declares options, parses words, and takes each count and value.
     Whole,
-    /// The same, by the calls that the Rust crate has.
+    /// The same, with the calls that the Rust crate has.
     Copied,
-    /// Reads the words.
+    /// Parses the words.
     Read,
     /// Writes the canonical line.
     Canonical,
-    /// Compares the matches of the first half of the words with those of the second.
+    /// Compares the matches of both halves of the words.
     Equal,
     /// Writes the usage text.
     Usage,
-    /// Asks for each name whether it is defined.
+    /// Asks whether each name is defined.
     Defined,
-    /// Asks of each option whether it was given.
+    /// Asks whether each option was given.
     Asked,
-    /// Reads the words, and keeps the matches.
+    /// Parses the words, and keeps the matches.
     Held,
 }
 
-/// The text names no job.
+/// The text isn't the name of a job.
 #[derive(Clone, Copy)]
 pub struct UnknownJob;
 

@@ -1,33 +1,31 @@
-//! Runs jobs on `getopts` a number of turns, and prints the sums of what the turns took, so that
-//! the work of a turn can be counted and the sums compared with those of other libraries.
+//! Runs jobs on `getopts` for a number of iterations, and prints sums of their results, so that the
+//! work of an iteration can be counted and the sums compared with those of other libraries.
 //!
-//! Its arguments are JOB ROWS TIMES, as in `whole small.rows 3`, and may be several such triples:
-//! each has its sum on a line. ROWS is a file with an option or a word on each line, their fields
-//! parted by tabs:
+//! The arguments are JOB ROWS TIMES, as in `whole small.rows 3`, or several such triples; each sum is
+//! printed on a line. Each line of the file ROWS is an option or a word, with fields separated by
+//! tabs:
 //!
-//! - `optflagmulti SHORT LONG DESC`, `optmulti SHORT LONG DESC HINT`, and so `optflagopt`
-//! - `words COUNT`, before the words: how many there are
+//! - `optflagmulti SHORT LONG DESC`, `optmulti SHORT LONG DESC HINT`, also `optflagopt`
+//! - `words COUNT`, before the words: their number
 //! - `word TEXT`
 //!
-//! A job is what a turn does with them:
+//! A job is what each iteration does:
 //!
-//! - `whole` declares the options, reads the words, and takes the count and the values of each
-//!   option, which are lent, and the free words. It adds up the counts and the lengths of the
-//!   texts.
-//! - `copied` does the same by the calls that the Rust crate has: `parse` of an iterator, and
-//!   `opt_strs`, which copies, of each name that is defined.
-//! - `read` is a part of that turn, with the options declared once, before the turns. A turn adds
-//!   the number of free words.
-//! - `canonical` writes the canonical line. A turn adds the lengths of its words.
-//! - `equal` compares the matches of the first half of the words with those of the second. A turn
-//!   adds 1 where they are equal.
-//! - `usage` writes the usage text. A turn adds its length.
-//! - `defined` asks for each name whether it is defined, and `asked` of each option whether it was
-//!   given. A turn adds how many are.
-//! - `held` reads the words and keeps the matches. A turn adds the number of free words.
+//! - `whole` declares the options, parses the words, and takes the count and the borrowed values of
+//!   each option, and the free words. It adds up the counts and the lengths of the texts.
+//! - `copied` does the same with the calls that the Rust crate has: `parse` of an iterator, and
+//!   `opt_strs`, which copies, for each defined name.
+//! - `read` only parses; the options are declared once, before the iterations. It adds the number
+//!   of free words.
+//! - `canonical` writes the canonical line. It adds the lengths of its words.
+//! - `equal` compares the matches of both halves of the words. It adds 1 if they are equal.
+//! - `usage` writes the usage text. It adds its length.
+//! - `defined` asks whether each name is defined, and `asked` whether each option was given. They
+//!   add the number that are.
+//! - `held` parses the words and keeps the matches. It adds the number of free words.
 //!
-//! The status is 0 where each sum was printed, 1 where a line was refused, 2 where the arguments
-//! are not such triples, 3 where memory was refused, and 4 where a write failed.
+//! The status is 0 if all sums were printed, 1 if a line was rejected, 2 if the arguments aren't
+//! such triples, 3 if an allocation failed, and 4 if a write failed.
 #![tactic(auto)]
 
 mod input;
@@ -40,7 +38,7 @@ use std::process::ExitCode;
 use std::{env, fs, io};
 use trouble::Trouble;
 
-/// Does the jobs that the arguments name.
+/// Runs the jobs given by the arguments.
 fn main(rt: HostRuntime) -> ExitCode {
     match run(&rt) {
         Ok(()) => ExitCode::SUCCESS,
@@ -51,7 +49,7 @@ fn main(rt: HostRuntime) -> ExitCode {
     }
 }
 
-/// Does each job that the arguments name, and prints its sum.
+/// Runs each job given by the arguments, and prints its sum.
 fn run(rt: &HostRuntime) -> Result<(), Trouble> {
     let Ok(words) = arguments(rt) else {
         return Err(Trouble::NoMemory);
@@ -68,12 +66,12 @@ fn run(rt: &HostRuntime) -> Result<(), Trouble> {
     Ok(())
 }
 
-/// The system's words, without the program's own name.
+/// The arguments, without the program's own name.
 fn arguments(rt: &HostRuntime) -> io::Result<Vec<String>> {
     Ok(env::args(rt)?.skip(1).collect(rt.alloc())?)
 }
 
-/// The sum of the job that three words name.
+/// The sum of the job given by three arguments.
 fn sum_of(rt: &HostRuntime, triple: &[String]) -> Result<usize, Trouble> {
     let [job, rows, times] = triple else {
         return Err(Trouble::NoJob);
@@ -84,7 +82,7 @@ fn sum_of(rt: &HostRuntime, triple: &[String]) -> Result<usize, Trouble> {
     }
 }
 
-/// The sum of so many turns of a job on the rows of a file.
+/// The sum of a number of iterations of a job, with the rows of a file.
 fn sum_of_rows(rt: &HostRuntime, job: Job, rows: &str, times: usize) -> Result<usize, Trouble> {
     match fs::read_to_string(rt, rows) {
         Ok(text) => {

@@ -1,4 +1,4 @@
-//! What ends a run early.
+//! Why a run ends early.
 
 use getopts::Fail;
 use std::alloc::AllocError;
@@ -7,9 +7,9 @@ use std::fmt;
 /// Why a sum wasn't printed.
 #[derive(Clone, Copy)]
 pub enum Trouble {
-    /// The arguments aren't jobs, each with a file of rows and a number of turns.
+    /// The arguments aren't jobs, each with a file of rows and a number of iterations.
     NoJob,
-    /// A job's line was refused.
+    /// A job's line was rejected.
     Refused,
     NoMemory,
     /// A write failed.
@@ -17,7 +17,7 @@ pub enum Trouble {
 }
 
 impl Trouble {
-    /// The status that tells it.
+    /// The exit status.
     pub fn status(&self) -> u8 {
         match self {
             Trouble::Refused => 1,

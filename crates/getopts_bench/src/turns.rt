@@ -1,5 +1,5 @@
-//! The turns of a job, and what they add up to. The turns of each job stay a function of their own,
-//! so that no job is built otherwise for the sake of another.
+//! The iterations of a job, and their sum. Each job has its own function, so that the jobs are
+//! compiled independently.
 
 ghost use Rattle.getopts.specs.Accessors.{IsDefined};
 
@@ -9,10 +9,10 @@ use crate::trouble::Trouble;
 use getopts::{Fail, Matches, Occurrences, Options};
 use std::alloc::{AllocError, Global};
 
-/// The line before the options in a usage text.
+/// The first line of a usage text.
 const BRIEF: &str = "Usage: getopts_show [options] FILE";
 
-/// Does a job a number of turns, and answers the sum of what they took. The sum wraps.
+/// Runs a number of iterations of a job, and returns the wrapping sum of their results.
 pub fn run(alloc: Global, job: Job, times: usize, input: &Input<'_>) -> Result<usize, Trouble> {
     match job {
         Job::Whole => Ok(whole(alloc, &input.options, &input.words, times)?),
@@ -24,7 +24,7 @@ pub fn run(alloc: Global, job: Job, times: usize, input: &Input<'_>) -> Result<u
     }
 }
 
-/// The turns of a job with options that were declared before them, and these words.
+/// The iterations of a job with options declared before, and these words.
 fn turns(
     alloc: Global,
     job: Job,
@@ -44,7 +44,7 @@ fn turns(
     }
 }
 
-/// Turns that declare the options, read the words, and take what the matches give.
+/// Each iteration declares the options, parses the words, and adds up the matches.
 #[inline(never)]
 fn whole(alloc: Global, named: &[Named<'_>], words: &[&str], times: usize) -> Result<usize, Fail> {
     let mut sum = 0usize;
@@ -56,8 +56,7 @@ fn whole(alloc: Global, named: &[Named<'_>], words: &[&str], times: usize) -> Re
     Ok(sum)
 }
 
-/// Turns that do so by the calls that the Rust crate has: an iterator is read, and values are
-/// copied.
+/// The same with the calls that the Rust crate has: parses an iterator, and copies the values.
 #[inline(never)]
 fn copied(alloc: Global, named: &[Named<'_>], words: &[&str], times: usize) -> Result<usize, Fail> {
     let mut sum = 0usize;
@@ -69,7 +68,7 @@ fn copied(alloc: Global, named: &[Named<'_>], words: &[&str], times: usize) -> R
     Ok(sum)
 }
 
-/// Turns that read the words. Each adds how many of them are free.
+/// Each iteration parses the words, and adds the number of free words.
 #[inline(never)]
 fn read(alloc: Global, options: &Options, words: &[&str], times: usize) -> Result<usize, Fail> {
     let mut sum = 0usize;
@@ -79,7 +78,7 @@ fn read(alloc: Global, options: &Options, words: &[&str], times: usize) -> Resul
     Ok(sum)
 }
 
-/// Turns that write the canonical line. Each adds the lengths of its words.
+/// Each iteration writes the canonical line, and adds the lengths of its words.
 #[inline(never)]
 fn canonical(
     alloc: Global,
@@ -94,8 +93,7 @@ fn canonical(
     Ok(sum)
 }
 
-/// Turns that compare the matches of the first half of the words with those of the second. Each
-/// adds 1 where they are equal.
+/// Each iteration compares the matches of both halves of the words, and adds 1 if they are equal.
 fn equal(alloc: Global, options: &Options, words: &[&str], times: usize) -> Result<usize, Fail> {
     let half = words.len() / 2;
     let matches = options.parse_words(alloc, &words[..half])?;
@@ -103,7 +101,7 @@ fn equal(alloc: Global, options: &Options, words: &[&str], times: usize) -> Resu
     Ok(equal_turns(&matches, &others, times))
 }
 
-/// How many of so many turns found the matches equal.
+/// The number of iterations in which the matches are equal.
 #[inline(never)]
 fn equal_turns(matches: &Matches, others: &Matches, times: usize) -> usize {
     let mut sum = 0usize;
@@ -115,7 +113,7 @@ fn equal_turns(matches: &Matches, others: &Matches, times: usize) -> usize {
     sum
 }
 
-/// Turns that write the usage text. Each adds its length.
+/// Each iteration writes the usage text, and adds its length.
 #[inline(never)]
 fn usage(alloc: Global, options: &Options, times: usize) -> Result<usize, Fail> {
     let mut sum = 0usize;
@@ -125,7 +123,7 @@ fn usage(alloc: Global, options: &Options, times: usize) -> Result<usize, Fail> 
     Ok(sum)
 }
 
-/// Turns that ask for each name whether it is defined. Each adds how many are.
+/// Each iteration asks whether each name is defined, and adds the number that are.
 #[inline(never)]
 fn defined(matches: &Matches, named: &[Named<'_>], times: usize) -> usize {
     let mut sum = 0usize;
@@ -135,7 +133,7 @@ fn defined(matches: &Matches, named: &[Named<'_>], times: usize) -> usize {
     sum
 }
 
-/// Turns that ask of each option whether it was given. Each adds how many were.
+/// Each iteration asks whether each option was given, and adds the number that were.
 #[inline(never)]
 fn asked(matches: &Matches, named: &[Named<'_>], times: usize) -> usize {
     let mut sum = 0usize;
@@ -145,8 +143,8 @@ fn asked(matches: &Matches, named: &[Named<'_>], times: usize) -> usize {
     sum
 }
 
-/// Turns that read the words, and keep the matches until the end. Each adds how many words are
-/// free.
+/// Each iteration parses the words, keeps the matches until the end, and adds the number of free
+/// words.
 #[inline(never)]
 fn held(alloc: Global, options: &Options, words: &[&str], times: usize) -> Result<usize, Fail> {
     let mut kept = Vec::with_capacity(alloc, times)?;
@@ -159,7 +157,7 @@ fn held(alloc: Global, options: &Options, words: &[&str], times: usize) -> Resul
     Ok(sum)
 }
 
-/// Options by these names, which may come any number of times.
+/// Options with these names, all repeatable.
 fn declared(alloc: Global, named: &[Named<'_>]) -> Result<Options, AllocError> {
     let mut options = Options::new(alloc);
     for option in named {
@@ -168,13 +166,13 @@ fn declared(alloc: Global, named: &[Named<'_>]) -> Result<Options, AllocError> {
     Ok(options)
 }
 
-/// How many of the words are free.
+/// The number of free words.
 fn free_words(alloc: Global, options: &Options, words: &[&str]) -> Result<usize, Fail> {
     let matches = options.parse_words(alloc, words)?;
     Ok(matches.free.len())
 }
 
-/// The lengths of the words of the canonical line, added up.
+/// The total length of the words of the canonical line.
 fn canonical_length(alloc: Global, options: &Options, words: &[&str]) -> Result<usize, Fail> {
     match options.canonical_words(alloc, words)? {
         Some(line) => Ok(total_length(&line)),
@@ -182,7 +180,7 @@ fn canonical_length(alloc: Global, options: &Options, words: &[&str]) -> Result<
     }
 }
 
-/// How many of the options are defined.
+/// The number of options that are defined.
 fn defined_count(matches: &Matches, named: &[Named<'_>]) -> usize {
     let mut count = 0usize;
     for option in named {
@@ -193,7 +191,7 @@ fn defined_count(matches: &Matches, named: &[Named<'_>]) -> usize {
     count
 }
 
-/// How many of the options were given.
+/// The number of options that were given.
 fn given_count(matches: &Matches, named: &[Named<'_>]) -> usize {
     let mut count = 0usize;
     for option in named {
@@ -204,7 +202,7 @@ fn given_count(matches: &Matches, named: &[Named<'_>]) -> usize {
     count
 }
 
-/// Whether the option of this name was given.
+/// Whether the option with this name was given.
 fn was_given(matches: &Matches, name: &str) -> bool {
     match matches.opt_place(name) {
         Some(place) => !matches.occurrences_at(place).is_empty(),
@@ -212,8 +210,8 @@ fn was_given(matches: &Matches, name: &str) -> bool {
     }
 }
 
-/// What matches give, added up: for each option its count and the lengths of its values, and the
-/// lengths of the free words.
+/// Adds up matches: the count of each option and the lengths of its values, and the lengths of the
+/// free words.
 fn taken(matches: &Matches, named: &[Named<'_>]) -> usize {
     let mut sum = total_length(&matches.free);
     for option in named {
@@ -227,7 +225,7 @@ fn taken(matches: &Matches, named: &[Named<'_>]) -> usize {
     sum
 }
 
-/// What matches give, added up, with the values copied.
+/// Adds up matches, with copied values.
 fn taken_as_copies(
     alloc: Global,
     matches: &Matches,
@@ -243,7 +241,7 @@ fn taken_as_copies(
     Ok(sum)
 }
 
-/// How often an option was given, and the lengths of its values, which are copied, added up.
+/// The count of an option plus the lengths of its values, which are copied.
 fn count_and_copies(alloc: Global, matches: &Matches, name: &str) -> Result<usize, AllocError>
     requires { IsDefined matches.now.groups name.now }
 {
@@ -251,7 +249,7 @@ fn count_and_copies(alloc: Global, matches: &Matches, name: &str) -> Result<usiz
     Ok(matches.opt_count(name).wrapping_add(total_length(&values)))
 }
 
-/// The lengths of the values of occurrences, added up.
+/// The total length of the values of occurrences.
 fn values_length(occurrences: &Occurrences<'_>) -> usize {
     let mut sum = 0usize;
     for nth in 0..occurrences.len() {
@@ -262,7 +260,7 @@ fn values_length(occurrences: &Occurrences<'_>) -> usize {
     sum
 }
 
-/// The lengths of texts, added up.
+/// The total length of texts.
 fn total_length(texts: &[String]) -> usize {
     let mut sum = 0usize;
     for text in texts {

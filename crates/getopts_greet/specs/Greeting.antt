@@ -1,4 +1,4 @@
--- The greeter's options, and what a line asks for.
+-- The greeter's options, and what a command line asks for.
 use Rattle.std.specs.Prelude.{◌≡◌, ⊤, if◌then◌else◌, ℕ, false, List, [], ◌∷◌, ◌++◌, codes}
 use Rattle.std.specs.Prelude.{Option, Some, None, Result, Ok, Err}
 use Rattle.std.specs.Option.{option_map}
@@ -43,19 +43,20 @@ greeter_help =
     ++ (codes "    -t, --times NUMBER  greet NUMBER times\n"
     ++ codes "    -h, --help          print this help\n"))
 
--- why a line that the library refuses asks for nothing; out of memory is no fault of the line
+-- why a command line that the library rejects asks for nothing; out of memory isn't its error
 abbrev pub refusal_of : Fail → Refusal
 refusal_of fail.OutOfMemory = OutOfMemory
 refusal_of fail = Line fail
 
--- A line's fault, or its matches, or none where it asks for help: then an option may be missing or come too
--- often. The two results are those of the line with its counts ignored, and with them kept.
+-- If it asks for help, an option may be missing or be given too often. The two results are those of
+-- the command line without and with its counts checked.
+-- a command line's error; or its matches, or none if it asks for help
 abbrev pub asked_of : Result Matched Fault → Result Matched Fault → Result (Option Matched) Fault
 asked_of (Err fault) line = Err fault
 asked_of (Ok read) line = if is_present read.groups (codes "help") then Ok None
     else result_map_both Some (λ fault. fault) line
 
--- the same of words
+-- the same for words
 abbrev pub asked_result : List Text → Result (Option Matched) Fault
 asked_result words = asked_of (read_result greeter_options words) (parse_result greeter_options words)
 
@@ -65,8 +66,9 @@ pub record IsGreetingOf (matches : Matched) (greeting : Greeting) : Type 0 where
   pub times : IsReadAs {E = ParseIntError} (ParsesUnsigned 32 10)
       (first_value (found_of matches.groups (codes "times"))) (Ok greeting.times)
 
--- What a line asks for, or why it asks for nothing: its fault, or a number that can't be read. Out of memory
--- says nothing of the line.
+-- It asks for nothing if it has an error, or a number that can't be read. Out of memory says
+-- nothing about it.
+-- This is what a command line asks for, or why it asks for nothing.
 abbrev pub IsAskedBy : Result (Option Matched) Fault → Result Asked Refusal → Type 0
 IsAskedBy asked (Err OutOfMemory) = ⊤
 IsAskedBy asked (Err (Line fail)) = option_map Err (fault_of fail) ≡ Some asked

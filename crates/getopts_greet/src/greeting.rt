@@ -1,4 +1,4 @@
-//! What a line asks of the greeter.
+//! What a command line asks of the greeter.
 
 ghost use Rattle.std.specs.Prelude.{◌≡◌, map, IfOk, IfSome};
 ghost use Rattle.std.specs.Str.Parse.{ParsesUnsigned};
@@ -15,7 +15,7 @@ use std::alloc::{AllocError, Global};
 use std::convert::AsStr;
 use std::num::ParseIntError;
 
-/// What a line asks for.
+/// What a command line asks for.
 #[derive(Debug, Drop)]
 pub enum Asked {
     Help,
@@ -29,7 +29,7 @@ pub struct Greeting {
     pub times: Option<u32>,
 }
 
-/// Why a line asks for nothing.
+/// Why a command line asks for nothing.
 #[derive(Debug, Drop)]
 pub enum Refusal {
     Line(Fail),
@@ -37,7 +37,7 @@ pub enum Refusal {
     OutOfMemory,
 }
 
-// For `?` after the calls that read a line.
+// For `?` after calls that parse a command line.
 impl From<Fail> for Refusal {
     ghost from_gives = { λ fail refusal. refusal ≡ refusal_of fail };
 
@@ -58,7 +58,7 @@ impl From<ParseIntError> for Refusal {
     }
 }
 
-// For `?` after the adding calls, and after `opt_str` and its kin.
+// For `?` after calls that add an option, and after calls such as `opt_str`.
 impl From<AllocError> for Refusal {
     ghost from_gives = { λ _ refusal. refusal ≡ OutOfMemory };
 
@@ -79,7 +79,7 @@ pub fn options(alloc: Global) -> Result<Options, AllocError>
     Ok(options)
 }
 
-/// The greeter's help, which ends with a line end of its own.
+/// The greeter's help, which already ends with a line end.
 pub fn help_text(alloc: Global) -> Result<String, AllocError>
     ensures { IfOk result (λ text. string_bytes text ≡ greeter_help) }
 {
@@ -87,7 +87,7 @@ pub fn help_text(alloc: Global) -> Result<String, AllocError>
     options.usage(alloc, "Usage: getopts_greet [options]")
 }
 
-/// What a line asks for. Faults come first, then help, then what is missing.
+/// What a command line asks for. Errors in its words come first, then help, then what is missing.
 pub fn read<S: AsStr>(alloc: Global, words: &[S]) -> Result<Asked, Refusal>
     ensures { IsAskedBy (asked_result (map S.text words.now)) result }
 {
@@ -100,7 +100,8 @@ pub fn read<S: AsStr>(alloc: Global, words: &[S]) -> Result<Asked, Refusal>
     }))
 }
 
-/// The matches of a line, or none where it asks for help. A required option may then be missing.
+/// The matches of a command line, or none if it asks for help. A required option may then be
+/// missing.
 fn matches_of<S: AsStr>(alloc: Global, words: &[S]) -> Result<Option<Matches>, Fail>
     ensures asked { GivesResult result (asked_result (map S.text words.now)) }
     ensures declared { IfOk result (λ asked. IfSome asked (λ matches.

@@ -7,17 +7,17 @@ use greeting::{Asked, Greeting, Refusal, help_text, read};
 use std::process::ExitCode;
 use std::{env, io};
 
-/// The status where the words were refused.
+/// The status if the words were rejected.
 const REFUSED: u8 = 2;
 
-/// The status where memory was out, a word was not UTF-8, or a write failed.
+/// The status if memory ran out, a word wasn't UTF-8, or a write failed.
 const FAILED: u8 = 3;
 
 fn main(rt: HostRuntime) -> ExitCode {
     ExitCode::from(run(&rt).unwrap_or(FAILED))
 }
 
-/// Reads the program's words, and does what they ask for.
+/// Parses the program's words, and does what they ask for.
 fn run(rt: &HostRuntime) -> io::Result<u8> {
     let words = words(rt)?;
     match read(rt.alloc(), &words) {
@@ -27,7 +27,7 @@ fn run(rt: &HostRuntime) -> io::Result<u8> {
     }
 }
 
-/// The system's words, without the first, which is the program's name.
+/// The system's words, without the first one, which is the program's name.
 fn words(rt: &HostRuntime) -> io::Result<Vec<String>> {
     let mut words = Vec::new(rt.alloc());
     for word in env::args(rt)?.skip(1) {
@@ -42,7 +42,7 @@ fn help(rt: &HostRuntime) -> io::Result<u8> {
     Ok(0)
 }
 
-/// Greets as often as asked for.
+/// Greets as often as requested.
 fn greet(rt: &HostRuntime, greeting: &Greeting) -> io::Result<u8> {
     for _ in 0..greeting.times.unwrap_or(1) {
         println!(rt; "hello {}", greeting.name)?;
@@ -50,7 +50,7 @@ fn greet(rt: &HostRuntime, greeting: &Greeting) -> io::Result<u8> {
     Ok(0)
 }
 
-/// Prints why the words were refused.
+/// Prints why the words were rejected.
 fn refuse(rt: &HostRuntime, refusal: &Refusal) -> io::Result<u8> {
     match refusal {
         Refusal::OutOfMemory => return Ok(FAILED),

@@ -1,4 +1,4 @@
--- The program: its options, and the text and the status that words have.
+-- The program: its options, and the output and status for given words.
 use Rattle.std.specs.Prelude.{◌≡◌, ◌⊎◌, ℕ, Bool, true, false, Option, List, [], ◌∷◌, ◌++◌, length}
 use Rattle.std.specs.Prelude.{codes, decimal, Result, Ok, Err}
 use Rattle.std.specs.List.{flat_map}
@@ -39,7 +39,7 @@ newline = 10 ∷ []
 abbrev pub position_mark : ℕ → Text
 position_mark position = codes " @" ++ decimal position
 
--- the line `name: count` of some occurrences, with the mark of each one's position after the count
+-- the line `name: count` for some occurrences, with the mark of each position after the count
 abbrev pub count_line : Text → List Found → Text
 count_line name founds =
     name ++ (codes ": " ++ (decimal (length founds)
@@ -54,8 +54,7 @@ value_line name pair =
 abbrev pub word_line : Text → Text → Text
 word_line label word = label ++ (codes ": " ++ (word ++ newline))
 
--- the lines of an option with this name and these occurrences: how many they are and where, and
--- each value with its position
+-- the count and positions of an option with this name and these occurrences, and its values
 abbrev pub option_lines : Text → List Found → Text
 option_lines name founds = count_line name founds ++ flat_map (value_line name) (pairs_of founds)
 
@@ -63,7 +62,7 @@ option_lines name founds = count_line name founds ++ flat_map (value_line name) 
 abbrev pub named_lines : List MatchedGroup → Text → Text
 named_lines groups name = option_lines name (found_of groups name)
 
--- the groups are the program's, each with its share of some occurrences
+-- The groups are the program's, each with its share of some occurrences.
 abbrev pub HasProgramGroups : List MatchedGroup → Type 0
 HasProgramGroups groups =
     (occurrences : List Occurrence) × (groups ≡ matched 0 (signatures_of program_groups) occurrences)
@@ -72,19 +71,19 @@ HasProgramGroups groups =
 abbrev pub group_lines : MatchedGroup → Text
 group_lines group = option_lines (main_name group.signature.names) group.found
 
--- the text of matches: the lines of each option in order, and the line of each free word
+-- the output for matches: the lines of each option in order, and the line of each free word
 abbrev pub matches_text : Matched → Text
 matches_text matches = flat_map group_lines matches.groups ++ flat_map (word_line (codes "free")) matches.free
 
--- the text of a content: the line of each word of its canonical line
+-- the output for a content: the line of each word of its canonical line
 abbrev pub content_text : Content → Text
 content_text content = flat_map (word_line (codes "line")) (canonical_line program_groups content)
 
--- the line of a fault: the program's name, and what the fault says
+-- the line for an error: the program's name, and the error's text
 abbrev pub fault_line : Fault → Text
 fault_line fault = codes "getopts_show: " ++ (fault_text fault ++ newline)
 
--- words are accepted by the program's options
+-- The program's options accept these words.
 abbrev pub AreAccepted : List Text → Type 0
 AreAccepted words = (reading : Reading) × (line_result program_options words ≡ Ok reading)
 
@@ -106,37 +105,40 @@ program_help =
     ++ (codes "    -L DIR              add a folder\n"
     ++ codes "    -c, --color [WHEN]  colour the output\n"))))
 
--- the program's help: the usage text of its options, which is one alone, and is the one written out
+-- This is the program's help: the only usage text of its options, which is the one written out.
 abbrev pub IsHelpText : Text → Type 0
 IsHelpText text = IsTheOnly (IsUsageText program_options help_brief) text × (text ≡ program_help)
 
--- the text of accepted words, by their reading and whether it asks for help: the program's help, or
--- the text of the reading's matches and of its content
+-- This is the program's help if the words ask for it, and otherwise the output for the matches and
+-- content of the reading.
+-- This is the output for accepted words with this reading.
 abbrev pub IsReadingText : Bool → Reading → Text → Type 0
 IsReadingText true reading text = IsHelpText text
 IsReadingText false reading text = text
     ≡ matches_text (matches_of program_options reading) ++ content_text (content_of program_options reading)
 
--- the text and the status of the result of words: of their reading 0, of their fault its line and 2
+-- A reading has its output and status 0; an error has its line and status 2.
+-- These are the output and the status for this result.
 abbrev pub IsResultText : Result Reading Fault → Text → ℕ → Type 0
 IsResultText (Ok reading) text status =
     IsReadingText (asks_help (matches_of program_options reading)) reading text × (status ≡ 0)
 IsResultText (Err fault) text status = (text ≡ fault_line fault) × (status ≡ 2)
 
--- the text and the status of words
+-- These are the output and the status for the words.
 abbrev pub IsProgramText : List Text → Text → ℕ → Type 0
 IsProgramText words text status = IsResultText (line_result program_options words) text status
 
--- the statuses: 0 where the program's help or what accepted words say was shown, 2 where the fault
--- of refused words was, 3 where memory was refused, 4 where a write or the flush failed
+-- It is 0 if help was shown or what accepted words mean, 2 if the error of rejected words was
+-- shown, 3 if an allocation failed, and 4 if writing or flushing did.
+-- This is one of the program's statuses.
 abbrev pub IsStatus : ℕ → Type 0
 IsStatus status = (status ≡ 0) ⊎ (status ≡ 2) ⊎ (status ≡ 3) ⊎ (status ≡ 4)
 
--- the statuses where the text of the words was written
+-- With this status, the output for the words was written.
 abbrev pub IsDone : ℕ → Type 0
 IsDone status = (status ≡ 0) ⊎ (status ≡ 2)
 
--- what a writer holds has grown by the text of these words, which have this status
+-- The writer has received the output for these words, which have this status.
 pub record ShowsText (old new : Option (List ℕ)) (words : List Text) (status : ℕ) : Type 0 where
   pub text : Text
   pub is_text : IsProgramText words text status

@@ -1,4 +1,4 @@
-//! Reads its arguments as options, and shows what they are.
+//! Parses its arguments as options, and shows what they mean.
 #![tactic(auto)]
 
 ghost use Rattle.std.specs.Prelude.{IfOk};
@@ -12,13 +12,13 @@ use std::io;
 use std::process::ExitCode;
 use words::system_words;
 
-/// Shows the system's words, without the program's own name, on the standard output.
+/// Shows the system's words, without the program's own name, on standard output.
 fn main(rt: HostRuntime) -> ExitCode {
     ExitCode::from(run(&rt).unwrap_or(NO_MEMORY))
 }
 
-/// The status of `show` for the system's words. An error comes where they can't be read or held, and
-/// then nothing is written.
+/// The status of `show` for the system's words. Fails if they can't be read or an allocation fails;
+/// nothing is written then.
 fn run(rt: &HostRuntime) -> io::Result<u8>
     ensures { IfOk result IsStatus }
 {

@@ -1,4 +1,4 @@
-//! The program's work over words and a writer.
+//! The program's work, for any words and any writer.
 
 ghost use Rattle.std.specs.Prelude.{◌≡◌, ◌++◌, codes, true, false, map, IfOk, Ok, OnOk, Some};
 ghost use Rattle.std.specs.List.{flat_map};
@@ -24,13 +24,13 @@ use std::convert::AsStr;
 use std::io;
 use std::io::Write;
 
-/// The status where the words were accepted, and what they say was shown.
+/// The status if the words were accepted and what they mean was shown.
 const SHOWN: u8 = 0;
-/// The status where the words were refused, and the fault was shown.
+/// The status if the words were rejected and their error was shown.
 const REFUSED: u8 = 2;
-/// The status where memory was refused.
+/// The status if an allocation failed.
 pub(crate) const NO_MEMORY: u8 = 3;
-/// The status where a write or a flush failed.
+/// The status if writing or flushing failed.
 const NOT_WRITTEN: u8 = 4;
 
 /// The main names of the program's options, in order.
@@ -39,23 +39,23 @@ const MAIN_NAMES: [&str; 5] = ["output", "help", "verbose", "L", "color"];
 /// The line before the options in the program's help.
 const BRIEF: &str = "Usage: getopts_show [options] FILE";
 
-/// What the program has to write, and the status that it ends with.
+/// What the program has to write, and its exit status.
 #[derive(Drop)]
 struct Answer {
     text: String,
     status: u8,
 }
 
-/// Reads words by the program's options, and writes what they are.
+/// Parses words by the program's options, and writes what they mean.
 ///
-/// The text is made whole, and then written once and flushed. Accepted words that hold `-h` or
-/// `--help` are answered by the program's help alone. Other accepted words are shown: for each option
-/// the line `main: count`, with ` @position` after it for each occurrence, and a line
-/// `main @position = value` for each of its values; then a line `free: word` for each free word, and a
-/// line `line: word` for each word of the canonical line. The answer to accepted words is 0. Of refused
-/// words, also where they ask for help, the fault is shown, after the program's name, and the answer is
-/// 2. Where memory is refused nothing is written and the answer is 3, and where a write or the flush
-/// fails it is 4.
+/// The whole text is built first, then written once and flushed. If accepted words contain `-h` or
+/// `--help`, the text is the program's help. For other accepted words it has, for each option, the
+/// line `main: count`, with ` @position` after it for each occurrence, and a line `main @position =
+/// value` for each of its values; then a line `free: word` for each free word, and a line `line:
+/// word` for each word of the canonical line. The status for accepted words is 0. For rejected
+/// words, even if they ask for help, the text is the error after the program's name, and the status
+/// is 2. If an allocation fails, nothing is written and the status is 3; if writing or flushing
+/// fails, it is 4.
 pub fn show<S: AsStr, W: Write>(alloc: Global, words: &[S], out: &mut W) -> u8
     ensures status { IsStatus result }
     ensures shown { IsDone result
@@ -79,7 +79,7 @@ fn print<W: Write>(out: &mut W, text: &str) -> io::Result<()>
     out.flush()
 }
 
-/// What the program says to words.
+/// What the program answers to these words.
 fn answer_to<S: AsStr>(alloc: Global, words: &[S]) -> Result<Answer, AllocError>
     ensures { IfOk result (λ answer.
         IsProgramText (map S.text words.now) (string_bytes answer.text) answer.status) }
@@ -97,8 +97,8 @@ fn answer_to<S: AsStr>(alloc: Global, words: &[S]) -> Result<Answer, AllocError>
     }
 }
 
-/// The text of words that are accepted with these matches: the program's help where they ask for it,
-/// or else what they are.
+/// The text for accepted words with these matches: the program's help if they ask for it, otherwise
+/// what they mean.
 fn accepted_text<S: AsStr>(
     alloc: Global,
     options: &Options,
@@ -124,8 +124,8 @@ fn help_text(alloc: Global, options: &Options) -> Result<String, AllocError>
     options.usage(alloc, BRIEF)
 }
 
-/// What words are that are accepted with these matches: the text of the matches, and the line of
-/// each word of the canonical line.
+/// What accepted words with these matches mean: the text of the matches, and a line for each word
+/// of the canonical line.
 fn shown_text<S: AsStr>(
     alloc: Global,
     options: &Options,
@@ -142,7 +142,7 @@ fn shown_text<S: AsStr>(
     Ok(text)
 }
 
-/// Adds the line of each word of the canonical line of accepted words.
+/// Appends a line for each word of the canonical line of accepted words.
 fn push_canonical<S: AsStr>(
     text: &mut String,
     alloc: Global,
@@ -160,8 +160,8 @@ fn push_canonical<S: AsStr>(
     push_words(text, "line", &line)
 }
 
-/// The canonical line of accepted words. They have one, since no main name of the program's options
-/// holds `=`, and `canonical_words` refuses them only for want of memory.
+/// The canonical line of accepted words. It exists, since no main name of the program's options
+/// contains `=`, and `canonical_words` fails only if an allocation does.
 fn canonical_line<S: AsStr>(
     alloc: Global,
     options: &Options,
@@ -184,8 +184,8 @@ fn canonical_line<S: AsStr>(
     }
 }
 
-/// The line of the fault that a refusal tells. An error comes also where it tells that memory was
-/// refused.
+/// The line for the error that a `Fail` reports. This fails if the `Fail` is out of memory, or an
+/// allocation fails.
 fn fault_line(alloc: Global, fail: &Fail) -> Result<String, AllocError>
     ensures { IfOk result (λ text. (fault : Fault) × (fault_of fail.now ≡ Some fault)
         × (string_bytes text ≡ fault_line fault)) }
@@ -218,7 +218,7 @@ fn add_groups(options: &mut Options) -> Result<(), AllocError>
     Ok(())
 }
 
-/// The text of matches of the program's options.
+/// The text for matches of the program's options.
 fn matches_text(alloc: Global, matches: &Matches) -> Result<String, AllocError>
     requires { HasProgramGroups matches.now.groups }
     ensures { IfOk result (λ text. string_bytes text ≡ matches_text matches.now) }
@@ -241,7 +241,7 @@ fn options_text(alloc: Global, matches: &Matches, names: &[&str]) -> Result<Stri
     Ok(text)
 }
 
-/// Adds the lines of the option with this name.
+/// Appends the lines of the option with this name.
 fn push_option(text: &mut String, matches: &Matches, name: &str) -> Result<(), AllocError>
     requires { IsDefined matches.now.groups name.now }
     ensures { OnOk result (string_bytes text.new
@@ -253,7 +253,7 @@ fn push_option(text: &mut String, matches: &Matches, name: &str) -> Result<(), A
     push_values(text, name, &occurrences)
 }
 
-/// Adds the line that tells how often an option was given, and where.
+/// Appends the line that says how often an option was given, and where.
 fn push_count(
     text: &mut String,
     name: &str,
@@ -268,7 +268,7 @@ fn push_count(
     text.push('\n')
 }
 
-/// Adds the mark of each position of an option.
+/// Appends the mark of each position of an option.
 fn push_positions(text: &mut String, occurrences: &Occurrences<'_>) -> Result<(), AllocError>
     ensures { OnOk result (string_bytes text.new
         ≡ string_bytes text.old ++ flat_map position_mark (positions_of occurrences.now)) }
@@ -281,7 +281,7 @@ fn push_positions(text: &mut String, occurrences: &Occurrences<'_>) -> Result<()
     Ok(())
 }
 
-/// Adds the line of each value of an option.
+/// Appends a line for each value of an option.
 fn push_values(
     text: &mut String,
     name: &str,
@@ -298,7 +298,7 @@ fn push_values(
     Ok(())
 }
 
-/// Adds the line of each word, after this label.
+/// Appends a line for each word, after this label.
 fn push_words(text: &mut String, label: &str, words: &[String]) -> Result<(), AllocError>
     ensures { OnOk result (string_bytes text.new
         ≡ string_bytes text.old ++ flat_map (word_line label.now) (map string_bytes words.now)) }

@@ -4,7 +4,7 @@ use std::alloc::Global;
 use std::env::{Env, FillError};
 use std::{env, io};
 
-/// The system, with the program's own name passed over unread, since it may be no text.
+/// The system, after the program's own name was skipped unread, since it may not be UTF-8.
 #[derive(Drop)]
 struct AfterName<'r>(&'r HostRuntime);
 
@@ -33,8 +33,8 @@ impl Env for AfterName<'_> {
     }
 }
 
-/// The words that the system gave, after the program's own name. An error comes where one is no text,
-/// or where memory was refused.
+/// The words that the system gave after the program's own name. Fails if one isn't UTF-8, or if an
+/// allocation fails.
 pub(crate) fn system_words(rt: &HostRuntime) -> io::Result<Vec<String>> {
     let mut words = Vec::new(rt.alloc());
     for word in env::args(&AfterName(rt))? {

@@ -1,4 +1,4 @@
--- Values that are checked: a number within bounds, and a choice.
+-- Checked values: a number within bounds, and a choice.
 use Rattle.std.specs.Prelude.{◌≡◌, ◌≤◌, ⊤, ℕ, if◌then◌else◌, false, [], ◌∷◌, map, codes}
 use Rattle.std.specs.Prelude.{Option, Some, None, Result, Ok, Err}
 use Rattle.std.specs.Option.{option_map}
@@ -33,12 +33,13 @@ checked_options = record {
   long_only = false;
 }
 
--- a text is a number within these bounds
+-- The text is this number, within these bounds.
 abbrev pub IsWithin : ℕ → ℕ → Text → ℕ → Type 0
 IsWithin low high text number =
     ParsesUnsigned {E = ParseIntError} 32 10 text (Ok number) × (low ≤ number) × (number ≤ high)
 
--- the number of an option's value or its default, or the fault, which tells the option, the text and the bounds
+-- The error holds the option, the text and the bounds.
+-- This is the number that an option's value is, or the default, or an error.
 abbrev pub IsNumberBy : Text → ℕ → ℕ → ℕ → Option Text → Result ℕ Refusal → Type 0
 IsNumberBy option low high default text (Err refusal.OutOfMemory) = ⊤
 IsNumberBy option low high default None (Ok number) = number ≡ default
@@ -55,7 +56,8 @@ color_named word =
     else (if bytes_eq word (codes "always") then Some Always
     else (if bytes_eq word (codes "never") then Some Never else None))
 
--- the choice of an option's value or `auto`, or the fault, which tells the option and the text
+-- The error holds the option and the text.
+-- This is the choice that an option's value names, or `auto`, or an error.
 abbrev pub IsColorBy : Text → Option Text → Result Color Refusal → Type 0
 IsColorBy option text (Err refusal.OutOfMemory) = ⊤
 IsColorBy option None (Ok color) = color ≡ Auto
@@ -68,21 +70,22 @@ IsColorBy option word result = ⊥
 abbrev pub value_of : Matched → Text → Option Text
 value_of matches name = first_value (found_of matches.groups name)
 
--- the number of jobs that matches give: from 1 to 64, and 1 where they give none
+-- This is the number of jobs that matches give: from 1 to 64, and 1 if they give none.
 abbrev pub AreJobsOf : Matched → Result ℕ Refusal → Type 0
 AreJobsOf matches jobs = IsNumberBy (codes "jobs") 1 64 1 (value_of matches (codes "jobs")) jobs
 
--- when matches ask to colour
+-- This is when the matches ask to colour.
 abbrev pub IsColorOf : Matched → Result Color Refusal → Type 0
 IsColorOf matches color = IsColorBy (codes "color") (value_of matches (codes "color")) color
 
--- why a line that the library refuses sets nothing; out of memory is no fault of the line
+-- why a command line that the library rejects sets nothing; out of memory isn't its error
 abbrev pub refusal_of : Fail → Refusal
 refusal_of fail.OutOfMemory = refusal.OutOfMemory
 refusal_of fail = refusal.Line fail
 
--- What a line sets, or why it sets nothing: its fault, a number that isn't within bounds, or, where the number is,
--- a word that is no choice.
+-- It sets nothing if it has an error, if its number is out of bounds, or else if a word is no
+-- choice.
+-- This is what a command line sets, or why it sets nothing.
 abbrev pub IsSettingsBy : Result Matched Fault → Result Settings Refusal → Type 0
 IsSettingsBy line (Err refusal.OutOfMemory) = ⊤
 IsSettingsBy line (Err (refusal.Line fail)) = option_map Err (fault_of fail) ≡ Some line

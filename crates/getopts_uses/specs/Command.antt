@@ -1,4 +1,4 @@
--- A program with subcommands: its options and those of `add`, and what a line runs.
+-- A program with subcommands: its options, those of `add`, and what a command line runs.
 use Rattle.std.specs.Prelude.{◌≡◌, ◌≢◌, ⊤, List, [], ◌∷◌, false, map, codes, Result, Ok, Err}
 use Rattle.std.specs.Option.{option_map}
 use Rattle.std.specs.String.{string_bytes}
@@ -39,15 +39,15 @@ add_options = record {
   long_only = false;
 }
 
--- what a line of `add` asks for, or its fault
+-- This is what a command line of `add` asks for, or its error.
 abbrev pub IsAddBy : Result Matched Fault → Result Add Fail → Type 0
 IsAddBy line (Err fail) = Tells fail (λ fault. line ≡ Err fault)
 IsAddBy (Ok matches) (Ok add) = (add.force ≡ is_present matches.groups (codes "force"))
     × (map string_bytes add.files.items ≡ matches.free)
 IsAddBy (Err fault) (Ok add) = ⊥
 
--- The subcommand of a name, with what its own words ask for, or why there is none: a fault of these words, or an
--- unknown name.
+-- There is none if its own words have an error, or its name is unknown.
+-- This is the subcommand of this name, with what its own words ask for, or why there is none.
 abbrev pub IsCommandBy : Text → List Text → Result Command Refusal → Type 0
 IsCommandBy name words (Err refusal.OutOfMemory) = ⊤
 IsCommandBy name words (Ok (command.Add add)) =
@@ -62,7 +62,8 @@ IsCommandBy name words (Err (refusal.Unknown text)) =
     (string_bytes text ≡ name) × (name ≢ codes "add") × (name ≢ codes "log")
 IsCommandBy name words result = ⊥
 
--- what matches with these free words run: the first is the subcommand's name, and the others are its own
+-- The first free word is the subcommand's name, and the others are its own words.
+-- This is what matches with these free words run.
 abbrev pub IsRunOf : Matched → List Text → Result Run Refusal → Type 0
 IsRunOf global free (Err refusal.OutOfMemory) = ⊤
 IsRunOf global [] (Err refusal.NoCommand) = ⊤
@@ -73,7 +74,7 @@ IsRunOf global (name ∷ words) (Ok run) =
 IsRunOf global (name ∷ words) (Err refused) = IsCommandBy name words (Err refused)
 IsRunOf global [] result = ⊥
 
--- what a line runs, or why it runs nothing
+-- This is what a command line runs, or why it runs nothing.
 abbrev pub IsRunBy : Result Matched Fault → Result Run Refusal → Type 0
 IsRunBy line (Err refusal.OutOfMemory) = ⊤
 IsRunBy line (Err (refusal.Line fail)) = Tells fail (λ fault. line ≡ Err fault)

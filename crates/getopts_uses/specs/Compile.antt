@@ -1,4 +1,4 @@
--- A compiler driver: its options, and the job of a line.
+-- A compiler driver: its options, and the job that a command line describes.
 use Rattle.std.specs.Prelude.{◌≡◌, ◌≢◌, List, [], ◌∷◌, false, map, codes, Some}
 use Rattle.std.specs.String.{string_bytes}
 use Rattle.getopts.specs.Accessors.{first_value, found_of, values_of}
@@ -26,7 +26,8 @@ compile_options = record {
   long_only = false;
 }
 
--- The line's job: its input, and its outputs and search folders in the order of the line.
+-- It has its input, and its outputs and search folders in command-line order.
+-- This is the job of the words.
 pub record IsJobOf (words : List Text) (job : Job) : Type 0 where
   pub matches : Matched
   pub accepted : IsAccepted compile_options words matches
@@ -35,7 +36,7 @@ pub record IsJobOf (words : List Text) (job : Job) : Type 0 where
       map string_bytes job.outputs.items ≡ values_of (found_of matches.groups (codes "output"))
   pub folders : map string_bytes job.folders.items ≡ values_of (found_of matches.groups (codes "L"))
 
--- a line that has the one item has a job, and the line with the other in its place has the same
+-- If a command line with this item has a job, it has the same job with the other in its place.
 abbrev pub GivesTheSameJob : Item → Item → Type 0
 GivesTheSameJob item other = (front back : List Item) (tail : Tail) (words : List Text) (job : Job)
     → Reads compile_options words (reading_of front (item ∷ []) back tail)
@@ -50,7 +51,7 @@ long_output file = long two (codes "output") file
 abbrev pub short_output : Argument → Item
 short_output file = cluster [] (ends_in 111 file)
 
--- An output's file is attached or separate, and the job is the same.
+-- An output's file may be attached or separate, and the job is the same.
 pub record OutputsMayBeAttached : Type 0 where
   pub long_separate : (file : Text)
       → GivesTheSameJob (long_output (attached file)) (long_output (separate file))

@@ -1,4 +1,4 @@
--- A compiler driver of thirty options: the options, and the job of a line.
+-- A compiler driver with thirty options: the options, and the job that a command line describes.
 use Rattle.std.specs.Prelude.{◌≡◌, ⊤, List, [], ◌∷◌, ◌++◌, true, map, codes, length}
 use Rattle.std.specs.Prelude.{Result, Ok, Err}
 use Rattle.std.specs.Option.{option_map}
@@ -14,7 +14,7 @@ use Rattle.getopts_uses.specs.declared.driver.Job.{Job}
 use Rattle.getopts_uses.specs.declared.driver.Refusal.{Refusal}
 use Rattle.getopts_uses.specs.declared.driver.Refusal.TheVariants.{Line, NoInput, OutOfMemory}
 
--- what is written and searched
+-- what it writes and searches
 abbrev pub search_groups : List Group
 search_groups =
     group_of (codes "o") (codes "output") (codes "write the output to FILE") (codes "FILE") Yes Optional
@@ -29,7 +29,7 @@ search_groups =
     ∷ group_of (codes "c") (codes "compile") (codes "compile, and don't link") [] No Optional
     ∷ []
 
--- how far it goes, and what it says
+-- how far it goes, and what it prints
 abbrev pub stages_groups : List Group
 stages_groups =
     group_of (codes "S") (codes "assemble") (codes "stop before the assembler") [] No Optional
@@ -44,7 +44,7 @@ stages_groups =
     ∷ group_of [] (codes "shared") (codes "make a shared library") [] No Optional
     ∷ []
 
--- for what it compiles
+-- what it compiles for
 abbrev pub targets_groups : List Group
 targets_groups =
     group_of [] (codes "pie") (codes "make code that can be moved") [] No Optional
@@ -81,7 +81,7 @@ pub record IsJobOf (matches : Matched) (job : Job) : Type 0 where
   pub compile : job.compile ≡ is_present matches.groups (codes "compile")
   pub inputs : map string_bytes job.inputs.items ≡ matches.free
 
--- the job of a line's result, or why there is none
+-- This is the job for a result, or why there is none.
 abbrev pub IsJobBy : Result Matched Fault → Result Job Refusal → Type 0
 IsJobBy line (Err OutOfMemory) = ⊤
 IsJobBy line (Err (Line fail)) = Tells fail (λ fault. line ≡ Err fault)

@@ -1,4 +1,4 @@
--- The subcommand `log`: its options, by a table, and what its words ask for.
+-- The subcommand `log`: its options, from a table, and what its words ask for.
 use Rattle.std.specs.Prelude.{◌≡◌, [], ◌∷◌, false, map, codes, Result, Ok, Err}
 use Rattle.std.specs.Option.{option_map}
 use Rattle.std.specs.String.{string_bytes}
@@ -29,14 +29,14 @@ log_options = record {
   long_only = false;
 }
 
--- what matches of `log` ask for
+-- This is what matches of `log` ask for.
 pub record IsLogOf (matches : Matched) (log : Log) : Type 0 where
   pub count : option_map string_bytes log.count
       ≡ first_value (found_of matches.groups (codes "max-count"))
   pub texts : map string_bytes log.texts.items ≡ values_of (found_of matches.groups (codes "grep"))
   pub files : map string_bytes log.files.items ≡ matches.free
 
--- what a line of `log` asks for, or its fault
+-- This is what a command line of `log` asks for, or its error.
 abbrev pub IsLogBy : Result Matched Fault → Result Log Fail → Type 0
 IsLogBy line (Err fail) = Tells fail (λ fault. line ≡ Err fault)
 IsLogBy (Ok matches) (Ok log) = IsLogOf matches log

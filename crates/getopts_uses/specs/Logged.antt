@@ -1,4 +1,4 @@
--- A build tool: its options, and what a line says to it, however it was typed.
+-- A build tool: its options, and what a command line tells it, however it was typed.
 use Rattle.std.specs.Prelude.{ℕ, Bool, List, [], ◌∷◌, false, map, length, codes, Option, Result}
 use Rattle.std.specs.Option.{option_map}
 use Rattle.std.specs.Result.{result_map_both}
@@ -27,7 +27,7 @@ build_options = record {
   long_only = false;
 }
 
--- all that the tool asks of a line
+-- everything that the tool takes from a command line
 pub record Said : Type 0 where
   pub jobs : Option Text
   pub keep_going : Bool
@@ -45,7 +45,7 @@ said_by matches = record {
   targets = matches.free;
 }
 
--- what the tool has of a line
+-- what the tool got from a command line
 abbrev pub said_of : Build → Said
 said_of build = record {
   jobs = option_map string_bytes build.jobs;
@@ -55,6 +55,6 @@ said_of build = record {
   targets = map string_bytes build.targets.items;
 }
 
--- what words say, or their fault
+-- what words say, or their error
 abbrev pub said_result : List Text → Result Said Fault
 said_result words = result_map_both said_by (λ fault. fault) (parse_result build_options words)

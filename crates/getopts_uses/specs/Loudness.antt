@@ -1,4 +1,4 @@
--- Flags of which the last one wins: the options, and how much a line asks to be said.
+-- Flags of which the last one wins: the options, and how much output a command line asks for.
 use Rattle.std.specs.Prelude.{◌≡◌, if◌then◌else◌, false, List, [], ◌∷◌, codes}
 use Rattle.std.specs.Prelude.{Option, Some, None, Result, Ok, Err, unwrap_or}
 use Rattle.std.specs.Option.{option_or}
@@ -28,19 +28,19 @@ loudness_options = record {
   long_only = false;
 }
 
--- how much a word of a canonical line asks to be said, if it asks for that
+-- how much output a word of a canonical line asks for, if any
 abbrev pub asked_by : Text → Option Loudness
 asked_by word = if bytes_eq word (codes "--quiet") then Some Quiet
     else (if bytes_eq word (codes "--verbose") then Some Verbose else None)
 
--- what the last of these mentions asks for that asks for it
+-- what the last of these mentions asks for, among those that ask for anything
 abbrev pub last_asked : List Mention → Option Loudness
 last_asked [] = None
 last_asked (m ∷ mentions) =
     option_or (last_asked mentions) (asked_by (canonical_word loudness_options.groups m))
 
--- How much a line asks to be said, or its fault: of what it mentions, in the order in which it was typed, the last
--- of the two flags.
+-- The last of the two flags counts, in the order in which they were typed.
+-- This is how much output a command line asks for, or its error.
 abbrev pub IsLoudnessOf : List Text → Result Loudness Fail → Type 0
 IsLoudnessOf words (Ok loudness) = (content : Content) × IsAcceptedWith loudness_options words content
     × (loudness ≡ unwrap_or (last_asked content.mentions) Normal)

@@ -1,4 +1,4 @@
--- The output file of a line.
+-- The output file that a command line names.
 use Rattle.std.specs.Prelude.{◌≡◌, Bool, false, List, [], ◌∷◌, codes, Option, Result, Ok, Err}
 use Rattle.std.specs.Prelude.{String, string_bytes, slice_get}
 use Rattle.std.specs.Option.{option_map, option_map_or}
@@ -24,14 +24,14 @@ output_options = record {
   long_only = false;
 }
 
--- the output of a line's result, or its fault
+-- This is the output for a result, or its error.
 abbrev pub IsOutputBy : Result Matched Fault → Result (Option (String Global)) Fail → Type 0
 IsOutputBy line (Err fail) = Tells fail (λ fault. line ≡ Err fault)
 IsOutputBy (Ok matches) (Ok output) =
     option_map string_bytes output ≡ first_value (found_of matches.groups (codes "output"))
 IsOutputBy (Err fault) (Ok output) = ⊥
 
--- whether an output is the standard one
+-- whether an output is standard output
 abbrev pub is_out : List Found → Bool
 is_out founds =
     option_map_or (λ found. option_map_or (λ value. bytes_eq value (codes "-")) found.value false)

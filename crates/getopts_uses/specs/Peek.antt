@@ -1,4 +1,4 @@
--- A tool that prints some lines of files: its options, and what a line asks for, said both ways.
+-- A tool that prints some lines of files: its options, and exactly what a command line asks for.
 use Rattle.std.specs.Prelude.{◌≡◌, ⊤, ◌||◌, if◌then◌else◌, ℕ, Bool, true, false, List, [], ◌∷◌}
 use Rattle.std.specs.Prelude.{map, codes, Some, Result, Ok, Err}
 use Rattle.std.specs.Option.{option_map}
@@ -36,22 +36,25 @@ peek_options = record {
   long_only = false;
 }
 
--- whether matches hold a flag
+-- whether the matches contain a flag
 abbrev pub gives : Matched → Text → Bool
 gives matches name = is_present matches.groups name
 
--- A line's matches, or its fault. Where it asks for help or the version, its counts are ignored: the two
--- results are those of the line without its counts, and with them.
+-- If it asks for help or the version, counts are ignored. The two results are those of the command
+-- line without and with its counts checked.
+-- a command line's matches, or its error
 abbrev pub asked_of : Result Matched Fault → Result Matched Fault → Result Matched Fault
 asked_of (Err fault) line = Err fault
 asked_of (Ok read) line =
     if gives read (codes "help") || gives read (codes "version") then Ok read else line
 
--- the same of words
+-- the same for words
 abbrev pub asked_result : List Text → Result Matched Fault
 asked_result words = asked_of (read_result peek_options words) (parse_result peek_options words)
 
--- The matches ask for these lines: neither for help nor the version, but for this number, and what else they give.
+-- They ask for neither help nor the version, but for this number of lines and whatever else they
+-- give.
+-- The matches ask for these lines.
 pub record IsPeekOf (matches : Matched) (peek : Peek) : Type 0 where
   pub no_help : gives matches (codes "help") ≡ false
   pub no_version : gives matches (codes "version") ≡ false
@@ -63,8 +66,8 @@ pub record IsPeekOf (matches : Matched) (peek : Peek) : Type 0 where
       ≡ first_value_or (found_of matches.groups (codes "color")) (codes "always")
   pub files : map string_bytes peek.files.items ≡ matches.free
 
--- What a line asks for, or why it asks for nothing. Help comes before the version, and out of memory says
--- nothing of the line.
+-- Help takes precedence over the version. Out of memory says nothing about the command line.
+-- This is what a command line asks for, or why it asks for nothing.
 abbrev pub IsAskedBy : Result Matched Fault → Result Request Refusal → Type 0
 IsAskedBy line (Err OutOfMemory) = ⊤
 IsAskedBy line (Err (Line fail)) = Tells fail (λ fault. line ≡ Err fault)

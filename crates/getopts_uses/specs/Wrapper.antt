@@ -1,4 +1,4 @@
--- A wrapper's own options, and which words it hands on.
+-- A wrapper's own options, and the words that it passes on.
 use Rattle.std.specs.Prelude.{◌≡◌, false, List, [], ◌∷◌, drop, codes, MatchOption}
 use Rattle.getopts.specs.Holds.{EndsInTrailing}
 use Rattle.getopts.specs.Matches.{Matched}
@@ -17,8 +17,8 @@ wrapper_options = record {
   long_only = false;
 }
 
--- The line is accepted, and hands on the words after its `--`, of which there is one at least. Where there is none,
--- nothing is handed on.
+-- If no word follows `--`, nothing is passed on.
+-- The words are accepted, and those after `--` are passed on.
 pub record HandsOn (words handed : List Text) : Type 0 where
   pub matches : Matched
   pub accepted : IsAccepted wrapper_options words matches

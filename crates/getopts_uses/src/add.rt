@@ -8,7 +8,7 @@ ghost use Rattle.getopts_uses.specs.Command.{IsAddBy, add_options};
 use getopts::{Fail, Options};
 use std::alloc::{AllocError, Global};
 
-/// What is added.
+/// What to add.
 #[derive(Debug, Drop)]
 pub struct Add {
     pub force: bool,

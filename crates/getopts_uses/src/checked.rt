@@ -1,4 +1,4 @@
-//! Values that are checked: a number within bounds, and a choice, each with a default.
+//! Checked values: a number within bounds, and a choice, each with a default.
 
 ghost use Rattle.std.specs.Prelude.{◌≡◌, IfOk};
 ghost use Rattle.std.specs.Option.{option_copied};
@@ -14,7 +14,7 @@ use getopts::{Fail, Matches, Options};
 use std::alloc::{AllocError, Global};
 use std::num::ParseIntError;
 
-/// What a line sets.
+/// What a command line sets.
 #[derive(Debug, Drop)]
 pub struct Settings {
     pub jobs: u32,
@@ -22,7 +22,7 @@ pub struct Settings {
     pub files: Vec<String>,
 }
 
-/// When to colour.
+/// When to use colour.
 #[derive(Clone, Copy, Debug)]
 pub enum Color {
     Auto,
@@ -30,18 +30,18 @@ pub enum Color {
     Never,
 }
 
-/// Why a line sets nothing.
+/// Why a command line sets nothing.
 #[derive(Debug, Drop)]
 pub enum Refusal {
     Line(Fail),
-    /// The option's text is no number from `low` to `high`.
+    /// The option's text isn't a number from `low` to `high`.
     Number {
         option: &'static str,
         text: String,
         low: u32,
         high: u32,
     },
-    /// The option's text is none of its words.
+    /// The option's text isn't one of its words.
     Choice {
         option: &'static str,
         text: String,
@@ -79,7 +79,7 @@ fn options(alloc: Global) -> Result<Options, AllocError>
     Ok(options)
 }
 
-/// What a line sets.
+/// What a command line sets.
 pub fn read_settings(alloc: Global, words: &[&str]) -> Result<Settings, Refusal>
     ensures { IsSettingsBy (parse_result checked_options (texts words.now)) result }
 {
@@ -91,7 +91,7 @@ pub fn read_settings(alloc: Global, words: &[&str]) -> Result<Settings, Refusal>
     })
 }
 
-/// An option's value, lent, if it has one.
+/// An option's value, borrowed, if it has one.
 fn value_of<'m>(matches: &'m Matches, option: &str) -> Option<&'m str>
     requires { IsDefined matches.now.groups option.now }
     ensures { option_copied result ≡ first_value (found_of matches.now.groups option.now) }
@@ -103,7 +103,7 @@ fn value_of<'m>(matches: &'m Matches, option: &str) -> Option<&'m str>
     }
 }
 
-/// An option's number from `low` to `high`, or the default where it isn't given.
+/// An option's number from `low` to `high`, or the default if it isn't given.
 fn number_of(
     alloc: Global,
     matches: &Matches,
@@ -130,14 +130,14 @@ fn number_of(
     }
 }
 
-/// The number that a text is.
+/// Parses a text as a number.
 fn read_number(text: &str) -> Result<u32, ParseIntError>
     ensures { ParsesUnsigned 32 10 text.now result }
 {
     text.parse()
 }
 
-/// An option's choice, or `auto` where it isn't given.
+/// An option's choice, or `auto` if it isn't given.
 fn color_of(alloc: Global, matches: &Matches, option: &'static str) -> Result<Color, Refusal>
     requires { IsDefined matches.now.groups option.now }
     ensures { IsColorBy option.now (first_value (found_of matches.now.groups option.now)) result }

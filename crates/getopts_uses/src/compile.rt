@@ -29,14 +29,15 @@ fn options(alloc: Global) -> Result<Options, AllocError>
     Ok(options)
 }
 
-/// An output's file is attached to its name or separate, and the job is the same: a law to cite.
+/// A lemma for proofs: an output's file may be attached to its name or separate, and the job is the
+/// same.
 fn outputs_may_be_attached()
     ensures { OutputsMayBeAttached }
 {
     declared_options_keep_laws();
 }
 
-/// The job of a line. An output's file is attached to its name or separate, and the job is the same.
+/// The job that a command line describes. An output's file may be attached to its name or separate.
 pub fn read_job(alloc: Global, words: &[&str]) -> Result<Job, Fail>
     ensures job { IfOk result (IsJobOf (texts words.now)) }
     ensures refused { IfErr result (λ fail.

@@ -1,4 +1,4 @@
-//! A compiler driver: thirty options, whose long names follow one dash.
+//! A compiler driver with thirty options, whose long names may follow a single dash.
 
 ghost use Rattle.std.specs.Prelude.{◌≡◌, IfOk, OnOk};
 ghost use Rattle.getopts.specs.Holds.{HoldDeclared};
@@ -62,7 +62,8 @@ pub fn options(alloc: Global) -> Result<Options, AllocError>
     Ok(options)
 }
 
-/// Adds what is written and searched. Each helper adds about ten options, and the checker computes both sides.
+/// Adds options for what is written and searched. Each of these helpers adds about ten options,
+/// since the checker computes both sides.
 fn add_search(options: &mut Options) -> Result<(), AllocError>
     ensures { OnOk result (options.new ≡ with_groups options.old search_groups) }
 {
@@ -80,7 +81,7 @@ fn add_search(options: &mut Options) -> Result<(), AllocError>
     Ok(())
 }
 
-/// Adds how far the driver goes, and what it says.
+/// Adds options for how far the driver goes, and what it prints.
 fn add_stages(options: &mut Options) -> Result<(), AllocError>
     ensures { OnOk result (options.new ≡ with_groups options.old stages_groups) }
 {
@@ -98,7 +99,7 @@ fn add_stages(options: &mut Options) -> Result<(), AllocError>
     Ok(())
 }
 
-/// Adds for what the driver compiles.
+/// Adds options for what the driver compiles for.
 fn add_targets(options: &mut Options) -> Result<(), AllocError>
     ensures { OnOk result (options.new ≡ with_groups options.old targets_groups) }
 {
@@ -116,7 +117,7 @@ fn add_targets(options: &mut Options) -> Result<(), AllocError>
     Ok(())
 }
 
-/// The job of a line.
+/// The job that a command line describes.
 pub fn read_job(alloc: Global, words: &[&str]) -> Result<Job, Refusal>
     ensures { IsJobBy (parse_result driver_options (texts words.now)) result }
 {

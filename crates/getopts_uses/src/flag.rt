@@ -1,4 +1,4 @@
-//! Whether a line gives a flag.
+//! Whether a command line gives a flag.
 
 ghost use Rattle.std.specs.Prelude.{◌≡◌, codes, Err, IfErr, IfOk, Ok};
 ghost use Rattle.getopts.specs.Accessors.{is_present};
@@ -11,7 +11,7 @@ ghost use Rattle.getopts.specs.Results.{parse_result};
 use getopts::{Fail, Options};
 use std::alloc::Global;
 
-/// Whether a line asks to say more, by any options with this flag.
+/// Whether a command line asks for more output, for any options with this flag.
 pub fn says_more(alloc: Global, options: &Options, words: &[&str]) -> Result<bool, Fail>
     requires { Declares options.now (codes "verbose") }
     ensures said { IfOk result (λ more. (matches : Matched)

@@ -1,4 +1,4 @@
-//! Names that come at run time, and lists of them.
+//! Names that are known only at run time, and lists of them.
 
 ghost use Rattle.std.specs.Prelude.{◌≡◌, ◌↔◌, [], None, length, IfSome, IsSome, IsTrue};
 ghost use Rattle.std.specs.List.{list_any};
@@ -7,7 +7,7 @@ ghost use Rattle.getopts.specs.Names.{texts};
 
 use getopts::{Matches, held_names_resolve};
 
-/// How often an option was given, if the name is one of the options.
+/// How often an option was given, if there is one with this name.
 pub fn count_of(matches: &Matches, name: &str) -> Option<usize>
     ensures defined { IsSome result ↔ IsDefined matches.now.groups name.now }
     ensures count { IfSome result (λ count.
@@ -20,7 +20,7 @@ pub fn count_of(matches: &Matches, name: &str) -> Option<usize>
     }
 }
 
-/// The place of the option that a line of a list names. An empty line names none.
+/// The place of the option that a line in a list names. An empty line names none.
 pub fn place_named(matches: &Matches, line: &str) -> Option<usize>
     ensures place { result ≡ place_of matches.now.groups line.now }
     ensures empty { line.now ≡ [] → result ≡ None }
@@ -39,7 +39,7 @@ fn all_defined(matches: &Matches, names: &[&str]) -> bool
     }
 }
 
-/// Whether one of these options was given, where all names are defined.
+/// Whether one of these options was given, if all names are defined.
 pub fn any_given(matches: &Matches, names: &[&str]) -> Option<bool>
     ensures defined { IsSome result ↔ AreDefined matches.now.groups (texts names.now) }
     ensures given { IfSome result (λ given. given

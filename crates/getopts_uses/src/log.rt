@@ -1,4 +1,4 @@
-//! The subcommand `log`, whose options stand in a table.
+//! The subcommand `log`, whose options are in a table.
 
 ghost use Rattle.std.specs.Prelude.{◌≡◌, ◌++◌, map, IfOk, OnOk};
 ghost use Rattle.std.specs.String.{string_bytes};
@@ -9,7 +9,7 @@ use crate::row::Row;
 use getopts::{Fail, HasArg, Occur, Options};
 use std::alloc::{AllocError, Global};
 
-/// Which entries are shown.
+/// Which entries to show.
 #[derive(Debug, Drop)]
 pub struct Log {
     pub count: Option<String>,
@@ -37,8 +37,8 @@ const LOG: [Row<'static>; 2] = [
     },
 ];
 
-/// Adds the options of a table. Where the table is written out, what they are is computed: the checker takes seconds
-/// for ten rows, and minutes for thirty.
+/// Adds the options in a table. If the table is a literal, the checker computes what they are: that
+/// takes seconds for ten rows, and minutes for thirty.
 pub fn add_rows(options: &mut Options, rows: &[Row<'_>]) -> Result<(), AllocError>
     ensures { OnOk result (options.new ≡ record options.old {
       groups = options.old.groups ++ map group_of_row rows.now;

@@ -1,4 +1,5 @@
-//! A build tool that logs what it was asked for, in a line that asks for the same where it is read again.
+//! A build tool that logs what it was asked for, as a command line that asks for the same when it
+//! is read again.
 
 ghost use Rattle.std.specs.Prelude.{◌≡◌, List, map, IfOk, IfSome};
 ghost use Rattle.std.specs.Option.{option_map};
@@ -13,7 +14,7 @@ use getopts::{Fail, Options, declared_options_keep_laws};
 use std::alloc::{AllocError, Global};
 use std::convert::AsStr;
 
-/// What a line asks for.
+/// What a command line asks for.
 #[derive(Debug, Drop)]
 pub struct Build {
     pub jobs: Option<String>,
@@ -36,7 +37,7 @@ fn options(alloc: Global) -> Result<Options, AllocError>
     Ok(options)
 }
 
-/// What a line asks for: the words of a program, or a line of the log.
+/// What a command line asks for, be it the program's words or a line of the log.
 pub fn read_build<S: AsStr>(alloc: Global, words: &[S]) -> Result<Build, Fail>
     ensures { GivesAs said_of result (λ it. said_result (map S.text words.now) ≡ it) }
 {
@@ -50,7 +51,7 @@ pub fn read_build<S: AsStr>(alloc: Global, words: &[S]) -> Result<Build, Fail>
     })
 }
 
-/// A canonical line says what its words say: a law to cite.
+/// A lemma for proofs: a canonical line says what the original words say.
 fn lines_say_the_same()
     ensures { (words line : List Text) → IsWritten build_options words line
         → said_result line ≡ said_result words }
@@ -58,8 +59,8 @@ fn lines_say_the_same()
     declared_options_keep_laws();
 }
 
-/// The line of the log: the canonical line of the words. There is none only where an option that they give has
-/// a main name that holds `=`.
+/// The line for the log: the canonical line of the words. There is none only if they give an option
+/// whose main name contains `=`.
 pub fn log_line(alloc: Global, words: &[&str]) -> Result<Option<Vec<String>>, Fail>
     ensures logged { GivesAs (option_map (λ line. map string_bytes line.items)) result
         (λ it. canonical_result build_options (texts words.now) ≡ it) }

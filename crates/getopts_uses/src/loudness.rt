@@ -1,4 +1,5 @@
-//! Flags of which the last one wins: how much is said, by `-q` and `-v` in the order in which they were typed.
+//! Flags of which the last one wins: how much to print, by `-q` and `-v` in the order in which they
+//! were typed.
 
 ghost use Rattle.std.specs.Prelude.{◌≡◌, List, map, IfOk, unwrap_or};
 ghost use Rattle.std.specs.String.{string_bytes};
@@ -10,7 +11,7 @@ ghost use Rattle.getopts_uses.specs.declared.loudness.Loudness.TheVariants.{Norm
 use getopts::{Fail, Options};
 use std::alloc::{AllocError, Global};
 
-/// How much is said.
+/// How much to print.
 #[derive(Clone, Copy, Debug)]
 pub enum Loudness {
     Normal,
@@ -18,7 +19,7 @@ pub enum Loudness {
     Verbose,
 }
 
-/// The options. A value of the last one may look like a flag.
+/// The options. The value of the last one may look like a flag.
 fn options(alloc: Global) -> Result<Options, AllocError>
     ensures { IfOk result (λ options. options ≡ loudness_options) }
 {
@@ -30,19 +31,20 @@ fn options(alloc: Global) -> Result<Options, AllocError>
     Ok(options)
 }
 
-/// How much a line asks to be said: the last of `-q` and `-v` wins. Positions don't tell which is last in `-qv`; the
-/// canonical line does, which has each option as a word of its own, by its main name, up to `--`.
+/// How much output a command line asks for: the last of `-q` and `-v` wins. In `-qv`, positions
+/// don't tell which is last. The canonical line does, since it has each option as a word of its
+/// own, by its main name, up to `--`.
 pub fn loudness_of(alloc: Global, words: &[&str]) -> Result<Loudness, Fail>
     ensures { IsLoudnessOf (texts words.now) result }
 {
     match options(alloc)?.canonical_words(alloc, words)? {
         Some(line) => Ok(last_of(&line)),
-        // This can't be: no main name holds `=`.
+        // This can't happen: no main name contains `=`.
         None => Ok(Loudness::Normal),
     }
 }
 
-/// How much a canonical line asks to be said.
+/// How much output a canonical line asks for.
 fn last_of(line: &[String]) -> Loudness
     ensures { (words : List Text)
         → (written : IsWritten loudness_options words (map string_bytes line.now))
@@ -58,7 +60,7 @@ fn last_of(line: &[String]) -> Loudness
     loudness
 }
 
-/// How much a word of a canonical line asks to be said, if it asks for that.
+/// How much output a word of a canonical line asks for, if any.
 fn asked_by(word: &str) -> Option<Loudness>
     ensures { result ≡ asked_by word.now }
 {

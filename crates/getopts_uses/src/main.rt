@@ -1,9 +1,9 @@
-//! Programs that read their command lines with `getopts`, as their users write them.
+//! Programs that parse their command lines with `getopts`, as their users write them.
 //!
-//! Each argument of the program is a row: the name of a caller and the words that it reads, parted by
-//! spaces. The program prints what each returns. The rows are in `args`, and in `stdout` what they
-//! have to print. Some rows say what no row of `getopts_vectors` can: closures, iterators, values of
-//! types, and faults under any format.
+//! Each argument of the program is a test case: the name of a caller and the words that it parses,
+//! separated by spaces. The program prints what each caller returns. The cases are in `args`, and
+//! the expected output is in `stdout`. Some cases test what none of `getopts_vectors` can:
+//! closures, iterators, values of types, and errors in any format.
 #![tactic(auto)]
 
 mod add;
@@ -26,7 +26,7 @@ mod wrapper;
 
 use std::{env, io};
 
-/// Prints what each row returns.
+/// Prints the result of each case.
 fn main(rt: HostRuntime) -> io::Result<()> {
     let mut text = String::new(rt.alloc());
     for row in env::args(&rt)?.skip(1) {

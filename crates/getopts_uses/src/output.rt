@@ -1,4 +1,4 @@
-//! An optional argument: copied, and lent.
+//! An optional argument, copied and borrowed.
 
 ghost use Rattle.std.specs.Prelude.{◌≡◌, IfOk, codes};
 ghost use Rattle.getopts.specs.Accessors.{found_of};
@@ -20,7 +20,7 @@ fn options(alloc: Global) -> Result<Options, AllocError>
     Ok(options)
 }
 
-/// The output file of a line, if it names one.
+/// The output file that a command line names, if it names one.
 pub fn output_of(alloc: Global, words: &[&str]) -> Result<Option<String>, Fail>
     ensures { IsOutputBy (parse_result output_options (texts words.now)) result }
 {
@@ -28,7 +28,7 @@ pub fn output_of(alloc: Global, words: &[&str]) -> Result<Option<String>, Fail>
     Ok(matches.opt_str(alloc, "output")?)
 }
 
-/// Whether the output is the standard one.
+/// Whether the output is standard output.
 pub fn writes_out(matches: &Matches) -> bool
     ensures { result ≡ is_out (found_of matches.now.groups (codes "output")) }
 {

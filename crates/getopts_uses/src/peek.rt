@@ -1,4 +1,5 @@
-//! A tool that prints some lines of files: a required number, a flag, texts, an optional value, help, a version.
+//! A tool that prints some lines of files: a required number, a flag, texts, an optional value,
+//! help, a version.
 
 ghost use Rattle.std.specs.Prelude.{◌≡◌, ◌||◌, false, codes, map, string_bytes, IfErr, IfOk, Ok};
 ghost use Rattle.std.specs.Str.Parse.{ParsesUnsigned};
@@ -14,7 +15,7 @@ use getopts::{Fail, Matches, Options};
 use std::alloc::{AllocError, Global};
 use std::num::ParseIntError;
 
-/// What a line asks for.
+/// What a command line asks for.
 #[derive(Debug, Drop)]
 pub enum Request {
     Help,
@@ -22,7 +23,7 @@ pub enum Request {
     Peek(Peek),
 }
 
-/// Which lines are printed, and how.
+/// Which lines to print, and how.
 #[derive(Debug, Drop)]
 pub struct Peek {
     pub lines: u32,
@@ -32,7 +33,7 @@ pub struct Peek {
     pub files: Vec<String>,
 }
 
-/// Why a line asks for nothing.
+/// Why a command line asks for nothing.
 #[derive(Debug, Drop)]
 pub enum Refusal {
     Line(Fail),
@@ -79,7 +80,8 @@ pub fn options(alloc: Global) -> Result<Options, AllocError>
     Ok(options)
 }
 
-/// What a line asks for. Faults come first, then help, then the version, then what is missing.
+/// What a command line asks for. Errors in its words come first, then help, then the version, then
+/// what is missing.
 pub fn read_request(alloc: Global, words: &[&str]) -> Result<Request, Refusal>
     ensures { IsAskedBy (asked_result (texts words.now)) result }
 {
@@ -93,7 +95,7 @@ pub fn read_request(alloc: Global, words: &[&str]) -> Result<Request, Refusal>
     lines_asked(alloc, matches)
 }
 
-/// The lines that a line asks for, where it asks for neither help nor the version.
+/// The lines that a command line asks for, if it asks for neither help nor the version.
 fn lines_asked(alloc: Global, matches: Matches) -> Result<Request, Refusal>
     requires declared { HoldDeclared peek_options matches.groups }
     requires no_help { gives matches (codes "help") ≡ false }
@@ -109,7 +111,8 @@ fn lines_asked(alloc: Global, matches: Matches) -> Result<Request, Refusal>
     }))
 }
 
-/// The matches of a line. Where it asks for help or the version, a required option may be missing.
+/// The matches of a command line. If it asks for help or the version, a required option may be
+/// missing.
 fn asked(alloc: Global, words: &[&str]) -> Result<Matches, Fail>
     ensures asked { GivesResult result (asked_result (texts words.now)) }
     ensures given { IfOk result (λ matches. HoldGiven peek_options matches.groups) }
@@ -135,7 +138,7 @@ fn number(matches: &Matches, name: &str) -> Result<Option<u32>, ParseIntError>
     matches.opt_get(name)
 }
 
-/// The tool's help: how it is called, and each of its options with what it does.
+/// The tool's help: how to call it, and what each option does.
 pub fn help_text(alloc: Global) -> Result<String, AllocError>
     ensures { IfOk result (λ text. string_bytes text ≡ peek_help) }
 {

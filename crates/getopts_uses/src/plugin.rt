@@ -1,12 +1,12 @@
-//! Options whose names come at run time, as from plugins.
+//! Options whose names are known only at run time, as with plugins.
 
 ghost use Rattle.std.specs.Prelude.{◌≡◌, [], true, false};
 ghost use Rattle.getopts.specs.Options.{group_of, with_group};
 
 use getopts::{HasArg, Occur, Options, names_lawful};
 
-/// Adds a flag of this long name, and answers whether it is there. It isn't where the name isn't
-/// lawful or memory was refused, and the options are then as they were.
+/// Adds a flag with this long name, and returns whether that worked. If the name isn't valid or an
+/// allocation fails, the options are unchanged.
 pub fn add_flag(options: &mut Options, name: &str, does: &str) -> bool
     ensures added { result ≡ true → options.new ≡ with_group options.old
         (group_of [] name.now does.now [] HasArg.No Occur.Optional) }

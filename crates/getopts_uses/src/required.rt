@@ -1,4 +1,4 @@
-//! Options that say of a helper's caller what he needs: any that require an input.
+//! A helper for any options that require an input: its contract says what it needs of its caller.
 
 ghost use Rattle.std.specs.Prelude.{◌≡◌, IfErr, IfOk, Some, Ok, Err, codes};
 ghost use Rattle.std.specs.String.{string_bytes};
@@ -24,7 +24,7 @@ pub fn input_options(alloc: Global) -> Result<Options, AllocError>
     Ok(options)
 }
 
-/// The input of a line, by any options that require one.
+/// The input that a command line names, for any options that require one.
 pub fn input_of(alloc: Global, options: &Options, words: &[&str]) -> Result<String, Fail>
     requires argument { kind_of options.now.groups (codes "input") ≡ Some HasArg.Yes }
     requires required { occur_of options.now.groups (codes "input") ≡ Some Occur.Req }

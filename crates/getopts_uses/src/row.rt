@@ -4,7 +4,7 @@ ghost use Rattle.getopts.specs.Names.{AreLawful};
 
 use getopts::{HasArg, Occur};
 
-/// A row of a table: an option by lawful names.
+/// A row of a table: an option with valid names.
 #[derive(Clone, Copy)]
 pub struct Row<'a> {
     pub short: &'a str,

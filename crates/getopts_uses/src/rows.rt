@@ -1,4 +1,4 @@
-//! Rows, and what the callers return for each.
+//! The test cases, and the result of each.
 
 mod closures;
 mod faults;
@@ -19,7 +19,7 @@ use crate::wrapper::handed_on;
 use std::alloc::{AllocError, Global};
 use std::fmt::Debug;
 
-/// Adds what a call returned, and a line end.
+/// Appends what a call returned, and a line end.
 fn push<T: Debug + Drop, E: Debug + Drop>(
     text: &mut String,
     res: Result<T, E>,
@@ -30,7 +30,7 @@ fn push<T: Debug + Drop, E: Debug + Drop>(
     }
 }
 
-/// Adds a row, and what it returns. The word `''` is the empty one.
+/// Appends a case and its result. The word `''` stands for the empty word.
 pub fn push_row(alloc: Global, text: &mut String, row: &str) -> Result<(), AllocError> {
     write!(text, "{row}: ")?;
     let mut words = Vec::new(alloc);
@@ -43,7 +43,7 @@ pub fn push_row(alloc: Global, text: &mut String, row: &str) -> Result<(), Alloc
     }
 }
 
-/// Adds what the log's line of words asks for.
+/// Appends what the log's line for these words asks for.
 fn push_replayed(alloc: Global, text: &mut String, words: &[&str]) -> Result<(), AllocError> {
     match log_line(alloc, words) {
         Ok(Some(line)) => push(text, read_build(alloc, &line)),
@@ -52,7 +52,7 @@ fn push_replayed(alloc: Global, text: &mut String, words: &[&str]) -> Result<(),
     }
 }
 
-/// Adds what a caller returns for words.
+/// Appends what a caller returns for words.
 fn push_caller(
     alloc: Global,
     text: &mut String,

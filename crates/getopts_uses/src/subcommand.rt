@@ -1,4 +1,5 @@
-//! A program with subcommands: the options before the subcommand are the program's, and those after it its own.
+//! A program with subcommands: options before the subcommand are the program's, those after it are
+//! its own.
 
 ghost use Rattle.std.specs.Prelude.{◌≡◌, map, IfOk, Ok, OnOk};
 ghost use Rattle.std.specs.String.{string_bytes};
@@ -14,7 +15,7 @@ use crate::log::{Log, read_log};
 use getopts::{Fail, Matches, Options, ParsingStyle};
 use std::alloc::{AllocError, Global};
 
-/// What a line runs.
+/// What a command line runs.
 #[derive(Debug, Drop)]
 pub struct Run {
     pub quiet: bool,
@@ -29,7 +30,8 @@ pub enum Command {
     Log(Log),
 }
 
-/// Why a line runs nothing. The faults of a subcommand's words are told apart from those of the words before it.
+/// Why a command line runs nothing. Errors in a subcommand's words are distinguished from errors in
+/// the words before it.
 #[derive(Debug, Drop)]
 pub enum Refusal {
     Line(Fail),
@@ -56,7 +58,7 @@ impl From<AllocError> for Refusal {
     }
 }
 
-/// The options that stand before the subcommand.
+/// The options that may precede the subcommand.
 fn options(alloc: Global) -> Result<Options, AllocError>
     ensures { IfOk result (λ options. options ≡ global_options) }
 {
@@ -68,7 +70,8 @@ fn options(alloc: Global) -> Result<Options, AllocError>
     Ok(options)
 }
 
-/// What a line runs. The words before the subcommand give the same options alone, whatever comes after them.
+/// What a command line runs. The words before the subcommand give the same options, whatever
+/// follows them.
 pub fn read_run(alloc: Global, words: &[&str]) -> Result<Run, Refusal>
     ensures run { IsRunBy (parse_result global_options (texts words.now)) result }
     ensures before { OnOk result ((global : Matched)
@@ -79,7 +82,7 @@ pub fn read_run(alloc: Global, words: &[&str]) -> Result<Run, Refusal>
     run_of(alloc, &matches)
 }
 
-/// What a line with these matches runs.
+/// What a command line with these matches runs.
 fn run_of(alloc: Global, matches: &Matches) -> Result<Run, Refusal>
     requires { HoldGiven global_options matches.now.groups }
     ensures { IsRunOf matches.now matches.now.free result }

@@ -1,4 +1,4 @@
-//! A wrapper of another command: its own options, and then `--` and the words that it hands on.
+//! A wrapper of another command: its own options, then `--` and the words that it passes on.
 
 ghost use Rattle.std.specs.Prelude.{◌≡◌, [], ◌∷◌, true, codes, map, IfErr, IfOk, Ok};
 ghost use Rattle.std.specs.String.{string_bytes};
@@ -22,7 +22,8 @@ fn options(alloc: Global) -> Result<Options, AllocError>
     Ok(options)
 }
 
-/// A line that is written out, and its matches: how definitions are tried before anything is proved with them.
+/// A command line written out, with its matches: this is how to test definitions before proving
+/// anything with them.
 fn matches_of_a_line()
     ensures { (matches : Matched)
         × (parse_result wrapper_options
@@ -31,7 +32,7 @@ fn matches_of_a_line()
         × (matches.free ≡ codes "ls" ∷ codes "-l" ∷ []) }
 {}
 
-/// The words that a line hands on: those after its `--`, as they are.
+/// The words that a command line passes on: those after its `--`, unchanged.
 pub fn handed_on(alloc: Global, words: &[&str]) -> Result<Vec<String>, Fail>
     ensures handed { IfOk result (λ handed.
         HandsOn (texts words.now) (map string_bytes handed.items)) }

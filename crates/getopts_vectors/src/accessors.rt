@@ -1,4 +1,4 @@
-//! The answers of what words gave, each as its fields.
+//! Answers about parsed words, as fields.
 
 ghost use Rattle.std.specs.Prelude.{map, IsTrue};
 ghost use Rattle.std.specs.String.{string_bytes};
@@ -10,8 +10,7 @@ use crate::stop::{Stop, WRONG_FIELDS};
 use getopts::{Matches, Occurrences};
 use std::alloc::{AllocError, Global};
 
-/// Answers that words were accepted, as a line: where the words after `--` begin, and the free
-/// words.
+/// Answers accepted words with a line: where the words after `--` begin, and the free words.
 pub fn accepted(matches: &Matches, answer: &mut Answer) {
     answer.word("accepted");
     matches.free_trailing_start().put(answer);
@@ -19,7 +18,7 @@ pub fn accepted(matches: &Matches, answer: &mut Answer) {
     answer.end();
 }
 
-/// Whether a line with this word asks of what words gave.
+/// Whether a line with this word asks about parsed words.
 pub fn has(word: &str) -> bool {
     word.starts_with("opt_")
         || matches!(
@@ -28,7 +27,7 @@ pub fn has(word: &str) -> bool {
         )
 }
 
-/// Answers what a line asks of what words gave.
+/// Answers a line that asks about parsed words.
 pub fn ask(alloc: Global, matches: &Matches, word: &str, fields: &[String], answer: &mut Answer) {
     match word {
         "any" => any(alloc, matches, fields, answer),
@@ -46,7 +45,7 @@ pub fn ask(alloc: Global, matches: &Matches, word: &str, fields: &[String], answ
     }
 }
 
-/// Answers what a line asks of a name.
+/// Answers a line that asks about a name.
 fn ask_by_name(
     alloc: Global,
     matches: &Matches,
@@ -65,7 +64,7 @@ fn ask_by_name(
     }
 }
 
-/// Answers what a line asks of an option.
+/// Answers a line that asks about an option.
 fn ask_of_option(
     alloc: Global,
     matches: &Matches,
@@ -92,7 +91,7 @@ fn ask_of_option(
     }
 }
 
-/// Answers what a line asks of an option or else of a default.
+/// Answers a line that asks about an option, with a default.
 fn ask_or(
     alloc: Global,
     matches: &Matches,
@@ -115,7 +114,7 @@ fn ask_or(
     }
 }
 
-/// Answers what was given of an option: whether, how often, and its values.
+/// Answers whether and how often an option was given, and its values.
 fn option(alloc: Global, matches: &Matches, name: &str, default: &str, answer: &mut Answer)
     requires { IsDefined matches.now.groups name.now }
 {
@@ -154,7 +153,7 @@ fn number(matches: &Matches, name: &str, default: &str, answer: &mut Answer)
     }
 }
 
-/// Answers the value of an option as a truth.
+/// Answers the value of an option as a boolean.
 fn truth(matches: &Matches, name: &str, default: &str, answer: &mut Answer)
     requires { IsDefined matches.now.groups name.now }
 {
@@ -172,7 +171,7 @@ fn truth(matches: &Matches, name: &str, default: &str, answer: &mut Answer)
     }
 }
 
-/// Answers how many occurrences are at a place, and one of them.
+/// Answers the number of occurrences of the option at a place, and one of them.
 fn occurrences_at(matches: &Matches, place: &str, nth: &str, answer: &mut Answer) {
     match (place.parse::<usize>(), nth.parse::<usize>()) {
         (Ok(place), Ok(nth)) => {
@@ -184,7 +183,7 @@ fn occurrences_at(matches: &Matches, place: &str, nth: &str, answer: &mut Answer
     }
 }
 
-/// Answers how many occurrences there are, and one of them.
+/// Answers the number of occurrences, and one of them.
 fn occurrence(occurrences: &Occurrences<'_>, nth: usize, answer: &mut Answer) {
     occurrences.len().put(answer);
     match occurrences.get(nth) {
@@ -196,7 +195,7 @@ fn occurrence(occurrences: &Occurrences<'_>, nth: usize, answer: &mut Answer) {
     }
 }
 
-/// Answers whether some option of a list was given, and the first value of them.
+/// Answers whether an option of a list was given, and the first value of one.
 fn any(alloc: Global, matches: &Matches, names: &[String], answer: &mut Answer) {
     matches.opts_present(names).put(answer);
     if are_defined(matches, names) {
@@ -209,7 +208,7 @@ fn any(alloc: Global, matches: &Matches, names: &[String], answer: &mut Answer) 
     }
 }
 
-/// Names that are lent, for the calls that take them so.
+/// Borrows names, for the calls that take `&str`.
 fn lent<'n>(alloc: Global, names: &'n [String]) -> Result<Vec<&'n str>, AllocError> {
     let mut lent = Vec::new(alloc);
     for name in names {
@@ -218,7 +217,7 @@ fn lent<'n>(alloc: Global, names: &'n [String]) -> Result<Vec<&'n str>, AllocErr
     Ok(lent)
 }
 
-/// Answers the same of a list in both its forms.
+/// Answers the same for owned and for borrowed names.
 fn any_of(
     alloc: Global,
     matches: &Matches,
@@ -237,7 +236,7 @@ fn any_of(
     }
 }
 
-/// Whether each name is defined.
+/// Whether all names are defined.
 fn are_defined(matches: &Matches, names: &[String]) -> bool
     ensures { IsTrue result → AreDefined matches.now.groups (map string_bytes names.now) }
 {
@@ -249,7 +248,7 @@ fn are_defined(matches: &Matches, names: &[String]) -> bool
     true
 }
 
-/// Whether each name is defined.
+/// Whether all names are defined.
 fn all_defined(matches: &Matches, names: &[&str]) -> bool
     ensures { IsTrue result → AreDefined matches.now.groups (texts names.now) }
 {

@@ -1,4 +1,4 @@
-//! The answers of options, of faults, and of the calls that need neither, each as its fields.
+//! Answers about options, errors, and calls that need neither, as fields.
 
 use crate::form::{Answer, Field, field_at, is_taken};
 use crate::stop::{Stop, UNKNOWN_WORD, WRONG_FIELDS};
@@ -6,14 +6,14 @@ use getopts::wrap::each_split_within;
 use getopts::{Fail, Options, names_lawful};
 use std::alloc::Global;
 
-/// Answers why words were refused, as a line.
+/// Answers rejected words with a line.
 pub fn refused(fail: &Fail, answer: &mut Answer) {
     answer.word("refused");
     fault(fail, answer);
     answer.end();
 }
 
-/// Answers a fault, its name, and what it prints.
+/// Answers an error: its kind, its name, and its text.
 fn fault(fail: &Fail, answer: &mut Answer) {
     match fail {
         Fail::ArgumentMissing(name) => named("ArgumentMissing", name.as_str(), answer),
@@ -26,13 +26,13 @@ fn fault(fail: &Fail, answer: &mut Answer) {
     answer.printed(fail);
 }
 
-/// Answers the variant of a fault and its name.
+/// Answers the kind of an error and its name.
 fn named(variant: &str, name: &str, answer: &mut Answer) {
     answer.field(variant);
     answer.field(name);
 }
 
-/// Answers what a line asks of options, or of none.
+/// Answers a line that asks about options, or needs none.
 pub fn ask(alloc: Global, options: &Options, word: &str, fields: &[String], answer: &mut Answer) {
     match word {
         "lawful" => names_lawful(field_at(fields, 0), field_at(fields, 1)).put(answer),
@@ -49,7 +49,7 @@ pub fn ask(alloc: Global, options: &Options, word: &str, fields: &[String], answ
     }
 }
 
-/// Answers the rows of a description.
+/// Answers the wrapped rows of a description.
 fn wrapped(alloc: Global, limit: &str, desc: &str, answer: &mut Answer) {
     match limit.parse::<usize>() {
         Ok(limit) => answer.given(each_split_within(alloc, desc, limit)),
@@ -57,7 +57,7 @@ fn wrapped(alloc: Global, limit: &str, desc: &str, answer: &mut Answer) {
     }
 }
 
-/// Answers what a closure that counts the usage rows made of them, and the rows that it was given.
+/// Answers the result of a closure that counts the usage rows, and the rows that it got.
 fn formatted_rows(alloc: Global, options: &Options, answer: &mut Answer) {
     let mut given = Vec::new(alloc);
     let made = options.usage_with_format(alloc, |rows| {
@@ -69,8 +69,8 @@ fn formatted_rows(alloc: Global, options: &Options, answer: &mut Answer) {
     given.put(answer);
 }
 
-/// Answers how often a closure that takes no memory was called. Where the rows can't be had, it
-/// isn't.
+/// Answers how often a closure that doesn't allocate was called: not at all if the rows can't be
+/// allocated.
 fn called(alloc: Global, options: &Options, answer: &mut Answer) {
     let mut calls = 0usize;
     let made = options.usage_with_format(alloc, |_rows| {
@@ -85,7 +85,7 @@ fn called(alloc: Global, options: &Options, answer: &mut Answer) {
     }
 }
 
-/// The canonical line of words, by the call of this name.
+/// The canonical line of words, from the call with this name.
 fn written(
     alloc: Global,
     options: &Options,

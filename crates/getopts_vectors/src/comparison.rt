@@ -1,4 +1,4 @@
-//! Rows compared with the answers that are expected.
+//! Compares answers with those that rows expect.
 
 use crate::form::Answer;
 use crate::line::Line;
@@ -8,15 +8,15 @@ use crate::short::{put_at_length, put_written_out};
 use crate::stop::{Stop, UNKNOWN_WORD};
 use std::alloc::Global;
 
-/// What begins a case that is written short.
+/// The beginning of a case in short form.
 const SHORT_CASE: &str = "\n* ";
 
-/// The highest power of two that a length is about.
+/// The highest power of two around which lengths are tried.
 const HIGHEST: u32 = 20;
 
-/// What is kept from line to line: the case with its name, the parts of a line, the number of the
-/// line that was answered last with what it was answered and what was expected, how many there
-/// were, what is told of all that, and whether memory was refused between marks.
+/// The state between lines: the case with its name, the parts of a line, the number of the line
+/// answered last with its actual and expected answers, counts, the report, and whether an
+/// allocation failed between marks.
 #[derive(Drop)]
 pub struct Comparison {
     session: Session,
@@ -30,7 +30,7 @@ pub struct Comparison {
     refused: bool,
 }
 
-/// How many cases, lines with an answer, expected answers and differences there were.
+/// The numbers of cases, lines with an answer, expected answers, and differences.
 #[derive(Clone, Copy)]
 struct Counts {
     cases: u64,
@@ -59,12 +59,12 @@ impl Comparison {
         }
     }
 
-    /// What is told of the rows, whatever ended them early.
+    /// The report about the rows, even if they ended early.
     pub fn told(&self) -> &str {
         self.told.text()
     }
 
-    /// Whether no row differs, or what ended them early.
+    /// Whether no answer differs, or why the run ended early.
     pub fn agrees(&self) -> Result<bool, Stop> {
         match self.told.stopped() {
             Some(stop) => Err(stop),
@@ -73,8 +73,7 @@ impl Comparison {
         }
     }
 
-    /// Compares the rows of a text, and tells where other answers are given, and at the end how
-    /// many there were.
+    /// Compares the rows of a text, and reports different answers, and the counts at the end.
     pub fn compare_rows(&mut self, alloc: Global, text: &str) {
         match text.split_once(SHORT_CASE) {
             Some((rows, cases)) => {
@@ -86,7 +85,7 @@ impl Comparison {
         self.sum_up();
     }
 
-    /// Compares cases that are written short.
+    /// Compares cases in short form.
     fn compare_short_cases(&mut self, alloc: Global, cases: &str) {
         for case in cases.split(SHORT_CASE) {
             if case.contains('$') {
@@ -97,7 +96,7 @@ impl Comparison {
         }
     }
 
-    /// Compares a case that is written short, at each length.
+    /// Compares a case in short form, at each length.
     fn compare_at_lengths(&mut self, alloc: Global, case: &str) {
         for power in 1..=HIGHEST {
             let length = 2usize.pow(power);
@@ -107,21 +106,21 @@ impl Comparison {
         }
     }
 
-    /// Compares a case that is written short, at a length.
+    /// Compares a case in short form, at one length.
     fn compare_at_length(&mut self, alloc: Global, case: &str, length: usize) {
         let mut text = Answer::new(alloc);
         put_at_length(case, length, &mut text);
         self.compare_short_case(alloc, text.text());
     }
 
-    /// Compares a case that is written short.
+    /// Compares a case in short form.
     fn compare_short_case(&mut self, alloc: Global, case: &str) {
         let mut lines = Answer::new(alloc);
         put_written_out(case, &mut lines);
         self.compare_lines(alloc, lines.text());
     }
 
-    /// Takes lines one after another, and compares what they are answered.
+    /// Processes lines one after another, and compares the answers.
     fn compare_lines(&mut self, alloc: Global, lines: &str) {
         let mut number = 0u64;
         for line in lines.split('\n') {
@@ -131,7 +130,7 @@ impl Comparison {
         self.settle();
     }
 
-    /// Takes what a line expects, or answers it, after what came before is compared.
+    /// Stores an expected answer; or compares the previous answers, and answers the line.
     fn follow(&mut self, alloc: Global, line: &str, number: u64) {
         if matches!(line.as_bytes().first(), Some(b'>' | b'|')) {
             self.expect(line);
@@ -146,7 +145,7 @@ impl Comparison {
         self.told.stop_at(self.expected.stopped(), number);
     }
 
-    /// Takes a line that is expected, or goes on with one.
+    /// Stores a line of an expected answer, or a continuation.
     fn expect(&mut self, line: &str) {
         if let Some(text) = line.strip_prefix("> ") {
             self.counts.answers = self.counts.answers.saturating_add(1);
@@ -160,7 +159,7 @@ impl Comparison {
         }
     }
 
-    /// Does what a line says, and keeps what it is answered. The answer of `case` isn't expected.
+    /// Executes a line, and stores its answer. The answer to `case` isn't expected.
     fn answer_line(&mut self, alloc: Global, line: &str, number: u64) {
         self.answered = number;
         self.line.cut(alloc, line, &mut self.answer);
@@ -168,8 +167,8 @@ impl Comparison {
         self.count();
     }
 
-    /// Answers a line between the marks. Where memory was refused, it is answered again after them:
-    /// what it borrowed has to be as it was.
+    /// Answers a line between the marks. If an allocation fails, it is answered again after the
+    /// marks: what it borrowed must be unchanged.
     fn answer_marked(&mut self, alloc: Global, line: &str, number: u64) {
         self.answered = number;
         self.line.cut(alloc, line, &mut self.answer);
@@ -184,7 +183,7 @@ impl Comparison {
         self.count();
     }
 
-    /// Counts the line that was answered last.
+    /// Counts the line answered last.
     fn count(&mut self) {
         if let Some(name) = self.line.case_name() {
             self.counts.cases = self.counts.cases.saturating_add(1);
@@ -196,7 +195,7 @@ impl Comparison {
         }
     }
 
-    /// Compares what the last line was answered with what was expected, and forgets both.
+    /// Compares the last answer with the expected one, and clears both.
     fn settle(&mut self) {
         if self.answer.text() != self.expected.text() {
             self.counts.differences = self.counts.differences.saturating_add(1);
@@ -206,7 +205,7 @@ impl Comparison {
         self.expected.clear();
     }
 
-    /// Tells what was expected of the last line, and what it was answered.
+    /// Reports the expected and the actual answer to the last line.
     fn tell(&mut self) {
         self.told.raw("line ");
         self.told.shown(&self.answered);
@@ -218,7 +217,7 @@ impl Comparison {
         self.told.raw(self.answer.text());
     }
 
-    /// Tells how many there were.
+    /// Reports the counts.
     fn sum_up(&mut self) {
         self.told.shown(&self.counts.cases);
         self.told.raw(" cases, ");

@@ -1,13 +1,13 @@
-//! Fields of lines: texts with nothing in them that would end a field or a line.
+//! Fields of lines: texts in which tabs and newlines are escaped.
 
 use crate::stop::{NOT_TEXT, Stop, WRONG_ESCAPE};
 use std::alloc::{AllocError, Global};
 use std::fmt::Display;
 
-/// The room for the answer of a line that is answered between marks.
+/// The capacity for the answer of a line that is answered between marks.
 const ROOM: usize = 4000;
 
-/// The letter that stands after a backslash for a byte, where it has one.
+/// The letter that follows the backslash in a byte's escape, if it has one.
 fn letter_of(byte: u8) -> Option<u8> {
     match byte {
         b'\t' => Some(b't'),
@@ -18,7 +18,7 @@ fn letter_of(byte: u8) -> Option<u8> {
     }
 }
 
-/// The byte that a letter after a backslash stands for.
+/// The byte for the letter of an escape.
 fn byte_of(letter: u8) -> Option<u8> {
     match letter {
         b't' => Some(b'\t'),
@@ -29,7 +29,7 @@ fn byte_of(letter: u8) -> Option<u8> {
     }
 }
 
-/// The text that a field stands for: one that is written so.
+/// The unescaped text of a field.
 pub fn text_of_field(alloc: Global, field: &str) -> Result<String, Stop> {
     match String::from_utf8(bytes_of_field(alloc, field)?) {
         Ok(text) => Ok(text),
@@ -37,7 +37,7 @@ pub fn text_of_field(alloc: Global, field: &str) -> Result<String, Stop> {
     }
 }
 
-/// The bytes that a field stands for: those that are written so.
+/// The unescaped bytes of a field.
 fn bytes_of_field(alloc: Global, field: &str) -> Result<Vec<u8>, Stop> {
     let mut bytes = Vec::new(alloc);
     let mut after_backslash = false;
@@ -61,7 +61,7 @@ fn bytes_of_field(alloc: Global, field: &str) -> Result<Vec<u8>, Stop> {
     Ok(bytes)
 }
 
-/// Lines of answers, as they are made, and what ended them early, if something did.
+/// The lines of answers so far, and why they ended early, if they did.
 #[derive(Drop)]
 pub struct Answer {
     alloc: Global,
@@ -87,19 +87,19 @@ impl Answer {
         self.stop = Some(stop);
     }
 
-    /// What ended the lines early.
+    /// Why the lines ended early.
     pub fn stopped(&self) -> Option<Stop> {
         self.stop
     }
 
-    /// Makes room for an answer beforehand.
+    /// Reserves capacity for an answer.
     pub fn make_room(&mut self) {
         if self.text.reserve(ROOM).is_err() {
             self.stop = Some(Stop::NoMemory);
         }
     }
 
-    /// Whether memory was refused. What was made is forgotten then, so that it can be made again.
+    /// Whether an allocation failed. If so, clears the answer, so that it can be made again.
     pub fn takes_back(&mut self) -> bool {
         match self.stop {
             Some(Stop::NoMemory) => {
@@ -111,7 +111,7 @@ impl Answer {
         }
     }
 
-    /// Ends the lines early where something else ended at a line, unless they are ended already.
+    /// Ends the lines early if something else stopped at a line, unless they have ended already.
     pub fn stop_at(&mut self, stop: Option<Stop>, number: u64) {
         if self.stop.is_none() {
             self.stop = match stop {
@@ -121,26 +121,26 @@ impl Answer {
         }
     }
 
-    /// Forgets the lines, and keeps their memory for others.
+    /// Clears the lines, and keeps their memory.
     pub fn clear(&mut self) {
         self.text.clear();
     }
 
-    /// Adds a text as it is.
+    /// Adds a text unescaped.
     pub fn raw(&mut self, text: &str) {
         if self.text.push_str(text).is_err() {
             self.stop = Some(Stop::NoMemory);
         }
     }
 
-    /// Adds a character as it is.
+    /// Adds a character unescaped.
     pub fn letter(&mut self, letter: char) {
         if self.text.push(letter).is_err() {
             self.stop = Some(Stop::NoMemory);
         }
     }
 
-    /// Adds a number as it is.
+    /// Adds a number.
     pub fn shown<T: Display>(&mut self, number: &T) {
         match number.to_string(self.alloc) {
             Ok(text) => self.raw(text.as_str()),
@@ -148,7 +148,7 @@ impl Answer {
         }
     }
 
-    /// Adds a number in five digits.
+    /// Adds a number with five digits.
     pub fn five_digits(&mut self, number: usize) {
         match number.to_string(self.alloc) {
             Ok(text) => {
@@ -161,7 +161,7 @@ impl Answer {
         }
     }
 
-    /// Begins a line with its word. Nothing in it ends a field or a line.
+    /// Begins a line with its word, escaped.
     pub fn word(&mut self, word: &str) {
         for letter in word.chars() {
             match letter {
@@ -180,7 +180,7 @@ impl Answer {
         self.word(text);
     }
 
-    /// Adds the fields of what a call gave.
+    /// Adds the fields of a call's result.
     pub fn given<T: Field + Drop>(&mut self, given: Result<T, AllocError>) {
         match given {
             Ok(value) => value.put(self),
@@ -188,14 +188,14 @@ impl Answer {
         }
     }
 
-    /// Adds a field with a number behind a text.
+    /// Adds a field with a text and a number.
     pub fn number(&mut self, front: &str, number: i64) {
         self.raw("\t");
         self.raw(front);
         self.shown(&number);
     }
 
-    /// Adds a field with what a value prints.
+    /// Adds a field with a printed value.
     pub fn printed<T: Display>(&mut self, value: &T) {
         match value.to_string(self.alloc) {
             Ok(text) => self.field(text.as_str()),
@@ -216,14 +216,13 @@ impl Answer {
         self.word(word);
     }
 
-    /// Adds a line that is in the form of an answer already.
+    /// Adds a line that is already escaped.
     pub fn line(&mut self, line: &str) {
         self.raw(line);
         self.raw("\n");
     }
 
-    /// Goes on with the last line: adds a text that is in the form of a field already, and a line
-    /// end as a field has it.
+    /// Appends to the last line: a text that is already escaped, and an escaped newline.
     pub fn go_on(&mut self, text: &str) {
         self.text.pop();
         self.raw(text);
@@ -236,7 +235,7 @@ impl Answer {
     }
 }
 
-/// What has a form as fields.
+/// Values that can be written as fields.
 pub trait Field {
     /// Adds the fields.
     fn put(&self, answer: &mut Answer);
@@ -255,7 +254,7 @@ impl Field for usize {
     }
 }
 
-/// `-` where there is none.
+/// `-` if there is no value.
 impl Field for Option<usize> {
     fn put(&self, answer: &mut Answer) {
         match self {
@@ -265,7 +264,7 @@ impl Field for Option<usize> {
     }
 }
 
-/// `-` where there is none, else `=` and the value.
+/// `-` if there is no value, else `=` and the value.
 impl Field for Option<&str> {
     fn put(&self, answer: &mut Answer) {
         match self {
@@ -318,7 +317,7 @@ impl Field for Vec<(usize, String)> {
     }
 }
 
-/// The field of this number, or nothing.
+/// The field with this number, or an empty text.
 pub fn field_at(fields: &[String], at: usize) -> &str {
     match fields.get(at) {
         Some(field) => field.as_str(),
@@ -326,7 +325,7 @@ pub fn field_at(fields: &[String], at: usize) -> &str {
     }
 }
 
-/// Each word is taken: by this an iterator doesn't tell how many words it has.
+/// Accepts every word. Filtered by this, an iterator doesn't say how many words it has.
 pub fn is_taken(_word: &&str) -> bool {
     true
 }

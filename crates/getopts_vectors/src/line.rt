@@ -1,11 +1,11 @@
-//! Cutting lines into fields.
+//! Splits lines into fields.
 
 use crate::form::{Answer, text_of_field};
 use crate::session::Session;
 use crate::stop::Stop;
 use std::alloc::Global;
 
-/// The parts of the line that was cut last: a word and the fields.
+/// The parts of the line that was split last: a word and the fields.
 #[derive(Drop)]
 pub struct Line {
     parts: Vec<String>,
@@ -26,7 +26,7 @@ impl Line {
         }
     }
 
-    /// Cuts a line into its parts. Of a line that is passed over, or can't be cut, there are none.
+    /// Splits a line into its parts; there are none if it is skipped or can't be split.
     pub fn cut(&mut self, alloc: Global, line: &str, answer: &mut Answer) {
         self.parts.clear();
         if line.is_empty() || line.starts_with('#') {
@@ -38,7 +38,7 @@ impl Line {
         }
     }
 
-    /// Does what the line says that was cut last, and makes its answer.
+    /// Executes the line that was split last, and makes its answer.
     pub fn answer(&self, alloc: Global, session: &mut Session, answer: &mut Answer) {
         if let [word, fields @ ..] = self.parts.as_slice() {
             session.answer(alloc, word.as_str(), fields, answer);

@@ -1,63 +1,60 @@
-//! Compares the library's answers with those that rows expect: reads the files that its arguments
-//! name, and writes on the standard output where the library answers differently, and how many
-//! answers there were.
+//! Compares the library's answers with those that rows expect: reads the files named by its
+//! arguments, and prints each difference and the number of answers.
 //!
-//! The expected answers are known from outside. Those of `data/rules.rows` and `data/large.rows`
-//! are written by hand, from the rules of the Rust crate and from its tests. Those of
+//! The expected answers come from elsewhere. Those of `data/rules.rows` and `data/large.rows` are
+//! written by hand, from the rules of the Rust crate and from its tests. Those of
 //! `data/recorded.rows` were written by the Rust crate itself (`tests/differential/record.sh`).
-//! Those of `data/refused.rows` are for runs with memory refused. What no row can say is said by
-//! the rows of `getopts_uses`.
+//! `data/refused.rows` is for runs in which allocations fail. Calls that no row can describe are
+//! covered by `getopts_uses`.
 //!
 //! # Rows
 //!
-//! A case declares options, reads words by them and asks for answers. It is lines, each a word and
-//! its fields, parted by tabs. A field is a text, in which `\t`, `\n`, `\r` and `\\` stand for a
-//! tab, a line end, a carriage return and a backslash. Lines with nothing in them and lines that
-//! begin with `#` are passed over.
+//! A case declares options, parses words with them, and asks questions. It consists of lines, each
+//! a word and fields, separated by tabs. A field is a text, in which `\t`, `\n`, `\r` and `\\`
+//! stand for a tab, a newline, a carriage return and a backslash. Empty lines and lines that begin
+//! with `#` are skipped.
 //!
-//! These lines have no answer but `case`, whose answer is the line itself:
+//! These lines have no answer, except that `case` is answered with the line itself:
 //!
-//! - `case NAME`: no groups, the style `floating`, the mode `ordinary`, nothing read, nothing kept
+//! - `case NAME`: no groups, the style `floating`, the mode `ordinary`, no words, nothing kept
 //! - `style floating` or `style stop`; `mode ordinary` or `mode long-only`
-//! - `opt SHORT LONG DESC HINT KIND OCCUR`, and so `add_group`: KIND is `yes`, `no` or `maybe`, and
+//! - `opt SHORT LONG DESC HINT KIND OCCUR`, also `add_group`: KIND is `yes`, `no` or `maybe`, and
 //!   OCCUR is `req`, `optional` or `multi`
-//! - `optflag SHORT LONG DESC`, and so `optflagmulti`
-//! - `optflagopt SHORT LONG DESC HINT`, and so `optmulti`, `optopt` and `reqopt`
-//! - `keep`: keeps a copy of the options and of what the last `words` gave
-//! - `anew`: goes back to what `case` begins with, but for what is kept
+//! - `optflag SHORT LONG DESC`, also `optflagmulti`
+//! - `optflagopt SHORT LONG DESC HINT`, also `optmulti`, `optopt` and `reqopt`
+//! - `keep`: keeps a copy of the options and of the result of the last `words`
+//! - `anew`: returns to the state after `case`, except for what is kept
 //!
-//! These are answered by a line with their word. An OPTIONAL is `-` where there is no value, and
-//! else `=` and the value.
+//! These are answered with a line that begins with their word. An OPTIONAL is `-` if there is no
+//! value, else `=` and the value.
 //!
-//! - `words WORD..`: by `accepted START FREE..`, where START is `-` or the trailing start, or by
-//!   `refused FAULT NAME TEXT`, where TEXT is what the fault prints
-//! - `parse_words WORD..`, `parse_filtered WORD..` and `ignoring_counts WORD..`: as `words`, by
-//!   `parse_words`, by `parse` of an iterator that doesn't tell how many words it has, and by
+//! - `words WORD..`: `accepted START FREE..`, where START is `-` or the trailing start, or
+//!   `refused FAULT NAME TEXT`, where TEXT is the error's text
+//! - `parse_words WORD..`, `parse_filtered WORD..` and `ignoring_counts WORD..`: like `words`, with
+//!   `parse_words`, with `parse` of an iterator that doesn't say how many words it has, and with
 //!   `parse_ignoring_counts`
-//! - `option NAME DEFAULT`: by `option NAME present COUNT STR DEFAULTED` or `option NAME absent
-//!   ..`, with the OPTIONAL of `opt_str` and that of `opt_default`; then by a line `strs` with the
-//!   values of `opt_strs`, and a line `pairs` with the texts of `opt_strs_pos`
-//! - `positions NAME`: by `positions NAME POSITION..`, then by a line `pairs` with the position and
-//!   the text of each pair of `opt_strs_pos`
-//! - `number NAME DEFAULT` and `truth NAME DEFAULT`: by `opt_get` at `i64` or `bool`, an OPTIONAL
-//!   or `error`, and by `opt_get_default`, the value or `error`
-//! - `any NAME..`: by `any PRESENT PRESENT STR STR`, of `opts_present`, `opts_present_any`,
-//!   `opts_str` and `opts_str_first`, or by `any PRESENT undefined` where one of the names is
-//!   undefined
-//! - `lawful SHORT LONG`: by `lawful true` or `lawful false`
-//! - `same options` and `same answers`: by `same options true` where the options equal those that
-//!   are kept, and else `false`; and so for what the last `words` gave
-//! - `short PROGRAM` and `usage BRIEF`: by the text
-//! - `rows`: by what the closure of `usage_with_format` answered, which counts its rows, then by
-//!   the rows
-//! - `usage_rows`: by the rows
-//! - `called`: by the text and the number of calls of a closure of `usage_with_format` that gives
-//!   nothing
-//! - `wrap LIMIT DESC`: by the rows of `each_split_within`
-//! - `canonical WORD..`: by `canonical line WORD..`, `canonical none`, or `canonical refused FAULT
-//!   NAME TEXT`; and so `canonical_words` and `canonical_filtered`
+//! - `option NAME DEFAULT`: `option NAME present COUNT STR DEFAULTED` or `option NAME absent ..`,
+//!   with the OPTIONALs of `opt_str` and `opt_default`; then a line `strs` with the values of
+//!   `opt_strs`, and a line `pairs` with the texts of `opt_strs_pos`
+//! - `positions NAME`: `positions NAME POSITION..`, then a line `pairs` with the position and the
+//!   text of each pair of `opt_strs_pos`
+//! - `number NAME DEFAULT` and `truth NAME DEFAULT`: the result of `opt_get` for `i64` or `bool`,
+//!   an OPTIONAL or `error`, and of `opt_get_default`, the value or `error`
+//! - `any NAME..`: `any PRESENT PRESENT STR STR`, from `opts_present`, `opts_present_any`,
+//!   `opts_str` and `opts_str_first`, or `any PRESENT undefined` if one of the names is undefined
+//! - `lawful SHORT LONG`: `lawful true` or `lawful false`
+//! - `same options` and `same answers`: `same options true` if the options equal the kept ones,
+//!   else `false`; likewise for the results of the last `words`
+//! - `short PROGRAM` and `usage BRIEF`: the text
+//! - `rows`: the result of the closure of `usage_with_format`, which counts its rows, then the rows
+//! - `usage_rows`: the rows
+//! - `called`: the text and the number of calls of a closure of `usage_with_format` that returns an
+//!   empty text
+//! - `wrap LIMIT DESC`: the rows of `each_split_within`
+//! - `canonical WORD..`: `canonical line WORD..`, `canonical none`, or `canonical refused FAULT
+//!   NAME TEXT`; also `canonical_words` and `canonical_filtered`
 //!
-//! One call each is asked by these, and answered by the line itself with what the call gives:
+//! These make one call, and are answered with the line itself and the result:
 //!
 //! - `opt_present NAME`, `opt_count NAME`, `opt_strs NAME`: `true` or `false`, the count, and the
 //!   values
@@ -66,41 +63,41 @@
 //! - `opt_str NAME` and `opt_default NAME DEFAULT`: the OPTIONAL
 //! - `opt_defined NAME`: `true` or `false`
 //! - `opt_place NAME`: the place, or `-`
-//! - `occurrences_at PLACE NTH`: how many there are at this place, then the position and the
+//! - `occurrences_at PLACE NTH`: the number of occurrences at this place, then the position and the
 //!   OPTIONAL of the NTH from 0 on, or `none`
 //!
-//! `clear` empties the free words that the last `words` gave, and is answered as `words` is.
+//! `clear` empties the free words of the last `words`, and is answered like `words`.
 //!
-//! In the place of the answer after NAME stands `undefined` where the name is undefined, but for
-//! `opt_defined` and `opt_place`. Where no words were read, or the last were refused, the answer to
-//! a line that asks of them is its word and `nothing`.
+//! If NAME is undefined, the answer after NAME is `undefined`, except for `opt_defined` and
+//! `opt_place`. If there were no words, or the last were rejected, a line that asks about them is
+//! answered with its word and `nothing`.
 //!
-//! Right below a line stand the lines that have to answer it, each after `> `. The answer of `case`
-//! isn't written. A line `| TEXT` goes on with the last field above it, by TEXT and a line end. So
-//! a line whose answer isn't there, and an answer that no line has, are differences too.
+//! The expected answer follows a line directly, each of its lines after `> `. The answer to `case`
+//! isn't written. A line `| TEXT` appends TEXT and a newline to the last field above it. A missing
+//! answer is a difference, and so is an answer to a line that has none.
 //!
-//! # Cases written short
+//! # Short form
 //!
-//! Cases of large inputs come last in a file:
+//! Cases with large inputs come last in a file:
 //!
-//! - Such a case begins with a line `* NAME` in the place of `case NAME`.
-//! - `{COUNT|TEXT}` stands for so many turns of TEXT, which may have several lines. In a turn stand
-//!   `#` for its number, from 0 on, `%` for that number in five digits, and `&` for twice the
-//!   number.
-//! - A case with `$` is asked at each length about a power of two, `2^n - 1`, `2^n` and `2^n + 1`
-//!   for each n from 1 to 20. The `$` is that length.
+//! - Such a case begins with `* NAME` instead of `case NAME`.
+//! - `{COUNT|TEXT}` repeats TEXT, which may have several lines, COUNT times. In each repetition,
+//!   `#` stands for its number from 0 on, `%` for that number with five digits, and `&` for twice
+//!   the number.
+//! - A case with `$` is tried at each length around a power of two, `2^n - 1`, `2^n` and `2^n + 1`
+//!   for each n from 1 to 20; `$` stands for the length.
 //!
-//! # Refused memory
+//! # Failing allocations
 //!
-//! A line that begins with `! ` is answered between two marks, for runs in which its requests for
-//! memory are refused. Where one is, the line is answered again after the marks, and the status is
-//! 3. So what a call borrowed has to be as it was.
+//! A line that begins with `! ` is answered between two marks, for runs in which its allocations
+//! fail. If one does, the line is answered again after the marks, and the status is 3: what a call
+//! borrowed must be unchanged.
 //!
-//! # Statuses
+//! # Exit status
 //!
-//! 0 where no answer differs, 1 where one does, 2 for a line or a file that can't be read, which
-//! the standard error names, 3 where memory was refused, and 4 where a write failed. The last case
-//! of `data/large.rows` differs on purpose, so that a run shows that a difference is found.
+//! 0 if no answer differs, 1 if one does, 2 if a line or a file is invalid, which standard error
+//! names, 3 if an allocation failed, and 4 if a write failed. The last case of `data/large.rows`
+//! differs on purpose, to show that differences are found.
 #![tactic(auto)]
 
 mod accessors;
@@ -119,7 +116,7 @@ use std::process::ExitCode;
 use std::{env, fs, io};
 use stop::Stop;
 
-/// Compares the rows of the files, and says on the standard error what ended the run early.
+/// Compares the rows of the files, and reports on standard error why the run ended early.
 fn main(rt: HostRuntime) -> ExitCode {
     match run(&rt) {
         Ok(true) => ExitCode::SUCCESS,
@@ -131,7 +128,7 @@ fn main(rt: HostRuntime) -> ExitCode {
     }
 }
 
-/// Does what the words say.
+/// Does what the arguments say.
 fn run(rt: &HostRuntime) -> Result<bool, Stop> {
     let Ok(words) = arguments(rt) else {
         return Err(Stop::NoMemory);
@@ -139,12 +136,12 @@ fn run(rt: &HostRuntime) -> Result<bool, Stop> {
     compare_files(rt, &words)
 }
 
-/// The system's words, without the program's own name.
+/// The arguments, without the program's own name.
 fn arguments(rt: &HostRuntime) -> io::Result<Vec<String>> {
     Ok(env::args(rt)?.skip(1).collect(rt.alloc())?)
 }
 
-/// Compares the rows of each of these files. The answer is whether none differs.
+/// Compares the rows of these files. Returns whether none differs.
 fn compare_files(rt: &HostRuntime, names: &[String]) -> Result<bool, Stop> {
     let mut agree = true;
     for name in names {
@@ -153,7 +150,7 @@ fn compare_files(rt: &HostRuntime, names: &[String]) -> Result<bool, Stop> {
     Ok(agree)
 }
 
-/// Compares the rows of a file, and writes its name before what comes of it.
+/// Compares the rows of a file, and writes its name before the report.
 fn compare_file(rt: &HostRuntime, name: &str) -> Result<bool, Stop> {
     let text = fs::read_to_string(rt, name).map_err(|error| unread(&error))?;
     let mut comparison = Comparison::new(rt.alloc());
@@ -164,7 +161,7 @@ fn compare_file(rt: &HostRuntime, name: &str) -> Result<bool, Stop> {
     }
 }
 
-/// What a file that can't be read ends the run with.
+/// Why the run ends at a file that can't be read.
 fn unread(error: &io::Error) -> Stop {
     if error.kind() == ErrorKind::OutOfMemory {
         Stop::NoMemory

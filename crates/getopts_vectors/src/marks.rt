@@ -2,23 +2,23 @@
 
 use std::alloc::Global;
 
-/// The size of the request before a call. No call asks for as much at once.
+/// The size of the allocation before a call. No call allocates this size.
 const BEFORE: usize = 7919;
 
-/// The size of the request after a call.
+/// The size of the allocation after a call.
 const AFTER: usize = 7927;
 
-/// Marks that the call comes now.
+/// Marks the beginning of a call.
 pub fn begin(alloc: Global) {
     mark(alloc, BEFORE);
 }
 
-/// Marks that the call is over.
+/// Marks the end of a call.
 pub fn end(alloc: Global) {
     mark(alloc, AFTER);
 }
 
-/// Asks for memory of this size, and gives it back.
+/// Allocates memory of this size, and frees it.
 fn mark(alloc: Global, size: usize) {
     let _ = Vec::<u8>::with_capacity(alloc, size);
 }

@@ -1,4 +1,4 @@
-//! What the lines of a case made so far, and what each line does to it.
+//! The state of a case, and what each line does to it.
 
 ghost use Rattle.getopts.specs.Names.{AreLawful};
 
@@ -8,13 +8,13 @@ use crate::{accessors, asks};
 use getopts::{HasArg, Matches, Occur, Options, ParsingStyle, names_lawful};
 use std::alloc::{AllocError, Global};
 
-/// Options, and what the last words gave by them, if any were read.
+/// Options, and the result of the last words, if any.
 struct Side {
     options: Options,
     read: Option<getopts::Result>,
 }
 
-/// By hand, so that what holds a side calls this.
+/// Written by hand, so that dropping what contains a side calls it.
 impl Drop for Side {
     fn drop(self) {
         let Side {
@@ -48,7 +48,7 @@ impl Side {
         self.options.long_only(long_only);
     }
 
-    /// What the last words gave, where they were accepted.
+    /// The matches of the last words, if they were accepted.
     fn matches(&self) -> Option<&Matches> {
         match &self.read {
             Some(Ok(matches)) => Some(matches),
@@ -57,7 +57,7 @@ impl Side {
     }
 }
 
-/// A copy of what words gave.
+/// A copy of the result of words.
 fn copy_of(read: &Option<getopts::Result>) -> Result<Option<getopts::Result>, AllocError> {
     match read {
         None => Ok(None),
@@ -66,7 +66,7 @@ fn copy_of(read: &Option<getopts::Result>) -> Result<Option<getopts::Result>, Al
     }
 }
 
-/// Whether two sides' words gave the same.
+/// Whether the words of two sides have equal results.
 fn same_reads(read: &Option<getopts::Result>, other: &Option<getopts::Result>) -> bool {
     match (read, other) {
         (None, None) => true,
@@ -76,7 +76,7 @@ fn same_reads(read: &Option<getopts::Result>, other: &Option<getopts::Result>) -
     }
 }
 
-/// The case that is read.
+/// The state of a case.
 #[derive(Drop)]
 pub struct Session {
     begun: bool,
@@ -93,7 +93,7 @@ impl Session {
         }
     }
 
-    /// Does what a line says, its word and its fields, and makes its answer.
+    /// Executes a line, given its word and its fields, and makes its answer.
     pub fn answer(&mut self, alloc: Global, word: &str, fields: &[String], answer: &mut Answer) {
         if !takes(word, fields.len()) {
             answer.stop(WRONG_FIELDS);
@@ -116,7 +116,7 @@ impl Session {
         answer.end();
     }
 
-    /// Does what a line of a case says.
+    /// Executes a line of a case.
     fn follow(&mut self, alloc: Global, word: &str, fields: &[String], answer: &mut Answer) {
         match word {
             "keep" => self.keep(answer),
@@ -130,7 +130,7 @@ impl Session {
         }
     }
 
-    /// Keeps a copy of the options and of what the last words gave.
+    /// Keeps a copy of the options and of the result of the last words.
     fn keep(&mut self, answer: &mut Answer) {
         match self.side.copied() {
             Ok(side) => self.kept = Some(side),
@@ -154,13 +154,13 @@ impl Session {
         }
     }
 
-    /// Reads words, and answers what they give.
+    /// Parses words, and answers their result.
     fn read(&mut self, alloc: Global, word: &str, words: &[String], answer: &mut Answer) {
         self.side.read = Some(read_by(alloc, &self.side.options, word, words));
         self.answer_read(answer);
     }
 
-    /// Answers what the last words gave.
+    /// Answers the result of the last words.
     fn answer_read(&self, answer: &mut Answer) {
         match &self.side.read {
             Some(Ok(matches)) => accessors::accepted(matches, answer),
@@ -177,7 +177,7 @@ impl Session {
         self.answer_read(answer);
     }
 
-    /// Answers what a line asks, by a line.
+    /// Answers a question with a line.
     fn ask(&self, alloc: Global, word: &str, fields: &[String], answer: &mut Answer) {
         answer.word(word);
         if word == "same" {
@@ -190,7 +190,7 @@ impl Session {
         answer.end();
     }
 
-    /// Answers whether what is kept equals what is there.
+    /// Answers whether the kept and the current values are equal.
     fn same(&self, what: &str, answer: &mut Answer) {
         answer.field(what);
         match &self.kept {
@@ -203,7 +203,7 @@ impl Session {
         }
     }
 
-    /// Answers what a line asks of what the last words gave.
+    /// Answers a question about the last words.
     fn ask_of_matches(&self, alloc: Global, word: &str, fields: &[String], answer: &mut Answer) {
         match self.side.matches() {
             Some(matches) => accessors::ask(alloc, matches, word, fields, answer),
@@ -212,7 +212,7 @@ impl Session {
     }
 }
 
-/// Whether a line with this word may have so many fields.
+/// Whether a line with this word may have this number of fields.
 fn takes(word: &str, count: usize) -> bool {
     match count_of(word) {
         Some(wanted) => count == wanted,
@@ -220,7 +220,7 @@ fn takes(word: &str, count: usize) -> bool {
     }
 }
 
-/// How many fields words have.
+/// Words, with their number of fields.
 const COUNTS: [(usize, &str); 6] = [
     (0, "anew called clear keep rows usage_rows"),
     (1, "case mode same short style usage"),
@@ -233,7 +233,7 @@ const COUNTS: [(usize, &str); 6] = [
     (6, "add_group opt"),
 ];
 
-/// How many fields a word has, unless it has any number or isn't known.
+/// The number of fields of a word, unless it takes any number or is unknown.
 fn count_of(word: &str) -> Option<usize> {
     for (count, words) in &COUNTS {
         for known in words.split(' ') {
@@ -249,7 +249,7 @@ fn count_of(word: &str) -> Option<usize> {
     }
 }
 
-/// Whether a line with this word reads words.
+/// Whether a line with this word parses words.
 fn reads(word: &str) -> bool {
     matches!(
         word,
@@ -257,7 +257,7 @@ fn reads(word: &str) -> bool {
     )
 }
 
-/// What words give by the call of this name.
+/// The result of words from the call with this name.
 fn read_by(alloc: Global, options: &Options, word: &str, words: &[String]) -> getopts::Result {
     match word {
         "words" => options.parse(alloc, words.iter().map(|word| word.as_str())),
@@ -285,7 +285,7 @@ fn declares(word: &str) -> bool {
     )
 }
 
-/// Adds a group by the call of this name.
+/// Adds a group with the call of this name.
 fn declare(options: &mut Options, word: &str, fields: &[String], answer: &mut Answer) {
     let short = field_at(fields, 0);
     let long = field_at(fields, 1);
@@ -298,7 +298,7 @@ fn declare(options: &mut Options, word: &str, fields: &[String], answer: &mut An
     }
 }
 
-/// Adds a group of the kinds that the fields name.
+/// Adds a group with the kinds named in the fields.
 fn declare_of_kinds(
     options: &mut Options,
     word: &str,
@@ -319,7 +319,7 @@ fn declare_of_kinds(
     }
 }
 
-/// Adds a group of these kinds. The answer is whether there was memory for it.
+/// Adds a group of these kinds. Returns whether there was memory for it.
 fn add_of_kinds(
     options: &mut Options,
     word: &str,
@@ -342,7 +342,7 @@ fn add_of_kinds(
     }
 }
 
-/// Adds a group by the call of this name. The answer is whether there was memory for it.
+/// Adds a group with the call of this name. Returns whether there was memory for it.
 fn add(options: &mut Options, word: &str, short: &str, long: &str, fields: &[String]) -> bool
     requires { AreLawful short.now long.now }
 {

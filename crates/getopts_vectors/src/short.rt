@@ -1,8 +1,8 @@
-//! Cases that are written short: what their lines are.
+//! Expands cases in short form.
 
 use crate::form::Answer;
 
-/// A case with a length in the place of each `$`.
+/// Replaces each `$` of a case with a length.
 pub fn put_at_length(case: &str, length: usize, text: &mut Answer) {
     text.clear();
     for letter in case.chars() {
@@ -13,7 +13,7 @@ pub fn put_at_length(case: &str, length: usize, text: &mut Answer) {
     }
 }
 
-/// A case's lines, written out.
+/// Expands the lines of a case.
 pub fn put_written_out(case: &str, lines: &mut Answer) {
     lines.clear();
     lines.raw("case\t");
@@ -29,7 +29,7 @@ pub fn put_written_out(case: &str, lines: &mut Answer) {
     lines.raw("\n");
 }
 
-/// Adds what stands in braces, written out.
+/// Expands a part in braces.
 fn put_repeated(repeated: &str, lines: &mut Answer) {
     let (count, turn) = repeated.split_once('|').unwrap_or(("1", repeated));
     for number in 0..count.parse::<usize>().unwrap_or(0) {
@@ -37,7 +37,7 @@ fn put_repeated(repeated: &str, lines: &mut Answer) {
     }
 }
 
-/// Adds the turn of this number.
+/// Adds the repetition with this number.
 fn put_turn(turn: &str, number: usize, lines: &mut Answer) {
     for letter in turn.chars() {
         match letter {

@@ -1,12 +1,12 @@
-//! What ends a run early.
+//! Why a run ends early.
 
 use std::alloc::{AllocError, AllocFailed};
 use std::fmt;
 
-/// What ended a run early.
+/// Why a run ended early.
 #[derive(Clone, Copy)]
 pub enum Stop {
-    /// A line that can't be answered: its number, and why.
+    /// A line that can't be answered: its number, and the reason.
     Line(u64, &'static str),
     /// A file that can't be read.
     NotRead,
@@ -14,17 +14,17 @@ pub enum Stop {
     NotWritten,
 }
 
-/// Its bytes are no text.
+/// It isn't UTF-8.
 pub const NOT_TEXT: Stop = Stop::Line(0, "not UTF-8");
-/// No line begins with this word.
+/// Its word is unknown.
 pub const UNKNOWN_WORD: Stop = Stop::Line(0, "unknown word");
-/// It has fields that its word doesn't take.
+/// Its word doesn't take these fields.
 pub const WRONG_FIELDS: Stop = Stop::Line(0, "wrong fields");
-/// A backslash begins none of the escapes, or a carriage return stands for itself.
+/// It has an unknown escape, or an unescaped carriage return.
 pub const WRONG_ESCAPE: Stop = Stop::Line(0, "wrong escape");
-/// No group may have these two names.
+/// A group can't have these names.
 pub const UNLAWFUL_NAMES: Stop = Stop::Line(0, "unlawful names");
-/// It stands before the first case.
+/// It comes before the first case.
 pub const NO_CASE: Stop = Stop::Line(0, "before the first case");
 
 impl From<AllocError> for Stop {
@@ -40,7 +40,7 @@ impl<T: Drop> From<AllocFailed<T>> for Stop {
 }
 
 impl Stop {
-    /// The status that the program ends with.
+    /// The exit status.
     pub fn status(&self) -> u8 {
         match self {
             Stop::Line(_, _) | Stop::NotRead => 2,

@@ -1,4 +1,4 @@
-//! A row of closures that make texts of usage rows.
+//! A case with closures that turn usage rows into texts.
 
 use getopts::Options;
 use std::alloc::{AllocError, Global};
@@ -11,7 +11,7 @@ fn two_flags(alloc: Global) -> Result<Options, AllocError> {
     Ok(options)
 }
 
-/// Adds what closures return, each as it comes back.
+/// Appends what each closure returns, as the call returns it.
 pub fn push_texts(alloc: Global, text: &mut String) -> Result<(), AllocError> {
     let options = two_flags(alloc)?;
     let mut calls = 0u32;

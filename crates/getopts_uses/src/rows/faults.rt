@@ -1,10 +1,10 @@
-//! Rows of what faults print under any format, of out of memory, which no words give, and of a fault
-//! of an empty name.
+//! Cases for what errors print in any format, for out of memory, which no words cause, and for an
+//! error with an empty name.
 
 use getopts::Fail;
 use std::alloc::{AllocError, Global};
 
-/// The fault of this variant and this name.
+/// The error of this variant with this name.
 fn fault(alloc: Global, variant: &str, name: &str) -> Result<Fail, AllocError> {
     let name = String::from_str(alloc, name)?;
     Ok(match variant {
@@ -17,7 +17,7 @@ fn fault(alloc: Global, variant: &str, name: &str) -> Result<Fail, AllocError> {
     })
 }
 
-/// Adds what the fault of a variant prints, or that there is none.
+/// Appends what the error of a variant prints, or that there is none.
 pub fn push_faults(alloc: Global, text: &mut String, words: &[&str]) -> Result<(), AllocError> {
     match words {
         [variant, name] => push_fault(text, &fault(alloc, variant, name)?),
@@ -25,8 +25,8 @@ pub fn push_faults(alloc: Global, text: &mut String, words: &[&str]) -> Result<(
     }
 }
 
-/// Adds what a fault prints by formats of some widths and precisions, one after another, and whether it
-/// is out of memory, and the same as its clone.
+/// Appends what an error prints in formats of several widths and precisions, and whether it is out
+/// of memory and equal to its clone.
 fn push_fault(text: &mut String, fail: &Fail) -> Result<(), AllocError> {
     write!(
         text,

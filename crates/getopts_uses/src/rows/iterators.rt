@@ -1,4 +1,4 @@
-//! Rows of the iterator that `parse` and `canonical` are given.
+//! Cases for the iterator that `parse` and `canonical` are given.
 
 ghost use Rattle.std.specs.Prelude.{◌-◌, ◌^◌, length};
 ghost use Rattle.std.specs.Iterator.{at_most};
@@ -8,7 +8,7 @@ use getopts::Options;
 use std::alloc::{AllocError, Global};
 use std::cell::Cell;
 
-/// Words, of which some are taken. How many these are stands in a cell too, which others keep.
+/// Words, some of which were taken. How many is also kept in a cell, which others can read.
 #[derive(Drop)]
 struct Counted<'a, 'c> {
     words: &'a [&'a str],
@@ -29,7 +29,7 @@ impl<'a> Iterator for Counted<'a, '_> {
     }
 }
 
-/// Words of which none is taken yet.
+/// Words of which none has been taken.
 fn none_taken<'a, 'c>(words: &'a [&'a str], count: &'c Cell<usize>) -> Counted<'a, 'c> {
     Counted {
         words,
@@ -38,7 +38,7 @@ fn none_taken<'a, 'c>(words: &'a [&'a str], count: &'c Cell<usize>) -> Counted<'
     }
 }
 
-/// Adds which faults come of words, and how many words are taken before each.
+/// Appends the errors of words, and how many words were taken before each.
 pub fn push_taken(alloc: Global, text: &mut String, words: &[&str]) -> Result<(), AllocError> {
     let options = Options::new(alloc);
     let count = Cell::new(0);
@@ -49,7 +49,7 @@ pub fn push_taken(alloc: Global, text: &mut String, words: &[&str]) -> Result<()
     writeln!(text, "{:?} after {}", written.err(), count.get())
 }
 
-/// Words, with the promise of as many as can be counted.
+/// Words, with a promise of the largest number of them.
 #[derive(Drop)]
 struct Promising<'a> {
     words: &'a [&'a str],
@@ -72,7 +72,7 @@ impl<'a> Iterator for Promising<'a> {
     }
 }
 
-/// Adds what comes of words where more are promised.
+/// Appends the results for words if more are promised.
 pub fn push_promised(alloc: Global, text: &mut String, words: &[&str]) -> Result<(), AllocError> {
     let options = Options::new(alloc);
     let read = options.parse(alloc, Promising { words, taken: 0 });

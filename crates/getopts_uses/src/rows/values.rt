@@ -1,14 +1,14 @@
-//! Rows of values that are read as a type that no text can be read as.
+//! Cases with values that are parsed as a type that no text can be parsed as.
 
 use getopts::{HasArg, Matches, Occur, Options};
 use std::alloc::{AllocError, Global};
 use std::str::FromStr;
 
-/// A type that no text can be read as.
+/// A type that no text can be parsed as.
 #[derive(Clone, Copy, Debug)]
 struct Unreadable;
 
-/// The error of each reading of an `Unreadable`.
+/// The error of parsing anything as an `Unreadable`.
 #[derive(Clone, Copy, Debug)]
 struct CannotRead;
 
@@ -20,7 +20,7 @@ impl FromStr for Unreadable {
     }
 }
 
-/// Options with an option `c`/`color` that may have a value, and may come often.
+/// Options with an option `c`/`color` that may have a value, and may be repeated.
 fn color(alloc: Global) -> Result<Options, AllocError> {
     let mut options = Options::new(alloc);
     options.add_group(
@@ -34,7 +34,7 @@ fn color(alloc: Global) -> Result<Options, AllocError> {
     Ok(options)
 }
 
-/// Adds what the value of `c` is read as, with no default and with one.
+/// Appends what the value of `c` is parsed as, without a default and with one.
 pub fn push_unreadable(alloc: Global, text: &mut String, words: &[&str]) -> Result<(), AllocError> {
     match color(alloc)?.parse_words(alloc, words) {
         Ok(matches) => push_values(text, &matches),
@@ -42,7 +42,7 @@ pub fn push_unreadable(alloc: Global, text: &mut String, words: &[&str]) -> Resu
     }
 }
 
-/// Adds what the value of `c` is read as, with no default and with one.
+/// Appends what the value of `c` is parsed as, without a default and with one.
 fn push_values(text: &mut String, matches: &Matches) -> Result<(), AllocError> {
     if !matches.opt_defined("c") {
         return writeln!(text, "no c");

@@ -1,4 +1,4 @@
-//! Rows of callers that are given options: those of a wrapper.
+//! Cases for callers that are given options, here the options of a wrapper.
 
 ghost use Rattle.std.specs.Prelude.{IfOk, codes};
 ghost use Rattle.getopts.specs.Options.{Declares};
@@ -21,7 +21,7 @@ fn wrapped(alloc: Global) -> Result<Options, AllocError>
     Ok(options)
 }
 
-/// Adds what a caller returns for words, by the options of a wrapper.
+/// Appends what a caller returns for words, with the options of a wrapper.
 pub fn push_wrapped(
     alloc: Global,
     text: &mut String,
@@ -37,7 +37,7 @@ pub fn push_wrapped(
     }
 }
 
-/// Adds whether a flag of this name was added, and whether the options are as before.
+/// Appends whether a flag of this name was added, and whether the options are unchanged.
 fn push_plugin(text: &mut String, options: &mut Options, name: &str) -> Result<(), AllocError> {
     let before = options.clone()?;
     let added = add_flag(options, name, "run the plugin");
@@ -45,8 +45,8 @@ fn push_plugin(text: &mut String, options: &mut Options, name: &str) -> Result<(
     writeln!(text, "added {added}, as before {same}")
 }
 
-/// Adds what words give where they end at the first free word and one dash is enough, by calls in a
-/// chain.
+/// Appends the results for words if options end at the first free word and one dash is enough, by
+/// chained calls.
 fn push_chained(
     alloc: Global,
     text: &mut String,
@@ -63,7 +63,7 @@ fn push_chained(
     }
 }
 
-/// Adds what a caller returns of the matches of a line that gives the flag of a plugin.
+/// Appends what a caller returns for the matches of a command line that gives a plugin's flag.
 fn push_asked(
     alloc: Global,
     text: &mut String,
@@ -78,7 +78,7 @@ fn push_asked(
     }
 }
 
-/// Adds what a caller returns of matches.
+/// Appends what a caller returns for matches.
 fn push_of_matches(
     text: &mut String,
     matches: &Matches,
