@@ -1,7 +1,7 @@
-"""Completion by getopts_shell: its own answers, and in bash, zsh and fish, each in a terminal of its own.
+"""Completion by getopts_shell: its own output, and in bash, zsh and fish, each in a terminal.
 
-Lines are typed with a tab at the end and run; a command of the same name then says which words it was given. What is
-expected is computed here and by model.py, by the rules, and not by the program.
+Lines are typed, completed with a tab and run; a command of the same name then logs its arguments. Expected results are
+computed here and by model.py, from the rules and not from the program.
 """
 
 import os
@@ -24,18 +24,18 @@ TABLE = """
 [--a:b]
 [-h|--help]  print this help
 """
-# Of each option its short and long name, its argument, whether it may come again, and its description.
+# For each option: its short and long name, its argument, whether it has dots, and its description.
 OPTIONS = re.findall(r"^\[(?:-(\w))?\|?(?:--([\w:]+))?( FILE| \[WHEN\])?\](\.\.)?(?:  (.*))?$", TABLE, re.M)
 KINDS = {"": "no", " FILE": "yes", " [WHEN]": "maybe"}
 FILES = ["files"]
-# The commands, and how each reads its words.
+# The commands, and the flags with which each parses its arguments.
 FLAGS = {"backup": "", "stops": "-s", "longs": "-l"}
-# Files that may be completed.
+# Files to complete.
 NAMES = ["file.txt", "spa ce"]
 
 
 def offers(before, word, flags=""):
-    """What may be offered at a word after these words: files, or forms of options with their descriptions."""
+    """The candidates for a word after these words: files, or options with their descriptions."""
     groups = [Group(short.encode(), long.encode(), KINDS[argument], "multi") for short, long, argument, _, _ in OPTIONS]
     long_only = "l" in flags
     readings = Options(groups, "s" in flags, long_only).readings([one.encode() for one in before], whole=True)
@@ -55,8 +55,8 @@ def offers(before, word, flags=""):
 
 
 @pytest.mark.parametrize("flags", ["-s", "-l", "-sl", ""])
-def test_what_may_come(shell, flags):
-    """The program's own answers, at each word of these lines and after them."""
+def test_completion_candidates(shell, flags):
+    """The program's output at each word of these lines, and after the last."""
     for line in ["", "-", "--", "--i", "x --", "-- -", "-v --verb", "-v -v", "-i -", "-i", "-ix --", "--input --",
                  "--input -- --", "--input= --in", "-c --", "-c x -", "--color --c", "--output=f", "--verbose=",
                  "--color=a=b", "--nope -", "-vc -", "-o=x", "-L x -L", "-input -", "-input x -", "-help --h",
@@ -69,7 +69,7 @@ def test_what_may_come(shell, flags):
 
 @pytest.fixture
 def room(shell, tmp_path):
-    """A folder with the program, and with scripts that log their words, in `bin`, and files to complete in `here`."""
+    """A folder with the program and scripts that log their arguments in `bin`, and files to complete in `here`."""
     for folder in ("bin", "here", "site"):
         (tmp_path / folder).mkdir()
     (tmp_path / "bin/getopts_shell").symlink_to(shell)
@@ -80,7 +80,7 @@ def room(shell, tmp_path):
     return tmp_path
 
 
-# A name and a table of any bytes.
+# A name and a table with special characters.
 NAME, ANY = "it's \\ a; $(touch ran) `touch ran`", "[-a]  \\ ' \\' $(touch ran) `touch ran`\\"
 BASH = "COMP_LINE='x ' COMP_POINT=2 COMP_WORDS=(x '') COMP_CWORD=1 COMP_TYPE=9; _getopts_shell_offer "
 
@@ -89,8 +89,8 @@ BASH = "COMP_LINE='x ' COMP_POINT=2 COMP_WORDS=(x '') COMP_CWORD=1 COMP_TYPE=9; 
     ("bash", "", BASH + shlex.quote(NAME)),
     ("zsh", "compdef() { call=$1; }\n", "CURRENT=2 words=(x '') PREFIX=; eval $call"),
     ("fish", "function complete; set -g call $argv[-1]; end\n", "function commandline; echo x; end; eval echo $call")])
-def test_names_and_tables_of_any_bytes(room, name, before, ask):
-    """They come to the program as they are, and the shell runs none of them."""
+def test_names_and_tables_with_special_characters(room, name, before, ask):
+    """They reach the program unchanged, and the shell runs nothing in them."""
     need(name)
     code, _ = run(room / "bin/getopts_shell", "--complete", name, NAME, ANY)
     (room / "bin/getopts_shell").unlink()
@@ -103,7 +103,7 @@ def test_names_and_tables_of_any_bytes(room, name, before, ask):
 
 @pytest.mark.parametrize("name, named", [("backup", True), ("back-up_2.sh", True), ("a\n: ran", False), ("a b", False),
                                          ("-k", False)])
-def test_first_line_for_zsh(shell, name, named):
+def test_zsh_compdef_line(shell, name, named):
     code, _ = run(shell, "--complete", "zsh", "--", name, ANY)
     assert code.startswith(f"#compdef {name}\n" if named else "") and code.startswith("#") == named
 
@@ -111,8 +111,8 @@ def test_first_line_for_zsh(shell, name, named):
 # ---- in a terminal
 
 class Terminal:
-    """A shell in a terminal, once it has read the code for each script, or finds it as files in zsh's `$fpath`, in a
-    folder with a log of the words that its commands were given."""
+    """A shell in a terminal that has read the completion code of each script, or finds it as files in zsh's `$fpath`.
+    A log has the arguments of the commands that were run."""
 
     def __init__(self, name, room, files):
         home = room / ("config/fish/config.fish" if name == "fish" else f".{name}rc")
@@ -147,7 +147,7 @@ class Terminal:
                 return
 
     def type(self, keys):
-        """Types keys, and waits for the words of the command that they run: the words, and what the terminal showed."""
+        """Types keys that run a command. Returns its arguments, and what the terminal showed."""
         self.text, end = b"", time.monotonic() + 60
         os.write(self.fd, keys.encode())
         while time.monotonic() < end:
@@ -165,7 +165,7 @@ class Terminal:
         os.waitpid(self.process, 0)
 
 
-# What is typed of a line before the tab: the words, where the last is completed.
+# The arguments typed before the tab, which completes the last one.
 LINES = {
     "backup": ["--inp", "-v --verb", "--he", "-h --he", "x --inp", "-i --inp", "-i x --inp", "--input=x --outp",
                "--input=x --inp", "-- --inp", "fi", "-o fi", "--output=fi", "--output=sp", "--verbose=fi", "--color=fi",
@@ -177,12 +177,12 @@ LINES = {
 
 
 def words_after(name, typed, flags):
-    """The words of a typed line once its last is completed, if that is sure: at most one thing fits. One offer is
-    inserted, and a space; a file after what stands before it."""
+    """The arguments of a typed line after completion. The last one changes if at most one candidate fits: an option is
+    inserted with a space, a file after the text before it."""
     *before, word = shlex.split(typed)
     offered = offers(before, word, flags)
     if offered in (FILES, ["value"]):
-        # (bash itself completes files after the last `=` of a word)
+        # (bash itself completes files after the last `=` of a word.)
         place = word.rfind("=") if name == "bash" else word.find("=") if offered == ["value"] else -1
         fits = [word[:place + 1] + file for file in NAMES if file.startswith(word[place + 1:])]
     else:
@@ -201,10 +201,10 @@ def test_completion_in_a_terminal(room, name, files):
             got, shown = terminal.type(f"{command} {typed}\t\r")
             assert got == words_after(name, typed, FLAGS[command]), shown
             assert not re.search("command not found|unbound|getopts_shell", shown), typed
-    # A script by its path.
+    # A script called by its path.
     got, shown = terminal.type(f"{room}/bin/backup --inp\t\r")
     assert got == ["--input"], shown
-    # Where several options fit, each is shown with its description as the table has it, but for one that was given.
+    # If several options fit, each is shown with its description from the table, except one that was already given.
     _, shown = terminal.type("backup -h -\t" + ("" if name != "fish" else "\x1b") + "\r")
     shown = " ".join(re.sub(r"\x1b\[[0-9;?]*[a-zA-Z]|\x1b\(B|\x0f", "", shown).split())
     for line in offers(["-h"], "-"):

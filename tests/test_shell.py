@@ -1,6 +1,5 @@
-"""The programs for shell scripts: what they answer, and what each shell that is installed makes of their code. They are the
-proved one, those that bindings/shell carries, this machine's and aarch64's by qemu, and the one that cargo builds, also for
-Windows. And their installation, and start.c by itself."""
+"""getopts_shell: its output, and what each installed shell does with its code. The tests run the proved program, the
+checked-in ones (for aarch64 in qemu), and the one that cargo builds, also for Windows. Also: installation, start.c."""
 
 import functools
 import os
@@ -15,7 +14,7 @@ from pathlib import Path
 import pytest
 from conftest import MACHINE, ROOT, answer, need, rows_in, run, script
 from shell import lines, tables
-from targets import cargo, cargo_for, committed, copied, offline, runner
+from targets import cargo, cargo_for, commit_repository, copy_folders, offline, runner
 
 SHELL = ROOT / "bindings/shell"
 SHELLS = ["dash", "bash", "bash --posix", "zsh", "ksh93", "mksh", "yash", "busybox sh"]
@@ -24,19 +23,19 @@ START = ["-std=c11", "-Wall", "-Wextra", "-Wpedantic", "-Wshadow", "-Wconversion
 ROWS = rows_in("tests/shell/answers.rows")
 TABLE = next(fields[3] for fields, _ in ROWS if fields[1:3] == ["-u", "backup"])
 
-# The programs, by the fixtures that have them. What cargo builds, one worker builds.
+# The programs, by the names of their fixtures. One worker builds everything that cargo builds.
 PROVED = pytest.param("shell", id="proved", marks=pytest.mark.built)
 BY_CARGO = pytest.param("by_cargo", marks=pytest.mark.xdist_group("getopts_shell by cargo"))
 BY_WINE = pytest.param("by_wine", marks=pytest.mark.xdist_group("getopts_shell by wine"))
-HERE = pytest.mark.parametrize("program", [PROVED, "carried", BY_CARGO], indirect=True)
-EACH = pytest.mark.parametrize("program", [PROVED, "carried", BY_CARGO, "by_qemu", BY_WINE], indirect=True)
+HERE = pytest.mark.parametrize("program", [PROVED, "checked_in", BY_CARGO], indirect=True)
+EACH = pytest.mark.parametrize("program", [PROVED, "checked_in", BY_CARGO, "by_qemu", BY_WINE], indirect=True)
 OTHERS = pytest.mark.parametrize("program", [BY_CARGO, "by_qemu", BY_WINE], indirect=True)
 
 
 @pytest.fixture(scope="session")
 def by_qemu(tmp_path_factory):
     if MACHINE == "aarch64":
-        pytest.skip("this machine is one")
+        pytest.skip("this machine is an aarch64")
     need("qemu-aarch64")
     text = f'#!/bin/sh\nexec qemu-aarch64 "{SHELL}/aarch64/getopts_shell" "$@"\n'
     return script(tmp_path_factory.mktemp("qemu") / "by_qemu", text)
@@ -44,10 +43,10 @@ def by_qemu(tmp_path_factory):
 
 @pytest.fixture(scope="session")
 def by_cargo(tmp_path_factory):
-    """The program that cargo installs from a clone."""
+    """The program as cargo installs it from a clone."""
     need("cargo", "cc")
     room = tmp_path_factory.mktemp("cargo")
-    clone = committed(copied(room, "bindings/rust", "bindings/shell") / "bindings")
+    clone = commit_repository(copy_folders(room, "bindings/rust", "bindings/shell") / "bindings")
     run("cargo", "install", *offline()[1:], "--quiet", "--git", clone, "--root", room / "root", "getopts_shell")
     return room / "root/bin/getopts_shell"
 
@@ -55,20 +54,20 @@ def by_cargo(tmp_path_factory):
 @pytest.fixture(scope="session")
 def by_wine(tmp_path_factory, other_targets):
     room, target = tmp_path_factory.mktemp("wine"), "x86_64-pc-windows-gnu"
-    folder = copied(room, "bindings/rust", "bindings/shell") / "bindings/shell"
-    # Cargo of that age reads no lock of today, and rustc asks for what the source has that is newer.
+    folder = copy_folders(room, "bindings/rust", "bindings/shell") / "bindings/shell"
+    # This old cargo can't read today's lock files, and its rustc needs a flag for newer features in the source.
     cargo_for(target, folder, "build", "--release", "--ignore-rust-version",
               env={"RUSTFLAGS": "-Zcrate-attr=feature(let_else)"})
     wine = shutil.which(runner(target, room)[0])
     by = script(room / "by_wine", f"""#!/usr/bin/env bash
-# What wine itself says is left out.
+# Wine's own messages are dropped.
 "{wine}" "{folder}/target/{target}/release/getopts_shell.exe" "$@" 2>"{room}/errors"
 status=$?
 sed '/^wine: /d' "{room}/errors" >&2
 exit $status
 """)
-    # The server stays, so that no run meets one that is ending. The first run makes wine's folder, and begins what would
-    # hold a later run's pipes.
+    # Keep the server running, so that no run meets one that is shutting down. The first run creates wine's folder, and
+    # starts processes that would otherwise keep a later run's pipes open.
     (room / "wine").mkdir(exist_ok=True)
     server = shutil.which("wineserver") or next(map(str, Path("/usr/lib/wine").glob("wineserver*")), None)
     alone = {"stdin": subprocess.DEVNULL, "stdout": subprocess.DEVNULL, "stderr": subprocess.DEVNULL, "timeout": 300}
@@ -82,7 +81,7 @@ exit $status
 
 @pytest.fixture
 def program(request, tmp_path_factory, monkeypatch):
-    """One of the programs, by the name that scripts call, and first on the path."""
+    """One of the programs, called getopts_shell and first on the path."""
     folder = tmp_path_factory.getbasetemp() / f"bin-{request.param}"
     if not folder.exists():
         built = request.getfixturevalue(request.param)
@@ -94,34 +93,34 @@ def program(request, tmp_path_factory, monkeypatch):
 
 @pytest.fixture(params=SHELLS)
 def one_shell(request):
-    """One of the shells, as its words."""
+    """The command of one of the shells."""
     words = request.param.split()
     need(words[0])
     return words
 
 
-# ---- what they answer
+# ---- output
 
 @EACH
 @pytest.mark.parametrize("row", ROWS, ids=[str(at) for at in range(len(ROWS))])
 def test_row(program, row):
     (status, *words), text = row
     if "wine" in program.parent.name and sum(map(len, words)) > 10_000:
-        pytest.skip("words that are too long for Windows")
+        pytest.skip("arguments too long for Windows")
     assert run(program, *words, status=int(status)) == ((text, "") if status == "0" else ("", text))
 
 
 @OTHERS
 @pytest.mark.parametrize("name", ["bash", "zsh", "fish"])
-def test_completion_is_that_of_the_carried_program(program, name, carried):
+def test_completion_matches_checked_in_program(program, name, checked_in):
     words = ["--complete", name, "backup", TABLE]
-    assert run(program, *words) == (run(carried, *words)[0], "")
+    assert run(program, *words) == (run(checked_in, *words)[0], "")
 
 
 @HERE
 @pytest.mark.parametrize("own", [["-V", "opt_"], ["-AV", "opt_"]], ids=" ".join)
 @pytest.mark.parametrize("words", [["--help"], ["-x"], ["x"], ["-ia", "-ib"], ["-i"]], ids=" ".join)
-def test_help_and_faults_are_those_without_variables(program, own, words):
+def test_help_and_errors_with_variables(program, own, words):
     both = [subprocess.run([program, *more, "try", TABLE, *words], capture_output=True) for more in ([], own)]
     plain, variables = ((done.returncode, done.stdout, done.stderr) for done in both)
     assert plain == variables
@@ -133,20 +132,20 @@ def test_tables_with_one_byte_changed(program, cases):
 
 
 @HERE
-def test_tables_of_operands(program):
+def test_operand_tables(program):
     tables.operand_tables(program)
 
 
 @HERE
 def test_closed_streams(program):
-    """What can't be written is told by the proved program; Rust's library opens /dev/null before one by cargo begins."""
+    """The proved program reports failed writes; in the one by cargo, Rust's library has opened /dev/null instead."""
     by_rust = program.parent.name == "bin-by_cargo"
     for words, status, closed in (["--version"], 0, 1), (["n", "[-a]", "-b"], 2, 2), (["n"], 5, 2):
         assert answer("sh", "-c", f'exec getopts_shell "$@" {closed}>&-', "sh", *words) == (b"", status if by_rust else 4)
 
 
-def by_getopt(options, words):
-    """What getopt(1) reads, in canonical form, or None where it refuses the words."""
+def read_by_getopt(options, words):
+    """The canonical line of what getopt(1) reads, or None if it rejects the words."""
     colons = {"no": "", "yes": ":", "maybe": "::"}
     shorts = "".join(short + colons[kind] for short, _, kind, _ in options if short)
     longs = ",".join(long + colons[kind] for _, long, kind, _ in options if long)
@@ -163,14 +162,14 @@ def by_getopt(options, words):
 
 
 @HERE
-def test_lines_as_getopt_reads_them(program):
+def test_matches_getopt(program):
     need("getopt")
     if answer("getopt", "--test")[1] != 4:
-        pytest.skip("this getopt isn't that of util-linux")
+        pytest.skip("this getopt isn't from util-linux")
     rng, asked = random.Random(44), 0
     while asked < 500:
         options, words, given, _ = lines.case_of(rng, alone=0)
-        # With getopt(1) an optional argument stands in the option's word, and one that is empty is none.
+        # With getopt(1), an optional argument must be attached, and an empty one counts as none.
         if any(options[place][2] == "maybe" and value in ["", *words] for place, value in given):
             continue
         if rng.random() < 0.2:
@@ -181,7 +180,7 @@ def test_lines_as_getopt_reads_them(program):
             words += [f"-{short}" if short else f"--{long}" for short, long, kind, _ in options if kind == "yes"][:1]
         said, status = answer(program, "try", lines.written(options), *words)
         ours = None if status else shlex.split(os.fsdecode(said))[2:]
-        assert ours == by_getopt(options, words), words
+        assert ours == read_by_getopt(options, words), words
         asked += 1
 
 
@@ -198,12 +197,12 @@ def test_random_lines(program, one_shell, tmp_path, cases, way):
     if way == "arrays" and one_shell[0] not in lines.WITH_ARRAYS:
         pytest.skip(f"{one_shell[0]} has no arrays")
     count = cases(500, 40) if program.parent.name == "bin-shell" else cases(100, 50)
-    lines.in_shell(one_shell, tmp_path, *random_scripts(program, way, count))
+    lines.run_in_shell(one_shell, tmp_path, *random_scripts(program, way, count))
 
 
 @HERE
-def test_scripts_of_the_page(program, one_shell, tmp_path, monkeypatch):
-    """The page's first script, and its loop with what shows what it read; and the examples."""
+def test_scripts_on_page(program, one_shell, tmp_path, monkeypatch):
+    """The README's first script, its loop with output added, and the examples."""
     first, loop = re.findall(r"```sh\n(.*?)```", (SHELL / "README.md").read_text(), re.S)[:2]
     show = "printf '%s\\n' \"$input|$output|$verbose|$color|$folders\"\nfor word do printf '%s\\n' \"$word\"; done\n"
     (tmp_path / "first").write_text(first)
@@ -211,7 +210,7 @@ def test_scripts_of_the_page(program, one_shell, tmp_path, monkeypatch):
     for name in ("backup", "notes"):
         (tmp_path / name).symlink_to(SHELL / "examples" / name)
     (tmp_path / "notes.txt").write_text("")
-    # What the scripts read doesn't come from variables that are there already.
+    # Variables of the environment mustn't influence the scripts.
     for name in ("input", "output", "verbose", "color", "folders", "L", "help"):
         monkeypatch.setenv(name, "1")
         monkeypatch.setenv(f"opt_{name}", "1")
@@ -226,27 +225,27 @@ def test_scripts_of_the_page(program, one_shell, tmp_path, monkeypatch):
 
 @HERE
 @pytest.mark.parametrize("row", rows_in("tests/shell/sentences.rows"), ids=lambda row: row[0][0])
-def test_sentence_of_the_page(program, one_shell, row):
+def test_sentence_on_page(program, one_shell, row):
     (_, where, out), script = row
     if where != "all" and one_shell[0] not in where.split():
-        pytest.skip(f"it is said of {where}")
+        pytest.skip(f"this sentence is about {where}")
     assert subprocess.run([*one_shell, "-c", script], capture_output=True).stdout == out.encode()
 
 
 @pytest.fixture
 def open_room():
-    """A folder that every user may read and write."""
+    """A folder that every user can read and write."""
     with tempfile.TemporaryDirectory() as room:
         os.chmod(room, 0o777)
         yield Path(room)
 
 
-def limited(program, room, *words, **env):
-    """What words write where this program is called getopts_shell, and how many processes came of them: with thirty at a
-    time at most, of a user of their own, and all ended after five seconds."""
+def run_limited(program, room, *words, **env):
+    """Runs a command with this program as getopts_shell: its output, and how many processes it started. It runs as a
+    user of its own with at most thirty processes at a time, and is killed after five seconds."""
     need("unshare", "setpriv", "prlimit")
     if os.getuid() != 0:
-        pytest.skip("only the system administrator may limit another user's processes")
+        pytest.skip("needs root, to limit another user's processes")
     shutil.copy2(program, room / "getopts_shell")
     user = 100_000 + os.getpid()
     counted = """timeout -s KILL 5 "$@"; printf '\\0'; sh -c 'echo $$'; :"""
@@ -257,7 +256,7 @@ def limited(program, room, *words, **env):
     return wrote, int(count)
 
 
-# What a script may set before it reads its options, and the shells that fork without end by that alone.
+# Settings that a script may have before it reads its options, and the shells that fork endlessly from these alone.
 SETTINGS = {"set -eu": [], "set -fx": [], "set -v": [], "IFS=-_o2": [], "PS4='$(date)'; set -x": ["yash"],
             "trap 'date >/dev/null' CHLD": ["dash", "mksh", "yash", "busybox"]}
 
@@ -265,24 +264,24 @@ SETTINGS = {"set -eu": [], "set -fx": [], "set -v": [], "IFS=-_o2": [], "PS4='$(
 @HERE
 @pytest.mark.parametrize("setting", SETTINGS)
 def test_setting(program, one_shell, open_room, setting):
-    """A script reads the same after it, by a few processes."""
+    """A script reads the same options after such a setting, with few processes."""
     if one_shell[0] in SETTINGS[setting]:
-        pytest.skip(f"{one_shell[0]} forks without end by that alone")
+        pytest.skip(f"{one_shell[0]} forks endlessly from this setting alone")
     (open_room / "script").write_text(f"""{setting}
 code=$(getopts_shell --variables o_ n "[-v]  say more
 [-L DIR]..  a folder" -v -L 1 -L '2 3' "a b") || exit
 eval "$code"
 printf '%s|' "$o_v" "$o_L" "$1"
 """)
-    wrote, count = limited(program, open_room, *one_shell, "script")
+    wrote, count = run_limited(program, open_room, *one_shell, "script")
     assert wrote == "1|'1' '2 3'|a b|" and count < 25
 
 
 @HERE
 @pytest.mark.parametrize("where", ["its name", "BASH_ENV", ".zshenv"])
 def test_script_that_calls_itself(program, open_room, where):
-    """As the page says, a script does so without end that is called getopts_shell, and so does one whose shell reads the
-    line of its completion wherever it starts."""
+    """As the README says, a script called getopts_shell calls itself forever. So does a script whose shell runs the
+    line for completion whenever it starts."""
     shell = {"BASH_ENV": "bash", ".zshenv": "zsh"}.get(where, "sh")
     need(shell)
     text = f"""#!/usr/bin/env {shell}
@@ -292,22 +291,22 @@ code=$(getopts_shell backup '[-v]  say more' "$@") || exit
     script(open_room / "backup", text)
     (open_room / ".zshenv").write_text(f'eval "$(backup --completion {shell})"\n')
     env = {} if where == "its name" else {"BASH_ENV": f"{open_room}/.zshenv", "ZDOTDIR": str(open_room)}
-    _, count = limited(program if env else open_room / "backup", open_room, "backup", **env)
+    _, count = run_limited(program if env else open_room / "backup", open_room, "backup", **env)
     assert count > 25
 
 
 @pytest.mark.parametrize("words", ["-vi a x", "--input=a -v -- -v", "--help", "-x", "--completion fish"])
-def test_with_nothing_but_busybox(words, carried, tmp_path):
-    """In a root that has busybox, the program and a script, the script does what it does here."""
+def test_root_with_only_busybox(words, checked_in, tmp_path):
+    """In a root with only busybox, the program and a script, the script has the same output as here."""
     need("busybox")
     busybox = Path(shutil.which("busybox"))
     if answer("ldd", busybox)[1] == 0:
-        pytest.skip("busybox isn't static: apt-get install busybox-static")
+        pytest.skip("needs a static busybox: apt-get install busybox-static")
     if os.getuid() != 0:
-        pytest.skip("only the system administrator may make a root")
+        pytest.skip("needs root, for chroot")
     folder = tmp_path / "root/bin"
     folder.mkdir(parents=True)
-    for file in (busybox, carried, SHELL / "examples/backup"):
+    for file in (busybox, checked_in, SHELL / "examples/backup"):
         shutil.copy2(file, folder / file.name)
     (folder / "sh").hardlink_to(folder / "busybox")
     inside = answer("chroot", tmp_path / "root", "/bin/busybox", "env", "-i", "PATH=/bin", "sh", "/bin/backup", *words.split())
@@ -315,11 +314,11 @@ def test_with_nothing_but_busybox(words, carried, tmp_path):
     assert inside == here
 
 
-# ---- how they are built and installed
+# ---- build and installation
 
 @pytest.mark.parametrize("compiler", ["gcc", "clang", "musl-gcc", "aarch64-linux-gnu-gcc"])
 def test_start(compiler, tmp_path):
-    """start.c does what is declared of it."""
+    """The functions of start.c do what their declarations say."""
     flags = ["-static", "-O2"] if "-gcc" in compiler else ["-fsanitize=undefined", "-fno-sanitize-recover=all", "-g"]
     by = ["qemu-aarch64"] if compiler.startswith("aarch64") and MACHINE != "aarch64" else []
     need(compiler, *by)
@@ -327,13 +326,13 @@ def test_start(compiler, tmp_path):
     run(*by, tmp_path / "start", "", "three")
 
 
-def test_install(carried, tmp_path):
-    """The program where the caller says, below DESTDIR, of another processor; and nothing after --uninstall."""
+def test_install(checked_in, tmp_path):
+    """Installs to PREFIX, below DESTDIR, and for another processor; --uninstall leaves nothing."""
     def install(*words, status=0, **env):
         run("sh", SHELL / "install.sh", *words, status=status, cwd=tmp_path, env=env)
 
     install("a prefix", CDPATH=f"/:{SHELL}")
-    assert (tmp_path / "a prefix/bin/getopts_shell").read_bytes() == carried.read_bytes()
+    assert (tmp_path / "a prefix/bin/getopts_shell").read_bytes() == checked_in.read_bytes()
     assert (tmp_path / "a prefix/share/man/man1/getopts_shell.1").is_file()
     licences = {"LICENSE-musl", "LICENSE-MIT", "LICENSE-APACHE", "NOTICE"}
     assert set(os.listdir(tmp_path / "a prefix/share/doc/getopts_shell")) == licences
@@ -343,7 +342,7 @@ def test_install(carried, tmp_path):
         assert (tmp_path / "stage/usr/bin/getopts_shell").read_bytes() == there.read_bytes()
     install("/nowhere", status=1, MACHINE="m68k")
     assert not Path("/nowhere").exists()
-    # A link in the place of a file goes, and what it names stays; a folder there is told, and so is another system.
+    # A link in the place of a file is replaced, its target stays. A folder there is an error, and so is another system.
     (tmp_path / "page").write_text("others'")
     (tmp_path / "a prefix/share/man/man1/getopts_shell.1").unlink()
     (tmp_path / "a prefix/share/man/man1/getopts_shell.1").symlink_to(tmp_path / "page")
@@ -358,13 +357,13 @@ def test_install(carried, tmp_path):
     install("other", status=1, PATH=f"{tmp_path}/bsd:{os.environ['PATH']}")
     (tmp_path / "bsd/uname").unlink()
     (tmp_path / "link").symlink_to(SHELL / "install.sh")
-    assert "not by a link" in run("sh", tmp_path / "link", "other", status=1)[1]
+    assert "through a symbolic link" in run("sh", tmp_path / "link", "other", status=1)[1]
     (tmp_path / "link").unlink()
     install("--uninstall", "a prefix")
     install("--uninstall", "/usr", DESTDIR="stage/")
     assert not [path for path in tmp_path.rglob("*") if not path.is_dir()]
 
 
-def test_cargo_without_a_warning(tmp_path):
-    folder = copied(tmp_path, "bindings/rust", "bindings/shell") / "bindings/shell"
+def test_cargo_without_warnings(tmp_path):
+    folder = copy_folders(tmp_path, "bindings/rust", "bindings/shell") / "bindings/shell"
     cargo(folder, "check", env={"RUSTFLAGS": "-D warnings"})

@@ -1,7 +1,7 @@
 #!/bin/sh
 # Installs the program for this machine's processor and its manual page, or removes them.
 # usage: install.sh [--uninstall] PREFIX
-# It writes below DESTDIR. MACHINE names another processor, as `uname -m` does.
+# Files are written below DESTDIR. MACHINE selects another processor, by the name that `uname -m` prints.
 set -eu
 unset CDPATH
 remove='' licences='LICENSE-musl ../../LICENSE-MIT ../../LICENSE-APACHE ../../NOTICE'
@@ -23,19 +23,19 @@ if [ -n "$remove" ]; then
 fi
 cd "$(dirname "$0")"
 if [ -z "${MACHINE-}" ] && [ "$(uname -s)" != Linux ]; then
-    echo "install.sh: there is no program for $(uname -s), only for Linux: README.md says how cargo builds it" >&2
+    echo "install.sh: no binary for $(uname -s), only for Linux; see README.md for building with cargo" >&2
     exit 1
 fi
 machine=${MACHINE:-$(uname -m)}
 case $machine in amd64) machine=x86_64 ;; arm64) machine=aarch64 ;; esac
 if [ ! -f "$machine/getopts_shell" ]; then
-    [ -d x86_64 ] || { echo "install.sh: call it by its own place, not by a link" >&2; exit 1; }
-    echo "install.sh: there is no program for $machine, only for" */getopts_shell | sed 's|/getopts_shell||g' >&2
+    [ -d x86_64 ] || { echo "install.sh: don't run this script through a symbolic link" >&2; exit 1; }
+    echo "install.sh: no binary for $machine, only for" */getopts_shell | sed 's|/getopts_shell||g' >&2
     exit 1
 fi
 (cd "$machine" && sha256sum -c getopts_shell.sha256 >/dev/null)
 mkdir -p "$to/bin" "$to/share/man/man1" "$papers"
-# put FILE PLACE MODE: the old file stays until the new one is whole.
+# put FILE PLACE MODE: replaces a file only once the new one is complete.
 put() {
     if [ -d "$2" ]; then
         echo "install.sh: $2 is a folder" >&2

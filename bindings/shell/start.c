@@ -1,7 +1,7 @@
-/* What the program asks of the system, for a static program: its words, errors, signals and memory. Each function does
- * what Rattle's crates `os` and `libc` declare of it. No proof covers this file.
+/* What the program needs from the system, for a static program: arguments, errors, signals and memory. Each function
+ * does what Rattle's crates `os` and `libc` declare. No proof covers this file.
  *
- * It is linked with --wrap=main: the C library calls __wrap_main, and __real_main is the proved program's. */
+ * It is linked with --wrap=main: the C library calls __wrap_main, and __real_main is the proved program's main. */
 #define _DEFAULT_SOURCE
 #include "start.h"
 
@@ -38,13 +38,13 @@ void rattle_set_errno(int error) {
     errno = error;
 }
 
-/* glibc alone has this name. The program begins by ignoring SIGPIPE, so that a write to a closed pipe fails. */
+/* Only glibc has this name. The program first ignores SIGPIPE, so that writing to a closed pipe fails. */
 void (*__sysv_signal(int number, void (*handler)(int)))(int) {
     return signal(number, handler);
 }
 
-/* The heap. Each block has 2^class bytes, a head among them, and lies in a chunk that the system gave. A block that was
- * freed serves the next request of its class. malloc would take more instructions than the rest of the program. */
+/* The heap. A block has 2^class bytes including its head, and lies in a chunk from the system. A freed block is reused
+ * for the next request of its class. malloc would take more instructions than the rest of the program. */
 struct head {
     size_t class;
     struct head *next;
@@ -56,7 +56,7 @@ static struct head *freed[64];
 static unsigned char *unused;
 static size_t unused_len;
 
-/* A block of a class, or NULL if there is no memory. */
+/* Allocates a block of a class; NULL if there is no memory. */
 static struct head *taken(size_t class) {
     size_t len = (size_t)1 << class;
     struct head *head = freed[class];

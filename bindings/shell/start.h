@@ -1,4 +1,4 @@
-/* What the program asks of the system, as Rattle's crates `os` and `libc` declare it. */
+/* What the program needs from the system, as Rattle's crates `os` and `libc` declare it. */
 #ifndef START_H
 #define START_H
 
@@ -6,23 +6,23 @@
 #include <stddef.h>
 #include <sys/types.h>
 
-/* A block, or that there is none: then the pointer points to something too, and isn't null. */
+/* A block, or a failure; in both cases the pointer isn't null. */
 struct block {
     bool ok;
     void *block;
 };
 
-/* A block of size bytes; of none, one of align bytes. */
+/* Allocates size bytes; align bytes if size is 0. */
 struct block rattle_alloc(size_t size, size_t align);
 
-/* The block with size bytes, of which the first kept stay. If there is none, the block stays as it was. */
+/* Resizes a block and keeps its first kept bytes. On failure the block is unchanged. */
 struct block rattle_realloc(void *block, size_t kept, size_t size, size_t align);
 
 /* Frees a block. */
 void rattle_dealloc(void *block);
 
-/* Puts a word at the start of a buffer and returns its length: -1 if there is no such word, and -2 if it doesn't fit,
- * and then the buffer is full. */
+/* Copies an argument to the start of a buffer and returns its length; -1 if there is no such argument, and -2 if it
+ * doesn't fit: then the buffer has as much of it as fits. */
 ssize_t rattle_arg(size_t nth, unsigned char *buffer, size_t len);
 
 int rattle_errno(void);

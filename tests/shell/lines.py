@@ -1,5 +1,5 @@
-"""Random words by random tables, and what a shell makes of what the program writes for them. What is expected is
-computed here and by model.py, by the rules, and not by the program."""
+"""Random arguments for random tables, and what a shell does with the program's code. Expected results are computed here
+and by model.py, from the rules and not from the program."""
 
 import os
 import random
@@ -10,26 +10,26 @@ from model import Group, Options
 
 WITH_ARRAYS = ["bash", "zsh", "ksh93", "mksh", "yash"]
 SPECIAL = list("'\"\\$`!~=*?[]{}()<>|&;#%^ \t\n\r-") + ["''", "\\'", "$(", "\n\n", "$HOME", "--", "\u00a0", "\u2028"]
-# What a word may hold: how often in a hundred, and a random piece of it. Last come the marks of bytes,
-# and bytes as they are.
+# The pieces of words: how often in a hundred, and a random piece. The last two are characters that stand for bytes, and
+# bytes.
 PIECES = [(50, lambda rng: rng.choice(SPECIAL)), (20, lambda rng: chr(rng.randrange(1, 128))),
           (20, lambda rng: rng.choice("abcxyz")), (2, lambda rng: chr(rng.randrange(0x80, 0xD800))),
           (2, lambda rng: chr(rng.randrange(0xE000, 0x110000))), (2, lambda rng: chr(rng.randrange(0x80, 0xA0))),
           (2, lambda rng: chr(rng.randrange(0x10FF80, 0x110000))),
           (2, lambda rng: os.fsdecode(bytes([rng.randrange(0x80, 0x100)])))]
-# How an option is written by how often it may come, and what that is to the second reader.
+# How often an option may be given: its notation, and its kind in model.py.
 COUNTS = {"once": ("{}", "req"), "may": ("[{}]", "multi"), "many": ("[{}]..", "multi"), "alone": ("[{}]!", "multi")}
 
 
 def text_of(rng):
-    """A random word of up to ten pieces, of every kind that a word may hold."""
+    """A random word of up to ten pieces."""
     often, pieces = zip(*PIECES)
     return "".join(piece(rng) for piece in rng.choices(pieces, often, k=rng.choice([0, 1, 1, 2, 3, 5, 10])))
 
 
 def table_of(rng, alone):
-    """A random table: for each option its short and long name, its kind and how often it may come. An option stands
-    alone with this probability."""
+    """A random table: for each option its names, its kind and how often it may be given. `alone` is the probability
+    that it is to be given alone."""
     shorts = rng.sample("abcdefgXYZ", 8)
     longs = rng.sample(["aa", "b-b", "c_c", "K3", "e-1-f", "g--h", "long-", "_x"], 8)
     options = []
@@ -41,7 +41,7 @@ def table_of(rng, alone):
 
 
 def operands_of(rng, count):
-    """Lines of operands that so many free words fit, or none."""
+    """Operand lines that accept this many free words, or no lines."""
     needed = rng.randrange(count + 1)
     first = [f"FILE{place}" for place in range(needed)]
     rest = [f"[FILE{place}]" for place in range(needed, count + rng.randrange(2))]
@@ -57,9 +57,9 @@ def written(options):
 
 
 def spelled(rng, option):
-    """Words that give an option, most of them with a value that it takes."""
+    """Words that give an option, mostly with a value if it takes one."""
     short, long, kind, often = option
-    # The Korn shell declares variables by some words at the front of an array, also in quotes.
+    # The Korn shell takes some words at the front of an array for declarations, even in quotes.
     declares = often == "many" and rng.random() < 0.2
     value = rng.choice(["typeset", "integer", "export", "x=1", "[0]=x"]) if declares else text_of(rng)
     name, equals = (f"-{short}", "") if short and (not long or rng.random() < 0.5) else (f"--{long}", "=")
@@ -67,9 +67,9 @@ def spelled(rng, option):
     return [name] if alone else [name + equals + value] if kind == "maybe" or rng.random() < 0.5 else [name, value]
 
 
-def given_by(options, words):
-    """What words give in order (the place of an option, and its value), and the free words; or None where they are
-    refused. Where an option stands alone, it is the first one of the table, and nothing else."""
+def expected_result(options, words):
+    """The options in the order given (index and value of each) and the free words, or None if the words are rejected.
+    If options to be given alone are among them, only the first of these in the table counts."""
     groups = [Group(short.encode(), long.encode(), kind, COUNTS[often][1]) for short, long, kind, often in options]
     reader, words = Options(groups), [os.fsencode(word) for word in words]
     for occurrences, free, _ in reader.readings(words):
@@ -82,36 +82,36 @@ def given_by(options, words):
 
 
 def case_of(rng, alone=0.1):
-    """Random options, words by them, and what these give."""
+    """Random options and words for them, and the expected result."""
     while True:
         options = table_of(rng, alone)
         parts = [[text_of(rng)] for _ in range(rng.randrange(3))]
         for option in options:
-            # One that is required may lack where another stands alone.
+            # A required one may be missing beside one given alone.
             times = rng.choice([0, 1, 1, 1] if option[3] == "once" else [0, 0, 1, 2, 3])
             parts += [spelled(rng, option) for _ in range(times)]
         rng.shuffle(parts)
         words = []
         for own in parts:
-            # Flags, and what looks like them, are joined.
+            # Joins flags, and words that look like flags.
             if words and re.match("-[^-]", own[0]) and re.fullmatch("-[a-zA-Z]+", words[-1]) and rng.random() < 0.5:
                 words[-1] += own.pop(0)[1:]
             words += own
         if rng.random() < 0.5:
             words += ["--"] + [text_of(rng) for _ in range(rng.randrange(3))]
-        if given := given_by(options, words):
+        if given := expected_result(options, words):
             return options, words, *given
 
 
 def canonical(options, given, free):
-    """The canonical line of what words give."""
+    """The canonical line of a result."""
     mains = [long or short for short, long, _, _ in options]
     return [f"--{mains[place]}" + ("" if value is None else f"={value}") for place, value in given] + ["--"] + free
 
 
 def random_scripts(program, way, count):
-    """Scripts that read random words, each with what it writes: as the words of the canonical line, or from variables
-    or arrays; the program's code for each; and an environment that has each variable, which holds something else."""
+    """Scripts that read random words, each with its expected output: the words of the canonical line, or the values of
+    variables or arrays. Also the program's code for each, and an environment with other values for all variables."""
     rng, cases, codes, env = random.Random(way), [], [], {}
     for number in range(count):
         options, words, given, free = case_of(rng)
@@ -141,15 +141,15 @@ def random_scripts(program, way, count):
     return cases, codes, env
 
 
-def in_shell(shell, room, cases, codes, env):
-    """Runs scripts one after the other in a shell. Each writes its words with a NUL byte after each."""
+def run_in_shell(shell, room, cases, codes, env):
+    """Runs scripts one after the other in a shell. Each writes words that end with a NUL byte."""
     for number, code in enumerate(codes):
         (room / f"code.{number}").write_bytes(os.fsencode(code))
-    # yash takes no bytes that are no text of its locale.
+    # yash can't handle bytes that aren't text in its locale.
     taken = [case for case in cases if shell != ["yash"] or not re.search("[\ud800-\udfff]", "".join(case[1]))]
     (room / "cases").write_text("\n".join(["set -eu"] + [script for script, _ in taken]) + "\n")
     wrote, place = run(*shell, room / "cases", cwd=room, env=env)[0].split("\0"), 0
     for script, wanted in taken:
         got = wrote[place:place + len(wanted)]
-        assert got == wanted, f"{script}: {got!r}, and not {wanted!r}"
+        assert got == wanted, f"{script}: {got!r}, expected {wanted!r}"
         place += len(wanted)

@@ -1,5 +1,5 @@
-"""A reader of tables by the rules of the page, which tells a table's first fault, and tables with one byte changed; and all
-small tables of operands."""
+"""An independent check of tables by the rules of the README, which finds a table's first error. It is compared with the
+program on tables with one byte changed, and on all small tables of operands."""
 
 import itertools
 import re
@@ -8,50 +8,50 @@ from conftest import answer
 
 SHORT, LONG_BYTE = "[A-Za-z0-9?@#%+_^,./:]", r"[A-Za-z0-9_.+:\x80-\U0010ffff-]"
 HINT = r"(?![-|])[^ \t\[\]]+(?<!\.\.)"
-# What stands in an item's brackets: its names, and perhaps an argument.
+# The inside of an item's brackets: its names, and perhaps an argument.
 ITEM = re.compile(rf"(?:-({SHORT})|(?:-({SHORT})\|)?--(?!-)({LONG_BYTE}{{2,}}(?<![:.])))(?: {HINT}| \[{HINT}\])?")
 OPERAND = re.compile(r"(?:[A-Z][A-Z0-9_-]*|(\[)[A-Z][A-Z0-9_-]*\])(\.{2,3})?")
-DASHES = "a short name comes after '-', a long one after '--', and an operand has capital letters"
-APART = "names are written as -s|--long, without a blank or a comma"
-GAP = "a tab or two spaces have to come before the description"
-LETTER = "a short name is a letter, a digit or one of ?@#%+_^,./:"
-BRACKETS = "brackets stand around the option or its argument, and two or three dots only after ']'"
+DASHES = "write a short name as -s, a long name as --long, and an operand in capital letters"
+APART = "write names as -s|--long, without spaces or commas"
+GAP = "put a tab or two spaces before the description"
+LETTER = "a short name must be a letter, a digit or one of ?@#%+_^,./:"
+BRACKETS = "put brackets around the whole option or its argument, and '..' or '...' only after ']'"
 
 
 def reason_of(item):
-    """What is wrong with an item that is none, by the first rule of the page that it breaks."""
+    """The error in an invalid item: the first rule of the README that it breaks."""
     argument, end = item.partition(" ")[2], item.partition("]")[2]
     names = re.match(r"[^ \]]*", item.removeprefix("["))[0]
     short, _, long = ("", "", names) if names.startswith("--") else names.partition("|")
     reasons = [
-        ("[" in item and "]" not in item, "no ']'"),
-        (end.startswith(" [-"), "each option has a line of its own"),
+        ("[" in item and "]" not in item, "missing ']'"),
+        (end.startswith(" [-"), "write each option on its own line"),
         (re.match(r"\[?[-|]|\]", argument), APART),
         (" " in end, GAP),
-        (" " in argument, "an argument holds no space, and a tab or two spaces come before a description"),
-        ("=" in names, "an argument comes after a space, as in '--long ARG'"),
+        (" " in argument, "an argument can't contain spaces, and a description needs a tab or two spaces before it"),
+        ("=" in names, "write the argument after a space, as in '--long ARG'"),
         ("," in names[2:], APART),
         ("[" in names, BRACKETS),
         (re.match("[A-Z]", names) and " " in item, GAP),
         (names[:1] != "-" or short == "-", DASHES),
-        ("|" in names and not long.startswith("--"), "a long name comes after '|', with two dashes"),
+        ("|" in names and not long.startswith("--"), "write a long name with two dashes after '|'"),
         (long.startswith("---"), DASHES),
-        ("|" in long, "the short name comes first, then one long one"),
+        ("|" in long, "write the short name first, then a single long name"),
         (short[1:2] > "\x7f", LETTER),
-        (len(short.encode()) > 2, "a short name has one byte, and a long one comes after '--'"),
+        (len(short.encode()) > 2, "a short name has one byte, and a long name needs two dashes"),
         (short and not re.fullmatch(SHORT, short[1:]), LETTER),
-        (long and len(long.encode()) < 4, "a long name has at least two bytes"),
+        (long and len(long.encode()) < 4, "a long name must have at least two bytes"),
         (not re.fullmatch(f"{LONG_BYTE}*", long),
-         "a long name may hold letters, digits, '-', '_', '.', '+', ':' and bytes from 128 on"),
-        (long[-1:] in (":", "."), "a long name doesn't end in ':' or '.', and dots come after ']'"),
-        (item.endswith("!"), "'!' comes only after ']' of an option without an argument"),
-        ("]" in item and item[-1] not in "].", "behind ']' comes nothing, or '..' or '!'"),
+         "a long name may contain letters, digits, '-', '_', '.', '+', ':' and bytes above 127"),
+        (long[-1:] in (":", "."), "a long name can't end in ':' or '.'; write dots after ']'"),
+        (item.endswith("!"), "'!' may only follow ']' of an option without an argument"),
+        ("]" in item and item[-1] not in "].", "only '..', '...' or '!' may follow ']'"),
     ]
     return next((reason for is_so, reason in reasons if is_so), BRACKETS)
 
 
-def table_fault(table):
-    """The message for a table's first fault, or None."""
+def table_error(table):
+    """The message for a table's first error, or None."""
     seen, before = set(), []
     for number, line in enumerate(table.split("\n"), 1):
         line = line.strip(" \t\r")
@@ -61,7 +61,7 @@ def table_fault(table):
         if operand := OPERAND.fullmatch(item):
             optional, again = operand.groups()
             if any(dots or opened and not optional for opened, dots in before):
-                return f"line {number} of the options: {item}: nothing comes after dots, and nothing required after brackets"
+                return f"line {number} of the options: {item}: an operand with dots must be last; required ones precede optional ones"
             before.append((optional, again))
             continue
         brackets = re.fullmatch(r"\[(.*)\](|\.\.\.?|!)", item)
@@ -71,39 +71,39 @@ def table_fault(table):
             return f"line {number} of the options: {item}: {reason_of(item)}"
         for name in filter(None, it.groups()):
             if name in seen:
-                return f"line {number} of the options: the name '{name}' stands in an earlier line"
+                return f"line {number} of the options: the name '{name}' is already used on an earlier line"
         seen.update(it.groups())
     return None
 
 
 def changed_tables(program, most):
-    """Each byte of good lines, changed in turn to each of many others, left out and doubled: so many of these at most."""
+    """Changes each byte of valid lines to many others, deletes it and doubles it; tries at most this many tables."""
     good = ["-v|--verbose  say more", "[-c|--color [WHEN]]..\tcolour it", "[-o|--output FILE]  write",
             "[-V|--version]!  print it", "SOURCE  from here", "[DEST]..  to there"]
     others = [chr(c) for c in range(32, 128)] + ["", "\t", "\n", "\r", "\x01"]
     tables = ["\n".join([*good[:at], line[:place] + other + line[place + 1:], *good[at + 1:]])
               for at, line in enumerate(good) for place in range(len(line)) for other in [*others, 2 * line[place]]]
     for table in tables[::max(1, len(tables) // most)]:
-        fault = table_fault(table)
+        error = table_error(table)
         said, status = answer(program, "--usage", "x", table)
         said = (said, status) if status else (b"", 0)
-        assert said == ((f"getopts_shell: {fault}\n".encode(), 5) if fault else (b"", 0)), f"{table!r}: {said}"
+        assert said == ((f"getopts_shell: {error}\n".encode(), 5) if error else (b"", 0)), f"{table!r}: {said}"
 
 
 def operand_tables(program):
-    """Each table of up to three operands with up to four words, by how many words each table takes."""
+    """Tries all tables of up to three operands with up to four words."""
     for count in range(1, 4):
         for marks in itertools.product([("", ""), ("[", "]"), ("", ".."), ("[", "]..")], repeat=count):
             items = [f"{opened}{name}{closed}" for name, (opened, closed) in zip("ABC", marks)]
             for words in range(5):
                 said, status = answer(program, "x", "\n".join(items), *"abcd"[:words])
-                assert (said.decode(), status) == taken(items, "abcd"[:words]), (items, words)
+                assert (said.decode(), status) == expected_output(items, "abcd"[:words]), (items, words)
 
 
-def taken(items, words):
-    """What is said of so many words where a table has these operands."""
-    if fault := table_fault("\n".join(items)):
-        return f"getopts_shell: {fault}\n", 5
+def expected_output(items, words):
+    """The expected output and status for these operands and words."""
+    if error := table_error("\n".join(items)):
+        return f"getopts_shell: {error}\n", 5
     needed = [item.rstrip(".") for item in items if item[0] != "["]
     usage = f"Usage: x {' '.join(items)}\n"
     if len(words) < len(needed):

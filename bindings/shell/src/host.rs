@@ -1,4 +1,4 @@
-//! What the program asks of the system and of Rattle's library, over Rust's.
+//! What the program needs from the system and from Rattle's library, implemented with Rust's.
 
 pub use ::getopts::fallible::*;
 
@@ -7,37 +7,37 @@ use self::env::{Env, FillError};
 use std::ffi::OsString;
 use std::fmt;
 
-/// The names of Rattle's `std::alloc`.
+/// Rattle's `std::alloc`.
 pub mod alloc {
     pub use ::getopts::alloc::*;
 }
 
-/// The names of Rattle's `std::env`.
+/// Rattle's `std::env`.
 pub mod env {
-    /// Why a word isn't written to a buffer.
+    /// Why an argument wasn't written to a buffer.
     pub enum FillError {
         NotPresent,
         TooLong,
     }
 
-    /// The system's words.
+    /// The program's arguments.
     pub trait Env {
-        /// Writes the word at a place to the front of a buffer, and returns its length.
+        /// Writes the argument at `place` to the front of a buffer, and returns its length.
         fn arg(&self, place: usize, buffer: &mut [u8]) -> Result<usize, FillError>;
     }
 }
 
-/// The names of Rattle's `std::io`.
+/// Rattle's `std::io`.
 pub mod io {
     pub use std::io::*;
 
-    /// The standard output.
+    /// Standard output.
     pub fn writer(_: &super::HostRuntime) -> std::io::Stdout {
         std::io::stdout()
     }
 }
 
-/// The system, with its words as bytes.
+/// The system, with the program's arguments as bytes.
 pub struct HostRuntime {
     words: Vec<Vec<u8>>,
 }
@@ -72,8 +72,7 @@ fn bytes_of(word: OsString) -> Vec<u8> {
     std::os::unix::ffi::OsStringExt::into_vec(word)
 }
 
-/// The bytes of a word. Half of a pair that stands alone has the three bytes that UTF-8 would have for it, which
-/// are no text.
+/// The bytes of an argument. A lone surrogate is encoded as three bytes (WTF-8), which aren't valid UTF-8.
 #[cfg(windows)]
 fn bytes_of(word: OsString) -> Vec<u8> {
     let mut bytes = Vec::new();
@@ -94,16 +93,18 @@ fn bytes_of(word: OsString) -> Vec<u8> {
     bytes
 }
 
-/// Elsewhere words are texts, and one that isn't ends the process.
+/// On other systems arguments have to be Unicode; otherwise the process ends.
 #[cfg(not(any(unix, windows)))]
 fn bytes_of(word: OsString) -> Vec<u8> {
-    word.into_string().expect("words are UTF-8").into_bytes()
+    word.into_string()
+        .expect("arguments are UTF-8")
+        .into_bytes()
 }
 
-/// Texts without the ASCII white space at both ends. Rust's own call of the name is there from 1.80 on.
+/// Trims ASCII white space. Rust has its own `trim_ascii` since 1.80.
 #[allow(dead_code)]
 pub trait TrimAscii {
-    /// The text between.
+    /// The text without ASCII white space at both ends.
     fn trimmed_ascii(&self) -> &str;
 }
 
@@ -113,9 +114,9 @@ impl TrimAscii for str {
     }
 }
 
-/// Lists of bytes, and of what else is copied bit by bit.
+/// Vectors of bytes and other `Copy` types.
 pub trait TryExtend<T: Copy> {
-    /// The items, cut or filled to so many with this one.
+    /// Truncates the vector to `len` items, or fills it up with `item`.
     fn try_resize(&mut self, len: usize, item: T) -> Result<(), AllocError>;
 }
 
@@ -127,15 +128,15 @@ impl<T: Copy> TryExtend<T> for Vec<T> {
     }
 }
 
-/// Texts that are written to by forms, and know their allocator.
+/// Strings to which formatted text is added, and which know their allocator.
 pub trait Written {
-    /// The text, and then what these arguments print.
+    /// Appends formatted text.
     fn try_add(&mut self, arguments: fmt::Arguments<'_>) -> Result<(), AllocError>;
-    /// The allocator that the text grows with.
+    /// The string's allocator.
     fn allocator(&self) -> &Global;
 }
 
-/// A text that refuses what there is no memory for.
+/// A string to which writing fails if an allocation fails.
 struct Growing<'t>(&'t mut String);
 
 impl fmt::Write for Growing<'_> {
@@ -154,7 +155,7 @@ impl Written for String {
     }
 }
 
-/// A text of a form: `text!(in alloc; "{name}: {fault}")`.
+/// Formats a string: `text!(in alloc; "{name}: {fault}")`.
 macro_rules! text {
     (in $alloc:expr; $($form:tt)*) => {{
         let mut text = String::empty($alloc);
@@ -162,13 +163,13 @@ macro_rules! text {
     }};
 }
 
-/// Adds what a form prints to a text.
+/// Appends formatted text to a string.
 #[allow(unused_macros)]
 macro_rules! add {
     ($text:expr, $($form:tt)*) => { $text.try_add(format_args!($($form)*)) };
 }
 
-/// The same, and a line end.
+/// Appends formatted text and a newline.
 #[allow(unused_macros)]
 macro_rules! add_line {
     ($text:expr, $($form:tt)*) => {

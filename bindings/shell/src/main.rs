@@ -1,12 +1,12 @@
-//! Reads a shell script's words by a table of options, and writes them as code that the script runs.
+//! Parses a shell script's arguments according to a table of options, and prints code for the script to run.
 //!
-//! The program is the proved source with its contracts erased, in `program`, over that of the library.
-//! What the system does for it is in `host`.
+//! `program` is the proved source with its contracts erased, and uses the library's erased source. `host` provides what
+//! the program needs from the system.
 #![forbid(unsafe_code)]
 
 mod host;
 
-/// The library, with the laws that the program cites, of which nothing is left once built.
+/// The library, with an empty function in place of the lemma that the program cites.
 mod getopts {
     pub use ::getopts::proved::*;
 

@@ -1,4 +1,4 @@
--- What holds of all words.
+-- Properties of all words.
 use Rattle.std.specs.Prelude.{◌≡◌, ◌++◌, ℕ, List}
 use Rattle.std.specs.Str.{IsUtf8}
 use Rattle.getopts_bytes.specs.Marks.{text_of, bytes_of}
@@ -8,12 +8,13 @@ pub record ComesBack (word : List ℕ) : Type 0 where
   pub utf8 : IsUtf8 (text_of word)
   pub same : bytes_of (text_of word) ≡ word
 
--- A text without marks is its own text, and its own bytes.
+-- UTF-8 without marks is unchanged by both conversions.
 pub record StaysPlain (text : List ℕ) : Type 0 where
   pub as_text : text_of text ≡ text
   pub as_bytes : bytes_of text ≡ text
 
--- A word is cut as its text is cut, into this front and this back: each is the text of a part of the word.
+-- If the text of a word is split into this front and this back, each is the text of a part of the
+-- word.
 pub record AreCutAlike (word front back : List ℕ) : Type 0 where
   pub first : List ℕ
   pub second : List ℕ

@@ -1,6 +1,6 @@
--- What a caller must believe, in reading order.
+-- What a caller has to believe, in reading order.
 
 -- the text of a word of any bytes, and the bytes of a text
 pub mod Marks
--- what holds of all words
+-- properties of all words
 pub mod Laws

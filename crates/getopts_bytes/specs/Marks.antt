@@ -1,4 +1,4 @@
--- Words of any bytes as texts, and back.
+-- Represents words of any bytes as texts, and converts back.
 use Rattle.std.specs.Prelude.{◌<◌, ℕ, zero, suc, ◌+◌, ◌-◌, Bool, ◌&&◌, not, List, [], ◌∷◌, ◌++◌}
 use Rattle.std.specs.Prelude.{nat_lt, take, if◌then◌else◌}
 use Rattle.std.specs.Char.{encode_utf8}
@@ -9,24 +9,24 @@ use Rattle.std.specs.Str.{chars, continuation_len, is_utf8}
 abbrev pub AreBytes : List ℕ → Type 0
 AreBytes word = AllByRecursion (λ byte. byte < 256) word
 
--- The last 128 characters, U+10FF80 to U+10FFFF, are marks: each marks a byte from 128 to 255 that is no part of
--- a text.
+-- The last 128 characters, U+10FF80 to U+10FFFF, are marks: each represents a byte from 128 to 255
+-- that isn't part of a text.
 abbrev pub mark_of : ℕ → ℕ
 mark_of byte = 0x10_FF00 + byte
 
 abbrev pub is_mark : ℕ → Bool
 is_mark char = not (nat_lt char 0x10_FF80)
 
--- whether bytes are a text that holds no mark
+-- whether bytes are UTF-8 without marks
 abbrev pub is_plain : List ℕ → Bool
 is_plain bytes = is_utf8 bytes && not (list_any is_mark (chars bytes))
 
--- whether a character that is no mark begins with this byte, and goes on with those after it
+-- whether this byte and those after it begin with a character that isn't a mark
 abbrev pub begins_char : ℕ → List ℕ → Bool
 begins_char byte bytes = is_plain (take (suc (continuation_len byte)) (byte ∷ bytes))
 
--- The text of a word, from a place on where a character has so many bytes still to come: a character that
--- is no mark stays, and for each other byte its mark stands.
+-- The text of the rest of a word, when the current character still has n bytes to come: characters
+-- other than marks stay, and every other byte becomes its mark.
 abbrev pub text_from : ℕ → List ℕ → List ℕ
 text_from n [] = []
 text_from zero (byte ∷ bytes) = if begins_char byte bytes then byte ∷ text_from (continuation_len byte) bytes
@@ -37,7 +37,7 @@ text_from (suc n) (byte ∷ bytes) = byte ∷ text_from n bytes
 abbrev pub text_of : List ℕ → List ℕ
 text_of word = text_from 0 word
 
--- what a character of a text is written as: the byte that it marks, or its own bytes
+-- the bytes for a character of a text: the byte that it marks, or its own bytes
 abbrev pub written : ℕ → List ℕ
 written char = if is_mark char then (char - 0x10_FF00) ∷ [] else encode_utf8 char
 

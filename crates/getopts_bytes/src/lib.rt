@@ -1,12 +1,13 @@
-//! Words of any bytes as texts, and back.
+//! Represents arguments of any bytes as texts, and converts back.
 //!
-//! The system's words are bytes, and `getopts` reads texts. Each byte of a word that is no part of a text becomes
-//! a character, its mark, and the byte again where the text is written. So does each byte of a mark that stands in
-//! a word. A word that is a text without marks is its own text, so ASCII, with `-`, `=` and the names, stays.
+//! The system's arguments are bytes, but `getopts` reads texts. Each byte that isn't part of valid
+//! UTF-8 becomes a character, its *mark*, and turns back into the byte when the text is written. So
+//! does each byte of a mark that occurs in an argument. Valid UTF-8 without marks stays as it is,
+//! and so does ASCII, with `-`, `=` and the names.
 //!
-//! The marks are the last 128 characters, U+10FF80 for byte 128 to U+10FFFF for byte 255. They are for private
-//! use, at the end of its last plane, and two of them are no characters of any text; all have four bytes, and
-//! take one column where a help text is laid out, as a byte does that a terminal can't show.
+//! The marks are the last 128 characters, U+10FF80 for byte 128 to U+10FFFF for byte 255. They are
+//! private-use characters at the end of the last plane, and two of them are noncharacters. Each has
+//! four bytes, and takes one column in a help text, like a byte that a terminal can't show.
 #![tactic(auto)]
 
 ghost use Rattle.std.specs.Prelude.{◌≡◌, ◌<◌, ◌≤◌, ◌∷◌, ◌++◌, ℕ, suc, drop, length, true, List};
@@ -22,22 +23,22 @@ use std::alloc::AllocError;
 
 /// The first mark, that of byte 128.
 const FIRST: u32 = 0x10_FF80;
-/// What is added to a byte for its mark.
+/// The difference between a mark and its byte.
 const ADDED: u32 = 0x10_FF00;
 
-/// The text of a word gives the word back: a law to cite, which does nothing.
+/// Converting a word to text and back gives the word: a lemma for proofs; does nothing.
 pub fn words_come_back()
     ensures { (word : List ℕ) → AreBytes word → ComesBack word }
 {}
 
-/// A text without marks is its own text, and its own bytes: a law to cite, which does nothing.
+/// UTF-8 without marks is unchanged by both conversions: a lemma for proofs; does nothing.
 pub fn plain_texts_stay()
     ensures { (text : List ℕ) → is_plain text ≡ true → StaysPlain text }
 {}
 
-/// An ASCII byte of a word stays in its place: the text is that of what stands before it, the byte, and the text of
-/// what stands after it. Where the text of a word is cut between characters, each part is the text of a part of the
-/// word. A law to cite, which does nothing.
+/// An ASCII byte stays in place: the text of a word is the text of the part before the byte, the
+/// byte, and the text of the part after it. If the text of a word is split between characters, each
+/// part is the text of a part of the word. A lemma for proofs; does nothing.
 pub fn words_are_cut_as_texts()
     ensures ascii { (front back : List ℕ) (byte : ℕ) → byte < 128
         → text_of (front ++ byte ∷ back) ≡ text_of front ++ byte ∷ text_of back }
@@ -45,7 +46,7 @@ pub fn words_are_cut_as_texts()
         → AreCutAlike word front back }
 {}
 
-/// Bytes as a text, where they are one that holds no mark.
+/// Bytes as a text, if they are UTF-8 without marks.
 pub fn plain_text(bytes: &[u8]) -> Option<&str>
     ensures same { IfSome result (λ text. text.now ≡ bytes.now) }
     ensures plain { is_some result ≡ is_plain bytes.now }
@@ -56,7 +57,7 @@ pub fn plain_text(bytes: &[u8]) -> Option<&str>
     }
 }
 
-/// Adds the text of a word.
+/// Appends the text of a word.
 pub fn push_text(text: &mut String, word: &[u8]) -> Result<(), AllocError>
     ensures { OnOk result (string_bytes text.new ≡ string_bytes text.old ++ text_of word.now) }
 {
@@ -66,7 +67,7 @@ pub fn push_text(text: &mut String, word: &[u8]) -> Result<(), AllocError>
     }
 }
 
-/// Adds the bytes of a text.
+/// Appends the bytes of a text.
 #[inline]
 pub fn push_bytes(bytes: &mut Vec<u8>, text: &str) -> Result<(), AllocError>
     ensures { OnOk result (bytes.new.items ≡ bytes.old.items ++ bytes_of text.now) }
@@ -78,7 +79,7 @@ pub fn push_bytes(bytes: &mut Vec<u8>, text: &str) -> Result<(), AllocError>
     }
 }
 
-/// Whether a text holds a mark. ASCII, which most words are, holds none.
+/// Whether a text contains a mark. ASCII, as most words are, contains none.
 #[inline(always)]
 fn has_marks(text: &str) -> bool
     ensures { result ≡ list_any is_mark (chars text.now) }
@@ -101,7 +102,7 @@ fn is_mark(char: char) -> bool
     u32::from(char) >= FIRST
 }
 
-/// Adds the text of a word, byte by byte.
+/// Appends the text of a word, byte by byte.
 fn push_marked(text: &mut String, word: &[u8]) -> Result<(), AllocError>
     ensures { OnOk result (string_bytes text.new ≡ string_bytes text.old ++ text_of word.now) }
 {
@@ -112,7 +113,8 @@ fn push_marked(text: &mut String, word: &[u8]) -> Result<(), AllocError>
     Ok(())
 }
 
-/// Adds the character that begins a word, or else the mark of its first byte, and gives how many bytes that takes.
+/// Appends the first character of a word, or else the mark of its first byte. Returns the number of
+/// bytes taken.
 fn push_first(text: &mut String, word: &[u8]) -> Result<usize, AllocError>
     requires { 0 < length word.now }
     ensures some { IfOk result (λ taken. 0 < taken) }
@@ -133,7 +135,7 @@ fn push_first(text: &mut String, word: &[u8]) -> Result<usize, AllocError>
     }
 }
 
-/// How many bytes a character has that begins with this byte.
+/// The number of bytes of a character that begins with this byte.
 fn char_len(first: u8) -> usize
     ensures { result ≡ suc (continuation_len first) }
 {
@@ -145,7 +147,7 @@ fn char_len(first: u8) -> usize
     }
 }
 
-/// Adds the mark of a byte.
+/// Appends the mark of a byte.
 fn push_mark(text: &mut String, byte: u8) -> Result<(), AllocError>
     ensures { OnOk result (string_bytes text.new ≡ string_bytes text.old ++ encode_utf8 (mark_of byte)) }
 {
@@ -155,7 +157,7 @@ fn push_mark(text: &mut String, byte: u8) -> Result<(), AllocError>
     }
 }
 
-/// Adds the bytes of a text, character by character.
+/// Appends the bytes of a text, character by character.
 #[inline(never)]
 fn push_chars(bytes: &mut Vec<u8>, text: &str) -> Result<(), AllocError>
     ensures { OnOk result (bytes.new.items ≡ bytes.old.items ++ bytes_of text.now) }
@@ -166,7 +168,7 @@ fn push_chars(bytes: &mut Vec<u8>, text: &str) -> Result<(), AllocError>
     Ok(())
 }
 
-/// Adds what a character is written as.
+/// Appends the bytes for a character.
 fn push_char(bytes: &mut Vec<u8>, char: char) -> Result<(), AllocError>
     ensures { OnOk result (bytes.new.items ≡ bytes.old.items ++ written char) }
 {

@@ -1,4 +1,4 @@
--- Completion: the code that a shell runs at a script's words, and what the program offers it there.
+-- Completion: the code that a shell runs at a script's words, and what the program offers there.
 use Rattle.std.specs.Prelude.{◌==◌, ◌&&◌, ◌||◌, not, ℕ, nat_eq, Bool, true, false}
 use Rattle.std.specs.Prelude.{List, [], ◌++◌, ◌∷◌, ◌-◌, Option, Some, None, Result, Ok, Err, codes}
 use Rattle.std.specs.Prelude.{if◌then◌else◌, length}
@@ -20,15 +20,15 @@ use Rattle.getopts_shell.specs.Table.{Entry, is_long_name}
 use Rattle.getopts_shell.specs.declared.row.Often.{Often}
 use Rattle.getopts_shell.specs.declared.row.Often.TheVariants.{All}
 
--- ---- which options may come
+-- ---- which options may follow
 
--- whether one free word, the last, stands after a stop
+-- whether exactly one free word, the last one, follows a stop
 abbrev pub is_last_after_stop : Matched → Bool
 is_last_after_stop matches =
     option_map_or (λ start. length matches.free - start == 1) matches.trailing_start false
 
--- The groups that these words give, where an option may come after them: a `--` and one word more
--- would be a stop and a free word.
+-- An option may follow if a `--` and one more word would be read as a stop and a free word.
+-- the groups that these words give, if an option may follow them
 abbrev pub groups_after : Result Matched Fault → Option (List MatchedGroup)
 groups_after (Ok matches) = if is_last_after_stop matches then Some matches.groups else None
 groups_after (Err fault) = None
@@ -53,9 +53,9 @@ abbrev pub takes_argument : HasArg → Bool
 takes_argument No = false
 takes_argument kind = true
 
--- What is offered of a name after dashes, if there is such a name: the form and the description,
--- where the form begins with the word; or files for the value, where the word begins with the form
--- and `=`, and may have a value so.
+-- If the form begins with the word, this is the form and the description. If the word begins with
+-- the form and `=`, and such a value is possible, it offers files for the value.
+-- the completions for a name after its dashes, if there is such a name
 abbrev pub name_line : Text → Bool → Text → Text → Text → Text
 name_line word valued dashes name description =
     if is_empty name then []
@@ -64,8 +64,8 @@ name_line word valued dashes name description =
     else (if valued && starts_with nat_eq word (dashes ++ (name ++ codes "="))
     then codes "value\n" else []))
 
--- what is offered of an option: its long name after two dashes, in long-only mode also after one,
--- and its short name
+-- They are the long name after two dashes, in long-only mode also after one, and the short name.
+-- the completions for an option
 abbrev pub option_lines : Bool → Text → Entry → Text
 option_lines long_only word entry =
     name_line word (takes_argument entry.kind) (codes "--") entry.names.long entry.description
@@ -74,13 +74,14 @@ option_lines long_only word entry =
     ++ name_line word (long_only && takes_argument entry.kind) (codes "-") entry.names.short
     entry.description)
 
--- what is offered of the options that are offered, in their order
+-- the completions for the options that are offered, in their order
 abbrev pub options_lines : List MatchedGroup → Bool → Text → List Entry → Text
 options_lines groups long_only word entries =
     flat_map (option_lines long_only word) (filter (may_come groups) entries)
 
--- what is offered at a word, after these words that are read by such options: options of a table
--- with these entries, where it begins with `-` and an option may come; else files
+-- These words are read by these options, whose table has these entries. Options are offered if the
+-- word begins with `-` and an option may follow; otherwise files.
+-- the completions at a word, after these words
 abbrev pub offer : Declared → List Entry → List Text → Text → Text
 offer options entries before word =
     option_map_or (λ groups. options_lines groups options.long_only word entries)
@@ -89,8 +90,8 @@ offer options entries before word =
 
 -- ---- the code for a shell
 
--- a byte in quotes, as each of the three shells reads it: a quote and a backslash stand outside
--- quotes, behind a backslash
+-- Quotes and backslashes are outside quotes, after a backslash.
+-- a byte in quotes, as each of the three shells reads it
 abbrev pub stub_byte : ℕ → Text
 stub_byte byte = if byte == 92 then codes "'\\\\'" else quoted_byte byte
 
@@ -98,13 +99,14 @@ stub_byte byte = if byte == 92 then codes "'\\\\'" else quoted_byte byte
 abbrev pub stub_quoted : Text → Text
 stub_quoted word = codes "'" ++ (flat_map stub_byte word ++ codes "'")
 
--- In zsh the first line names the script, so that a file in `$fpath` completes its words. A name
--- that couldn't be a long one, so might end the line, has no such line.
+-- In zsh it names the script, so that a file in `$fpath` completes its words. A name that couldn't
+-- be a long name has no such line, since it might break it.
+-- the first line of the code for a shell
 abbrev pub first_line : Text → Text → Text
 first_line shell name = if bytes_eq shell (codes "zsh") && is_long_name name
     then codes "#compdef " ++ (name ++ codes "\n") else []
 
--- the functions for all scripts in a shell, if there is completion in it
+-- the functions for all scripts in a shell, if it is supported
 abbrev pub functions : Text → Option Text
 functions shell =
     if bytes_eq shell (codes "bash") then Some BASH.now
@@ -116,13 +118,12 @@ abbrev pub modes : Bool → Bool → Text
 modes stop long_only =
     (if stop then codes " --stop" else []) ++ (if long_only then codes " --long-only" else [])
 
--- the call of such a function with a script's name, its table, its style and its mode
+-- the call of such a function, with a script's name, its table, its style and its mode
 abbrev pub stub_call : Bool → Bool → Text → Text → Text
 stub_call stop long_only name table = codes "_getopts_shell_complete " ++ (stub_quoted name
     ++ (codes " " ++ (stub_quoted table ++ (modes stop long_only ++ codes "\n"))))
 
--- the code that completes the words of a script with this name, style, mode and table, if there is
--- one for the shell
+-- the code that completes a script's words in a shell, if the shell is supported
 abbrev pub stub : Text → Bool → Bool → Text → Text → Option Text
 stub shell stop long_only name table =
     option_map (λ text. first_line shell name ++ (text ++ stub_call stop long_only name table))

@@ -1,4 +1,4 @@
--- What the code holds, as the definitions see it.
+-- What the code stores, as the definitions see it.
 use Rattle.std.specs.Prelude.{false, ◌≡◌, ⊤, List, [], ◌∷◌, Option, Some, None, map}
 use Rattle.std.specs.Prelude.{MatchOption}
 use Rattle.std.specs.Option.{option_map}
@@ -37,33 +37,33 @@ entry_of_row row = record {
 abbrev pub entries_of : List Row → List Entry
 entries_of rows = map entry_of_row rows
 
--- the operand that the code holds
+-- the operand that the code stores
 abbrev pub operand_of : OperandHeld → Operand
 operand_of operand = record { item = operand.item.now; description = operand.description.now }
 
 abbrev pub operands_of : List OperandHeld → List Operand
 operands_of operands = map operand_of operands
 
--- the groups that rows are read by
+-- the groups that rows are parsed by
 abbrev pub groups_of : List Row → List Group
 groups_of rows = groups_as false (entries_of rows)
 
--- the fault that an error of a table tells, unless it tells that memory was refused
+-- the error that a `TableError` reports, unless it is out of memory
 abbrev pub fault_told : TableError → Option TableFault
 fault_told (error.NoOption number item) = Some (no_option number item.now)
 fault_told (error.NameTwice number name) = Some (name_twice number name.now)
 fault_told (error.LateOperand number item) = Some (late_operand number item.now)
 fault_told error.OutOfMemory = None
 
--- what an error of a table tells meets this
+-- The error that a `TableError` reports has this property, unless it is out of memory.
 abbrev pub TellsFault : TableError → (TableFault → Type 0) → Type 0
 TellsFault error P = MatchOption (fault_told error) ⊤ P
 
--- the answer that the code holds
+-- the answer that the code stores
 abbrev pub answer_of : Outcome → Answer
 answer_of outcome = record { text = string_bytes outcome.text; status = outcome.status }
 
--- what is asked for, as the code holds it
+-- what is asked for, as the code stores it
 abbrev pub asked_of : AskedHeld → Asked
 asked_of asked = record {
   brief = option_map string_bytes asked.brief;
@@ -76,28 +76,28 @@ asked_of asked = record {
   arrays = asked.arrays;
 }
 
--- the groups are the program's own, each with its share of some occurrences
+-- The groups are the program's own, each with its share of some occurrences.
 abbrev pub HasOwnGroups : List MatchedGroup → Type 0
 HasOwnGroups groups = (occurrences : List Occurrence) × (groups
     ≡ matched 0 (signatures_of own_groups) occurrences)
 
--- the options with these groups too, the last ones
+-- the options, with these groups added as the last
 abbrev pub with_groups : Declared → List Group → Declared
 with_groups options [] = options
 with_groups options (group ∷ groups) = with_groups (with_group options group) groups
 
--- what reading asks of each group that matches hold
+-- what parsing uses of each group that matches hold
 abbrev pub held_signatures : List MatchedGroup → List Signature
 held_signatures groups = map (λ group. group.signature) groups
 
--- the fault that an error of variables tells
+-- the error that a `VariableError` reports
 abbrev pub variable_fault_told : VariableError → VariableFault
 variable_fault_told variable.ArraysOnly = arrays_only
 variable_fault_told (variable.NoPrefix prefix) = no_prefix prefix.now
 variable_fault_told (variable.NoVariable number name) = no_variable number name.now
 variable_fault_told (variable.VariableTwice number name) = variable_twice number name.now
 
--- the fault that an error of free words tells
+-- the error that an `OperandError` reports
 abbrev pub operand_fault_told : OperandError → OperandFault
 operand_fault_told (operand.Missing name) = missing name.now
 operand_fault_told (operand.Unexpected word) = unexpected word.now

@@ -4,7 +4,7 @@
 pub mod Quote
 -- the table of options
 pub mod Table
--- what completes a script's words
+-- completion of a script's words
 pub mod Completion
 -- options as variables: what a shell does with commands, and the text that sets them
 pub mod Variables
@@ -12,6 +12,6 @@ pub mod Variables
 pub mod Program
 -- Cited by private clauses alone.
 
--- what the code holds, as the definitions see it
+-- what the code stores, as the definitions see it
 pub mod Held
 pub mod HeldScript

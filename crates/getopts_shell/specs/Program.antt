@@ -1,4 +1,4 @@
--- The program: what it answers to words, and with which status.
+-- The program: what it answers to its words, and with which status.
 use Rattle.std.specs.Prelude.{◌≡◌, ◌≢◌, ◌≤◌, ◌&&◌, ◌-◌, ℕ, Bool, true, false, List, [], ◌∷◌}
 use Rattle.std.specs.Prelude.{◌++◌, Option, Some, None, MatchOption, MatchResult, codes, decimal}
 use Rattle.std.specs.Prelude.{if◌then◌else◌, length, map, nat_lt, not, take}
@@ -41,30 +41,30 @@ abbrev pub own_groups : List Group
 own_groups =
     group_of (codes "b") (codes "brief") (codes "begin the help with TEXT") (codes "TEXT") Yes
     Optional
-    ∷ group_of (codes "s") (codes "stop") (codes "leave all words from the first free one on free")
+    ∷ group_of (codes "s") (codes "stop") (codes "stop at the first argument that isn't an option")
     [] No Optional
-    ∷ group_of (codes "l") (codes "long-only") (codes "let long names follow one dash too") [] No
+    ∷ group_of (codes "l") (codes "long-only") (codes "also accept long names after a single dash") [] No
     Optional
     ∷ group_of (codes "V") (codes "variables")
-    (codes "set a variable for each option, named PREFIX and its name")
+    (codes "store each option in a variable called PREFIX plus its name")
     (codes "PREFIX") Yes Optional
-    ∷ group_of (codes "A") (codes "arrays") (codes "with --variables, make an array of values") []
+    ∷ group_of (codes "A") (codes "arrays") (codes "with --variables, store repeated values in an array") []
     No Optional
-    ∷ group_of (codes "u") (codes "usage") (codes "write the help of TABLE") [] No Optional
+    ∷ group_of (codes "u") (codes "usage") (codes "print the help for TABLE") [] No Optional
     ∷ group_of (codes "c") (codes "complete")
-    (codes "write a completion script for bash, zsh or fish")
+    (codes "print a completion script for bash, zsh or fish")
     (codes "SHELL") Yes Optional
-    ∷ group_of [] (codes "complete-words") (codes "write what may come at the last WORD")
+    ∷ group_of [] (codes "complete-words") (codes "print completions for the last WORD")
     (codes "SHELL") Yes Optional
     ∷ group_of (codes "h") (codes "help") (codes "print this help") [] No Optional
     ∷ group_of [] (codes "version") (codes "print the version") [] No Optional
     ∷ []
 
--- the program's own options: words from the first free one on are free
+-- the program's own options: all words from the first free one on are free
 abbrev pub own_options : Declared
 own_options = record { groups = own_groups; style = StopAtFirstFree; long_only = false }
 
--- the line that the program's own help begins with, and that help
+-- the first line of the program's own help, and that help
 abbrev pub own_brief : Text
 own_brief = codes "Usage: getopts_shell [options] NAME TABLE [WORD].."
 
@@ -74,27 +74,27 @@ own_help = joined (codes "\n") (
     ∷ []
     ∷ codes "Options:"
     ∷ codes "    -b, --brief TEXT    begin the help with TEXT"
-    ∷ codes "    -s, --stop          leave all words from the first free one on free"
-    ∷ codes "    -l, --long-only     let long names follow one dash too"
+    ∷ codes "    -s, --stop          stop at the first argument that isn't an option"
+    ∷ codes "    -l, --long-only     also accept long names after a single dash"
     ∷ codes "    -V, --variables PREFIX"
-    ∷ codes "                        set a variable for each option, named PREFIX and its"
+    ∷ codes "                        store each option in a variable called PREFIX plus its"
     ∷ codes "                        name"
-    ∷ codes "    -A, --arrays        with --variables, make an array of values"
-    ∷ codes "    -u, --usage         write the help of TABLE"
+    ∷ codes "    -A, --arrays        with --variables, store repeated values in an array"
+    ∷ codes "    -u, --usage         print the help for TABLE"
     ∷ codes "    -c, --complete SHELL"
-    ∷ codes "                        write a completion script for bash, zsh or fish"
+    ∷ codes "                        print a completion script for bash, zsh or fish"
     ∷ codes "        --complete-words SHELL"
-    ∷ codes "                        write what may come at the last WORD"
+    ∷ codes "                        print completions for the last WORD"
     ∷ codes "    -h, --help          print this help"
     ∷ codes "        --version       print the version"
     ∷ []
     ∷ [])
 
--- whether matches have an option of this name
+-- whether matches contain an option of this name
 abbrev pub is_given : Matched → Text → Bool
 is_given own name = is_present own.groups name
 
--- the value that an option of this name has, if it has one
+-- the value of the option of this name, if it has one
 abbrev pub value_given : Matched → Text → Option Text
 value_given own name = first_value (found_of own.groups name)
 
@@ -124,8 +124,8 @@ asked_by own = record {
 
 -- ---- answers
 
--- an answer: the text that is written, on the standard output where the status is 0, and else on
--- the standard error
+-- It is written to standard output if the status is 0, and otherwise to standard error.
+-- an answer: a text, and a status
 pub record Answer : Type 0 where
   pub text : Text
   pub status : ℕ
@@ -134,38 +134,38 @@ pub record Answer : Type 0 where
 abbrev pub done : Text → Answer
 done text = record { text = text; status = 0 }
 
--- a fault in how the script calls the program
+-- an error in how the script calls the program
 abbrev pub misused : Text → Answer
 misused text = record { text = text; status = 5 }
 
--- the line of a fault, after a name
+-- the line for an error, after a name
 abbrev pub fault_line : Text → Fault → Text
 fault_line name fault = name ++ (codes ": " ++ (fault_text fault ++ codes "\n"))
 
--- what is said of the line of a table with this number
+-- a message about the table's line with this number
 abbrev pub of_line : ℕ → Text → Text
 of_line number text =
     codes "getopts_shell: line " ++ (decimal number ++ (codes " of the options: " ++ text))
 
--- the line of a fault of a table
+-- the line for an error in a table
 abbrev pub table_fault_line : TableFault → Text
 table_fault_line (no_option number item) =
     of_line number (item ++ (codes ": " ++ (reason_of item ++ codes "\n")))
 table_fault_line (name_twice number name) =
-    of_line number (codes "the name '" ++ (name ++ codes "' stands in an earlier line\n"))
+    of_line number (codes "the name '" ++ (name ++ codes "' is already used on an earlier line\n"))
 table_fault_line (late_operand number item) = of_line number
-    (item ++ codes ": nothing comes after dots, and nothing required after brackets\n")
+    (item ++ codes ": an operand with dots must be last; required ones precede optional ones\n")
 
 -- ---- a script
 
--- a script: what is asked for it, its name, and the entries and the operands of its table
+-- a script: what it asks for, its name, and the entries and operands of its table
 pub record Script : Type 0 where
   pub asked : Asked
   pub name : Text
   pub entries : List Entry
   pub operands : List Operand
 
--- options of these groups, in the style and the mode that are asked for
+-- options with these groups, in the style and mode that are asked for
 abbrev pub options_in : Asked → List Group → Declared
 options_in asked groups = record {
   groups = groups;
@@ -173,7 +173,7 @@ options_in asked groups = record {
   long_only = asked.long_only;
 }
 
--- the options that a script's words are read by, and those that its help shows
+-- the options that a script's words are parsed by, and those that its help shows
 abbrev pub read_options : Script → Declared
 read_options script = options_in script.asked (groups_as false script.entries)
 
@@ -186,37 +186,38 @@ usage_line script = short_usage_text (shown_options script) script.name
     ++ continued (nat_lt 0 (length script.entries)) (codes " ")
     (map (λ operand. operand.item) script.operands)
 
--- the text that a script's help begins with: the one that was given, or else the short usage
+-- the top of a script's help: the text that was given, or else the short usage
 abbrev pub brief_text : Script → Text
 brief_text script = unwrap_or script.asked.brief (usage_line script)
 
--- what stands before the description of an operand: its item, and spaces up to 24 columns, or else
--- the next row
+-- This is its item, and spaces up to 24 columns or else the next row.
+-- what precedes the description of an operand
 abbrev pub operand_padding : Text → Text
 operand_padding item = if nat_lt (length item) 20 then spaces (20 - length item) else next_row
 
 abbrev pub operand_head : Text → Text
 operand_head item = spaces 4 ++ (item ++ operand_padding item)
 
--- an operand's row: its head, and the rows of its description within 54 columns
+-- This is the operand's row: its head, and the rows of its description in 54 columns.
 abbrev pub IsOperandRow : Operand → Text → Type 0
 IsOperandRow operand row =
     (description : List Text) × IsDescriptionRows 54 operand.description description
     × (row ≡ operand_head operand.item ++ joined next_row description)
 
--- what a help says before its options: the text that it begins with; and where there are operands,
--- an empty line, a line that says `Arguments:`, and the rows of operands
+-- This is the text at its top; then, if there are operands, an empty line, a line `Arguments:`, and
+-- the rows of the operands.
+-- what precedes the options in a help
 abbrev pub help_front : Text → List Text → Text
 help_front brief [] = brief
 help_front brief rows = brief ++ (codes "\n\nArguments:\n" ++ joined (codes "\n") rows)
 
--- the help of a script
+-- This is the help of the script.
 abbrev pub IsHelp : Script → Text → Type 0
 IsHelp script help = (rows : List Text) × IsTheOnly (AllZip IsOperandRow script.operands) rows
     × IsTheOnly (IsUsageText (shown_options script) (help_front (brief_text script) rows)) help
 
--- the answer to words that are refused: the line of the fault, and the text that the help begins
--- with
+-- It has the line for the error, and the text at the top of the help.
+-- the answer to words that are rejected
 abbrev pub refused_by : Script → Text → Answer
 refused_by script line = record { text = line ++ (brief_text script ++ codes "\n"); status = 2 }
 
@@ -225,13 +226,14 @@ refused script fault = refused_by script (fault_line script.name fault)
 
 -- ---- the number of free words
 
--- a fault of free words: an operand of this name isn't there, or this word is one too many
+-- an error of free words: an operand of this name is missing, or this word is one too many
 pub data OperandFault : Type 0 where
   missing : Text → OperandFault
   unexpected : Text → OperandFault
 
--- the fault of free words with these operands, if they have one: each word is the next operand, and
--- all from one that may come again on are that; it is named by what stands before its dots
+-- Each word is the next operand, and all words from a repeatable one on are that operand. An
+-- operand is named by what precedes its dots.
+-- the error of free words for these operands, if they have one
 abbrev pub operand_fault : List Operand → List Text → Option OperandFault
 operand_fault [] [] = None
 operand_fault [] (word ∷ words) = Some (unexpected word)
@@ -240,33 +242,34 @@ operand_fault (operand ∷ operands) [] =
 operand_fault (operand ∷ operands) (word ∷ words) =
     if may_repeat operand then None else operand_fault operands words
 
--- the fault of a script's free words; where its table has no operands, there is none
+-- the error of a script's free words; none if its table has no operands
 abbrev pub free_fault : List Operand → List Text → Option OperandFault
 free_fault [] free = None
 free_fault operands free = operand_fault operands free
 
--- the line of a fault of free words, after a name
+-- the line for an error of free words, after a name
 abbrev pub operand_fault_line : Text → OperandFault → Text
 operand_fault_line name (missing operand) =
     name ++ (codes ": Operand '" ++ (operand ++ codes "' missing\n"))
 operand_fault_line name (unexpected word) =
     name ++ (codes ": Unexpected operand: '" ++ (word ++ codes "'\n"))
 
--- a shell makes of this text in quotes one word, itself; and of the bytes of that the bytes of the
--- text
+-- It also turns the bytes of that into the bytes of the text.
+-- A shell turns this text in quotes into one word, which is the text.
 pub record IsOneWord (text : Text) : Type 0 where
   pub shell : shell_words (quoted text) ≡ Some (text ∷ [])
   pub bytes : shell_words (bytes_of (quoted text)) ≡ Some (bytes_of text ∷ [])
 
--- the code that prints a help, and ends the script; no alias stands for a word that begins with `\`
+-- No alias can replace a word that begins with `\`.
+-- the code that prints a help and ends the script
 abbrev pub help_code : Text → Text
 help_code help = codes "\\printf %s " ++ (quoted help ++ codes "; \\exit\n")
 
--- whether an entry is called `help`, and takes no argument
+-- whether an entry is called `help` and takes no argument
 abbrev pub is_help : Entry → Bool
 is_help entry = bytes_eq entry.names.long (codes "help") && not (takes_argument entry.kind)
 
--- whether matches ask for help: they have the option `help`, and one of the entries is that
+-- whether matches ask for help: they contain `help`, and one of the entries is that option
 abbrev pub asks_help : List Entry → Matched → Bool
 asks_help entries matches = list_any is_help entries && is_given matches (codes "help")
 
@@ -275,38 +278,38 @@ abbrev pub stands_alone : Often → Bool
 stands_alone Alone = true
 stands_alone often = false
 
--- whether the option of an entry does, and matches have it
+-- whether an entry's option stands alone, and the matches contain it
 abbrev pub is_alone : Matched → Entry → Bool
 is_alone matches entry =
     stands_alone entry.often && is_given matches (main_name entry.names)
 
--- the line of an option alone: its word by its main name, and the stop
+-- the line of an option that stands alone: its word, by its main name, and the stop
 abbrev pub alone_line : Entry → List Text
 alone_line entry = (codes "--" ++ main_name entry.names) ∷ stop_word ∷ []
 
--- why a name or a prefix makes no variable
+-- why a name or a prefix doesn't make a variable
 abbrev pub not_in_variables : Text
 not_in_variables =
-    codes "' makes no variable: a variable's name has letters, digits and '_', no digit first\n"
+    codes "' doesn't make a valid variable name (letters, digits and '_', no digit first)\n"
 
--- the line of a fault of variables
+-- the line for an error about variables
 abbrev pub variable_fault_line : VariableFault → Text
-variable_fault_line arrays_only = codes "getopts_shell: --arrays needs --variables\n"
+variable_fault_line arrays_only = codes "getopts_shell: --arrays requires --variables\n"
 variable_fault_line (no_prefix prefix) =
     codes "getopts_shell: '" ++ (prefix ++ not_in_variables)
 variable_fault_line (no_variable number name) =
     of_line number (codes "'" ++ (name ++ not_in_variables))
 variable_fault_line (variable_twice number name) =
-    of_line number (codes "'" ++ (name ++ codes "' makes the variable of another option\n"))
+    of_line number (codes "'" ++ (name ++ codes "' would share its variable with another option\n"))
 
--- the fault of the variables or the arrays that are asked for, with a table of these entries
+-- the error of the variables or arrays that are asked for, with a table of these entries
 abbrev pub asked_fault : Asked → List Entry → Option VariableFault
 asked_fault asked entries = option_map_or (λ prefix. prefix_fault prefix entries) asked.variables
     (if asked.arrays then Some arrays_only else None)
 
--- What a canonical line tells: a shell that runs its code holds its words; it is accepted in both
--- styles and both modes with the content of the words, and says nothing else; and of its words the
--- first that is `--` is the stop.
+-- A shell that runs its code holds its words. It is accepted in both styles and both modes with the
+-- content of the words, and says nothing else. Its first word `--` is the stop.
+-- These are the facts about a canonical line.
 pub record TellsWords (options : Declared) (words line : List Text) : Type 0 where
   pub shell : SetsWords line
   pub written : IsWritten options words line
@@ -314,21 +317,21 @@ pub record TellsWords (options : Declared) (words line : List Text) : Type 0 whe
   pub stop_is_first :
       AllByRecursion (λ m. canonical_word options.groups m ≢ stop_word) written.content.mentions
 
--- what is said where there is no completion in a shell
+-- the error for a shell that isn't supported
 abbrev pub no_completion : Text → Answer
 no_completion shell = misused (codes "getopts_shell: no completion for '"
-    ++ (shell ++ codes "', only for bash, zsh and fish\n"))
+    ++ (shell ++ codes "': choose bash, zsh or fish\n"))
 
--- the code that completes a script's words in a shell, or that there is none for it
+-- the code that completes words in a shell, or the error that it isn't supported
 abbrev pub completion_answer : Asked → Text → Text → Text → Answer
 completion_answer asked shell name table =
     option_map_or done (stub shell asked.stop asked.long_only name table) (no_completion shell)
 
--- the last of words, and those before it; of no words an empty one
+-- the last word, and those before it; empty if there are no words
 abbrev pub last_word : List Text → Text
 last_word words = unwrap_or (last_or None words) []
 
--- the answer to a shell that asks what may come at the last word, if there is completion in it
+-- This is the answer to a shell that asks for completions of the last word, if it is supported.
 abbrev pub AnswersOffer : Script → Text → List Text → Answer → Type 0
 AnswersOffer script shell words answer = MatchOption (functions shell)
     (answer ≡ no_completion shell)
@@ -336,8 +339,9 @@ AnswersOffer script shell words answer = MatchOption (functions shell)
     ≡ done (offer (read_options script) script.entries (take (length words - 1) words)
     (last_word words)))
 
--- The code that sets variables for options and free words: a shell that runs it holds these; and
--- the values are UTF-8, so one that runs its bytes holds their bytes.
+-- A shell that runs it holds these. The values are UTF-8, so a shell that runs its bytes holds
+-- their bytes.
+-- These are the facts about code that sets variables for options and free words.
 pub record TellsOptions (script : Script) (prefix : Text) (options : List Given) (free : List Text)
     (answer : Answer) : Type 0 where
   pub sets : SetsVariables prefix script.asked.arrays options free
@@ -345,13 +349,14 @@ pub record TellsOptions (script : Script) (prefix : Text) (options : List Given)
   pub free_values : AreTexts free
   pub answer_is : answer ≡ done (variables_code prefix script.asked.arrays options free)
 
--- the answer to words that ask for one option alone: its line, or variables where it alone is given
+-- It is the option's line, or variables as if only it had been given.
+-- This is the answer to words that give an option that stands alone.
 abbrev pub AnswersAlone : Script → Entry → Answer → Type 0
 AnswersAlone script entry answer = MatchOption script.asked.variables
     (SetsWords (alone_line entry) × (answer ≡ done (line_code (alone_line entry))))
     (λ prefix. TellsOptions script prefix (given_alone script.entries entry) [] answer)
 
--- the answer to words that are accepted, with these matches: their canonical line, or variables
+-- This is the answer to accepted words: their canonical line, or variables.
 abbrev pub AnswersLine : Script → List Text → Answer → Type 0
 AnswersLine script words answer = MatchResult (canonical_result (read_options script) words)
     (λ written. MatchOption written ⊥ (λ line. TellsWords (read_options script) words line
@@ -364,8 +369,9 @@ AnswersAccepted script words matches answer = MatchOption script.asked.variables
     (λ prefix. TellsOptions script prefix (given_from 0 script.entries matches.groups) matches.free
     answer)
 
--- the answer to words whose counts are checked: the first fault of an option, or else of the free
--- words; if there is none, the words are accepted
+-- It is the first error of an option, or else of the free words. If there is none, the words are
+-- accepted.
+-- This is the answer to words with their counts checked.
 abbrev pub AnswersCounted : Script → List Text → Answer → Type 0
 AnswersCounted script words answer = MatchResult (parse_result (read_options script) words)
     (λ matches. MatchOption (free_fault script.operands matches.free)
@@ -373,41 +379,42 @@ AnswersCounted script words answer = MatchResult (parse_result (read_options scr
     (λ fault. answer ≡ refused_by script (operand_fault_line script.name fault)))
     (λ fault. answer ≡ refused script fault)
 
--- the answer to words that ask for help: the code that prints it
+-- This is the answer to words that ask for help: code that prints it.
 abbrev pub PrintsHelp : Script → Answer → Type 0
 PrintsHelp script answer = (help : Text) × IsHelp script help × IsOneWord help
     × (answer ≡ done (help_code help))
 
--- the answer to words with these matches, whatever their counts: the code that prints the help
--- where they ask for it, else what the first option that stands alone gives, if they have one
+-- It is code that prints the help if they ask for it, or else what the first option that stands
+-- alone gives, if they have one.
+-- This is the answer to words with these matches, whatever their counts.
 abbrev pub AnswersRead : Script → List Text → Matched → Answer → Type 0
 AnswersRead script words matches answer = MatchBool (asks_help script.entries matches)
     (PrintsHelp script answer)
     (MatchOption (find (is_alone matches) script.entries) (AnswersCounted script words answer)
     (λ entry. AnswersAlone script entry answer))
 
--- the answer to a script's words
+-- This is the answer to a script's words.
 abbrev pub AnswersWords : Script → List Text → Answer → Type 0
 AnswersWords script words answer = MatchResult (read_result (read_options script) words)
     (λ matches. AnswersRead script words matches answer) (λ fault. answer ≡ refused script fault)
 
--- the answer for a script: its help, what may come at a word, or what its words are
+-- This is the answer for a script: its help, completions, or what its words mean.
 abbrev pub AnswersScript : Script → List Text → Answer → Type 0
 AnswersScript script words answer = MatchBool script.asked.usage
     ((help : Text) × IsHelp script help × (answer ≡ done help))
     (MatchOption script.asked.complete_words (AnswersWords script words answer)
     (λ shell. AnswersOffer script shell words answer))
 
--- the answer where a table declares these: the code that completes words, the fault of the
--- variables, or the answer for the script
+-- It is a completion script, the error of the variables, or the answer for the script.
+-- This is the answer if a table declares these.
 abbrev pub AnswersDeclared : Script → Text → List Text → Answer → Type 0
 AnswersDeclared script table words answer = MatchOption script.asked.complete
     (MatchOption (asked_fault script.asked script.entries)
     (AnswersScript script words answer) (λ fault. answer ≡ misused (variable_fault_line fault)))
     (λ shell. answer ≡ completion_answer script.asked shell script.name table)
 
--- The answer to a script's name, its table and its words: the fault of the table, or what its
--- entries give.
+-- It is the error of the table, or what its entries give.
+-- This is the answer to a script's name, its table and its words.
 pub data AnswersTable (asked : Asked) (name table : Text) (words : List Text) (answer : Answer)
     : Type 0 where
   faulty : (fault : TableFault) → IsTableFault table fault
@@ -421,25 +428,25 @@ pub data AnswersTable (asked : Asked) (name table : Text) (words : List Text) (a
       }) table words answer
       → AnswersTable asked name table words answer
 
--- the answer to the free words of the program's own
+-- This is the answer to the free words among the program's own.
 abbrev pub AnswersFree : Asked → List Text → Answer → Type 0
 AnswersFree asked (name ∷ table ∷ words) answer = AnswersTable asked name table words answer
 AnswersFree asked words answer =
-    answer ≡ misused (codes "getopts_shell: a name and a table of options are needed\n")
+    answer ≡ misused (codes "getopts_shell: NAME and TABLE are required (see --help)\n")
 
--- the answer to the program's own words with these matches: its help, its version, or what they ask
--- for
+-- It is the program's help, its version, or what they ask for.
+-- This is the answer to the program's own words, which have these matches.
 abbrev pub AnswersOwn : Matched → Answer → Type 0
 AnswersOwn own answer = MatchBool (is_given own (codes "help")) (answer ≡ done own_help)
     (MatchBool (is_given own (codes "version")) (answer ≡ done (codes "getopts_shell 0.2.24\n"))
     (AnswersFree (asked_by own) own.free answer))
 
--- the answer to words
+-- This is the answer to the program's words.
 abbrev pub IsAnswer : List Text → Answer → Type 0
 IsAnswer words answer = MatchResult (parse_result own_options words) (λ own. AnswersOwn own answer)
     (λ fault. answer ≡ misused (fault_line (codes "getopts_shell") fault))
 
--- words have one answer: one status and one text
+-- Words have exactly one answer: one status and one text.
 abbrev pub OneAnswer : Type 0
 OneAnswer = (words : List Text) (answer other : Answer) → IsAnswer words answer
     → IsAnswer words other
@@ -447,28 +454,27 @@ OneAnswer = (words : List Text) (answer other : Answer) → IsAnswer words answe
 
 -- ---- statuses
 
--- 0 where text was written for the script, 2 where its words are refused, 3 where memory was
--- refused, 4 where a write or a flush failed, 5 where the script calls the program wrongly
+-- It is 0 if text was written for the script, 2 if its words were rejected, 3 if an allocation
+-- failed, 4 if writing or flushing failed, and 5 if the script called the program incorrectly.
+-- This is one of the program's statuses.
 abbrev pub IsStatus : ℕ → Type 0
 IsStatus status = (status ≤ 5) × (status ≢ 1)
 
--- the bytes are those of the text of the answer to these words, which has this status
+-- The bytes are those of the text of the answer to these words, which has this status.
 abbrev pub IsOutput : List Text → List ℕ → ℕ → Type 0
 IsOutput words bytes status = (text : Text)
     × IsAnswer words (record { text = text; status = status }) × (bytes ≡ bytes_of text)
 
--- what a writer holds has grown by the bytes of the text of the answer to these words, which has
--- this status
+-- The writer has received the bytes of the answer to these words, which has this status.
 abbrev pub ShowsAnswer : Option (List ℕ) → Option (List ℕ) → List Text → ℕ → Type 0
 ShowsAnswer old new words status = (bytes : List ℕ)
     × IsOutput words bytes status × Appends old new bytes
 
--- what a writer holds has grown by a front of these bytes, or all
+-- The writer has received a prefix of these bytes, perhaps all.
 abbrev pub AppendsFront : Option (List ℕ) → Option (List ℕ) → List ℕ → Type 0
 AppendsFront old new bytes = (front rest : List ℕ) × (bytes ≡ front ++ rest) × Appends old new front
 
--- what a writer holds has grown by a front of the bytes of the text of the answer to these words,
--- which has such a status
+-- The writer has received a prefix of the answer to these words, which has such a status.
 abbrev pub ShowsFront : Option (List ℕ) → Option (List ℕ) → List Text → (ℕ → Type 0) → Type 0
 ShowsFront old new words IsItsStatus = (bytes : List ℕ) × (status : ℕ) × IsItsStatus status
     × IsOutput words bytes status × AppendsFront old new bytes

@@ -7,21 +7,23 @@ use Rattle.getopts.specs.Names.{Text}
 
 -- ---- what a shell makes of a text
 
--- What a shell has read of a text: the words that are done, and where it stands. Outside quotes it
--- is in a word that isn't done, or between words; in quotes, and after a backslash, it is in a
--- word. Of what a shell makes of other texts nothing is said.
+-- These are the complete words, and where it is. Outside quotes it is in an incomplete word or
+-- between words; in quotes, and after a backslash, it is in a word. Nothing is said about other
+-- texts.
+-- what a shell has read of a text
 pub data Progress : Type 0 where
   outside : List Text → Option Text → Progress
   quoting : List Text → Text → Progress
   escaping : List Text → Text → Progress
   unsaid : Progress
 
--- the words that are done, where the word that is read ends
+-- the complete words, if the word that is being read ends
 abbrev pub done : List Text → Option Text → List Text
 done words word = words ++ option_to_list word
 
--- One byte more of one command. A space or a tab parts words, `'..'` is literal, and `\` takes the
--- next byte literally, but for a line end. Of other bytes outside quotes nothing is said.
+-- A space or a tab separates words, `'..'` is literal, and `\` makes the next byte literal unless
+-- it is a line end. Nothing is said about other bytes outside quotes.
+-- the progress after one more byte of a command
 abbrev pub read_byte : Progress → ℕ → Progress
 read_byte (outside words word) byte =
     if byte == 39 then quoting words (unwrap_or word [])
@@ -33,23 +35,23 @@ read_byte (escaping words word) byte =
     if byte == 10 then unsaid else outside words (Some (word ++ byte ∷ []))
 read_byte unsaid byte = unsaid
 
--- the words that a shell has read where the text ends
+-- the words that a shell has read if the text ends
 abbrev pub words_read : Progress → Option (List Text)
 words_read (outside words word) = Some (done words word)
 words_read progress = None
 
--- the words that a shell makes of a text, where that is said
+-- the words that a shell makes of a text, as far as that is specified
 abbrev pub shell_words : Text → Option (List Text)
 shell_words text = words_read (fold read_byte (outside [] None) text)
 
 -- ---- words in quotes
 
--- a byte, or another text in its place where it is this one
+-- a byte, or another text in its place if it is this one
 abbrev pub replaced : ℕ → Text → ℕ → Text
 replaced one other byte = if byte == one then other else byte ∷ []
 
--- a byte of a word in quotes: for `'` those quotes end, it stands behind a backslash, and new
--- quotes begin
+-- For `'` the quotes end, it follows a backslash, and new quotes begin.
+-- a byte of a word in quotes
 abbrev pub quoted_byte : ℕ → Text
 quoted_byte = replaced 39 (codes "'\\''")
 
@@ -61,7 +63,7 @@ quoted word = codes "'" ++ (flat_map quoted_byte word ++ codes "'")
 abbrev pub spaced : Text → Text
 spaced word = codes " " ++ quoted word
 
--- words in quotes, with a space between each two
+-- words in quotes, with a space between them
 abbrev pub quoted_words : List Text → Text
 quoted_words [] = []
 quoted_words (word ∷ words) = quoted word ++ flat_map spaced words

@@ -1,4 +1,4 @@
--- The table of options: what each line of it declares, and which options it declares.
+-- The table of options: what each of its lines declares, and which options it declares.
 use Rattle.std.specs.Prelude.{◌≡◌, ◌≢◌, ◌==◌, ◌||◌, ◌&&◌, not, ℕ, ◌+◌, nat_lt, min, ◌-◌, ◌^◌, Bool}
 use Rattle.std.specs.Prelude.{true, false}
 use Rattle.std.specs.Prelude.{List, [], ◌∷◌, ◌++◌, Option, Some, None, codes, if◌then◌else◌}
@@ -27,60 +27,61 @@ use Rattle.getopts_shell.specs.declared.row.Often.TheVariants.{Once, Last, All, 
 
 -- ---- texts in parts
 
--- whether a text holds a byte
+-- whether a text contains a byte
 abbrev pub holds : ℕ → Text → Bool
 holds byte text = list_any (λ other. other == byte) text
 
--- what stands before the first such byte, or all
+-- what precedes the first such byte, or everything
 abbrev pub before : ℕ → Text → Text
 before byte text = before_first (λ other. other == byte) text
 
--- what stands after it, or nothing
+-- what follows it, or nothing
 abbrev pub after : ℕ → Text → Text
 after byte text = after_first (λ other. other == byte) text
 
--- a text without a `[` in front
+-- a text without a leading `[`
 abbrev pub unopened : Text → Text
 unopened text = if slice_index text 0 == 91 then drop 1 text else text
 
 -- ---- names, hints and items
 
--- a byte that a short name may be: a letter, a digit, or one of `?@#%+_^,./:`
+-- whether a byte may be a short name: a letter, a digit, or one of `?@#%+_^,./:`
 abbrev pub is_name_byte : ℕ → Bool
 is_name_byte byte = is_ascii_alphanumeric byte || byte == 63 || byte == 64 || byte == 35
     || byte == 37 || byte == 43 || byte == 95 || byte == 94 || byte == 44 || byte == 46
     || byte == 47 || byte == 58
 
--- whether a text may be a short name: it doesn't begin with `-`, and its bytes may stand there
+-- whether a text may be a short name: it doesn't begin with `-`, and its bytes are allowed
 abbrev pub is_name : Text → Bool
 is_name text = not (begins_with_dash text) && list_all is_name_byte text
 
--- a byte that a long name may hold: a letter, a digit, `-`, `_`, `.`, `+`, `:`, or one from 128 on
+-- It is a letter, a digit, `-`, `_`, `.`, `+`, `:`, or above 127.
+-- whether a byte may be in a long name
 abbrev pub is_long_byte : ℕ → Bool
 is_long_byte byte = is_ascii_alphanumeric byte || byte == 45 || byte == 95 || byte == 46
     || byte == 43 || byte == 58 || nat_lt 127 byte
 
--- whether a text ends as a long name may: neither in `:` nor in `.`
+-- whether a text ends like a long name may: in neither `:` nor `.`
 abbrev pub ends_as_name : Text → Bool
 ends_as_name text =
     not (ends_with ◌==◌ text (codes ":")) && not (ends_with ◌==◌ text (codes "."))
 
--- whether a text may be a long name: it doesn't begin with `-`, its bytes may stand there, and it
--- ends as one may
+-- It doesn't begin with `-`, its bytes are allowed, and it ends like a long name may.
+-- whether a text may be a long name
 abbrev pub is_long_name : Text → Bool
 is_long_name text = not (begins_with_dash text)
     && (list_all is_long_byte text && ends_as_name text)
 
--- a byte that a hint may hold: no space, no tab, no `[` and no `]`
+-- whether a byte may be in a hint: it isn't a space, a tab, `[` or `]`
 abbrev pub is_hint_byte : ℕ → Bool
 is_hint_byte byte = not (byte == 32) && not (byte == 9) && not (byte == 91) && not (byte == 93)
 
--- whether a text begins as names do, with a dash or `|`
+-- whether a text begins like names do, with a dash or `|`
 abbrev pub begins_name : Text → Bool
 begins_name text = slice_index text 0 == 45 || slice_index text 0 == 124
 
--- whether a text may be a hint: it doesn't begin as names do, nor end in two dots, which come after
--- brackets
+-- It doesn't begin like names do, nor end in two dots, which follow brackets.
+-- whether a text may be a hint
 abbrev pub is_hint : Text → Bool
 is_hint text = not (is_empty text) && (list_all is_hint_byte text
     && (not (begins_name text) && not (ends_with ◌==◌ text (codes ".."))))
@@ -92,19 +93,19 @@ names_text names =
     else (codes "-" ++ (names.short
     ++ (if is_empty names.long then [] else codes "|--" ++ names.long)))
 
--- names that may stand in a table: they are lawful, and each may be a name
+-- The names are allowed in a table: they are valid, and each may be a name.
 pub record MayBeNames (short long : Text) : Type 0 where
   pub lawful : AreLawful short long
   pub short_name : is_name short ≡ true
   pub long_name : is_long_name long ≡ true
 
--- these names, written so
+-- The text consists of these names.
 pub record AreNames (names : Names) (text : Text) : Type 0 where
   pub may_be : MayBeNames names.short names.long
   pub written : text ≡ names_text names
 
--- the argument of a kind, with this hint: none for No, the hint for Yes, and for Maybe the hint in
--- brackets
+-- The text is none for `No`, the hint for `Yes`, and the hint in brackets for `Maybe`.
+-- This is the argument of this kind with this hint.
 abbrev pub IsArgument : HasArg → Text → Option Text → Type 0
 IsArgument No hint None = hint ≡ []
 IsArgument Yes hint (Some text) = (is_hint hint ≡ true) × (text ≡ hint)
@@ -112,34 +113,35 @@ IsArgument Maybe hint (Some text) = (is_hint hint ≡ true)
     × (text ≡ codes "[" ++ (hint ++ codes "]"))
 IsArgument kind hint argument = ⊥
 
--- names, which hold no space, and after one space the argument, if there is one
+-- The text is names without a space, then perhaps one space and the argument.
 abbrev pub HasParts : Text → Text → Option Text → Type 0
 HasParts text names argument = AllByRecursion (λ byte. byte ≢ 32) names
     × (text ≡ names ++ option_map_or (λ argument. codes " " ++ argument) argument [])
 
--- what stands behind `]`: nothing, the last value counts; two or three dots, all do; `!`, the
--- option stands alone
+-- Nothing: the last value counts. Two or three dots: all values do. `!`: the option stands alone.
+-- what the text after `]` means
 abbrev pub end_means : Text → Option Often
 end_means end =
     if is_empty end then Some Last
     else (if bytes_eq end (codes "!") then Some Alone
     else (if bytes_eq end (codes "..") || bytes_eq end (codes "...") then Some All else None))
 
--- A text with another inside, in no brackets where it has to come once, and else in `[` and `]`,
--- and what follows these.
+-- There are no brackets if the option has to occur once; otherwise the inside is in `[` and `]`,
+-- and the end follows.
+-- The text has this inside, and brackets that mean this occurrence.
 pub data IsBracketed (text inside : Text) : Often → Type 0 where
   bare : text ≡ inside → slice_index text 0 ≢ 91 → IsBracketed text inside Once
   bracketed : (end : Text) (often : Often) → text ≡ codes "[" ++ (inside ++ (codes "]" ++ end))
       → end_means end ≡ Some often → IsBracketed text inside often
 
--- whether an option that may come so often may be of a kind: one that stands alone takes no
--- argument
+-- whether an occurrence fits a kind: an option that stands alone takes no argument
 abbrev pub fits : Often → HasArg → Bool
 fits Alone Yes = false
 fits Alone Maybe = false
 fits often kind = true
 
--- An item: names, and perhaps an argument, in the brackets that say how often the option may come.
+-- It is names, and perhaps an argument, in brackets that say how often the option may occur.
+-- The text is an item with these parts.
 pub record IsItem (text : Text) (own : Names) (kind : HasArg) (often : Often) (hint : Text)
     : Type 0 where
   pub inside : Text
@@ -153,7 +155,7 @@ pub record IsItem (text : Text) (own : Names) (kind : HasArg) (often : Often) (h
 
 -- ---- operands
 
--- a byte of an operand's name: a capital letter, a digit, `_` or `-`
+-- whether a byte may be in an operand's name: a capital letter, a digit, `_` or `-`
 abbrev pub is_operand_byte : ℕ → Bool
 is_operand_byte byte =
     is_ascii_uppercase byte || is_ascii_digit byte || byte == 95 || byte == 45
@@ -162,42 +164,44 @@ is_operand_byte byte =
 abbrev pub begins_capital : Text → Bool
 begins_capital text = is_ascii_uppercase (slice_index text 0)
 
--- whether a text has `[` in front and its one `]` at its end, or neither
+-- whether a text begins with `[` and ends in its only `]`, or contains neither
 abbrev pub has_brackets : Text → Bool
 has_brackets text =
     if slice_index text 0 == 91 then holds 93 text && is_empty (after 93 text)
     else not (holds 93 text)
 
--- whether no dot stands in a text, or two or three at its end
+-- whether a text contains no dots, or only two or three at its end
 abbrev pub has_dots : Text → Bool
 has_dots text = not (holds 46 text)
     || (ends_with ◌==◌ text (codes "..") && nat_lt (length (after 46 text)) 3)
 
--- the name of an operand, as its item has it
+-- the name of an operand, as it is in its item
 abbrev pub operand_name : Text → Text
 operand_name item = before 93 (unopened (before 46 item))
 
--- whether an item is an operand: a name that begins with a capital letter, in brackets where it may
--- be left out, and two or three dots where it may come again
+-- It is a name that begins with a capital letter, in brackets if it is optional, with two or three
+-- dots if it may be repeated.
+-- whether an item is an operand
 abbrev pub is_operand : Text → Bool
 is_operand item = begins_capital (unopened item)
     && (list_all is_operand_byte (operand_name item)
     && (has_brackets (before 46 item) && has_dots item))
 
--- An operand of a table: its item, and its description.
+-- an operand of a table: its item, and its description
 pub record Operand : Type 0 where
   pub item : Text
   pub description : Text
 
--- whether an operand has to be there, and whether it may come again
+-- whether an operand is required, and whether it may be repeated
 abbrev pub is_needed : Operand → Bool
 is_needed operand = not (slice_index operand.item 0 == 91)
 
 abbrev pub may_repeat : Operand → Bool
 may_repeat operand = holds 46 operand.item
 
--- An entry of a table: the number of its line, the names and the kind of its option, how often it
--- may come, the hint, and the description.
+-- It has the number of its line, the names and kind of its option, how often that may occur, the
+-- hint, and the description.
+-- an entry of a table
 pub record Entry : Type 0 where
   pub line : ℕ
   pub names : Names
@@ -206,15 +210,15 @@ pub record Entry : Type 0 where
   pub hint : Text
   pub description : Text
 
--- how often words may give an option; where it is shown in a help, one of which the last value
--- counts stands in brackets alone
+-- In a help, an option whose last value counts may occur once.
+-- how often words may give an option, or how often a help says
 abbrev pub occurrence_of : Bool → Often → Occur
 occurrence_of shown Once = Req
 occurrence_of shown All = Multi
 occurrence_of shown Alone = Optional
 occurrence_of shown Last = if shown then Optional else Multi
 
--- the group that an entry is read by, or the one that a help shows
+-- the group by which an entry is parsed, or the one that a help shows
 abbrev pub group_of_entry : Bool → Entry → Group
 group_of_entry shown entry = record {
   signature = record {
@@ -226,21 +230,21 @@ group_of_entry shown entry = record {
   description = entry.description;
 }
 
--- the groups of entries, as words are read by them, or as a help shows them
+-- the groups of entries, as words are parsed by them, or as a help shows them
 abbrev pub groups_as : Bool → List Entry → List Group
 groups_as shown entries = map (group_of_entry shown) entries
 
 -- ---- lines
 
--- a text without the ASCII white space that it begins with
+-- a text without its leading ASCII white space
 abbrev pub after_blanks : Text → Text
 after_blanks text = drop (prefix_len is_ascii_whitespace text) text
 
--- a text without the ASCII white space that it ends in
+-- a text without its trailing ASCII white space
 abbrev pub before_blanks : Text → Text
 before_blanks text = take (length text - suffix_len is_ascii_whitespace text) text
 
--- a text without the ASCII white space at both ends
+-- a text without ASCII white space at both ends
 abbrev pub trimmed : Text → Text
 trimmed text = before_blanks (after_blanks text)
 
@@ -249,7 +253,7 @@ abbrev pub begins_gap : Text → Bool
 begins_gap text =
     slice_index text 0 == 9 || (slice_index text 0 == 32 && slice_index text 1 == 32)
 
--- what stands before the first tab or two spaces, or all where there are none
+-- what precedes the first tab or two spaces, or everything if there are none
 abbrev pub before_gap : Text → Text
 before_gap [] = []
 before_gap (byte ∷ more) =
@@ -268,30 +272,30 @@ item_of line = trimmed (before_gap (trimmed line))
 abbrev pub is_skipped : Text → Bool
 is_skipped line = is_empty (trimmed line) || slice_index (trimmed line) 0 == 35
 
--- whether a line declares no option: it declares nothing, or its item is an operand
+-- whether a line declares no option: it declares nothing at all, or its item is an operand
 abbrev pub is_passed : Text → Bool
 is_passed line = is_skipped line || is_operand (item_of line)
 
--- A line with this number declares an entry: its option, and after a tab or two spaces its
--- description.
+-- It has its option and, after a tab or two spaces, its description.
+-- The line with this number declares this entry.
 pub record DeclaresEntry (number : ℕ) (line : Text) (entry : Entry) : Type 0 where
   pub number_is : entry.line ≡ number
   pub there : is_passed line ≡ false
   pub item : IsItem (item_of line) entry.names entry.kind entry.often entry.hint
   pub description : entry.description ≡ trimmed (from_gap (trimmed line))
 
--- what a line with this number declares: nothing, or an entry
+-- The line with this number declares this: nothing, or an entry.
 abbrev pub Declares : ℕ → Text → Option Entry → Type 0
 Declares number line None = is_passed line ≡ true
 Declares number line (Some entry) = DeclaresEntry number line entry
 
 -- ---- tables
 
--- the number of the line after so many; numbers end at the highest of 64 bits
+-- the number of the line after this many; numbers stop at the highest of 64 bits
 abbrev pub line_number : ℕ → ℕ
 line_number before = min (before + 1) (2 ^ 64 - 1)
 
--- the entries that lines declare, in order, where so many lines stand before them
+-- The lines, which follow this many others, declare these entries, in order.
 abbrev pub DeclareEntries : ℕ → List Text → List Entry → Type 0
 DeclareEntries before [] entries = entries ≡ []
 DeclareEntries before (line ∷ lines) entries = (declared : Option Entry) × (others : List Entry)
@@ -312,8 +316,8 @@ operands_among lines = flat_map (λ line. option_to_list (operand_at line)) line
 abbrev pub operands_in : Text → List Operand
 operands_in table = operands_among (lines_of table)
 
--- whether another operand may come before this one: it may not come again, and it has to be there
--- where this one has to
+-- It can't be repeated, and it is required if this one is.
+-- whether another operand may precede this one
 abbrev pub comes_before : Operand → Operand → Bool
 comes_before operand other = not (may_repeat other) && (is_needed other || not (is_needed operand))
 
@@ -325,49 +329,50 @@ abbrev pub any_has_name : List Entry → Text → Bool
 any_has_name entries name = not (is_empty name)
     && list_any (λ entry. bytes_eq entry.names.short name || bytes_eq entry.names.long name) entries
 
--- the first of an entry's names that one of these entries has already
+-- the first of an entry's names that one of these entries already has
 abbrev pub name_again : List Entry → Entry → Option Text
 name_again entries entry =
     find (any_has_name entries) (entry.names.short ∷ entry.names.long ∷ [])
 
--- this is so of each element with those before it
+-- Each element has this property, together with those before it.
 abbrev pub EachAfter : {X : Type 0} → (List X → X → Type 0) → List X → Type 0
 EachAfter {X} Is xs = (before after : List X) (x : X) → xs ≡ before ++ x ∷ after → Is before x
 
--- Lines declare these options: no name stands twice, and the operands stand in order.
+-- The lines declare these options: no name occurs twice, and the operands are in order.
 pub record DeclareOptions (lines : List Text) (entries : List Entry) : Type 0 where
   pub declared : DeclareEntries 0 lines entries
   pub once : EachAfter (λ before entry. name_again before entry ≡ None) entries
   pub in_order : EachAfter (λ before operand. may_follow before operand ≡ true)
       (operands_among lines)
 
--- the table declares these options
+-- The table declares these options.
 abbrev pub DeclaresOptions : Text → List Entry → Type 0
 DeclaresOptions table entries = DeclareOptions (lines_of table) entries
 
--- a table declares one list of options at most
+-- A table declares at most one list of options.
 abbrev pub OneTableOneList : Type 0
 OneTableOneList = (table : Text) (entries others : List Entry) → DeclaresOptions table entries
     → DeclaresOptions table others → others ≡ entries
 
 -- ---- why a text is no option
 
--- what stands for the names of an item: all before the first space or `]`, without a `[` in front
+-- This is everything before the first space or `]`, without a leading `[`.
+-- the part of an item for its names
 abbrev pub names_in : Text → Text
 names_in item = before 32 (before 93 (unopened item))
 
--- the two names that names are, right or wrong, each with its dashes
+-- the short and the long name in a text, valid or not, each with its dashes
 abbrev pub dashed : Text → Names
 dashed names =
     if starts_with ◌==◌ names (codes "--") then record { short = []; long = names }
     else record { short = before 124 names; long = after 124 names }
 
--- whether a text holds `]`, and ends in what can't stand behind it
+-- whether a text contains `]`, and ends in something that can't follow it
 abbrev pub ends_behind : Text → Bool
 ends_behind text =
     holds 93 text && not (ends_with ◌==◌ text (codes "]") || ends_with ◌==◌ text (codes "."))
 
--- why a text may be no option: what each reason claims of it, and the reason
+-- why an item may be invalid: for each reason, whether it applies, and its text
 abbrev pub reasons : Text → List (Bool × Text)
 reasons item =
     let names = names_in item in
@@ -396,22 +401,22 @@ reasons item =
     ∷ (ends_behind item, END.now)
     ∷ []
 
--- why a text is no option: the first reason whose claim is so, or else BRACKETS
+-- why an item is invalid: the first reason that applies, or else BRACKETS
 abbrev pub reason_of : Text → Text
 reason_of item = option_map_or (λ reason. reason.1) (find (λ reason. reason.0) (reasons item))
     BRACKETS.now
 
--- ---- faults
+-- ---- errors
 
--- a fault of a table: the number of a line, and its item or a name
+-- an error in a table: the number of a line, and its item or a name
 pub data TableFault : Type 0 where
   no_option : ℕ → Text → TableFault
   name_twice : ℕ → Text → TableFault
   late_operand : ℕ → Text → TableFault
 
--- the fault of the line with this number, where the lines before it declare these entries and
--- operands: it declares neither nothing nor an entry, or an entry with a name that stands there
--- already, or an operand that may not follow them
+-- The lines before it declare these entries and operands. It declares something other than nothing
+-- or an entry, or an entry with a name that they have, or an operand that can't follow theirs.
+-- This is the error of the line with this number.
 pub data IsLineFault (number : ℕ) (entries : List Entry) (operands : List Operand) (line : Text)
     : TableFault → Type 0 where
   none : ((declared : Option Entry) → ¬ (Declares number line declared))
@@ -423,7 +428,7 @@ pub data IsLineFault (number : ℕ) (entries : List Entry) (operands : List Oper
       → may_follow operands operand ≡ false
       → IsLineFault number entries operands line (late_operand number operand.item)
 
--- the fault of a table: that of the first line that has one
+-- This is the error of the table: that of the first line that has one.
 pub record IsTableFault (table : Text) (fault : TableFault) : Type 0 where
   pub before : List Text
   pub line : Text

@@ -30,36 +30,38 @@ pub record Shell : Type 0 where
   pub value : Text → Option Value
   pub words : List Text
 
--- a shell where a variable has this value, or none
+-- a shell in which a variable has this value, or none
 abbrev pub with_variable : Shell → Text → Option Value → Shell
 with_variable shell name value =
     record shell { value = λ other. if bytes_eq other name then value else shell.value other }
 
--- a byte of the name of a variable: a letter, a digit or `_`
+-- whether a byte may be in a variable's name: a letter, a digit or `_`
 abbrev pub is_variable_byte : ℕ → Bool
 is_variable_byte byte = is_ascii_alphanumeric byte || byte == 95
 
--- whether a text is the name of a variable: such bytes, one or more, of which the first is no digit
+-- whether a text is a variable's name: one or more such bytes, of which the first isn't a digit
 abbrev pub is_variable : Text → Bool
 is_variable [] = false
 is_variable (byte ∷ more) = not (is_ascii_digit byte) && list_all is_variable_byte (byte ∷ more)
 
--- What stands before the words of an array that is assigned to NAME. `${NAME+}` is no word, but
--- keeps the first of them from being the name of a command, as `(typeset)` is.
+-- `${NAME+}` adds no word, but keeps the first of them from being the name of a command, as
+-- `(typeset)` is.
+-- what precedes the words of an array that is assigned to NAME
 abbrev pub array_front : Text → Text
 array_front name = codes "(${" ++ (name ++ codes "+} ")
 
--- What `NAME=` and a code assign to an unset NAME: the one word that a shell reads where the code
--- stands behind `''`, or the words of an array.
+-- This is the one word that a shell reads if the code follows `''`, or the words of an array.
+-- NAME is unset, and `NAME=` and this code assign this value to it.
 pub data Assigns (name : Text) : Text → Value → Type 0 where
   one_word : (code word : Text) → shell_words (codes "''" ++ code) ≡ Some (word ∷ [])
       → Assigns name code (one word)
   array_words : (code : Text) (words : List Text) → shell_words code ≡ Some words
       → Assigns name (array_front name ++ (code ++ codes ")")) (many words)
 
--- What a shell that held `before` holds after a command. Its words are read to its end, so a line
--- end in it stands in quotes, and none are open where it ends. Nothing is said of other commands,
--- nor of `NAME=` where NAME is set: an array would keep its other texts.
+-- The command is read to its end, so a line end in it is in quotes, and none are open at its end.
+-- Nothing is said about other commands, nor about `NAME=` if NAME is set: an array would keep its
+-- other texts.
+-- A shell that held `before` holds this after the command.
 pub data RunsCommand (before : Shell) : Text → Shell → Type 0 where
   sets : (code : Text) (words : List Text) → shell_words code ≡ Some words
       → RunsCommand before (codes "\\set -- " ++ code) (record before { words = words })
@@ -69,8 +71,8 @@ pub data RunsCommand (before : Shell) : Text → Shell → Type 0 where
       → before.value name ≡ None → Assigns name code value
       → RunsCommand before (name ++ (codes "=" ++ code)) (with_variable before name (Some value))
 
--- what a shell holds before and after a text of commands: a line end stands after each, but perhaps
--- not after the last
+-- A line end follows each command, but perhaps not the last.
+-- A shell holds these before and after a text of commands.
 pub data RunsText : Shell → Text → Shell → Type 0 where
   no_command : (shell : Shell) → RunsText shell [] shell
   last_command : (before after : Shell) (command : Text) → RunsCommand before command after
@@ -78,8 +80,8 @@ pub data RunsText : Shell → Text → Shell → Type 0 where
   command_line : (before next after : Shell) (command more : Text) → RunsCommand before command next
       → RunsText next more after → RunsText before (command ++ (codes "\n" ++ more)) after
 
--- A shell that held `before` and runs a text holds `after`; also where the text has lost its last
--- line end, as `$(..)` takes it away.
+-- This is also true if the text has lost its last line end, as in `$(..)`.
+-- A shell that held `before` and runs the text holds `after`.
 pub record Runs (before : Shell) (text : Text) (after : Shell) : Type 0 where
   pub whole : RunsText before text after
   pub cut : Text
@@ -88,11 +90,11 @@ pub record Runs (before : Shell) (text : Text) (after : Shell) : Type 0 where
 
 -- ---- the variables of options
 
--- a byte of a main name, as it stands in a variable: `_` for `-`
+-- a byte of a main name, as it is in a variable's name: `_` for `-`
 abbrev pub variable_byte : ℕ → ℕ
 variable_byte byte = if byte == 45 then 95 else byte
 
--- the variable of a main name: the prefix, and the name with `_` for each `-`
+-- the variable for a main name: the prefix, and the name with `_` for each `-`
 abbrev pub variable : Text → Text → Text
 variable prefix name = prefix ++ map variable_byte name
 
@@ -100,20 +102,21 @@ variable prefix name = prefix ++ map variable_byte name
 abbrev pub variable_of : Text → Entry → Text
 variable_of prefix entry = variable prefix (main_name entry.names)
 
--- whether one of these entries makes the variable that another makes
+-- whether one of these entries makes the same variable as another
 abbrev pub any_has_variable : Text → List Entry → Entry → Bool
 any_has_variable prefix before entry =
     list_any (λ other. bytes_eq (variable_of prefix other) (variable_of prefix entry)) before
 
--- a fault of variables: arrays are asked for without them, or that of the prefix, or of a name in
--- the line with this number
+-- It is that arrays are asked for without variables, or about the prefix, or about a name in the
+-- line with this number.
+-- an error about variables
 pub data VariableFault : Type 0 where
   arrays_only : VariableFault
   no_prefix : Text → VariableFault
   no_variable : ℕ → Text → VariableFault
   variable_twice : ℕ → Text → VariableFault
 
--- the fault of an entry after others, if it has one
+-- the error of an entry after others, if it has one
 abbrev pub variable_fault : Text → List Entry → Entry → Option VariableFault
 variable_fault prefix before entry =
     if is_variable (variable_of prefix entry) then
@@ -121,33 +124,33 @@ variable_fault prefix before entry =
     (variable_twice entry.line (main_name entry.names)) else None)
     else Some (no_variable entry.line (main_name entry.names))
 
--- the first fault of entries after others
+-- the first error of entries after others
 abbrev pub first_fault : Text → List Entry → List Entry → Option VariableFault
 first_fault prefix before [] = None
 first_fault prefix before (entry ∷ more) =
     option_or (variable_fault prefix before entry) (first_fault prefix (before ++ entry ∷ []) more)
 
--- each of these entries makes a variable, and no two make the same
+-- Each of these entries makes a variable, and no two make the same.
 abbrev pub HaveOwnVariables : Text → List Entry → Type 0
 HaveOwnVariables prefix entries = first_fault prefix [] entries ≡ None
 
--- a prefix that a variable may begin with: none, or the name of a variable
+-- whether a variable's name may begin with a prefix: it is empty, or a variable's name
 abbrev pub is_prefix : Text → Bool
 is_prefix prefix = is_empty prefix || is_variable prefix
 
--- the fault of a prefix with the entries of a table
+-- the error of a prefix with the entries of a table
 abbrev pub prefix_fault : Text → List Entry → Option VariableFault
 prefix_fault prefix entries =
     if is_prefix prefix then first_fault prefix [] entries else Some (no_prefix prefix)
 
 -- ---- options as words give them
 
--- An option as words give it: its entry, and its occurrences.
+-- an option as words give it: its entry, and its occurrences
 pub record Given : Type 0 where
   pub entry : Entry
   pub found : List Found
 
--- the options of a table as matches give them, where the first has this place
+-- the options of a table as matches give them, if the first has this place
 abbrev pub given_from : ℕ → List Entry → List MatchedGroup → List Given
 given_from place [] held = []
 given_from place (entry ∷ entries) held =
@@ -157,33 +160,34 @@ given_from place (entry ∷ entries) held =
 abbrev pub once : List Found
 once = record { position = 0; value = None } ∷ []
 
--- what is found of an option where nothing is given but this one, once and without a value
+-- the occurrences of an option if only this one is given, once and without a value
 abbrev pub found_alone : Entry → Entry → List Found
 found_alone entry alone =
     if bytes_eq (main_name entry.names) (main_name alone.names) then once else []
 
--- the options of a table where nothing else is given
+-- the options of a table if only this one is given
 abbrev pub given_alone : List Entry → Entry → List Given
 given_alone entries alone =
     map (λ entry. record { entry = entry; found = found_alone entry alone }) entries
 
--- the occurrences of an option, as the code holds them
+-- the occurrences of an option, as the code stores them
 abbrev pub founds_of : Came → List Found
 founds_of (came.Held held) = held.now
 founds_of came.Once = once
 founds_of came.Never = []
 
--- the values of occurrences, with the empty text for one that has none
+-- the values of occurrences, with an empty text for one that has none
 abbrev pub texts_found : List Found → List Text
 texts_found founds = map (λ value. unwrap_or value []) (each_value founds)
 
--- all values, as an array or as words to read once more
+-- all values, as an array or as words to be read once more
 abbrev pub all_values : Bool → List Found → Value
 all_values arrays founds =
     if arrays then many (texts_found founds) else one (quoted_words (texts_found founds))
 
--- what a variable holds: how often the option came where it takes no argument, all values, or the
--- last value, if there is one
+-- This is how often the option was given if it takes no argument, all values, or the last value if
+-- there is one.
+-- what a variable holds
 abbrev pub held_value : Bool → HasArg → Bool → List Found → Option Value
 held_value arrays No all founds = Some (one (decimal (length founds)))
 held_value arrays kind true founds = Some (all_values arrays founds)
@@ -194,8 +198,9 @@ abbrev pub own_value : Bool → Given → Option Value
 own_value arrays option =
     held_value arrays option.entry.kind (holds_all option.entry.often) option.found
 
--- a shell where each option's variable has its value, or none, all other variables are as they
--- were, and the words are the free words
+-- Each option's variable has its value or none, all other variables are unchanged, and the words
+-- are the free words.
+-- a shell that holds these options
 abbrev pub with_options : Text → Bool → List Given → List Text → Shell → Shell
 with_options prefix arrays options free shell = record (fold
     (λ held option. with_variable held (variable_of prefix option.entry) (own_value arrays option))
@@ -210,7 +215,7 @@ value_line name (Some (one text)) = name ++ (codes "=" ++ (quoted text ++ codes 
 value_line name (Some (many words)) =
     name ++ (codes "=" ++ (array_front name ++ (quoted_words words ++ codes ")\n")))
 
--- the commands for an option: its variable is taken away, with its attributes, and given its value
+-- the commands for an option: its variable is unset, with its attributes, and given its value
 abbrev pub option_code : Text → Bool → Given → Text
 option_code prefix arrays option = codes "\\unset -v " ++ (variable_of prefix option.entry
     ++ (codes "\n" ++ value_line (variable_of prefix option.entry) (own_value arrays option)))
@@ -219,7 +224,7 @@ option_code prefix arrays option = codes "\\unset -v " ++ (variable_of prefix op
 abbrev pub line_code : List Text → Text
 line_code words = codes "\\set -- " ++ (quoted_words words ++ codes "\n")
 
--- the text for options and free words
+-- the code for options and free words
 abbrev pub variables_code : Text → Bool → List Given → List Text → Text
 variables_code prefix arrays options free =
     flat_map (option_code prefix arrays) options ++ line_code free
@@ -233,7 +238,7 @@ found_in_bytes found = record found { value = option_map bytes_of found.value }
 abbrev pub in_bytes : Given → Given
 in_bytes option = record option { found = map found_in_bytes option.found }
 
--- what a variable holds of an option is UTF-8
+-- What a variable holds of an option is UTF-8.
 abbrev pub AreTextValues : HasArg → Bool → List Found → Type 0
 AreTextValues No all founds = ⊤
 AreTextValues kind true founds = AreTexts (texts_found founds)
@@ -243,16 +248,16 @@ abbrev pub HoldTexts : List Given → Type 0
 HoldTexts options = AllByRecursion
     (λ option. AreTextValues option.entry.kind (holds_all option.entry.often) option.found) options
 
--- A shell that runs the command holds these words; and one that runs its bytes holds the bytes of
--- the words.
+-- A shell that runs its bytes holds the bytes of the words.
+-- A shell that runs the command holds these words.
 pub record SetsWords (words : List Text) : Type 0 where
   pub shell : (before : Shell) → Runs before (line_code words) (record before { words = words })
   pub bytes : (before : Shell)
       → Runs before (bytes_of (line_code words)) (record before { words = map bytes_of words })
 
--- A shell that runs the text for options and free words holds these, each option in a variable of
--- its own, and the words of a text of values are these values. Where the values are UTF-8, a shell
--- that runs the bytes of the text holds the bytes of all.
+-- Each option has a variable of its own, and the words in a text of values are these values. If the
+-- values are UTF-8, a shell that runs the bytes of the code holds the bytes of everything.
+-- A shell that runs the code for options and free words holds these.
 pub record SetsVariables (prefix : Text) (arrays : Bool) (options : List Given) (free : List Text)
     : Type 0 where
   pub own : HaveOwnVariables prefix (map (λ option. option.entry) options)
@@ -264,7 +269,7 @@ pub record SetsVariables (prefix : Text) (arrays : Bool) (options : List Given) 
   pub once_more : AllByRecursion (λ option. shell_words (quoted_words (texts_found option.found))
       ≡ Some (texts_found option.found)) options
 
--- the text for options sets variables, where each option makes one, no two the same
+-- The code for options sets variables, if each option makes one and no two make the same.
 abbrev pub CodeSetsVariables : Type 0
 CodeSetsVariables = (prefix : Text) (arrays : Bool) (options : List Given) (free : List Text)
     → HaveOwnVariables prefix (map (λ option. option.entry) options)

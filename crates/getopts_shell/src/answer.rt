@@ -1,4 +1,4 @@
-//! What the program answers to words.
+//! What the program answers to its words.
 
 ghost use Rattle.std.specs.Prelude.{◌≡◌, ◌≢◌, ◌⊎◌, ◌++◌, ◌-◌, ◌&&◌, codes, map, length, not, take};
 ghost use Rattle.std.specs.Prelude.{true, false, Option, IfOk, OnOk, Some, None};
@@ -50,15 +50,15 @@ use std::alloc::{AllocError, Global};
 use std::io;
 use std::io::{ErrorKind, Write};
 
-/// The status where text was written for the script.
+/// The status if text was written for the script.
 const DONE: u8 = 0;
-/// The status where the script's words were refused, and the fault was written.
+/// The status if the script's words were rejected and their error was written.
 const REFUSED: u8 = 2;
-/// The status where memory was refused.
+/// The status if an allocation failed.
 pub(crate) const NO_MEMORY: u8 = 3;
-/// The status where a write or a flush failed.
+/// The status if writing or flushing failed.
 const NOT_WRITTEN: u8 = 4;
-/// The status where the script calls the program wrongly, and the fault was written.
+/// The status if the script called the program incorrectly and the error was written.
 const MISUSED: u8 = 5;
 
 /// The line before the options in the program's own help.
@@ -67,17 +67,17 @@ const BRIEF: &str = "Usage: getopts_shell [options] NAME TABLE [WORD]..";
 /// What `--version` writes.
 const VERSION: &str = "getopts_shell 0.2.24\n";
 
-/// What is written where a name or a table isn't there.
-const NEEDED: &str = "getopts_shell: a name and a table of options are needed\n";
+/// What is written if the name or the table is missing.
+const NEEDED: &str = "getopts_shell: NAME and TABLE are required (see --help)\n";
 
-/// What the program has to write, and the status that it ends with.
+/// What the program has to write, and its exit status.
 #[derive(Drop)]
 struct Outcome {
     text: String,
     status: u8,
 }
 
-/// The bytes that the program writes, and the status that it ends with.
+/// The bytes that the program writes, and its exit status.
 #[derive(Drop)]
 struct Output {
     bytes: Vec<u8>,
@@ -92,7 +92,7 @@ impl Outcome {
         Outcome { text, status: DONE }
     }
 
-    /// A fault in how the script calls the program.
+    /// An error in how the script calls the program.
     fn misused(text: String) -> Outcome
         ensures { answer_of result ≡ misused (string_bytes text) }
     {
@@ -103,21 +103,21 @@ impl Outcome {
     }
 }
 
-/// Reads a script's words by a table of options, and writes what the script does with them.
+/// Parses a script's words by a table of options, and writes what the script does with them.
 ///
-/// The words are the program's own options, the script's name, its table and its words. The text is
-/// made whole, then written once and flushed: on `out` where the status is 0, and on `err` where it
-/// is 2 or 5.
+/// The words are the program's own options, the script's name, its table and its words. The whole
+/// text is built first, then written once and flushed: to `out` if the status is 0, and to `err` if
+/// it is 2 or 5.
 ///
-/// - 0: code that sets the script's words to those of the canonical line, or, with `--variables`,
-///   that sets variables, or that prints the script's help; with `--usage` the help itself, with
-///   `--complete` the code that completes words in a shell, with `--complete-words` what may come at
-///   the last word, with `--help` the program's help
-/// - 2: why the script's words are refused, and its short usage
+/// - 0: code that sets the script's words to the canonical line, or, with `--variables`, that sets
+///   variables, or that prints the script's help; with `--usage` the help itself, with `--complete`
+///   a completion script, with `--complete-words` completions for the last word, with `--help` the
+///   program's help
+/// - 2: why the script's words were rejected, and its short usage
 /// - 3: out of memory, with nothing written
-/// - 4: a write or a flush failed, and what was written is a front of the text
+/// - 4: writing or flushing failed, and what was written is a prefix of the text
 /// - 5: what is wrong with the call: its own words, an unknown shell, a missing table, or a line of
-///   it
+///   the table
 pub fn answer<W: Write, E: Write>(alloc: Global, words: &[String], out: &mut W, err: &mut E) -> u8
     ensures status { IsStatus result }
     ensures shown { result ≡ 0
@@ -143,8 +143,8 @@ pub fn answer<W: Write, E: Write>(alloc: Global, words: &[String], out: &mut W, 
     }
 }
 
-/// Writes an output: on `out` where the status is 0, and else on `err`. Where that fails, what was
-/// written is a front of it.
+/// Writes an output, to `out` if the status is 0 and otherwise to `err`. If that fails, a prefix of
+/// it was written.
 fn write_output<W: Write, E: Write>(output: &Output, out: &mut W, err: &mut E) -> io::Result<()>
     ensures out { OnOk result (output.now.status ≡ 0
         → Appends (W.contents out.old) (W.contents out.new) output.now.bytes.items) }
@@ -164,7 +164,7 @@ fn write_output<W: Write, E: Write>(output: &Output, out: &mut W, err: &mut E) -
     }
 }
 
-/// Writes bytes, and flushes them. Where that fails, what was written is a front of them.
+/// Writes bytes, and flushes them. If that fails, a prefix of them was written.
 fn print<W: Write>(out: &mut W, bytes: &[u8]) -> io::Result<()>
     ensures whole { OnOk result (Appends (W.contents out.old) (W.contents out.new) bytes.now) }
     ensures front { AppendsFront (W.contents out.old) (W.contents out.new) bytes.now }
@@ -187,7 +187,7 @@ fn print<W: Write>(out: &mut W, bytes: &[u8]) -> io::Result<()>
     Err(io::Error::from(ErrorKind::Interrupted))
 }
 
-/// What the program writes for words: the bytes of its answer's text.
+/// What the program writes for its words: the bytes of its answer's text.
 fn output_to(alloc: Global, words: &[String]) -> Result<Output, AllocError>
     ensures { IfOk result (λ output. IsOutput (map string_bytes words.now) output.bytes.items output.status) }
 {
@@ -200,7 +200,7 @@ fn output_to(alloc: Global, words: &[String]) -> Result<Output, AllocError>
     })
 }
 
-/// What the program says to words.
+/// What the program answers to its words.
 fn answer_to(alloc: Global, words: &[String]) -> Result<Outcome, AllocError>
     ensures { IfOk result (λ outcome. IsAnswer (map string_bytes words.now) (answer_of outcome)) }
 {
@@ -230,27 +230,35 @@ fn add_own_options(options: &mut Options) -> Result<(), AllocError>
         .optflag(
             "s",
             "stop",
-            "leave all words from the first free one on free",
+            "stop at the first argument that isn't an option",
         )?
-        .optflag("l", "long-only", "let long names follow one dash too")?
+        .optflag(
+            "l",
+            "long-only",
+            "also accept long names after a single dash",
+        )?
         .optopt(
             "V",
             "variables",
-            "set a variable for each option, named PREFIX and its name",
+            "store each option in a variable called PREFIX plus its name",
             "PREFIX",
         )?
-        .optflag("A", "arrays", "with --variables, make an array of values")?
-        .optflag("u", "usage", "write the help of TABLE")?
+        .optflag(
+            "A",
+            "arrays",
+            "with --variables, store repeated values in an array",
+        )?
+        .optflag("u", "usage", "print the help for TABLE")?
         .optopt(
             "c",
             "complete",
-            "write a completion script for bash, zsh or fish",
+            "print a completion script for bash, zsh or fish",
             "SHELL",
         )?
         .optopt(
             "",
             "complete-words",
-            "write what may come at the last WORD",
+            "print completions for the last WORD",
             "SHELL",
         )?
         .optflag("h", "help", "print this help")?
@@ -258,7 +266,7 @@ fn add_own_options(options: &mut Options) -> Result<(), AllocError>
     Ok(())
 }
 
-/// The line of a refusal's fault, after a name.
+/// The line for an error, after a name.
 fn fault_line(alloc: Global, name: &str, fail: &Fail) -> Result<String, AllocError>
     ensures { IfOk result (λ text. (fault : Fault) × (fault_of fail.now ≡ Some fault)
         × (string_bytes text ≡ fault_line name.now fault)) }
@@ -269,7 +277,7 @@ fn fault_line(alloc: Global, name: &str, fail: &Fail) -> Result<String, AllocErr
     }
 }
 
-/// The answer to the program's own words with these matches.
+/// The answer to the program's own words, which have these matches.
 fn own_answer(alloc: Global, options: &Options, own: &Matches) -> Result<Outcome, AllocError>
     requires options { options.now ≡ own_options }
     requires own { HasOwnGroups own.now.groups }
@@ -285,7 +293,7 @@ fn own_answer(alloc: Global, options: &Options, own: &Matches) -> Result<Outcome
     free_answer(alloc, &asked, &own.free)
 }
 
-/// What the program's own words ask for, where they are accepted with these matches.
+/// What the program's own words ask for, if they are accepted with these matches.
 fn asked_by(alloc: Global, own: &Matches) -> Result<Asked, AllocError>
     requires { HasOwnGroups own.now.groups }
     ensures { IfOk result (λ asked. asked_of asked ≡ asked_by own.now) }
@@ -302,7 +310,7 @@ fn asked_by(alloc: Global, own: &Matches) -> Result<Asked, AllocError>
     })
 }
 
-/// The answer to the free words of the program's own: a script's name, its table and its words.
+/// The answer to the free words among the program's own: a script's name, its table and its words.
 fn free_answer(alloc: Global, asked: &Asked, words: &[String]) -> Result<Outcome, AllocError>
     ensures { IfOk result (λ outcome. AnswersFree (asked_of asked.now) (map string_bytes words.now)
         (answer_of outcome)) }
@@ -333,8 +341,8 @@ fn table_answer(
     }
 }
 
-/// The answer where a table declares these: the code that completes words, the fault of the
-/// variables, or the answer for the script.
+/// The answer if a table declares these: a completion script, an error about variables, or the
+/// answer for the script.
 fn declared_answer(
     alloc: Global,
     asked: &Asked,
@@ -368,7 +376,7 @@ fn declared_answer(
     script_answer(alloc, script, words)
 }
 
-/// The line of the fault of a table.
+/// The line for an error in a table.
 fn table_refusal(alloc: Global, error: TableError<'_>) -> Result<String, AllocError>
     ensures { IfOk result (λ text. (fault : TableFault) × (fault_told error.entry ≡ Some fault)
         × (string_bytes text ≡ table_fault_line fault)) }
@@ -380,17 +388,17 @@ fn table_refusal(alloc: Global, error: TableError<'_>) -> Result<String, AllocEr
         }
         TableError::NameTwice(number, name) => format!(in alloc;
             "getopts_shell: line {number} of the options: \
-             the name '{name}' stands in an earlier line\n"
+             the name '{name}' is already used on an earlier line\n"
         ),
         TableError::LateOperand(number, item) => format!(in alloc;
             "getopts_shell: line {number} of the options: \
-             {item}: nothing comes after dots, and nothing required after brackets\n"
+             {item}: an operand with dots must be last; required ones precede optional ones\n"
         ),
         TableError::OutOfMemory => Err(AllocError),
     }
 }
 
-/// Why there are no variables where they, or arrays, are asked for.
+/// Why variables or arrays can't be used, if they were asked for.
 fn asked_error<'t>(asked: &'t Asked, rows: &[Row<'t>]) -> Option<VariableError<'t>>
     ensures { option_map variable_fault_told result
         ≡ asked_fault (asked_of asked.now) (entries_of rows.now) }
@@ -402,31 +410,31 @@ fn asked_error<'t>(asked: &'t Asked, rows: &[Row<'t>]) -> Option<VariableError<'
     }
 }
 
-/// The line of a fault of variables.
+/// The line for an error about variables.
 fn variable_refusal(alloc: Global, error: VariableError<'_>) -> Result<String, AllocError>
     ensures { IfOk result (λ text.
         string_bytes text ≡ variable_fault_line (variable_fault_told error.entry)) }
 {
     match error {
         VariableError::ArraysOnly => {
-            format!(in alloc; "getopts_shell: --arrays needs --variables\n")
+            format!(in alloc; "getopts_shell: --arrays requires --variables\n")
         }
         VariableError::NoPrefix(prefix) => format!(in alloc;
-            "getopts_shell: '{prefix}' makes no variable: \
-             a variable's name has letters, digits and '_', no digit first\n"
+            "getopts_shell: '{prefix}' doesn't make a valid variable name \
+             (letters, digits and '_', no digit first)\n"
         ),
         VariableError::NoVariable(number, name) => format!(in alloc;
-            "getopts_shell: line {number} of the options: '{name}' makes no variable: \
-             a variable's name has letters, digits and '_', no digit first\n"
+            "getopts_shell: line {number} of the options: '{name}' doesn't make a valid variable name \
+             (letters, digits and '_', no digit first)\n"
         ),
         VariableError::VariableTwice(number, name) => format!(in alloc;
-            "getopts_shell: line {number} of the options: '{name}' makes the variable of another option\n"
+            "getopts_shell: line {number} of the options: '{name}' would share its variable with another option\n"
         ),
     }
 }
 
-/// The options of a table, in the style and the mode that are asked for: as a help shows them, or
-/// as words are read.
+/// The options of a table, in the style and mode that were asked for: as a help shows them, or as
+/// words are parsed.
 fn options_of(
     alloc: Global,
     asked: &Asked,
@@ -465,7 +473,7 @@ fn add_rows(options: &mut Options, rows: &[Row<'_>], shown: bool) -> Result<(), 
     Ok(())
 }
 
-/// How often words may give an option, or how often its help says.
+/// How often words may give an option, or how often its help says they may.
 fn occurrence_of(shown: bool, often: Often) -> Occur
     ensures { result ≡ occurrence_of shown often }
 {
@@ -491,14 +499,14 @@ fn script_answer(alloc: Global, script: Script<'_>, words: &[String]) -> Result<
     }
 }
 
-/// The options of a script as its help shows them.
+/// The options of a script, as its help shows them.
 fn shown_options(alloc: Global, script: Script<'_>) -> Result<Options, AllocError>
     ensures { IfOk result (λ options. options ≡ shown_options (script_of script.entry)) }
 {
     options_of(alloc, script.asked, &script.table.rows, true)
 }
 
-/// The text that the help of a script begins with.
+/// The text at the top of a script's help.
 fn brief_text(alloc: Global, script: Script<'_>, shown: &Options) -> Result<String, AllocError>
     requires { shown.now ≡ shown_options (script_of script) }
     ensures { IfOk result (λ text. string_bytes text ≡ brief_text (script_of script.entry)) }
@@ -509,7 +517,7 @@ fn brief_text(alloc: Global, script: Script<'_>, shown: &Options) -> Result<Stri
     }
 }
 
-/// The short usage of a script: its options, and its operands.
+/// The short usage of a script: its options and its operands.
 fn usage_line(alloc: Global, script: Script<'_>, shown: &Options) -> Result<String, AllocError>
     requires { shown.now ≡ shown_options (script_of script) }
     ensures { IfOk result (λ text. string_bytes text ≡ usage_line (script_of script.entry)) }
@@ -534,7 +542,7 @@ fn help_of(alloc: Global, script: Script<'_>) -> Result<String, AllocError>
     shown.usage(alloc, front.as_str())
 }
 
-/// What a help says before its options.
+/// What precedes the options in a help.
 fn help_front(brief: String, rows: &[String]) -> Result<String, AllocError>
     ensures { IfOk result (λ text. string_bytes text
         ≡ help_front (string_bytes brief) (map string_bytes rows.now)) }
@@ -548,7 +556,7 @@ fn help_front(brief: String, rows: &[String]) -> Result<String, AllocError>
     Ok(text)
 }
 
-/// The code that completes a script's words in a shell, or that there is none for it.
+/// The script that completes words in a shell, or an error if the shell isn't supported.
 fn completion_answer(
     alloc: Global,
     asked: &Asked,
@@ -565,17 +573,17 @@ fn completion_answer(
     }
 }
 
-/// What is said where there is no completion in a shell.
+/// The error for a shell that isn't supported.
 fn no_completion(alloc: Global, shell: &str) -> Result<Outcome, AllocError>
     ensures { IfOk result (λ outcome. answer_of outcome ≡ no_completion shell.now) }
 {
     let text = format!(in alloc;
-        "getopts_shell: no completion for '{shell}', only for bash, zsh and fish\n"
+        "getopts_shell: no completion for '{shell}': choose bash, zsh or fish\n"
     )?;
     Ok(Outcome::misused(text))
 }
 
-/// The answer to a shell that asks what may come at the last word.
+/// The answer to a shell that asks for completions of the last word.
 fn offer_answer(
     alloc: Global,
     shell: &str,
@@ -591,7 +599,7 @@ fn offer_answer(
     }
 }
 
-/// What may come at the last word.
+/// The completions of the last word.
 fn last_offers(alloc: Global, script: Script<'_>, words: &[String]) -> Result<String, AllocError>
     ensures { IfOk result (λ text. string_bytes text ≡ offer (read_options (script_of script.entry))
         (script_of script.entry).entries (take (length (map string_bytes words.now) - 1) (map string_bytes words.now))
@@ -615,7 +623,7 @@ fn last_offers(alloc: Global, script: Script<'_>, words: &[String]) -> Result<St
     )
 }
 
-/// The answer to the words of a script. They are read once, whatever their counts.
+/// The answer to a script's words. They are parsed once, without checking counts.
 fn words_answer(alloc: Global, script: Script<'_>, words: &[String]) -> Result<Outcome, AllocError>
     ensures { IfOk result (λ outcome. AnswersWords (script_of script.entry) (map string_bytes words.now)
         (answer_of outcome)) }
@@ -626,8 +634,8 @@ fn words_answer(alloc: Global, script: Script<'_>, words: &[String]) -> Result<O
     }
 }
 
-/// The answer to words with these matches: the code that prints the help where they ask for it, the
-/// code of the one option that they ask for alone, and else what they are.
+/// The answer to words with these matches: code that prints the help if they ask for it, code for
+/// an option that stands alone if they give one, or else what they mean.
 fn read_answer(
     alloc: Global,
     script: Script<'_>,
@@ -647,7 +655,7 @@ fn read_answer(
     }
 }
 
-/// Whether matches ask for a help that one of the rows offers.
+/// Whether matches ask for help that one of the rows offers.
 fn asks_help(rows: &[Row<'_>], matches: &Matches) -> bool
     ensures { result ≡ asks_help (entries_of rows.now) matches.now }
 {
@@ -663,14 +671,14 @@ fn offers_help(rows: &[Row<'_>]) -> bool
         .any(|row| row.long == "help" && !takes_argument(row.kind))
 }
 
-/// Whether an option that may come so often stands alone.
+/// Whether an option with this occurrence stands alone.
 fn stands_alone(often: Often) -> bool
     ensures { result ≡ stands_alone often }
 {
     matches!(often, Often::Alone)
 }
 
-/// The first row that stands alone and is given by matches.
+/// The first row that stands alone and that the matches give.
 fn first_alone<'t>(rows: &[Row<'t>], matches: &Matches) -> Option<Row<'t>>
     ensures { option_map entry_of_row result ≡ find (is_alone matches.now) (entries_of rows.now) }
 {
@@ -683,15 +691,15 @@ fn first_alone<'t>(rows: &[Row<'t>], matches: &Matches) -> Option<Row<'t>>
     None
 }
 
-/// Whether a row stands alone and is given by matches.
+/// Whether a row stands alone and the matches give it.
 fn is_alone(row: Row<'_>, matches: &Matches) -> bool
     ensures { result ≡ is_alone matches.now (entry_of_row row.entry) }
 {
     stands_alone(row.often) && is_given(matches, main_name(row))
 }
 
-/// The answer to words that ask for one option alone: its line, or variables where it alone is
-/// given.
+/// The answer to words that give an option that stands alone: its line, or variables as if only it
+/// had been given.
 fn alone_answer(alloc: Global, script: Script<'_>, row: Row<'_>) -> Result<Outcome, AllocError>
     ensures { IfOk result (λ outcome.
         AnswersAlone (script_of script.entry) (entry_of_row row.entry) (answer_of outcome)) }
@@ -706,7 +714,7 @@ fn alone_answer(alloc: Global, script: Script<'_>, row: Row<'_>) -> Result<Outco
     }
 }
 
-/// The code of the line of one option alone.
+/// The code for the line of an option that stands alone.
 fn alone_line(alloc: Global, row: Row<'_>) -> Result<String, AllocError>
     ensures text { IfOk result (λ text. string_bytes text
         ≡ line_code (alone_line (entry_of_row row.entry))) }
@@ -718,7 +726,7 @@ fn alone_line(alloc: Global, row: Row<'_>) -> Result<String, AllocError>
     line_code(alloc, &[word, stop])
 }
 
-/// The code that prints the help of a script, and ends it.
+/// The code that prints a script's help and exits.
 fn help_code(alloc: Global, script: Script<'_>) -> Result<String, AllocError>
     ensures { IfOk result (λ text. (help : Text)
         × IsHelp (script_of script.entry) help × IsUtf8 help
@@ -731,8 +739,8 @@ fn help_code(alloc: Global, script: Script<'_>) -> Result<String, AllocError>
     Ok(text)
 }
 
-/// The answer to words with these matches, whose counts are checked. Only where they break the count
-/// of an option are they read once more.
+/// The answer to words with these matches, with their counts checked. They are parsed again only if
+/// they break a count.
 fn counted_answer(
     alloc: Global,
     script: Script<'_>,
@@ -752,8 +760,8 @@ fn counted_answer(
     }
 }
 
-/// The answer to words that keep the counts of options: the fault of the free words, or what the
-/// words are.
+/// The answer to words that keep the counts of options: the error of the free words, or what the
+/// words mean.
 fn parsed_answer(
     alloc: Global,
     script: Script<'_>,
@@ -770,7 +778,7 @@ fn parsed_answer(
     }
 }
 
-/// The answer to words that are accepted, with these matches: variables, or the canonical line.
+/// The answer to accepted words with these matches: variables, or the canonical line.
 fn accepted_answer(
     alloc: Global,
     script: Script<'_>,
@@ -801,7 +809,7 @@ fn keep_counts(rows: &[Row<'_>], matches: &Matches) -> bool
     true
 }
 
-/// Whether an option may come so many times.
+/// Whether an option may occur this often.
 fn keeps_count(occurrence: Occur, count: usize) -> bool
     ensures { result ≡ fits_count occurrence count }
 {
@@ -829,7 +837,7 @@ fn variables_answer(
     Ok(Outcome::done(code))
 }
 
-/// The canonical line of words, or their first fault.
+/// The canonical line of words, or their first error.
 fn line_answer(alloc: Global, script: Script<'_>, words: &[String]) -> Result<Outcome, AllocError>
     ensures { IfOk result (λ outcome.
         AnswersLine (script_of script.entry) (map string_bytes words.now) (answer_of outcome)) }
@@ -842,7 +850,7 @@ fn line_answer(alloc: Global, script: Script<'_>, words: &[String]) -> Result<Ou
     }
 }
 
-/// The code that sets a script's words to those of a line.
+/// The code that sets a script's words to a line.
 fn line_code(alloc: Global, line: &[String]) -> Result<String, AllocError>
     ensures { IfOk result (λ text. string_bytes text ≡ line_code (map string_bytes line.now)) }
 {
@@ -851,7 +859,7 @@ fn line_code(alloc: Global, line: &[String]) -> Result<String, AllocError>
     Ok(text)
 }
 
-/// Why a script's words are refused, and the text that its help begins with.
+/// Why a script's words are rejected, and the text at the top of its help.
 fn refusal(alloc: Global, script: Script<'_>, fail: &Fail) -> Result<Outcome, AllocError>
     ensures { IfOk result (λ outcome. (fault : Fault) × (fault_of fail.now ≡ Some fault)
         × (answer_of outcome ≡ refused (script_of script.entry) fault)) }
@@ -860,7 +868,7 @@ fn refusal(alloc: Global, script: Script<'_>, fail: &Fail) -> Result<Outcome, Al
     refused(alloc, script, line)
 }
 
-/// The same for free words that don't fit the script's operands.
+/// The same for free words that don't match the script's operands.
 fn operand_refusal(
     alloc: Global,
     script: Script<'_>,
@@ -873,7 +881,7 @@ fn operand_refusal(
     refused(alloc, script, line)
 }
 
-/// The line of a fault of free words, after a name.
+/// The line for an error of free words, after a name.
 fn operand_fault_line(
     alloc: Global,
     name: &str,
@@ -892,7 +900,7 @@ fn operand_fault_line(
     }
 }
 
-/// A line, and the text that a script's help begins with.
+/// A line, and the text at the top of a script's help.
 fn refused(alloc: Global, script: Script<'_>, line: String) -> Result<Outcome, AllocError>
     ensures { IfOk result (λ outcome.
         answer_of outcome ≡ refused_by (script_of script.entry) (string_bytes line)) }

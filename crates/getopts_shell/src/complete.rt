@@ -1,4 +1,5 @@
-//! What completes a script's words: the code for bash, zsh and fish, and what it is answered.
+//! Completion of a script's words: the code for bash, zsh and fish, and the program's answers to
+//! it.
 
 ghost use Rattle.std.specs.Prelude.{◌≡◌, ◌++◌, ◌∷◌, [], None, Some, MatchResult};
 ghost use Rattle.std.specs.Prelude.{map, nat_eq, IfOk, OnOk};
@@ -24,8 +25,8 @@ use crate::variables::main_name;
 use getopts::{Fail, HasArg, Matches, Options};
 use std::alloc::{AllocError, Global};
 
-/// What completes words in bash: it reads the words up to the cursor, asks the program, and shows
-/// the descriptions where several options fit. One array holds the tables of all scripts.
+/// Completes words in bash: it reads the words up to the cursor, asks the program, and shows the
+/// descriptions if several options match. One array holds the tables of all scripts.
 const BASH: &str = r#"declare -gA _getopts_shell_tables _getopts_shell_modes
 _getopts_shell_offer() {
     local IFS=' ' name=${1##*/} line=${COMP_LINE:0:COMP_POINT} words=() at=-1 word rest
@@ -51,8 +52,8 @@ _getopts_shell_complete() {
 }
 "#;
 
-/// What completes words in zsh. Code that is a file in `$fpath` is read at the first word that it
-/// completes.
+/// Completes words in zsh. If the code is a file in `$fpath`, it is read when it first completes a
+/// word.
 const ZSH: &str = r#"_getopts_shell_offer() {
     local -a offers
     offers=("${(@f)$(getopts_shell "${(@)argv[3,-1]}" --complete-words zsh "$1" "$2" \
@@ -73,7 +74,7 @@ _getopts_shell_complete() {
 }
 "#;
 
-/// What completes words in fish.
+/// Completes words in fish.
 const FISH: &str = r#"function _getopts_shell_offer
     set -l before (commandline -opc); set -e before[1]
     set -l word (commandline -ct)
@@ -93,8 +94,8 @@ function _getopts_shell_complete
 end
 "#;
 
-/// Adds a word in quotes, as each of the three shells reads it: a quote and a backslash stand
-/// outside quotes, behind a backslash.
+/// Appends a word in quotes, as each of the three shells reads it. Quotes and backslashes in the
+/// word are outside quotes, after a backslash.
 fn push_stub_quoted(text: &mut String, word: &str) -> Result<(), AllocError>
     ensures { OnOk result (string_bytes text.new ≡ string_bytes text.old ++ stub_quoted word.now) }
 {
@@ -108,7 +109,7 @@ fn push_stub_quoted(text: &mut String, word: &str) -> Result<(), AllocError>
     text.push('\'')
 }
 
-/// The code that completes the words of a script, if there is one for the shell.
+/// The code that completes a script's words, if the shell is supported.
 pub(crate) fn stub(
     alloc: Global,
     shell: &str,
@@ -130,7 +131,7 @@ pub(crate) fn stub(
     Ok(Some(text))
 }
 
-/// The functions for all scripts in a shell, if there is completion in it.
+/// The functions for all scripts in a shell, if it is supported.
 pub(crate) fn functions(shell: &str) -> Option<&'static str>
     ensures { option_map (λ text. text.now) result ≡ functions shell.now }
 {
@@ -142,7 +143,7 @@ pub(crate) fn functions(shell: &str) -> Option<&'static str>
     }
 }
 
-/// Adds the line that names the script in zsh, where its name ends no line.
+/// Appends the line that names the script in zsh, unless the name might break the line.
 fn push_first_line(text: &mut String, shell: &str, name: &str) -> Result<(), AllocError>
     ensures { OnOk result (string_bytes text.new
         ≡ string_bytes text.old ++ first_line shell.now name.now) }
@@ -153,7 +154,7 @@ fn push_first_line(text: &mut String, shell: &str, name: &str) -> Result<(), All
     Ok(())
 }
 
-/// The line that completes the words of a script.
+/// The line that completes a script's words.
 fn stub_call(
     alloc: Global,
     stop: bool,
@@ -185,7 +186,7 @@ fn modes(stop: bool, long_only: bool) -> &'static str
     }
 }
 
-/// What is offered at a word of a script with these options, after the words before it: options, or
+/// The completions at a word of a script with these options, after the words before it: options, or
 /// files.
 pub(crate) fn offers(
     alloc: Global,
@@ -208,8 +209,8 @@ pub(crate) fn offers(
     }
 }
 
-/// The matches of words after which an option may come, with a `--` and an empty word after them, if
-/// one may: these are a stop and a free word.
+/// The matches of words after which an option may follow, with a `--` and an empty word appended.
+/// None if these two aren't read as a stop and a free word.
 fn goes_on(
     alloc: Global,
     options: &Options,
@@ -232,7 +233,7 @@ fn goes_on(
     }
 }
 
-/// The matches of words, whatever counts they have, if they have a reading.
+/// The matches of words if they have a reading, whatever their counts.
 fn read_words(
     alloc: Global,
     options: &Options,
@@ -247,7 +248,7 @@ fn read_words(
     }
 }
 
-/// No matches. An error comes where the refusal tells that memory was refused.
+/// No matches. Fails if the error is that memory ran out.
 fn no_matches(fail: &Fail) -> Result<Option<Matches>, AllocError>
     ensures { IfOk result (λ found.
         (found ≡ None) × (fault : Fault) × (fault_of fail.now ≡ Some fault)) }
@@ -258,7 +259,7 @@ fn no_matches(fail: &Fail) -> Result<Option<Matches>, AllocError>
     }
 }
 
-/// Words, and after them a `--` and an empty word.
+/// Words, followed by a `--` and an empty word.
 fn with_stop(alloc: Global, before: &[String]) -> Result<Vec<&str>, AllocError>
     ensures { IfOk result (λ words. texts words.items
         ≡ map string_bytes before.now ++ stop_word ∷ [] ∷ []) }
@@ -272,7 +273,7 @@ fn with_stop(alloc: Global, before: &[String]) -> Result<Vec<&str>, AllocError>
     Ok(words)
 }
 
-/// Whether one free word, the last, stands after a stop.
+/// Whether exactly one free word, the last one, follows a stop.
 fn is_last_after_stop(matches: &Matches) -> bool
     ensures { result ≡ is_last_after_stop matches.now }
 {
@@ -282,7 +283,7 @@ fn is_last_after_stop(matches: &Matches) -> bool
     }
 }
 
-/// What is offered of the options that are offered.
+/// The completions for the options that are offered.
 fn options_lines(
     alloc: Global,
     matches: &Matches,
@@ -316,14 +317,14 @@ pub(crate) fn holds_all(often: Often) -> bool
     matches!(often, Often::All)
 }
 
-/// Whether matches have an option of this name.
+/// Whether matches contain an option of this name.
 pub(crate) fn is_given(matches: &Matches, name: &str) -> bool
     ensures { result ≡ is_present matches.now.groups name.now }
 {
     matches.opt_defined(name) && matches.opt_present(name)
 }
 
-/// Adds what is offered of an option.
+/// Appends the completions for an option.
 fn push_option(
     text: &mut String,
     long_only: bool,
@@ -354,7 +355,7 @@ pub(crate) fn takes_argument(kind: HasArg) -> bool
     !matches!(kind, HasArg::No)
 }
 
-/// Adds what is offered of a name after dashes, if there is such a name.
+/// Appends the completions for a name after its dashes, if there is such a name.
 fn push_name(
     text: &mut String,
     word: &str,

@@ -19,7 +19,8 @@ ghost use Rattle.getopts_shell.specs.declared.row.Often.{Often as Frequency};
 use crate::row::{Often, Row};
 use getopts::{HasArg, names_lawful};
 
-/// The option of an item in the line with this number, with this description, if the text is one.
+/// The option that an item declares, in the line with this number and with this description, if it
+/// is one.
 pub(crate) fn row_of<'t>(line: usize, item: &'t str, description: &'t str) -> Option<Row<'t>>
     ensures option { MatchOption result
         ((names : Names) (kind : Kind) (often : Frequency) (hint : Text)
@@ -47,7 +48,7 @@ pub(crate) fn row_of<'t>(line: usize, item: &'t str, description: &'t str) -> Op
     })
 }
 
-/// Whether an option that may come so often may be of a kind: one that stands alone takes no
+/// Whether an option with this occurrence may have this kind: one that stands alone takes no
 /// argument.
 fn fits(often: Often, kind: HasArg) -> bool
     ensures { result ≡ fits often kind }
@@ -72,7 +73,7 @@ fn unbracketed(text: &str) -> Option<(&str, Often)>
     Some((inside, often))
 }
 
-/// A text in two: what stands before its last `]`, and what stands after it.
+/// A text split at its last `]`: what precedes it, and what follows it.
 fn cut_at_bracket(text: &str) -> Option<(&str, &str)>
     ensures { MatchOption result (AllByRecursion (λ byte. byte ≢ 93) text.now) (λ parts.
         (text.now ≡ parts.0.now ++ (93 ∷ parts.1.now))
@@ -81,7 +82,7 @@ fn cut_at_bracket(text: &str) -> Option<(&str, &str)>
     text.rsplit_once(']')
 }
 
-/// What stands behind `]`.
+/// What the text after `]` means.
 fn end_means(end: &str) -> Option<Often>
     ensures { result ≡ end_means end.now }
 {
@@ -96,8 +97,7 @@ fn end_means(end: &str) -> Option<Often>
     }
 }
 
-/// The parts of a text: what stands before its first space, and what stands after it, if it has
-/// one.
+/// A text split at its first space: what precedes it, and what follows it, if there is one.
 fn parts_of(text: &str) -> (&str, Option<&str>)
     ensures { HasParts text.now result.0.now (option_copied result.1) }
 {
@@ -107,7 +107,7 @@ fn parts_of(text: &str) -> (&str, Option<&str>)
     }
 }
 
-/// The short and the long name that a text is, written as `-s`, `--long` or `-s|--long`, if it is.
+/// The short and the long name in a text of the form `-s`, `--long` or `-s|--long`, if it has one.
 /// Either may be empty.
 fn names_of(text: &str) -> Option<(&str, &str)>
     ensures { MatchOption result ((names : Names) → ¬ (AreNames names text.now))
@@ -129,7 +129,7 @@ fn names_of(text: &str) -> Option<(&str, &str)>
     lawful_names(&text[1..2], &text[5..])
 }
 
-/// These names, if they are lawful and may stand in a table.
+/// These names, if they are valid and allowed in a table.
 fn lawful_names<'t>(short: &'t str, long: &'t str) -> Option<(&'t str, &'t str)>
     ensures { MatchOption result (¬ (MayBeNames short.now long.now))
         (λ found. MayBeNames short.now long.now × (found.0.now ≡ short.now)
@@ -149,14 +149,14 @@ fn is_name(bytes: &[u8]) -> bool
     !bytes.starts_with(b"-") && are_name_bytes(bytes)
 }
 
-/// Whether bytes may stand in a short name.
+/// Whether bytes may be in a short name.
 fn are_name_bytes(bytes: &[u8]) -> bool
     ensures { result ≡ list_all is_name_byte bytes.now }
 {
     bytes.iter().all(|byte| is_name_byte(*byte))
 }
 
-/// Whether a byte may stand in a short name.
+/// Whether a byte may be in a short name.
 fn is_name_byte(byte: u8) -> bool
     ensures { result ≡ is_name_byte byte }
 {
@@ -174,28 +174,28 @@ pub(crate) fn is_long_name(bytes: &[u8]) -> bool
     !bytes.starts_with(b"-") && are_long_bytes(bytes) && ends_as_name(bytes)
 }
 
-/// Whether bytes end as a long name may.
+/// Whether a long name may end like these bytes.
 fn ends_as_name(bytes: &[u8]) -> bool
     ensures { result ≡ ends_as_name bytes.now }
 {
     !bytes.ends_with(b":") && !bytes.ends_with(b".")
 }
 
-/// Whether bytes may stand in a long name.
+/// Whether bytes may be in a long name.
 fn are_long_bytes(bytes: &[u8]) -> bool
     ensures { result ≡ list_all is_long_byte bytes.now }
 {
     bytes.iter().all(|byte| is_long_byte(*byte))
 }
 
-/// Whether a byte may stand in a long name.
+/// Whether a byte may be in a long name.
 fn is_long_byte(byte: u8) -> bool
     ensures { result ≡ is_long_byte byte }
 {
     byte.is_ascii_alphanumeric() || matches!(byte, b'-' | b'_' | b'.' | b'+' | b':') || byte > 127
 }
 
-/// The kind and the hint of an argument, which may not be there.
+/// The kind and the hint of an argument, or of none.
 fn argument_of(argument: Option<&str>) -> Option<(HasArg, &str)>
     ensures { MatchOption result
         ((kind : Kind) (hint : Text) → ¬ (IsArgument kind hint (option_copied argument.entry)))
@@ -232,59 +232,60 @@ fn is_hint(bytes: &[u8]) -> bool
     !bytes.is_empty() && are_hint_bytes(bytes) && !begins_name(bytes) && !bytes.ends_with(b"..")
 }
 
-/// Whether bytes may stand in a hint.
+/// Whether bytes may be in a hint.
 fn are_hint_bytes(bytes: &[u8]) -> bool
     ensures { result ≡ list_all is_hint_byte bytes.now }
 {
     bytes.iter().all(|byte| is_hint_byte(*byte))
 }
 
-/// Whether a byte may stand in a hint.
+/// Whether a byte may be in a hint.
 fn is_hint_byte(byte: u8) -> bool
     ensures { result ≡ is_hint_byte byte }
 {
     !matches!(byte, b' ' | b'\t' | b'[' | b']')
 }
 
-/// Why a text is no option that holds `[` and no `]`.
-const OPEN: &str = "no ']'";
-/// Where a dash, `|` or `]` stands after the first space.
-const APART: &str = "names are written as -s|--long, without a blank or a comma";
-/// Where a space stands after the first `]`.
-const GAP: &str = "a tab or two spaces have to come before the description";
-/// Where it has two spaces else.
-const SPACE: &str = "an argument holds no space, and a tab or two spaces come before a description";
-/// Where its names hold `=`.
-const EQUALS: &str = "an argument comes after a space, as in '--long ARG'";
-/// Where its names hold `[`, or no other reason is so.
+/// Why an item that contains `[` but no `]` isn't valid.
+const OPEN: &str = "missing ']'";
+/// The reason if a dash, `|` or `]` follows the first space, or the names contain a comma.
+const APART: &str = "write names as -s|--long, without spaces or commas";
+/// The reason if a space follows the first `]`, or an operand.
+const GAP: &str = "put a tab or two spaces before the description";
+/// The reason if it has another second space.
+const SPACE: &str =
+    "an argument can't contain spaces, and a description needs a tab or two spaces before it";
+/// The reason if its names contain `=`.
+const EQUALS: &str = "write the argument after a space, as in '--long ARG'";
+/// The reason if its names contain `[`, or no other reason applies.
 const BRACKETS: &str =
-    "brackets stand around the option or its argument, and two or three dots only after ']'";
-/// Where a name has the wrong dashes.
+    "put brackets around the whole option or its argument, and '..' or '...' only after ']'";
+/// The reason if a name has the wrong dashes.
 const DASHES: &str =
-    "a short name comes after '-', a long one after '--', and an operand has capital letters";
-/// Where no long name stands after `|`.
-const BAR: &str = "a long name comes after '|', with two dashes";
-/// Where another name stands after the long one.
-const ORDER: &str = "the short name comes first, then one long one";
-/// Where its short name has more.
-const SHORT: &str = "a short name has one byte, and a long one comes after '--'";
-/// Where its short name is another byte, or begins with one beyond ASCII.
-const LETTER: &str = "a short name is a letter, a digit or one of ?@#%+_^,./:";
-/// Where its long name is shorter.
-const LONG: &str = "a long name has at least two bytes";
-/// Where its long name holds another byte.
+    "write a short name as -s, a long name as --long, and an operand in capital letters";
+/// The reason if no long name follows `|`.
+const BAR: &str = "write a long name with two dashes after '|'";
+/// The reason if another name follows the long one.
+const ORDER: &str = "write the short name first, then a single long name";
+/// The reason if its short name is longer.
+const SHORT: &str = "a short name has one byte, and a long name needs two dashes";
+/// The reason if its short name is another byte, or begins with a byte that isn't ASCII.
+const LETTER: &str = "a short name must be a letter, a digit or one of ?@#%+_^,./:";
+/// The reason if its long name is shorter.
+const LONG: &str = "a long name must have at least two bytes";
+/// The reason if its long name contains another byte.
 const BYTES: &str =
-    "a long name may hold letters, digits, '-', '_', '.', '+', ':' and bytes from 128 on";
-/// Where its long name does.
-const COLON: &str = "a long name doesn't end in ':' or '.', and dots come after ']'";
-/// Where another item stands behind it.
-const ONE: &str = "each option has a line of its own";
-/// Where something else stands behind the last `]`.
-const END: &str = "behind ']' comes nothing, or '..' or '!'";
-/// Where it ends in `!`.
-const MARK: &str = "'!' comes only after ']' of an option without an argument";
+    "a long name may contain letters, digits, '-', '_', '.', '+', ':' and bytes above 127";
+/// The reason if its long name ends in one of these.
+const COLON: &str = "a long name can't end in ':' or '.'; write dots after ']'";
+/// The reason if another item follows.
+const ONE: &str = "write each option on its own line";
+/// The reason if anything else follows the last `]`.
+const END: &str = "only '..', '...' or '!' may follow ']'";
+/// The reason if it ends in `!`.
+const MARK: &str = "'!' may only follow ']' of an option without an argument";
 
-/// Why a text is no option.
+/// Why an item isn't valid.
 pub(crate) fn reason_of(item: &str) -> &'static str
     ensures { result.now ≡ reason_of item.now }
 {
@@ -319,7 +320,7 @@ pub(crate) fn reason_of(item: &str) -> &'static str
     first_so(&reasons, BRACKETS)
 }
 
-/// The first reason whose claim is so, or else this one.
+/// The first reason that applies, or `other`.
 fn first_so(reasons: &[(bool, &'static str)], other: &'static str) -> &'static str
     ensures { result.now ≡ option_map_or (λ (reason : Bool × Text). reason.1)
         (find (λ (reason : Bool × Text). reason.0)
@@ -333,14 +334,14 @@ fn first_so(reasons: &[(bool, &'static str)], other: &'static str) -> &'static s
     other
 }
 
-/// Whether bytes hold `[` and no `]`.
+/// Whether bytes contain `[` but no `]`.
 fn is_open(bytes: &[u8]) -> bool
     ensures { result ≡ (holds 91 bytes.now && not (holds 93 bytes.now)) }
 {
     bytes.contains(&b'[') && !bytes.contains(&b']')
 }
 
-/// Whether bytes hold `]`, and end in what can't stand behind it.
+/// Whether bytes contain `]`, and end in something that can't follow it.
 fn ends_behind(bytes: &[u8]) -> bool
     ensures { result ≡ ends_behind bytes.now }
 {
@@ -354,7 +355,7 @@ fn begins_name(bytes: &[u8]) -> bool
     matches!(bytes, [b'-' | b'|', ..])
 }
 
-/// Whether what stands after the first space is no argument, but a name, or the end of brackets.
+/// Whether what follows the first space isn't an argument, but a name or the end of brackets.
 fn stands_apart(argument: &[u8]) -> bool
     ensures { result ≡ (begins_name (unopened argument.now)
         || starts_with ◌==◌ argument.now (codes "]")) }
@@ -362,7 +363,7 @@ fn stands_apart(argument: &[u8]) -> bool
     begins_name(unopened(argument)) || argument.starts_with(b"]")
 }
 
-/// Whether names begin as an operand does, and a space stands in the item.
+/// Whether names begin like an operand, and the item contains a space.
 fn is_described(names: &[u8], item: &[u8]) -> bool
     ensures { result ≡ (begins_capital names.now && holds 32 item.now) }
 {
@@ -376,42 +377,43 @@ pub(crate) fn begins_capital(bytes: &[u8]) -> bool
     matches!(bytes, [b'A'..=b'Z', ..])
 }
 
-/// Whether names begin with no dash, or the short one of them is nothing else.
+/// Whether names don't begin with a dash, or the short one is only a dash.
 fn lack_dash(names: &[u8], short: &[u8]) -> bool
     ensures { result ≡ (not (begins_with_dash names.now) || length short.now == 1) }
 {
     !names.starts_with(b"-") || short.len() == 1
 }
 
-/// Whether a short name with its dash begins with a byte beyond ASCII.
+/// Whether a short name, after its dash, begins with a byte that isn't ASCII.
 fn is_beyond_ascii(short: &[u8]) -> bool
     ensures { result ≡ nat_lt 127 (slice_index short.now 1) }
 {
     matches!(short, [_, 128..=255, ..])
 }
 
-/// Whether a name comes after `|`, and the long one of the names doesn't begin with two dashes.
+/// Whether names contain `|`, and the long one doesn't begin with two dashes.
 fn lack_two_dashes(names: &[u8], long: &[u8]) -> bool
     ensures { result ≡ (holds 124 names.now && not (starts_with ◌==◌ long.now (codes "--"))) }
 {
     names.contains(&b'|') && !long.starts_with(b"--")
 }
 
-/// Whether a long name with its dashes, if there is one, has fewer than two bytes.
+/// Whether a long name, if there is one, has fewer than two bytes after its dashes.
 fn is_too_short(long: &[u8]) -> bool
     ensures { result ≡ (not (is_empty long.now) && nat_lt (length long.now) 4) }
 {
     !long.is_empty() && long.len() < 4
 }
 
-/// What stands for the names of an item: all before the first space or `]`, without a `[` in front.
+/// The part of an item for its names: everything before the first space or `]`, without a leading
+/// `[`.
 fn names_in(item: &[u8]) -> &[u8]
     ensures { result.now ≡ names_in item.now }
 {
     cut_at(cut_at(unopened(item), b']').0, b' ').0
 }
 
-/// Bytes without a `[` in front.
+/// Bytes without a leading `[`.
 pub(crate) fn unopened(bytes: &[u8]) -> &[u8]
     ensures { result.now ≡ unopened bytes.now }
 {
@@ -422,7 +424,7 @@ pub(crate) fn unopened(bytes: &[u8]) -> &[u8]
     }
 }
 
-/// The two names that names are, right or wrong, each with its dashes.
+/// The short and the long name in a text, valid or not, each with its dashes.
 fn dashed(names: &[u8]) -> (&[u8], &[u8])
     ensures short { result.0.now ≡ (dashed names.now).short }
     ensures long { result.1.now ≡ (dashed names.now).long }
@@ -434,7 +436,7 @@ fn dashed(names: &[u8]) -> (&[u8], &[u8])
     }
 }
 
-/// What stands before the first such byte, or all, and what stands after it, or nothing.
+/// What precedes the first such byte (everything if there is none), and what follows it.
 pub(crate) fn cut_at(bytes: &[u8], byte: u8) -> (&[u8], &[u8])
     ensures before { result.0.now ≡ before byte bytes.now }
     ensures after { result.1.now ≡ after byte bytes.now }

@@ -1,8 +1,8 @@
-//! A law of answers to cite. It does nothing.
+//! A lemma for proofs, about answers. It does nothing.
 
 ghost use Rattle.getopts_shell.specs.Program.{OneAnswer};
 
-/// Words have one status and one text: a law to cite, which does nothing.
+/// Words have exactly one status and one text. This is a lemma for proofs, which does nothing.
 pub fn words_have_one_answer()
     ensures { OneAnswer }
 {}

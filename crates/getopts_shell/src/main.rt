@@ -1,4 +1,4 @@
-//! Reads a shell script's words by a table of options, and writes them as code that the script
+//! Parses a shell script's words by a table of options, and writes them as code that the script
 //! runs.
 #![tactic(auto)]
 
@@ -23,14 +23,14 @@ use std::io;
 use std::process::ExitCode;
 use words::system_words;
 
-/// Runs over the system's words, without the program's own name, the standard output and the
-/// standard error.
+/// Runs on the system's words, without the program's own name, and on standard output and standard
+/// error.
 fn main(rt: HostRuntime) -> ExitCode {
     ExitCode::from(run(&rt).unwrap_or(NO_MEMORY))
 }
 
-/// The status of `answer` for the system's words. An error comes where memory for them was refused,
-/// and then nothing is written.
+/// The status of `answer` for the system's words. Fails if an allocation for them fails, and
+/// nothing is written then.
 fn run(rt: &HostRuntime) -> Result<u8, AllocError>
     ensures { IfOk result IsStatus }
 {

@@ -1,4 +1,4 @@
-//! Operands of a table: the words that are no options, and how many of them may come.
+//! Operands of a table: the words that aren't options, and how many there may be.
 
 ghost use Rattle.std.specs.Prelude.{◌≡◌, ◌++◌, ◌∷◌, [], codes, map};
 ghost use Rattle.std.specs.Prelude.{IfOk, OnOk};
@@ -25,10 +25,10 @@ pub struct Operand<'t> {
     pub description: &'t str,
 }
 
-/// Why free words don't fit operands.
+/// Why free words don't match the operands.
 #[derive(Clone, Copy)]
 pub enum OperandError<'t> {
-    /// The operand of this name isn't there.
+    /// The operand of this name is missing.
     Missing(&'t str),
     /// This word is one too many.
     Unexpected(&'t str),
@@ -47,21 +47,21 @@ pub(crate) fn is_operand(item: &str) -> bool
     are_operand_bytes(name) && has_brackets(front) && has_dots(item)
 }
 
-/// Whether bytes may stand in the name of an operand.
+/// Whether bytes may be in the name of an operand.
 fn are_operand_bytes(bytes: &[u8]) -> bool
     ensures { result ≡ list_all is_operand_byte bytes.now }
 {
     bytes.iter().all(|byte| is_operand_byte(*byte))
 }
 
-/// Whether a byte may stand in the name of an operand.
+/// Whether a byte may be in the name of an operand.
 fn is_operand_byte(byte: u8) -> bool
     ensures { result ≡ is_operand_byte byte }
 {
     matches!(byte, b'A'..=b'Z' | b'0'..=b'9' | b'_' | b'-')
 }
 
-/// Whether bytes have `[` in front and their one `]` at their end, or neither.
+/// Whether bytes begin with `[` and end in their only `]`, or contain neither.
 fn has_brackets(bytes: &[u8]) -> bool
     ensures { result ≡ has_brackets bytes.now }
 {
@@ -73,7 +73,7 @@ fn has_brackets(bytes: &[u8]) -> bool
     }
 }
 
-/// Whether no dot stands in bytes, or two or three at their end.
+/// Whether bytes contain no dots, or only two or three at their end.
 fn has_dots(bytes: &[u8]) -> bool
     ensures { result ≡ has_dots bytes.now }
 {
@@ -81,21 +81,21 @@ fn has_dots(bytes: &[u8]) -> bool
     !bytes.contains(&b'.') || (bytes.ends_with(b"..") && dots.len() < 3)
 }
 
-/// Whether an operand has to be there.
+/// Whether an operand is required.
 fn is_needed(operand: Operand<'_>) -> bool
     ensures { result ≡ is_needed (operand_of operand.entry) }
 {
     !operand.item.as_bytes().starts_with(b"[")
 }
 
-/// Whether an operand may come again.
+/// Whether an operand may be repeated.
 fn may_repeat(operand: Operand<'_>) -> bool
     ensures { result ≡ may_repeat (operand_of operand.entry) }
 {
     operand.item.as_bytes().contains(&b'.')
 }
 
-/// What stands before the dots of an item.
+/// What precedes the dots of an item.
 fn undotted(item: &str) -> &str
     ensures { result.now ≡ before 46 item.now }
 {
@@ -105,7 +105,7 @@ fn undotted(item: &str) -> &str
     }
 }
 
-/// Whether an operand may come after these.
+/// Whether an operand may follow these.
 pub(crate) fn may_follow(before: &[Operand<'_>], operand: Operand<'_>) -> bool
     ensures { result ≡ list_all
         (λ other. comes_before (operand_of operand.entry) (operand_of other)) before.now }
@@ -113,14 +113,14 @@ pub(crate) fn may_follow(before: &[Operand<'_>], operand: Operand<'_>) -> bool
     before.iter().all(|other| comes_before(*other, operand))
 }
 
-/// Whether an operand may come before another.
+/// Whether an operand may precede another.
 fn comes_before(other: Operand<'_>, operand: Operand<'_>) -> bool
     ensures { result ≡ comes_before (operand_of operand.entry) (operand_of other.entry) }
 {
     !may_repeat(other) && (is_needed(other) || !is_needed(operand))
 }
 
-/// Why free words don't fit these operands, if they don't.
+/// Why free words don't match these operands, if they don't.
 pub(crate) fn free_error<'t>(
     operands: &[Operand<'t>],
     free: &'t [String],
@@ -147,7 +147,7 @@ pub(crate) fn free_error<'t>(
     None
 }
 
-/// That an operand isn't there, if it has to be.
+/// The error that an operand is missing, if it is required.
 fn missing<'t>(operand: Operand<'t>) -> Option<OperandError<'t>>
     ensures { option_map operand_fault_told result
         ≡ operand_fault (operand_of operand.entry ∷ []) [] }
@@ -159,7 +159,7 @@ fn missing<'t>(operand: Operand<'t>) -> Option<OperandError<'t>>
     }
 }
 
-/// What parts the rows of a description.
+/// What separates the rows of a description.
 const NEXT_ROW: &str = "\n                        ";
 
 /// The columns of an item before its description.
@@ -189,7 +189,7 @@ fn row_of(alloc: Global, operand: Operand<'_>) -> Result<String, AllocError>
     Ok(text)
 }
 
-/// What stands before the description of an operand.
+/// What precedes the description of an operand.
 fn head_of(alloc: Global, item: &str) -> Result<String, AllocError>
     ensures { IfOk result (λ text. string_bytes text ≡ operand_head item.now) }
 {
@@ -199,7 +199,7 @@ fn head_of(alloc: Global, item: &str) -> Result<String, AllocError>
     Ok(text)
 }
 
-/// What stands between an item and its description.
+/// What separates an item from its description.
 fn padding_after(item: &str) -> &'static str
     ensures { result.now ≡ operand_padding item.now }
 {
@@ -211,8 +211,8 @@ fn padding_after(item: &str) -> &'static str
     }
 }
 
-/// Adds operands to a usage line, with a space before each, but for the first where `begun` doesn't
-/// say that anything came before it.
+/// Appends operands to a usage line, with a space before each; before the first only if `begun`
+/// says that something precedes it.
 pub(crate) fn push_operands(
     text: &mut String,
     begun: bool,

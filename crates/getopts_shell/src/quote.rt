@@ -11,8 +11,9 @@ ghost use Rattle.getopts_shell.specs.Variables.{line_code};
 
 use std::alloc::AllocError;
 
-/// A shell makes of words in quotes the same words; also where they are words of any bytes, read as
-/// texts and written as bytes. No other words are written alike. A law to cite, which does nothing.
+/// A shell turns words in quotes into the same words, even words of any bytes, which are read as
+/// texts and written as bytes. No other words are written alike. This is a lemma for proofs, which
+/// does nothing.
 pub fn words_come_back()
     ensures same { (words : List Text) → shell_words (quoted_words words) ≡ Some words }
     ensures bytes { (words : List (List ℕ)) → AllByRecursion AreBytes words
@@ -21,7 +22,7 @@ pub fn words_come_back()
         → quoted_words words ≡ quoted_words others → words ≡ others }
 {}
 
-/// Adds a text with another in the place of each such character of ASCII.
+/// Appends a text, with another text in place of each occurrence of an ASCII character.
 pub(crate) fn push_replaced(
     text: &mut String,
     word: &str,
@@ -41,7 +42,7 @@ pub(crate) fn push_replaced(
     Ok(())
 }
 
-/// Adds the separator, where `begun` says that anything came before.
+/// Appends the separator if `begun` says that something precedes it.
 pub(crate) fn push_parting(
     text: &mut String,
     begun: bool,
@@ -53,7 +54,7 @@ pub(crate) fn push_parting(
     text.push_str(if begun { separator } else { "" })
 }
 
-/// Adds texts, with the separator between each two.
+/// Appends texts, with the separator between them.
 pub(crate) fn push_joined(
     text: &mut String,
     texts: &[String],
@@ -71,7 +72,7 @@ pub(crate) fn push_joined(
     Ok(())
 }
 
-/// Adds a word in quotes: `'`, its bytes with `'\''` for each `'`, and `'`.
+/// Appends a word in quotes: `'`, its bytes with `'\''` for each `'`, and `'`.
 pub(crate) fn push_quoted(text: &mut String, word: &str) -> Result<(), AllocError>
     ensures { OnOk result (string_bytes text.new ≡ string_bytes text.old ++ quoted word.now) }
 {
@@ -80,7 +81,7 @@ pub(crate) fn push_quoted(text: &mut String, word: &str) -> Result<(), AllocErro
     text.push('\'')
 }
 
-/// Adds the command that sets the words of a script.
+/// Appends the command that sets the words of a script.
 pub(crate) fn push_line(text: &mut String, words: &[String]) -> Result<(), AllocError>
     ensures { OnOk result (string_bytes text.new
         ≡ string_bytes text.old ++ line_code (map string_bytes words.now)) }
@@ -90,7 +91,7 @@ pub(crate) fn push_line(text: &mut String, words: &[String]) -> Result<(), Alloc
     text.push('\n')
 }
 
-/// Adds words in quotes, with a space between each two.
+/// Appends words in quotes, with a space between them.
 fn push_quoted_words(text: &mut String, words: &[String]) -> Result<(), AllocError>
     ensures { OnOk result (string_bytes text.new
         ≡ string_bytes text.old ++ quoted_words (map string_bytes words.now)) }
@@ -102,7 +103,7 @@ fn push_quoted_words(text: &mut String, words: &[String]) -> Result<(), AllocErr
     push_others(text, others)
 }
 
-/// Adds words in quotes, with a space before each.
+/// Appends words in quotes, with a space before each.
 fn push_others(text: &mut String, words: &[String]) -> Result<(), AllocError>
     ensures { OnOk result (string_bytes text.new
         ≡ string_bytes text.old ++ flat_map spaced (map string_bytes words.now)) }

@@ -4,20 +4,20 @@ ghost use Rattle.getopts_shell.specs.Table.{MayBeNames};
 
 use getopts::HasArg;
 
-/// How often an option may come, and which of its values count.
+/// How often an option may occur, and which of its values count.
 #[derive(Clone, Copy)]
 pub enum Often {
     /// Exactly once: no brackets.
     Once,
-    /// Any number of times, and the last value counts: brackets.
+    /// Any number of times; the last value counts: brackets.
     Last,
-    /// Any number of times, and all values count: brackets and dots.
+    /// Any number of times; all values count: brackets and dots.
     All,
     /// It stands alone: brackets and `!`.
     Alone,
 }
 
-/// An option that the line of a table with this number declares, by lawful names.
+/// An option with valid names, declared in the table's line with this number.
 #[derive(Clone, Copy)]
 pub struct Row<'t> {
     pub line: usize,

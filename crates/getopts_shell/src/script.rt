@@ -1,4 +1,4 @@
-//! What is asked of the program, and the script that it is asked for.
+//! What the program is asked for, and the script that asks.
 
 ghost use Rattle.std.specs.Prelude.{◌≡◌, None};
 ghost use Rattle.getopts_shell.specs.Held.{asked_of, entries_of, groups_of};
@@ -21,7 +21,7 @@ pub(crate) struct Asked {
     pub arrays: bool,
 }
 
-/// A script: what is asked for it, its name, what its table declares, and its options.
+/// A script: what it asks for, its name, what its table declares, and its options.
 #[derive(Clone, Copy)]
 pub(crate) struct Script<'s> {
     pub asked: &'s Asked,
@@ -34,7 +34,7 @@ pub(crate) struct Script<'s> {
 }
 
 impl<'s> Script<'s> {
-    /// How its options become variables that begin with a prefix.
+    /// How its options become variables whose names begin with a prefix.
     pub(crate) fn variables(self, prefix: &'s str) -> Variables<'s>
         ensures { (result.prefix.now ≡ prefix.now) × (result.arrays ≡ self.entry.asked.now.arrays) }
     {

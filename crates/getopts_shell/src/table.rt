@@ -27,25 +27,25 @@ pub(crate) struct Table<'t> {
     pub operands: Vec<Operand<'t>>,
 }
 
-/// Why a table is refused.
+/// Why a table is rejected.
 #[derive(Drop)]
 pub(crate) enum TableError<'t> {
-    /// The line with this number is no option. Holds its item.
+    /// The line with this number isn't an option. Holds its item.
     NoOption(usize, &'t str),
-    /// The line with this number has a name that stands there already. Holds the name.
+    /// The line with this number has a name that an earlier line has. Holds the name.
     NameTwice(usize, &'t str),
-    /// The operand in the line with this number may not follow those before it. Holds its item.
+    /// The operand in the line with this number can't follow those before it. Holds its item.
     LateOperand(usize, &'t str),
-    /// Memory was refused.
+    /// An allocation failed.
     OutOfMemory,
 }
 
-/// A table declares one list of options at most: a law to cite, which does nothing.
+/// A table declares at most one list of options. This is a lemma for proofs, which does nothing.
 pub fn one_table_one_list()
     ensures { OneTableOneList }
 {}
 
-/// The options and the operands that a table declares.
+/// The options and operands that a table declares.
 pub(crate) fn declared_in<'t>(alloc: Global, text: &'t str) -> Result<Table<'t>, TableError<'t>>
     ensures { MatchResult result
         (λ table. DeclaresOptions text.now (entries_of table.rows.items)
@@ -64,7 +64,7 @@ pub(crate) fn declared_in<'t>(alloc: Global, text: &'t str) -> Result<Table<'t>,
     Ok(table)
 }
 
-/// Adds the option or the operand that a line declares, if it declares one.
+/// Adds the option or operand that a line declares, if it declares one.
 fn push_line<'t>(table: &mut Table<'t>, number: usize, line: &'t str) -> Result<(), TableError<'t>>
     ensures declared { OnOk result ((declared : Option Entry) × Declares number line.now declared
         × (entries_of table.new.rows.items
@@ -143,7 +143,7 @@ fn declares_nothing(line: &str) -> bool
     line.is_empty() || line.starts_with('#')
 }
 
-/// The first of a row's names that one of the rows has already.
+/// The first of a row's names that one of the rows already has, if any.
 fn name_again<'t>(rows: &[Row<'t>], row: Row<'t>) -> Option<&'t str>
     ensures { option_copied result ≡ name_again (entries_of rows.now) (entry_of_row row.entry) }
 {
@@ -172,14 +172,14 @@ fn any_is_called(rows: &[Row<'_>], text: &str) -> bool
     rows.iter().any(|row| row.short == text || row.long == text)
 }
 
-/// A text without the ASCII white space at both ends.
+/// A text without ASCII white space at both ends.
 fn trimmed(text: &str) -> &str
     ensures { result.now ≡ trimmed text.now }
 {
     text.trim_ascii()
 }
 
-/// A text in two: what stands before its first tab or two spaces, and what begins with these.
+/// A text split before its first tab or two spaces.
 fn cut_at_gap(text: &str) -> (&str, &str)
     ensures before { result.0.now ≡ before_gap text.now }
     ensures after { result.1.now ≡ from_gap text.now }

@@ -27,14 +27,14 @@ use crate::row::{Often, Row};
 use getopts::{HasArg, Matches, Occurrences};
 use std::alloc::{AllocError, Global};
 
-/// How options become variables: what their names begin with, and whether an array holds values.
+/// How options become variables: the prefix of their names, and whether arrays hold values.
 #[derive(Clone, Copy)]
 pub(crate) struct Variables<'p> {
     pub prefix: &'p str,
     pub arrays: bool,
 }
 
-/// How an option came.
+/// How an option was given.
 #[derive(Clone, Copy)]
 enum Came<'m> {
     /// As matches hold it.
@@ -48,23 +48,25 @@ enum Came<'m> {
 /// Why there are no variables.
 #[derive(Clone, Copy)]
 pub(crate) enum VariableError<'t> {
-    /// Arrays are asked for, and no variables.
+    /// Arrays are asked for without variables.
     ArraysOnly,
-    /// The prefix begins no name of a variable.
+    /// The name of a variable can't begin with the prefix.
     NoPrefix(&'t str),
-    /// The option in the line with this number makes no variable. Holds its main name.
+    /// The option in the line with this number doesn't make a variable. Holds its main name.
     NoVariable(usize, &'t str),
-    /// The option in the line with this number makes the variable of one before it. Holds its main
-    /// name.
+    /// The option in the line with this number makes the same variable as an earlier one. Holds its
+    /// main name.
     VariableTwice(usize, &'t str),
 }
 
-/// A shell that runs the code holds what the matches do: a law to cite, which does nothing.
+/// A shell that runs the code holds what the matches hold. This is a lemma for proofs, which does
+/// nothing.
 pub fn code_sets_variables()
     ensures { CodeSetsVariables }
 {}
 
-/// The code that sets a variable for each option of a table, and then the words to the free words.
+/// The code that sets a variable for each option of a table, and then the script's words to the
+/// free words.
 pub(crate) fn variables_code(
     alloc: Global,
     variables: Variables<'_>,
@@ -92,7 +94,7 @@ pub(crate) fn variables_code(
     Ok(text)
 }
 
-/// The code that sets variables where nothing is given but this option, once and without a value.
+/// The code that sets variables if only this option is given, once and without a value.
 pub(crate) fn alone_code(
     alloc: Global,
     variables: Variables<'_>,
@@ -111,7 +113,7 @@ pub(crate) fn alone_code(
     Ok(text)
 }
 
-/// How an option came where nothing is given but this one.
+/// How an option was given if only this one is.
 fn came_alone(row: Row<'_>, alone: Row<'_>) -> Came<'static>
     ensures { founds_of result
         ≡ found_alone (entry_of_row row.entry) (entry_of_row alone.entry) }
@@ -123,7 +125,7 @@ fn came_alone(row: Row<'_>, alone: Row<'_>) -> Came<'static>
     }
 }
 
-/// Adds the commands for an option: its variable is taken away, and then set if it has a value.
+/// Appends the commands for an option: its variable is unset, and then set if it has a value.
 fn push_option(
     alloc: Global,
     text: &mut String,
@@ -141,7 +143,7 @@ fn push_option(
     push_option_value(alloc, text, variables, row, given)
 }
 
-/// Adds the command that takes a variable away.
+/// Appends the command that unsets a variable.
 fn push_unset(text: &mut String, prefix: &str, name: &str) -> Result<(), AllocError>
     ensures { OnOk result (string_bytes text.new ≡ string_bytes text.old
         ++ (codes "\\unset -v " ++ (variable prefix.now name.now ++ codes "\n"))) }
@@ -151,7 +153,7 @@ fn push_unset(text: &mut String, prefix: &str, name: &str) -> Result<(), AllocEr
     text.push('\n')
 }
 
-/// Adds the command that sets the variable of an option, if it has a value.
+/// Appends the command that sets the variable of an option, if it has a value.
 fn push_option_value(
     alloc: Global,
     text: &mut String,
@@ -185,7 +187,7 @@ pub(crate) fn main_name<'t>(row: Row<'t>) -> &'t str
     }
 }
 
-/// Adds the command that sets a variable to how often an option came.
+/// Appends the command that sets a variable to how often an option was given.
 fn push_count(
     alloc: Global,
     text: &mut String,
@@ -200,7 +202,7 @@ fn push_count(
     push_value(text, prefix, name, count.as_str())
 }
 
-/// Adds the command that sets a variable to the value of an option's last occurrence, if it has
+/// Appends the command that sets a variable to the value of an option's last occurrence, if it has
 /// one.
 #[tactic(auto, using(crate::proofs::Assignments::last_found))]
 fn push_last(text: &mut String, prefix: &str, name: &str, given: Came<'_>) -> Result<(), AllocError>
@@ -217,7 +219,7 @@ fn push_last(text: &mut String, prefix: &str, name: &str, given: Came<'_>) -> Re
     push_value(text, prefix, name, text_at(given, count - 1))
 }
 
-/// Adds the command that sets a variable to a text.
+/// Appends the command that sets a variable to a text.
 fn push_value(text: &mut String, prefix: &str, name: &str, value: &str) -> Result<(), AllocError>
     ensures { OnOk result (string_bytes text.new ≡ string_bytes text.old
         ++ value_line (variable prefix.now name.now) (Some (one value.now))) }
@@ -228,9 +230,9 @@ fn push_value(text: &mut String, prefix: &str, name: &str, value: &str) -> Resul
     text.push('\n')
 }
 
-/// Adds the command that sets a variable to all values of an option, as words in quotes or as an
-/// array. `${NAME+}` is no word: the Korn shell takes a first word such as `typeset` for a
-/// declaration, and `()` for no array.
+/// Appends the command that sets a variable to all values of an option, as words in quotes or as an
+/// array. `${NAME+}` adds no word. Without it, the Korn shell takes a first word such as `typeset`
+/// for a declaration, and doesn't take `()` for an array.
 fn push_all(
     alloc: Global,
     text: &mut String,
@@ -256,7 +258,7 @@ fn push_all(
     text.push_str(")\n")
 }
 
-/// Adds the values of occurrences as words in quotes, with the empty text for one that has none.
+/// Appends the values of occurrences as words in quotes, with an empty text for one that has none.
 fn push_texts(text: &mut String, given: Came<'_>) -> Result<(), AllocError>
     ensures text { OnOk result (string_bytes text.new ≡ string_bytes text.old
         ++ quoted_words (texts_found (founds_of given.entry))) }
@@ -269,7 +271,7 @@ fn push_texts(text: &mut String, given: Came<'_>) -> Result<(), AllocError>
     Ok(())
 }
 
-/// How many the occurrences are.
+/// How many occurrences there are.
 fn count(given: Came<'_>) -> usize
     ensures { result ≡ length (founds_of given.entry) }
 {
@@ -280,7 +282,7 @@ fn count(given: Came<'_>) -> usize
     }
 }
 
-/// The value of one of the occurrences, or the empty text where it has none.
+/// The value of one of the occurrences, or an empty text if it has none.
 #[tactic(auto, using(crate::proofs::Assignments::text_of))]
 fn text_at<'m>(given: Came<'m>, nth: usize) -> &'m str
     ensures { result.now ≡ get_or (texts_found (founds_of given.entry)) nth [] }
@@ -294,7 +296,7 @@ fn text_at<'m>(given: Came<'m>, nth: usize) -> &'m str
     }
 }
 
-/// Adds the variable of a main name: the prefix, and the name with `_` for each `-`.
+/// Appends the variable for a main name: the prefix, and the name with `_` for each `-`.
 fn push_variable(text: &mut String, prefix: &str, name: &str) -> Result<(), AllocError>
     ensures { OnOk result (string_bytes text.new
         ≡ string_bytes text.old ++ variable prefix.now name.now) }
@@ -304,7 +306,7 @@ fn push_variable(text: &mut String, prefix: &str, name: &str) -> Result<(), Allo
     Ok(())
 }
 
-/// Why a prefix and the options of a table make no variables, if they make none.
+/// Why a prefix and the options of a table don't make variables, if they don't.
 pub(crate) fn variable_error<'t>(prefix: &'t str, rows: &[Row<'t>]) -> Option<VariableError<'t>>
     ensures { option_map variable_fault_told result
         ≡ prefix_fault prefix.now (entries_of rows.now) }
@@ -320,7 +322,7 @@ pub(crate) fn variable_error<'t>(prefix: &'t str, rows: &[Row<'t>]) -> Option<Va
     None
 }
 
-/// Why a row after others makes no variable of its own, if it makes none.
+/// Why a row after others doesn't make a variable of its own, if it doesn't.
 fn row_error<'t>(prefix: &str, before: &[Row<'t>], row: Row<'t>) -> Option<VariableError<'t>>
     ensures { option_map variable_fault_told result
         ≡ variable_fault prefix.now (entries_of before.now) (entry_of_row row.entry) }
@@ -335,7 +337,7 @@ fn row_error<'t>(prefix: &str, before: &[Row<'t>], row: Row<'t>) -> Option<Varia
     }
 }
 
-/// Whether a variable may begin with a text.
+/// Whether a variable's name may begin with a text.
 fn is_prefix(prefix: &str) -> bool
     ensures { result ≡ is_prefix prefix.now }
 {
@@ -350,14 +352,14 @@ fn makes_variable(prefix: &str, name: &str) -> bool
     begins_variable(prefix, name) && are_variable_bytes(prefix) && make_variable_bytes(name)
 }
 
-/// Whether a variable may hold each byte of a text.
+/// Whether a variable's name may contain each byte of a text.
 fn are_variable_bytes(text: &str) -> bool
     ensures { result ≡ list_all is_variable_byte text.now }
 {
     text.bytes().all(is_variable_byte)
 }
 
-/// Whether a variable may hold each byte of a main name, with `_` for each `-`.
+/// Whether a variable's name may contain each byte of a main name, with `_` for each `-`.
 fn make_variable_bytes(name: &str) -> bool
     ensures { result ≡ list_all (λ byte. is_variable_byte (variable_byte byte)) name.now }
 {
@@ -365,7 +367,7 @@ fn make_variable_bytes(name: &str) -> bool
         .all(|byte| is_variable_byte(variable_byte(byte)))
 }
 
-/// Whether a prefix and a main name begin with no digit, and not both are empty.
+/// Whether a prefix and a main name don't begin with a digit, and aren't both empty.
 fn begins_variable(prefix: &str, name: &str) -> bool
     ensures { result ≡ option_map_or (λ byte. not (is_ascii_digit byte))
         (slice_get (variable prefix.now name.now) 0) false }
@@ -376,14 +378,14 @@ fn begins_variable(prefix: &str, name: &str) -> bool
     }
 }
 
-/// Whether the name of a variable may hold a byte: a letter, a digit or `_`.
+/// Whether a variable's name may contain a byte: a letter, a digit or `_`.
 fn is_variable_byte(byte: u8) -> bool
     ensures { result ≡ is_variable_byte byte }
 {
     byte.is_ascii_alphanumeric() || byte == b'_'
 }
 
-/// Whether one of the rows makes the variable that a main name makes.
+/// Whether one of the rows makes the same variable as a main name.
 fn any_has_variable(rows: &[Row<'_>], name: &str) -> bool
     ensures { result ≡ list_any (λ row. bytes_eq
         (map variable_byte (main_name (entry_of_row row).names))
@@ -392,7 +394,7 @@ fn any_has_variable(rows: &[Row<'_>], name: &str) -> bool
     rows.iter().any(|row| same_variable(main_name(*row), name))
 }
 
-/// Whether two main names make one variable.
+/// Whether two main names make the same variable.
 fn same_variable(name: &str, other: &str) -> bool
     ensures { result ≡ bytes_eq (map variable_byte name.now) (map variable_byte other.now) }
 {
@@ -409,7 +411,7 @@ fn same_variable(name: &str, other: &str) -> bool
     true
 }
 
-/// A byte of a main name, as it stands in a variable.
+/// A byte of a main name, as it is in a variable's name.
 fn variable_byte(byte: u8) -> u8
     ensures { result ≡ variable_byte byte }
 {

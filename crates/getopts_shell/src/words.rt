@@ -8,7 +8,7 @@ use getopts_bytes::push_text;
 use std::alloc::{AllocError, Global};
 use std::env::{Env, FillError};
 
-/// The bytes that a word's place in memory has at first.
+/// The initial size of the buffer for a word, in bytes.
 const BYTES: usize = 256;
 
 /// The texts of the words that the system gave, after the program's own name.
@@ -25,7 +25,7 @@ pub(crate) fn system_words(rt: &HostRuntime) -> Result<Vec<String>, AllocError> 
     Ok(words)
 }
 
-/// Reads the word at a place to the front of a buffer, which grows until the word fits, and gives
+/// Reads the word at a place to the front of a buffer, which grows until the word fits, and returns
 /// its length. There is none after the last word.
 fn read_word(
     rt: &HostRuntime,
