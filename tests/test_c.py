@@ -1,4 +1,4 @@
-"""The library for C: its calls on six targets, as each C compiler of this machine builds them, and the installation."""
+"""The C library: its functions on six targets, built by each C compiler on this machine, and its installation."""
 
 import functools
 import itertools
@@ -8,8 +8,8 @@ import shlex
 import shutil
 
 import pytest
-from conftest import LINES, ROOT, answer, need, refused_in_turn, run, script
-from targets import OLD, cargo, cargo_for, copied, need_std, runner
+from conftest import LINES, ROOT, answer, need, fail_each_allocation, run, script
+from targets import OLD, cargo, cargo_for, copy_folders, need_std, runner
 from test_rows import all_rows
 
 C = ROOT / "bindings/c"
@@ -18,11 +18,11 @@ PLUS_WARNINGS = "-Wall -Wextra -Wpedantic -Werror".split()
 SANITIZERS = "-fsanitize=address,undefined -fno-sanitize-recover=all -g -O1".split()
 WRAPS = "-Wl,--wrap=malloc,--wrap=realloc,--wrap=free"
 HOST = "x86_64-unknown-linux-gnu"
-# What rows ask that the library for C has.
+# The commands in rows that the C library supports.
 ASKED = set(b"""words ignoring_counts canonical option positions opt_present opt_count opt_str opt_default opt_strs opt_strs_pos
     opt_positions opt_defined short usage""".split())
-# Of each build the compiler with its flags, the target of the library, or none where it is this machine's by its own
-# cargo, and what runs its programs where that isn't what runs those of the target.
+# For each build: the compiler with its flags, the library's target (None: this machine, with its own cargo), and the
+# command that runs its programs (None: the target's).
 BUILDS = {
     "gcc": (["gcc", "-O2"], None, []), "clang": (["clang", "-O2"], None, []),
     "gcc-san": (["gcc", *SANITIZERS], None, []), "clang-san": (["clang", *SANITIZERS], None, []),
@@ -38,10 +38,10 @@ BUILDS = {
 
 @pytest.fixture(scope="module")
 def library(tmp_path_factory):
-    """library(TARGET): the archive that cargo builds, once for each target."""
+    """library(TARGET): the archive built by cargo, once per target."""
     @functools.cache
     def of(target):
-        folder = copied(tmp_path_factory.mktemp("c"), "bindings/c", "bindings/rust") / "bindings/c"
+        folder = copy_folders(tmp_path_factory.mktemp("c"), "bindings/c", "bindings/rust") / "bindings/c"
         if target:
             words = ["build", "--release", "--ignore-rust-version"]
             cargo_for(target, folder, *words, env={"RUSTFLAGS": "--cfg old_rustc"})
@@ -52,14 +52,14 @@ def library(tmp_path_factory):
     return of
 
 
-# What is built for a target, one worker builds.
+# One worker builds everything for a target.
 pytestmark = pytest.mark.xdist_group("C")
 
 
 @pytest.fixture(params=[pytest.param(name, marks=pytest.mark.xdist_group(f"C for {target}") if target else ())
                         for name, (_, target, _) in BUILDS.items()])
 def build(request, tmp_path, library):
-    """Builds a program of a source as one compiler does, and returns the words that run it."""
+    """Builds a program with one of the compilers, and returns the command that runs it."""
     compiler, target, by = BUILDS[request.param]
     if target:
         request.getfixturevalue("other_targets")
@@ -77,7 +77,7 @@ def build(request, tmp_path, library):
 
 
 def test_rows(build, tmp_path):
-    """The stored rows, and what the rules ask beyond them."""
+    """The stored rows, and those that test_rows.py derives from the rules."""
     rows, said = tmp_path / "rows", tmp_path / "said"
     rows.write_bytes(b"".join(row + b"\n" for row, _ in all_rows()))
     run(*build(C / "tests/rows.c"), rows, said)
@@ -90,26 +90,26 @@ def test_calls(build):
     run(*build(C / "tests/layer.c"))
 
 
-def test_calls_under_refused_memory(build):
+def test_calls_when_allocations_fail(build):
     if build.name in ("wasm", "windows", "valgrind"):
-        pytest.skip("its linker doesn't wrap malloc, or it is slow")
+        pytest.skip("its linker can't wrap malloc, or it is too slow")
     run(*build(C / "tests/random.c", "-DREFUSES", WRAPS), 4_000)
 
 
 def test_random_tables_and_words(build, cases):
-    # Of fewer not each status comes.
+    # With fewer cases, some statuses would never occur.
     run(*build(C / "tests/random.c"), max(4_000, cases(40_000 if build.name in ("gcc", "clang-san") else 4_000)))
 
 
 def test_threads(build):
     if build.name not in ("gcc", "clang", "musl"):
-        pytest.skip("threads: on this machine alone")
+        pytest.skip("threads are tested only on this machine")
     run(*build(C / "tests/threads.c", "-pthread"))
 
 
 def test_lints(tmp_path):
-    """The crate's lints, and that all that is unsafe stands in one file."""
-    folder = copied(tmp_path, "bindings/c", "bindings/rust") / "bindings/c"
+    """Clippy has no warnings, and only one file has unsafe code."""
+    folder = copy_folders(tmp_path, "bindings/c", "bindings/rust") / "bindings/c"
     cargo(folder, "clippy", "--release", "--", "-D", "warnings")
     unsafe = [path.name for path in (C / "src").glob("*.rs") if re.search(r"\bunsafe\b(?!_code)", path.read_text())]
     assert [name for name in unsafe if name != "lib.rs"] == ["c.rs"]
@@ -125,18 +125,18 @@ def show_c(tmp_path_factory, library):
 
 
 @pytest.mark.parametrize("line", LINES)
-def test_show_answers_as_getopts_show(show, show_c, line):
+def test_show_matches_getopts_show(show, show_c, line):
     assert answer(show_c, *line.split()) == answer(show, *line.split())
 
 
 @pytest.mark.parametrize("line", LINES[1:4])
-def test_show_under_refused_memory(show_c, refuse, line):
-    refused_in_turn(refuse, [show_c, *line.split()])
+def test_show_when_allocations_fail(show_c, failing_malloc, line):
+    fail_each_allocation(failing_malloc, [show_c, *line.split()])
 
 
 @pytest.mark.parametrize("compiler", ["gcc", "clang", "g++", "clang++"])
 @pytest.mark.parametrize("modes, right", [("GETOPTS_STOP | GETOPTS_LONG_ONLY", True), ("GETOPTS_NO", False)])
-def test_a_kind_in_place_of_a_mode(compiler, modes, right, tmp_path):
+def test_kind_passed_as_mode(compiler, modes, right, tmp_path):
     need(compiler)
     plus = compiler.endswith("++")
     source = tmp_path / ("modes.cc" if plus else "modes.c")
@@ -147,7 +147,7 @@ def test_a_kind_in_place_of_a_mode(compiler, modes, right, tmp_path):
     assert (answer(compiler, *flags, "-c", source, "-o", tmp_path / "modes.o")[1] == 0) == right
 
 
-ORDER = [  # words, what is said in turn
+ORDER = [  # arguments, output lines
     ("-qv", "verbose"), ("-vq", "quiet"), ("--verbose -q --quiet -v f -q", "quiet"), ("-q -- -v", "quiet"),
     ("-Ia -vXb --include=c -X d=e -q", "take a,leave b,take c,leave d=e,quiet"),
     ("-Xa -I- --include --", "leave a,take -,take --,verbose"),
@@ -163,7 +163,7 @@ def test_order(build):
 
 # ---- installed
 
-HEAD = [  # status, output, errors, words
+HEAD = [  # status, output, errors, arguments
     (0, "1\n2\n", "", ["-n2", "FILE"]),
     (0, "Usage: head [options] FILE..\n", "", ["--help"]),
     (0, "Usage: head [options] FILE..\n", "", ["-h", "-h", "FILE"]),
@@ -193,7 +193,7 @@ def flags(request, prefix, monkeypatch):
     version = re.search(r'GETOPTS_VERSION "(.*)"', (C / "getopts.h").read_text())[1]
     assert run("pkg-config", "--modversion", request.param, env=env)[0] == f"{version}\n"
     assert f'version = "{version}"\n' in (C / "Cargo.toml").read_text()
-    # Where another package of the prefix is named before it.
+    # As if another package of the same prefix came first.
     return [f"-L{prefix}/lib", *shlex.split(run("pkg-config", "--cflags", "--libs", request.param, env=env)[0])]
 
 
@@ -229,14 +229,14 @@ def test_cmake(module, prefix, tmp_path):
 
 
 @pytest.mark.parametrize("compiler", ["g++", "clang++"])
-def test_cpp(compiler, flags, tmp_path):
+def test_installed_for_cpp(compiler, flags, tmp_path):
     need(compiler)
     run(compiler, *PLUS_WARNINGS, C / "tests/installed.cpp", *flags, "-o", tmp_path / "plus")
     assert run(tmp_path / "plus", *"--verbose -ox --verbose a --verbose".split())[0] == "2 x a --verbose\n"
 
 
 def test_exports(prefix):
-    """Both libraries export the functions of getopts.h, and nothing else."""
+    """Both libraries export exactly the functions declared in getopts.h."""
     need("nm", "readelf")
     declared = set(re.findall(r"(getopts_[a-z_]*)\(", (C / "getopts.h").read_text()))
     shared, archive = prefix / "lib/libgetopts.so", prefix / "lib/libgetopts.a"
@@ -249,7 +249,7 @@ def test_exports(prefix):
 
 
 def test_manual_page(prefix):
-    """groff has nothing to say of the page, and it has each call, whose name leads to it, and the examples."""
+    """groff has no warnings. The page has all code and comments of getopts.h, and each function's page refers to it."""
     need("groff", "man")
     page, header = prefix / "share/man/man3/getopts.3", (C / "getopts.h").read_text()
     assert run("groff", "-man", "-Tutf8", "-ww", page)[1] == ""
@@ -263,7 +263,7 @@ def test_manual_page(prefix):
         assert (page.parent / f"{name}.3").read_text() == ".so man3/getopts.3\n"
 
 
-def test_what_a_program_grows_by(prefix, tmp_path):
+def test_program_size(prefix, tmp_path):
     most = int(re.search(r" grows by (\d+) KB at most", (C / "getopts.h").read_text())[1]) * 1000
     (tmp_path / "empty.c").write_text("int main(void) { return 0; }\n")
     run("cc", "-O2", "-s", tmp_path / "empty.c", "-o", tmp_path / "without")
@@ -275,7 +275,7 @@ def test_what_a_program_grows_by(prefix, tmp_path):
 
 @pytest.mark.parametrize("compiler", ["clang", "musl-gcc"])
 @pytest.mark.parametrize("link", ["-static {0}/lib/libgetopts.a", "-L{0}/lib -Wl,-rpath,{0}/lib -lgetopts"])
-def test_installed_for(compiler, link, show_c, tmp_path):
+def test_install_with_compiler(compiler, link, show_c, tmp_path):
     need(compiler)
     to = tmp_path / "to"
     run("sh", C / "install.sh", to, env={"CC": compiler})
@@ -283,8 +283,8 @@ def test_installed_for(compiler, link, show_c, tmp_path):
     assert answer(tmp_path / "linked", "-vv", "x") == answer(show_c, "-vv", "x")
 
 
-def test_installed_for_another_target(show_c, tmp_path):
-    """By the folder that has Debian's rustc, whose cargo is asked for what newer ones have."""
+def test_install_for_other_target(show_c, tmp_path):
+    """Installs with Debian's cargo and rustc, with the flags that these old versions need."""
     target, compiler = "aarch64-unknown-linux-gnu", "aarch64-linux-gnu-gcc"
     by = runner(target, tmp_path)
     need("/usr/bin/cargo", compiler)
@@ -292,7 +292,7 @@ def test_installed_for_another_target(show_c, tmp_path):
     env = {**OLD, "CARGO": "/usr/bin/cargo", "CARGO_FLAGS": "--ignore-rust-version", "RUSTFLAGS": "--cfg old_rustc",
            "CARGO_BUILD_TARGET": target}
     _, errors = run("sh", C / "install.sh", tmp_path / "to", env=env, status=1)
-    assert "CC has to name the C compiler for aarch64-unknown-linux-gnu" in errors
+    assert "set CC to the C compiler for aarch64-unknown-linux-gnu" in errors
     run("sh", C / "install.sh", tmp_path / "to", env={**env, "CC": compiler})
     to, program = tmp_path / "to", tmp_path / "linked"
     library = ["-isystem", to / "include", f"-L{to}/lib", f"-Wl,-rpath,{to}/lib", "-lgetopts"]
@@ -300,23 +300,23 @@ def test_installed_for_another_target(show_c, tmp_path):
     assert answer(*by, program, "-vv", "x") == answer(show_c, "-vv", "x")
 
 
-def test_tools_that_lack(tmp_path):
+def test_missing_tools(tmp_path):
     _, errors = run("sh", C / "install.sh", tmp_path / "to", status=1, env={"CARGO": "no-cargo"})
-    assert "there is no no-cargo: install Rust 1.68 or later (Debian's package cargo" in errors
+    assert "no-cargo not found: install Rust 1.68 or later (Debian's package cargo" in errors
     _, errors = run("sh", C / "install.sh", tmp_path / "to", status=1, env={"CC": "no-cc"})
-    assert "there is no no-cc: install a C compiler (Debian's package gcc)" in errors
+    assert "no-cc not found: install a C compiler (Debian's package gcc)" in errors
     failing = script(tmp_path / "cargo", "#!/bin/sh\nexit 101\n")
     _, errors = run("sh", C / "install.sh", tmp_path / "to", status=1, env={"CARGO": str(failing)})
     assert "librust-unicode-width-dev" in errors and not (tmp_path / "to").exists()
     (tmp_path / "cargo").write_text("#!/bin/sh\n")
     _, errors = run("sh", C / "install.sh", tmp_path / "to", status=1, env={"CARGO": str(tmp_path / "cargo")})
-    assert "cargo left no libgetopts.a. If a configuration" in errors and not (tmp_path / "to").exists()
+    assert "cargo built no libgetopts.a. If cargo's configuration" in errors and not (tmp_path / "to").exists()
 
 
 @pytest.mark.parametrize("shell", ["dash", "busybox"])
 @pytest.mark.parametrize("relative", [False, True])
 def test_destdir_and_uninstall(shell, relative, tmp_path):
-    """Also by busybox's shell and tools alone."""
+    """With dash, and with nothing but busybox's shell and tools."""
     need(shell, "cargo", "cc")
     env, words = {"DESTDIR": "stage" if relative else f"{tmp_path}/stage/"}, ["dash"]
     if shell == "busybox":
@@ -324,7 +324,7 @@ def test_destdir_and_uninstall(shell, relative, tmp_path):
         tools.mkdir()
         for tool in "awk sed cp ln mkdir chmod rm rmdir dirname mktemp cat".split():
             (tools / tool).symlink_to(shutil.which("busybox"))
-        # Debian's busybox has tools of its own before those on the path, of which ar makes no archives.
+        # Debian's busybox prefers its own tools to those on the path, and its ar can't create archives.
         env.update(PATH=f"{tools}:{os.environ['PATH']}", AR=shutil.which("ar"))
     run(*words, C / "install.sh", "/usr/lo cal/", env=env, cwd=tmp_path)
     assert "prefix=/usr/lo cal\n" in (tmp_path / "stage/usr/lo cal/lib/pkgconfig/getopts.pc").read_text()
@@ -332,8 +332,8 @@ def test_destdir_and_uninstall(shell, relative, tmp_path):
     assert not any(path.is_file() for path in (tmp_path / "stage").rglob("*"))
 
 
-def test_files_of_others_stay(tmp_path):
-    """What stood in the folders before, and what a link in the place of a file names; a folder in such a place is told."""
+def test_uninstall_keeps_other_files(tmp_path):
+    """Other files stay, also the target of a link that is replaced; a folder in the place of a file is an error."""
     need("cargo", "cc")
     to, others = tmp_path / "to", ["share/doc/getopts/others", "lib/libgetopts.so.2.others", "others.h"]
     for other in others:
@@ -353,19 +353,19 @@ def test_files_of_others_stay(tmp_path):
 
 @pytest.mark.parametrize("sign", '"$#\\:\n')
 @pytest.mark.parametrize("words", [["sh"], ["busybox", "sh"]])
-def test_prefix_that_is_read_otherwise(words, sign, tmp_path):
+def test_prefix_with_special_characters(words, sign, tmp_path):
     need(words[0])
     for name in [f"a{sign}b", f"{sign}", f"b{sign}"] + [f"b{blank}{end}" for blank in " \t\r" for end in ("", "//")]:
         errors = run(*words, C / "install.sh", f"{tmp_path}/{name}", status=1)[1]
-        assert "prefix" in errors and "name one without" in errors and not list(tmp_path.iterdir())
+        assert "PREFIX must not" in errors and not list(tmp_path.iterdir())
 
 
-def test_usage_of_install():
+def test_install_usage():
     assert "PREFIX/include: getopts.h" in run("sh", C / "install.sh", "--help")[0]
     for words in ([], [""], ["--nope"], ["a", "b"]):
         assert "usage: bindings/c/install.sh [--uninstall] PREFIX" in run("sh", C / "install.sh", *words, status=1)[1]
 
 
-def test_example_of_the_page():
+def test_example_on_page():
     example = re.search(r"^```c\n(.*?)^```", (C / "README.md").read_text(), re.M | re.S)[1]
     assert all(part in (C / "head.c").read_text() for part in example.split("\n\n")) and len(example.splitlines()) < 40

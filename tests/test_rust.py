@@ -1,4 +1,4 @@
-"""The Rust crate: it is the proved source, its form, and it answers as the crate getopts 0.2.24, on five targets."""
+"""The Rust crate: its source is the proved one, and it behaves like the crate getopts 0.2.24 on five targets."""
 
 import functools
 import itertools
@@ -10,13 +10,13 @@ from pathlib import Path
 
 import pytest
 from conftest import LINES, ROOT, ROWS, answer, run
-from targets import REGISTRY, TARGETS, UNWINDS, cargo, cargo_for, committed, copied, offline, runner
+from targets import REGISTRY, TARGETS, UNWINDS, cargo, cargo_for, commit_repository, copy_folders, offline, runner
 
 RUST = ROOT / "bindings/rust"
 TWIN = ROOT / "tests/differential/twin"
 ERASED = {"getopts": RUST / "src/proved", "getopts_bytes": RUST / "src/bytes",
           "getopts_shell": ROOT / "bindings/shell/src/program"}
-# What cargo builds, one worker builds.
+# One worker runs all tests that use cargo.
 pytestmark = pytest.mark.xdist_group("Rust")
 
 
@@ -27,14 +27,14 @@ def same_tokens(source, folder):
 
 
 def edited(file, right, wrong):
-    """Puts a wrong text in the place of a right one that stands there."""
+    """Replaces a right text with a wrong one."""
     text = file.read_text()
     assert right in text
     file.write_text(text.replace(right, wrong, 1))
 
 
 @pytest.mark.parametrize("crate", ERASED)
-def test_tokens_are_those_of_the_source(crate):
+def test_tokens_match_source(crate):
     assert same_tokens(ROOT / f"crates/{crate}/src", ERASED[crate]) == (b"", 0)
 
 
@@ -42,15 +42,15 @@ def test_tokens_are_those_of_the_source(crate):
     ("parse.rs", "count <= 1", "count < 1"),
     ("scan.rs", "line.try_grow(words, stops)?;", "line.try_grow(words, stops);"),
     ("table.rs", "entries.dedup_by", "entries.reverse(); entries.dedup_by")])
-def test_other_tokens_are_found(file, right, wrong, tmp_path):
-    shutil.copytree(ERASED["getopts"], tmp_path / "planted")
-    edited(tmp_path / "planted" / file, right, wrong)
-    assert same_tokens(ROOT / "crates/getopts/src", tmp_path / "planted")[1] == 1
+def test_changed_tokens_are_found(file, right, wrong, tmp_path):
+    shutil.copytree(ERASED["getopts"], tmp_path / "changed")
+    edited(tmp_path / "changed" / file, right, wrong)
+    assert same_tokens(ROOT / "crates/getopts/src", tmp_path / "changed")[1] == 1
 
 
 @pytest.fixture
 def reader(tmp_path):
-    """A copy of the eraser, and the folder of the source that it reads there."""
+    """A copy of the eraser, and the source folder that it reads."""
     source = tmp_path / "crates/getopts/src"
     source.mkdir(parents=True)
     (tmp_path / "bindings/rust").mkdir(parents=True)
@@ -59,8 +59,8 @@ def reader(tmp_path):
 
 
 @pytest.mark.parametrize("plant", sorted(path.stem for path in (ROOT / "tests/eraser").glob("*.plant")))
-def test_readers_stop(plant, reader, tmp_path):
-    """Each is of Rattle, or was taken for it, and means something else once it is erased: both readers stop at it."""
+def test_planted_sources_are_rejected(plant, reader, tmp_path):
+    """Source that has another meaning once erased, or once did: the eraser and the token check both reject it."""
     eraser, source = reader
     text = (ROOT / f"tests/eraser/{plant}.plant").read_text()
     file = next((name for name in ("laws", "lib") if plant.endswith(name)), "names")
@@ -68,15 +68,15 @@ def test_readers_stop(plant, reader, tmp_path):
     (source / f"{file}.rt").write_text(text)
     assert f"erase.py: crates/getopts/src/{file}.rt:" in run(sys.executable, eraser, status=1)[1]
     said, status = same_tokens(source, source)
-    assert status == 1 and b"it may mean something else in Rust" in said
+    assert status == 1 and b"may have another meaning in Rust" in said
 
 
 @pytest.mark.parametrize("file, right, wrong, why", [
     ("row.rt", "const MARGIN: usize = 24", "const MARGIN: usize ≡ 24", "'≡': it isn't Rust"),
     ("index.rt", "let Index { groups: _, held: _ } = self;", "let _ = self;",
-     "'Drop': its impl does more than to take a value apart"),
-    ("names.rt", "    short.len()", "    (short.len()", "'}': it closes nothing")])
-def test_eraser_stops(file, right, wrong, why, reader):
+     "'Drop': its impl does more than destructure a value"),
+    ("names.rt", "    short.len()", "    (short.len()", "'}': unmatched bracket")])
+def test_eraser_errors(file, right, wrong, why, reader):
     eraser, source = reader
     shutil.copytree(ROOT / "crates/getopts/src", source, dirs_exist_ok=True)
     edited(source / file, right, wrong)
@@ -88,7 +88,7 @@ def test_eraser_stops(file, right, wrong, why, reader):
 @pytest.fixture(scope="module")
 def folder(tmp_path_factory):
     """A copy of the crate."""
-    return copied(tmp_path_factory.mktemp("rust"), "bindings/rust") / "bindings/rust"
+    return copy_folders(tmp_path_factory.mktemp("rust"), "bindings/rust") / "bindings/rust"
 
 
 @pytest.mark.parametrize("features", [["--features", "proved"], ["--no-default-features", "--tests"],
@@ -98,7 +98,7 @@ def test_crate(folder, features):
 
 
 @pytest.mark.parametrize("features", [[], ["--features", "proved"], ["--no-default-features"], ["--features", "bare"]])
-def test_no_warning(folder, features):
+def test_no_warnings(folder, features):
     cargo(folder, "check", *features, env={"RUSTFLAGS": "-D warnings"})
 
 
@@ -112,12 +112,12 @@ def test_documentation(folder):
     for name in ("options", "matches", "os"):
         example = False
         for line in (RUST / f"src/{name}.rs").read_text().splitlines():
-            assert example or not line.startswith("    pub fn"), f"no example of {line.strip()}"
+            assert example or not line.startswith("    pub fn"), f"no example for {line.strip()}"
             example = line.startswith("    /// ```") or example and not line.startswith(("    }", "impl"))
 
 
 def test_package(folder, tmp_path):
-    """Both packages are built from what would be uploaded. No registry is asked."""
+    """Both packages build from the files that would be uploaded. No registry is used."""
     names = cargo(folder, "package", "--allow-dirty", "--list")[0].split()
     assert set("README.md LICENSE-MIT LICENSE-APACHE NOTICE src/proved/mod.rs src/bytes/mod.rs".split()) <= set(names)
     for name in set(names) - {"Cargo.lock", "Cargo.toml.orig", ".cargo_vcs_info.json"}:
@@ -133,9 +133,9 @@ def test_package(folder, tmp_path):
         cargo(folder / "getopts", "package", "--allow-dirty", registry=tmp_path)
 
 
-def test_git(tmp_path):
-    """Of a repository a new program takes one package, and one that uses the crate getopts the other, by a patch."""
-    url = committed(copied(tmp_path / "clone", "bindings") / "bindings")
+def test_git_dependency(tmp_path):
+    """From a git URL: the package as a dependency, and the one that replaces the crate getopts as a patch."""
+    url = commit_repository(copy_folders(tmp_path / "clone", "bindings") / "bindings")
     (tmp_path / "src").mkdir()
     (tmp_path / "src/main.rs").write_text("fn main() { let _: proved::Options = getopts::Options::new(); }\n")
     (tmp_path / "Cargo.toml").write_text(f"""package = {{ name = "program", version = "0.0.0", edition = "2021" }}
@@ -153,14 +153,14 @@ def example(folder):
 
 
 @pytest.mark.parametrize("line", LINES)
-def test_example_answers_as_getopts_show(line, example, show):
+def test_example_matches_getopts_show(line, example, show):
     assert answer(example, *line.split()) == answer(show, *line.split())
 
 
-# ---- beside the crate getopts 0.2.24
+# ---- compared with the crate getopts 0.2.24
 
 def twin_over(room, over, edit=None):
-    """A copy of tests/differential's program over a copy of a crate, of ours by the package that stands in for it."""
+    """A copy of tests/differential's program that uses a copy of a crate (ours: through its package `getopts`)."""
     ignored, place = shutil.ignore_patterns("target", "Cargo.lock"), "../crate/getopts" if over == RUST else "../crate"
     for source, to in ((TWIN, "twin"), (over, "crate")):
         shutil.copytree(source, room / to, ignore=ignored)
@@ -173,7 +173,7 @@ def twin_over(room, over, edit=None):
 
 @pytest.fixture(scope="module")
 def twin(tmp_path_factory):
-    """twin(CRATE, FLAG..): the program of tests/differential over a crate in a folder."""
+    """twin(CRATE, FLAG..): the program of tests/differential, built with the crate in a folder."""
     @functools.cache
     def twin(over, *flags, edit=None):
         folder = twin_over(tmp_path_factory.mktemp("twin"), over, edit)
@@ -194,7 +194,7 @@ def test_rows(ours, rows):
 
 
 def differing(ours, theirs, seed, count):
-    """The first of so many cases of a seed that two twins answer otherwise."""
+    """The first of this many cases of a seed to which the two twins give different answers."""
     cases = run(theirs, "generate", seed, count)[0]
     answers = (run(twin, "answer", input=os.fsencode(cases))[0].split("\ncase\t") for twin in (ours, theirs))
     return next((pair for pair in itertools.zip_longest(*answers) if pair[0] != pair[1]), None)
@@ -209,16 +209,16 @@ def test_cases(twin, crate, cases, flags, seed):
     assert run(ours, "panics") == run(theirs, "panics")
 
 
-def test_a_difference_is_found(twin, crate):
-    planted = twin(RUST, edit=("matches.rs", "first_value_or(def)", 'first_value_or("")'))
-    assert differing(planted, twin(crate), 1, 2000)
+def test_difference_is_found(twin, crate):
+    changed = twin(RUST, edit=("matches.rs", "first_value_or(def)", 'first_value_or("")'))
+    assert differing(changed, twin(crate), 1, 2000)
 
 
 # ---- other targets
 
 @pytest.mark.parametrize("target", TARGETS)
 def test_target(target, other_targets, tmp_path, request, ours, example):
-    """By Debian's rustc 1.63: the crate's public tests, the rows, the example, words of any bytes, and `bare`."""
+    """With Debian's rustc 1.63: getopts' public tests, the rows, the example, arguments of any bytes, and `bare`."""
     twin = twin_over(tmp_path, RUST)
     for file, to in (("examples/show.rs", "src/bin"), ("tests/os.rs", "tests")):
         (twin / to).mkdir()

@@ -1,20 +1,20 @@
 #!/bin/sh
-# Builds the library for C and C++ programs by cargo and installs it, or removes it:
+# Builds the library for C and C++ with cargo and installs it, or removes it:
 #
 #     bindings/c/install.sh [--uninstall] PREFIX
 #
-# - PREFIX/lib: libgetopts.a, also named libgetopts-static.a, and on Linux libgetopts.so; both export the functions of
-#   getopts.h alone
+# - PREFIX/lib: libgetopts.a, also as libgetopts-static.a, and on Linux libgetopts.so; both export only the functions
+#   of getopts.h
 # - PREFIX/include: getopts.h
-# - PREFIX/lib/pkgconfig: getopts.pc, and getopts-static.pc for a program that holds the library itself
-# - PREFIX/share/man/man3: getopts.3, made of getopts.h, also by the name of each function
+# - PREFIX/lib/pkgconfig: getopts-static.pc, for programs that contain the library, and on Linux getopts.pc
+# - PREFIX/share/man/man3: getopts.3, generated from getopts.h, also under the name of each function
 # - PREFIX/share/doc/getopts: README.md, head.c, order.c and the licences
 #
-# It needs cargo with Rust 1.68 or later, a C compiler and binutils, and runs by any POSIX shell, also busybox's (where
-# that has an ar of its own, as Debian's, with AR=/usr/bin/ar). It takes unicode-width from Debian's
-# librust-unicode-width-dev where that is installed, and else cargo fetches it. For another target name it and its
-# compiler: CARGO_BUILD_TARGET=aarch64-unknown-linux-gnu CC=aarch64-linux-gnu-gcc. It uses CARGO, CARGO_FLAGS, CC, AR,
-# CFLAGS and LDFLAGS, and writes its files below DESTDIR.
+# It needs cargo with Rust 1.68 or later, a C compiler and binutils. It runs in any POSIX shell, including busybox's; if
+# busybox has its own ar, as Debian's does, set AR=/usr/bin/ar. If Debian's librust-unicode-width-dev is installed, it
+# provides the crate unicode-width; otherwise cargo downloads it. To cross-compile, name the target and its compiler:
+# CARGO_BUILD_TARGET=aarch64-unknown-linux-gnu CC=aarch64-linux-gnu-gcc. The variables CARGO, CARGO_FLAGS, CC, AR,
+# CFLAGS and LDFLAGS are used, and files are written below DESTDIR.
 set -eu
 unset CDPATH
 here=$(cd "$(dirname "$0")" && pwd)
@@ -35,7 +35,7 @@ if [ $# != 1 ] || [ -z "$1" ] || [ "${1#-}" != "$1" ]; then
     fail "usage: bindings/c/install.sh [--uninstall] PREFIX"
 fi
 
-# absolute PATH: the path from the root, without a slash at its end.
+# absolute PATH: the absolute path, without slashes at its end.
 absolute() {
     case $1 in
     /*) printf '%s\n' "$1" ;;
@@ -46,22 +46,22 @@ prefix=$(absolute "$1")
 line_end='
 '
 case $1$prefix in
-*"$line_end"*) fail "pkg-config doesn't read a prefix with a line end: name one without" ;;
-*[[:space:]]) fail "pkg-config doesn't read a blank at the end of a prefix: name one without" ;;
-*[\"\$\#\\:]*) fail "pkg-config and paths read \", \$, #, \\ and : in a prefix otherwise: name one without them" ;;
+*"$line_end"*) fail "PREFIX must not contain a line break (pkg-config misreads it)" ;;
+*[[:space:]]) fail "PREFIX must not end with a blank (pkg-config misreads it)" ;;
+*[\"\$\#\\:]*) fail "PREFIX must not contain \", \$, #, \\ or : (pkg-config or search paths misread them)" ;;
 esac
 to=$(absolute "${DESTDIR:-/}")$prefix
 
-# The version of the library. Programs that were linked with one work with each later one of the same first number.
+# The version of the library. Programs linked with one version work with later ones that have the same first number.
 version=$(sed -n 's/^#define GETOPTS_VERSION "\(.*\)"/\1/p' "$here/getopts.h")
 soname=libgetopts.so.${version%%.*}
 shared=libgetopts.so.$version
 functions=$(sed -n 's/^[a-z].*[ *]\(getopts_[a-z_]*\)(.*/\1/p' "$here/getopts.h")
 
-# What goes into share/doc/getopts, by its place from here.
+# The files for share/doc/getopts, relative to this script.
 documents="README.md head.c order.c ../../LICENSE-MIT ../../LICENSE-APACHE ../../NOTICE"
 
-# Removes the shared libraries of all versions with the first number of this one.
+# Removes the shared libraries of all versions with the same first number.
 remove_versions() {
     for file in "$to/lib/$soname".*; do
         case ${file#"$to/lib/$soname."} in
@@ -88,14 +88,14 @@ if [ -n "$remove" ]; then
 fi
 
 command -v "$cargo" >/dev/null ||
-    fail "there is no $cargo: install Rust 1.68 or later (Debian's package cargo, or rustup.rs)"
+    fail "$cargo not found: install Rust 1.68 or later (Debian's package cargo, or rustup.rs)"
 command -v "${cc%% *}" >/dev/null ||
-    fail "there is no ${cc%% *}: install a C compiler (Debian's package gcc), or name one by CC"
-[ -z "$target" ] || [ -n "${CC:-}" ] || fail "CC has to name the C compiler for $target"
+    fail "${cc%% *} not found: install a C compiler (Debian's package gcc), or set CC to yours"
+[ -z "$target" ] || [ -n "${CC:-}" ] || fail "set CC to the C compiler for $target"
 room=$(mktemp -d)
 trap 'rm -rf "$room"' EXIT
 
-# A copy of the source, so that nothing is written beside it.
+# Build a copy, so that nothing is written to the source folder.
 mkdir "$room/c" "$room/rust" "$room/c/.cargo"
 cp -R "$here/Cargo.toml" "$here/src" "$room/c"
 cp -R "$top/bindings/rust/Cargo.toml" "$top/bindings/rust/src" "$room/rust"
@@ -108,20 +108,20 @@ for crate in /usr/share/cargo/registry/unicode-width-*; do
 done
 # shellcheck disable=SC2086
 (cd "$room/c" && CARGO_TARGET_DIR=$room/target "$cargo" build --release --quiet $offline ${CARGO_FLAGS:-}) ||
-    fail "cargo can't build it. It needs Rust 1.68 or later with the target's standard library, and the crate
-unicode-width: without a network Debian's package librust-unicode-width-dev"
+    fail "cargo failed. The build needs Rust 1.68 or later with the target's standard library, and the crate unicode-width
+(without a network, from Debian's package librust-unicode-width-dev)"
 built=$room/target/${target:+$target/}release/libgetopts.a
-[ -f "$built" ] || fail "cargo left no libgetopts.a${target:+ for $target}. If a configuration of cargo names another
-target, name it by CARGO_BUILD_TARGET, and its C compiler by CC"
+[ -f "$built" ] || fail "cargo built no libgetopts.a${target:+ for $target}. If cargo's configuration sets another
+target, set CARGO_BUILD_TARGET to it, and CC to its C compiler"
 
-# put FILE PLACE [MODE]: a link in its place goes, and what it names stays.
+# put FILE PLACE [MODE]: replaces a link at PLACE, not the file that the link points to.
 put() {
     mkdir -p "$(dirname "$to/$2")"
     rm -f "$to/$2"
     cp "$1" "$to/$2"
     chmod "${3:-644}" "$to/$2"
 }
-# describe LIBS: a file for pkg-config.
+# describe LIBS: prints a file for pkg-config.
 describe() {
     cat <<END
 prefix=$prefix
@@ -129,7 +129,7 @@ libdir=\${prefix}/lib
 includedir=\${prefix}/include
 
 Name: getopts
-Description: Command-line options, read by a proved library
+Description: Formally verified parser of command-line options
 Version: $version
 License: MIT OR Apache-2.0
 Libs: $1
@@ -141,13 +141,13 @@ awk -f "$here/man.awk" "$here/getopts.h" "$here/getopts.h" >"$room/getopts.3"
 remove_versions
 case $($cc -dumpmachine) in
 *linux*)
-    # One object that exports the functions of getopts.h and nothing else.
+    # One object that only exports the functions of getopts.h.
     keep='' roots=''
     for function in $functions; do
         keep="$keep --keep-global-symbol=$function"
         roots="$roots -u $function"
     done
-    # tool NAME: the program of the compiler's binutils.
+    # tool NAME: a program of the compiler's binutils.
     tool() { $cc -print-prog-name="$1"; }
     # shellcheck disable=SC2086
     "$(tool ld)" -r --gc-sections $roots -o "$room/all.o" "$built"
@@ -166,7 +166,7 @@ case $($cc -dumpmachine) in
     put "$room/getopts.pc" lib/pkgconfig/getopts.pc
     ;;
 esac
-# By a name that no shared library has. CMake would put the path of an archive before what asks for it.
+# Linked by a name that no shared library has: CMake would put an archive's path before the objects that need it.
 # shellcheck disable=SC2016
 describe '"-L${libdir}" -lgetopts-static' >"$room/getopts-static.pc"
 echo '.so man3/getopts.3' >"$room/page.3"

@@ -1,24 +1,24 @@
-# Makes getopts(3) of getopts.h, which it is given twice: its first comment is the description, and each declaration has
-# the comment above it.
+# Generates getopts(3) from getopts.h, which has to be given twice: the first comment becomes the description, and each
+# declaration is followed by the comment above it.
 function escaped(line) {
     gsub(/\\/, "\\e", line)
     gsub(/-/, "\\-", line)
     gsub(/'/, "\\(aq", line)
     return line ~ /^\./ ? "\\&" line : line
 }
-# A declaration of a call, which is broken between parameters alone.
+# The declaration of a function, which may only be broken between parameters.
 function call(line) {
     gsub(/ /, "\\ ", line)
     gsub(/,\\ /, ", ", line)
     return ".ti -4\n\\fB" line "\\fP\n.br"
 }
-# A line of a type, whose comment isn't bold.
+# A line of a type: bold except for its comment.
 function member(line) {
     line = escaped(line)
     sub(/\/\*.*/, "\\fP&\\fB", line)
     return "\\fB" line "\\fP"
 }
-# A line of a comment: what is indented stands as it is, names are bold, and a dash begins an item.
+# A line of a comment: indented text is printed unchanged, names are bold, and a dash begins a list item.
 function said(line,    starts) {
     starts = as_is ? ".fi\n" : ""
     if (line ~ /^    / || (as_is && line == "")) {
@@ -43,7 +43,7 @@ FNR == NR && /^[a-z].*getopts_[a-z_]*\(.*;$/ { calls = calls call($0) "\n" }
 FNR == NR { next }
 FNR == 1 {
     print ".TH GETOPTS 3 \"\" \"getopts " version[2] "\" \"Library Functions Manual\"\n.ad l\n.nh"
-    print ".SH NAME\ngetopts \\- command\\-line options by a table"
+    print ".SH NAME\ngetopts \\- parse command\\-line options from a table"
     print ".SH SYNOPSIS\n.B #include <getopts.h>\n.P\n.RS 4\n" calls ".RE\n.SH DESCRIPTION"
 }
 /^#ifdef __cplusplus/, /^#endif/ { next }

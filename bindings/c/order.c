@@ -1,5 +1,5 @@
-/* Follows options in the order in which they were given, as a loop over getopt_long does: an example of getopts.h. The
- * last of -q and -v wins, in one word too, and -I and -X are told in turn. */
+/* Handles options in the order in which they were given, as a loop over getopt_long does: an example of getopts.h. The
+ * last of -q and -v wins, even in one word, and -I and -X are printed in order. */
 #include <getopts.h>
 #include <stdio.h>
 #include <stdlib.h>
@@ -14,7 +14,7 @@ static const struct getopts_option table[ROWS + 1] = {
     [EXCLUDE] = { "X", NULL, "NAME", "leave files of this name", GETOPTS_YES + GETOPTS_MULTI },
 };
 
-/* The row of the option in a word `--main` or `--main=value` of a canonical line, and the value. */
+/* The row and the value of the option in a word `--main` or `--main=value` of a canonical line. */
 static int row_of(const char *word, const char **value) {
     size_t len = strcspn(word + 2, "=");
     *value = word[len + 2] == '=' ? word + len + 3 : NULL;

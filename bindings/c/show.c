@@ -1,5 +1,5 @@
-/* Shows what its words are as options, as the program getopts_show does. It exits with 0 if the words were
- * accepted, with 2 if they were refused, and with 3 if out of memory, and then it prints nothing. */
+/* Prints how its arguments were parsed, like the program getopts_show. It exits with 0 if they were accepted, with 2 if
+ * they were rejected, and with 3, printing nothing, if memory ran out. */
 #include "getopts.h"
 
 #include <stdio.h>
@@ -14,7 +14,7 @@ static const struct getopts_option table[] = {
     { NULL, NULL, NULL, NULL, 0 },
 };
 
-/* Shows how often an option was given, where, and with which values. */
+/* Prints how often an option was given, where, and with which values. */
 static void show(const struct getopts *options, const char *name) {
     size_t count = getopts_count(options, name);
     printf("%s: %zu", name, count);
@@ -28,7 +28,7 @@ static void show(const struct getopts *options, const char *name) {
     }
 }
 
-/* Shows each of some words, before NULL, under a title. */
+/* Prints each word before NULL, with a title. */
 static void show_words(const char *title, char *const *words) {
     for (; *words != NULL; words++)
         printf("%s: %s\n", title, *words);

@@ -1,20 +1,19 @@
 #!/usr/bin/env python3
-"""Checks that Rust is a crate in Rattle with whole constructs left out, and reads none of `erase.py`.
+"""Checks that erased Rust is its source without whole constructs, independently of `erase.py`.
 
     bindings/rust/same_tokens.py SOURCE FOLDER
 
-The tokens of FOLDER/X.rs have to be those of SOURCE/X.rt in order, but for the renames below and for constructs that
-mean nothing when a program runs: each begins with a word of `WHOLE`, and goes to the end that stands beside it.
-Comments, white space, a comma before a bracket that closes and the brackets of an arm with one expression aren't looked
-at. A source may hold nothing that Rattle
-and Rust read apart (`odd`).
+FOLDER/X.rs has to have the tokens of SOURCE/X.rt in the same order, except for the renames below and for constructs
+without meaning at run time: each begins with a pattern in `WHOLE`, and extends to the end given there. Comments, white
+space, a comma before a closing bracket and the brackets around a match arm's single expression are ignored. Sources may
+not contain anything that Rattle and Rust interpret differently (`odd`).
 """
 
 import re
 import sys
 from pathlib import Path
 
-# What begins a construct, and what ends it: brackets that close, or a sign outside brackets.
+# How a construct begins, and what ends it: the closing of its brackets, or a sign outside brackets.
 WHOLE = [(r"(requires|ensures)( \w+)? {", "}"), (r"ghost", ";,"), (r"impl (< .*? > )?(Model|Drop) for .*? {", "}")]
 WHOLE += [(r"# (! )?\[ (tactic|derive \( Drop \) \])", "]"), (r"use std :: marker :: Model", ";")]
 WHOLE += [(r"(mod laws|pub use laws)", ";"), (r"[+:,] Drop(?= [>,)])", ""), (r"Drop ,", "")]
@@ -29,7 +28,7 @@ PATHS = {"mod matches": "pub ( crate ) mod matches", "crate ::": "super ::", "st
 PATHS |= {"unicode_width": "crate :: width"}
 PATHS |= {"std :: convert": "crate :: convert", "std :: error": "crate :: error", "std :: vec": "crate :: heap :: vec"}
 PATHS |= {"std ::": "core ::", "str :: from_utf8": "core :: str :: from_utf8"}
-# Of the crates but the library.
+# In crates that aren't part of the library.
 HOST = {"resize": "try_resize", "trim_ascii": "trimmed_ascii", "str :: from_utf8": "std :: str :: from_utf8"}
 HOST |= {"format !": "text !", "write !": "add !", "writeln !": "add_line !", "fn main": "pub fn main"}
 HOST |= {f"std :: {name}": f"crate :: host :: {name}" for name in ("alloc", "env", "io")} | {"crate ::": "super ::"}
@@ -37,14 +36,14 @@ HOST |= {"getopts ::": "crate :: getopts ::", "getopts_bytes ::": ":: getopts ::
 TOKEN = r"""//.*|b?r"[^"]*"|b?r#"[\s\S]*?"#|b?"(?:\\[\s\S]|[^"\\])*"|b?'(?:\\.[^']*|[^\\'])'|'\w+|\w+|::|\S"""
 
 
-# Words that Rust and Rattle read apart, or that no source needs.
+# Words that Rust and Rattle interpret differently, or that no source needs.
 ODD = set("size_of size_of_val align_of align_of_val unsafe static extern macro_rules union trait dyn async".split())
 ODD |= {"of_capacity", "copy_of", "TryClone", "trimmed_ascii"}
-# What stands behind a sign in an attribute, what is derived, and what is imported of Rust.
+# Known attributes, known traits to derive, and known imports.
 DERIVED = r"derive \( ((Clone|Copy|Debug|PartialEq|Eq|Drop) (, )?)+\)"
 SIGNED = rf"# (! )?\[ (inline|cold|must_use|tactic|{DERIVED})"
 TAKEN = r"use (crate|super|unicode_width) ::|use std :: (alloc|cmp|convert|env|error|fmt|io|marker|process|str|vec) "
-# Calls of Rust that no source defines.
+# Functions of Rust, which no source defines.
 CALLED = set("""all alloc allocator any arg as_bytes as_slice as_str binary_search_by binary_search_by_key bytes
     capacity chars checked_add clone cmp contains count dedup_by encode_utf8 ends_with enumerate
     extend_from_slice first flush from from_be_bytes from_str from_u32 from_utf8 get into_iter is_ascii
@@ -61,7 +60,7 @@ def tokens(path):
 
 
 def end_of(source, at, end):
-    """The place after a construct that begins at a place and ends so."""
+    """The index after a construct that begins at an index and has this end."""
     depth = 0
     for place in range(at, len(source)):
         depth += (source[place] in "({[") - (source[place] in ")}]")
@@ -70,8 +69,9 @@ def end_of(source, at, end):
     return len(source)
 
 
-# What they read apart: names of Rust's, methods that ask for memory there, numbers of 32 bits, a record of more than
-# names, what a type has, a bound that only Rattle may meet, an import by another name, and what is sorted by no order.
+# What they interpret differently: names of Rust, methods that allocate in Rust, numbers of 32 bits, `..` of a record
+# before more than names, functions called by type, bounds that may only hold in Rattle, renamed imports, and sorting by
+# what isn't an order.
 NAMES = "(bool|char|str|[iuf]\\d+|[iu]size|String|Vec|Option|Some|None|Ok|Err|Box|Clone|Copy|Default|Drop|Eq|Iterator"
 NAMES += "|IntoIterator|Ord|PartialEq|PartialOrd|ToString|alloc|core|std)"
 ASKING = "(append|collect|concat|extend|insert|insert_str|into_boxed_(slice|str)|join|repeat|replace|resize_with"
@@ -82,12 +82,12 @@ APART = rf"(struct|enum|type|trait|mod|const|fn) {NAMES} |fn {ASKING} (< [^(]* )
 APART += r"|as [iu]size |[,{] \. \. (?!([*] )?\w+( \. \w+)* }|[)}\],] )|> :: |/ [*]|mod \w+ [{]"
 APART += rf"|impl < [^>]* : (?!Drop >)|use [^;]* as |\. sort_by \( (?!{ORDERS})"
 DROP = r"Drop for \w+ (< [^>]*> )?{ fn drop \( self \) { let \w+ { (\w+ : _ ,? ?)*} = self ; } }"
-# What the library doesn't call: nobody is told there where memory is refused.
+# What the library doesn't call, because it couldn't report failed allocations.
 HOSTS = r"(resize|trim_ascii) \(|(format|writeln) !|write ! \( (?!f ,)"
 
 
 def has_no_end(words, at, before):
-    """Whether a range that isn't an index has no end here: Rust takes it past the last number."""
+    """Whether a range without an end, other than an index, is here: in Rust it goes past the last number."""
     if words[at] == "[" and (not re.match(r"\w|[)\]?]", before) or before in ("in", "return", "else", "match")):
         end = end_of(words, at, "]")
         return words[end - 3 : end - 1] == [".", "."] and words[end - 4] not in "[,@"
@@ -95,7 +95,7 @@ def has_no_end(words, at, before):
 
 
 def odd(path, defined, methods, heads, library):
-    """What a source holds that Rattle and Rust may read apart, if it does."""
+    """What a source contains that Rattle and Rust may interpret differently, if anything."""
     words, commented, at = [], set(), 0
     for word in re.findall(TOKEN, path.read_text(encoding="utf-8")):
         words += [word] if word[:2] != "//" else []
@@ -129,12 +129,12 @@ def odd(path, defined, methods, heads, library):
             return ahead
         at = end
     if path.stem == "laws" and re.search(r"\) - >| (mut|impl|struct|enum|const|type) ", " ".join(words)):
-        return "laws that do more"
+        return "laws that do something"
     return None
 
 
 def differs(source, rust, names, imports):
-    """The place in the source where the two are no longer the same, if there is one."""
+    """The index in the source at which the two begin to differ, if they do."""
     at, to, arms = 0, 0, set()
     if rust[: len(imports)] == imports:
         to = len(imports)
@@ -171,7 +171,7 @@ def main(source, folder):
     paths = sorted(Path(folder).glob("*.rs"))
     there = {path.stem for path in Path(source).glob("*.rt")} - {"lib", "main", "laws"} | {"mod"}
     wrong = len(there ^ {path.stem for path in paths})
-    # A source may call what it or another crate here defines, of functions, variants and closures.
+    # A source may call functions, variants and closures that it or another crate here defines.
     every = Path(source).resolve().parents[1].glob("*/src/*.rt")
     text = " ".join(" ".join(tokens(path)) for path in every)
     defined = set(re.findall(r"(?:fn|struct|type|const|let|let mut) (\w+)", text))
@@ -183,7 +183,7 @@ def main(source, folder):
     for path in sorted(Path(source).glob("*.rt")):
         if what := odd(path, defined, methods, heads, library):
             wrong += 1
-            print(f"{path}: it may mean something else in Rust at '{what}'")
+            print(f"{path}: '{what}' may have another meaning in Rust")
     for path in paths:
         of = path.with_suffix(".rt").name if path.stem != "mod" else "main.rt"
         of = Path(source) / of if (Path(source) / of).exists() else Path(source) / "lib.rt"
@@ -191,7 +191,7 @@ def main(source, folder):
         at = differs(tokens_there, tokens(path), names, imports)
         if at is not None:
             wrong += 1
-            print(f"{path}: it isn't the source at '{' '.join(tokens_there[at : at + 8])}'")
+            print(f"{path}: differs from its source at '{' '.join(tokens_there[at : at + 8])}'")
     return 1 if wrong else 0
 
 

@@ -1,5 +1,5 @@
-//! What C gives and gets: its heap, texts, tables and words, and the calls of `getopts.h`. Each `unsafe` block rests on
-//! what that header asks of a caller, which stands above it.
+//! The boundary to C: its heap, texts, tables and words, and the functions of `getopts.h`. The comment above each
+//! `unsafe` block names the requirement of that header that justifies it.
 #![allow(unsafe_code)]
 #![deny(unsafe_op_in_unsafe_fn)]
 
@@ -13,7 +13,7 @@ use core::{ptr, slice};
 use library::bytes::plain_text;
 use library::fallible::String;
 
-/// A text of C, which ends with a zero byte, or NULL.
+/// A C string, or NULL.
 pub type Text = *const u8;
 
 extern "C" {
@@ -24,13 +24,13 @@ extern "C" {
     fn abort() -> !;
 }
 
-/// The heap of C. A block of it is aligned for whatever this crate holds, which are numbers and pointers.
+/// The C heap. Its blocks are aligned for everything that this crate stores: numbers and pointers.
 struct Heap;
 
 #[global_allocator]
 static HEAP: Heap = Heap;
 
-// SAFETY: the calls of C have the contracts of these, for such alignments.
+// SAFETY: the functions of C have the same contracts, for these alignments.
 unsafe impl GlobalAlloc for Heap {
     #[inline]
     unsafe fn alloc(&self, layout: Layout) -> *mut u8 {
@@ -48,11 +48,11 @@ unsafe impl GlobalAlloc for Heap {
 
 #[panic_handler]
 fn panic(_: &core::panic::PanicInfo<'_>) -> ! {
-    // SAFETY: nothing is asked of who calls it.
+    // SAFETY: `abort` has no requirements.
     unsafe { abort() }
 }
 
-/// Whether all bytes are ASCII: eight at a time, or four, of which the last overlap those before.
+/// Whether all bytes are ASCII. Tests eight or four at a time; the last ones may overlap those before.
 #[inline]
 fn is_ascii(bytes: &[u8]) -> bool {
     const HIGH: u64 = 0x8080_8080_8080_8080;
@@ -66,7 +66,7 @@ fn is_ascii(bytes: &[u8]) -> bool {
     all & HIGH == 0
 }
 
-/// Bytes as a text, where they are UTF-8 below U+10FF80.
+/// Bytes as text, if they are UTF-8 below U+10FF80.
 #[inline]
 pub fn text(bytes: &[u8]) -> Option<&str> {
     if is_ascii(bytes) {
@@ -77,14 +77,14 @@ pub fn text(bytes: &[u8]) -> Option<&str> {
     }
 }
 
-/// The bytes of a text of C, if it isn't NULL.
+/// The bytes of a C string, if it isn't NULL.
 #[inline]
 unsafe fn bytes<'c>(text: Text) -> Option<&'c [u8]> {
-    // SAFETY: texts end with a zero byte, and stay as they are while the call that is given them runs.
+    // SAFETY: strings end with a zero byte, and don't change during the call that they are passed to.
     (!text.is_null()).then(|| unsafe { slice::from_raw_parts(text, strlen(text)) })
 }
 
-/// A row of a table, as C has it.
+/// A row of a table in C.
 #[repr(C)]
 #[derive(Clone, Copy)]
 pub struct RowOfC {
@@ -98,15 +98,15 @@ pub struct Row<'c> {
     pub kind: c_uint,
 }
 
-/// The rows of a table, up to that whose names are NULL.
+/// The rows of a table, up to the one with two names that are NULL.
 struct Rows(*const RowOfC);
 
 impl Iterator for Rows {
     type Item = Row<'static>;
     #[inline]
     fn next(&mut self) -> Option<Row<'static>> {
-        // SAFETY: there are rows up to one whose names are NULL, which none follows. They are `'static` in name alone:
-        // `Getopts::new` keeps none.
+        // SAFETY: rows are read up to the last one, whose names are NULL. `'static` is only a name: `Getopts::new`
+        // doesn't keep them.
         unsafe {
             let RowOfC { texts, kind } = *self.0;
             if texts[0].is_null() && texts[1].is_null() {
@@ -119,7 +119,7 @@ impl Iterator for Rows {
     }
 }
 
-/// Words of C, none of them NULL.
+/// C strings, none of them NULL.
 #[derive(Clone, Copy)]
 pub struct Words<'c>(&'c [Text]);
 
@@ -130,7 +130,7 @@ impl<'c> Words<'c> {
         if count == 0 {
             return Ok(Words(&[]));
         }
-        // SAFETY: there are so many words, or one before is NULL.
+        // SAFETY: there are `count` words, or an earlier one is NULL.
         unsafe {
             if words.is_null() || (0..count).any(|nth| (*words.add(nth)).is_null()) {
                 return Err(Refused::NullWord);
@@ -146,20 +146,20 @@ impl<'c> Words<'c> {
 
     #[inline]
     pub fn iter(self) -> impl Iterator<Item = &'c [u8]> {
-        // SAFETY: words are texts.
+        // SAFETY: words are strings.
         let bytes = |word: &Text| unsafe { bytes(*word) }.unwrap_or(&[]);
         self.0.iter().map(bytes)
     }
 }
 
-/// A text that C frees.
+/// A text as a block that C frees.
 fn given_away(text: Option<String>) -> *mut u8 {
     text.map_or(ptr::null_mut(), |text| ManuallyDrop::new(text).as_mut_ptr())
 }
 
-/// So many texts, each with a zero byte after it, as a block that C frees: pointers to each, NULL, and the texts.
+/// Texts, each followed by a zero byte, as a block that C frees: a pointer to each, NULL, and the texts.
 fn line_of(texts: &[u8], count: usize) -> *mut *mut u8 {
-    // SAFETY: the block has room for the pointers and the texts, and there are as many zero bytes as texts.
+    // SAFETY: the block is large enough for the pointers and the texts, and there are `count` zero bytes.
     unsafe {
         let line = malloc((count + 1) * size_of::<Text>() + texts.len()).cast::<*mut u8>();
         if !line.is_null() {
@@ -178,7 +178,7 @@ fn line_of(texts: &[u8], count: usize) -> *mut *mut u8 {
 #[no_mangle]
 unsafe extern "C" fn getopts_new(table: *const RowOfC, modes: c_uint) -> *mut Getopts {
     let rows = (!table.is_null()).then_some(Rows(table));
-    // SAFETY: a block that isn't NULL has room for the options.
+    // SAFETY: a block that isn't NULL is large enough for the options.
     unsafe {
         let options = malloc(size_of::<Getopts>()).cast::<Getopts>();
         if !options.is_null() {
@@ -197,7 +197,7 @@ unsafe extern "C" fn getopts_new(table: *const RowOfC, modes: c_uint) -> *mut Ge
 #[no_mangle]
 unsafe extern "C" fn getopts_delete(options: *mut Getopts) {
     if !options.is_null() {
-        // SAFETY: `getopts_new` made them, and they weren't deleted.
+        // SAFETY: `getopts_new` created them, and they haven't been deleted.
         unsafe {
             options.drop_in_place();
             free(options.cast());
@@ -205,7 +205,8 @@ unsafe extern "C" fn getopts_delete(options: *mut Getopts) {
     }
 }
 
-// What follows is given options that `getopts_new` returned, NULL or not deleted, and texts that end with a zero byte.
+// The functions below require options that `getopts_new` returned and that haven't been deleted, or NULL, and strings
+// that end with a zero byte.
 
 #[no_mangle]
 unsafe extern "C" fn getopts_read(
@@ -216,7 +217,7 @@ unsafe extern "C" fn getopts_read(
     if options.is_null() {
         return NO_MEMORY;
     }
-    // SAFETY: as above. The words may be those that were read before: they aren't looked at when those go.
+    // SAFETY: as above. The words may be those of the previous reading: they aren't used once it is replaced.
     unsafe {
         let read = (*options).read(Words::of(count, words));
         (*options).keep(read)
@@ -246,10 +247,10 @@ extern "C" fn getopts_message(options: Option<&Getopts>) -> Text {
     options.map_or(OUT_OF_MEMORY.as_ptr(), |options| options.message)
 }
 
-// SAFETY: its pointers are to texts of its own, which stay as they are until it goes.
+// SAFETY: its pointers point to its own texts, which don't change until it is dropped.
 unsafe impl Sync for Reading {}
 
-/// What options read last: nothing where they are NULL.
+/// What options read last: nothing if they are NULL.
 #[inline]
 fn reading(options: Option<&Getopts>) -> &Reading {
     static NOTHING: Reading = Reading::nothing();
@@ -290,7 +291,7 @@ unsafe extern "C" fn getopts_long_value(
     nth: usize,
     value: *mut c_long,
 ) -> bool {
-    // SAFETY: what a reading returns is a text or NULL, and the value is one that may be written.
+    // SAFETY: a reading returns a string or NULL, and the value may be written to.
     unsafe {
         let Some(text) = bytes(getopts_value(options, name, nth)) else { return true };
         let number = core::str::from_utf8(text).map(str::parse);

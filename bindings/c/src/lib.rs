@@ -1,9 +1,9 @@
-//! Command-line options for C: the calls of `getopts.h` over the proved library, with its contracts erased.
+//! Command-line options for C: the functions of `getopts.h`, which call the proved library with its contracts erased.
 //!
-//! What asks for memory reports where it is refused, and nothing panics. All that is unsafe is in `c`.
+//! Failed allocations are reported, and nothing panics. All unsafe code is in `c`.
 #![no_std]
 #![deny(unsafe_code)]
-// What Debian's rustc 1.63, which the tests use for other targets, has to be asked for.
+// Features that Debian's rustc 1.63 needs; tests use it for other targets.
 #![cfg_attr(old_rustc, feature(default_alloc_error_handler, core_ffi_c, let_else))]
 
 mod c;
@@ -15,15 +15,15 @@ mod words;
 use library::alloc::AllocError;
 use library::proved::Fail;
 
-/// What a call returns: a status of `getopts.h`.
+/// A status of `getopts.h`.
 pub type Status = core::ffi::c_int;
 pub const OK: Status = 0;
 pub const NO_MEMORY: Status = 6;
 pub const BAD: Status = 7;
 
-/// Why words aren't read.
+/// Why words are rejected.
 pub enum Refused {
-    /// The table is wrong.
+    /// The table is invalid.
     Table,
     /// A word is NULL.
     NullWord,
@@ -56,5 +56,5 @@ impl From<AllocError> for Refused {
     }
 }
 
-/// What a call gives that memory was granted to.
+/// A result, unless an allocation failed.
 pub type Granted<T> = Result<T, AllocError>;

@@ -1,4 +1,4 @@
-//! Options, and what the last reading gave.
+//! Options, and what was read last.
 
 use crate::c::{Row, Text, Words, text};
 use crate::reading::Reading;
@@ -14,9 +14,9 @@ pub struct Getopts {
     options: Options,
     /// How many options there are.
     groups: usize,
-    /// What is wrong with the table.
+    /// What is wrong with the table, if anything.
     wrong: Option<Vec<u8>>,
-    /// What `getopts_message` returns: one below, what is wrong, or that of the reading.
+    /// What `getopts_message` returns: a constant below, what is wrong with the table, or the reading's message.
     pub message: Text,
     pub reading: Reading,
 }
@@ -35,7 +35,7 @@ impl Getopts {
         Ok(Getopts { options, groups, wrong, message, reading })
     }
 
-    /// The words as texts, if the table isn't wrong.
+    /// The words as texts, if the table is valid.
     #[inline]
     fn texts<'c>(&self, words: Result<Words<'c>, Refused>) -> Result<Texts<'c>, Refused> {
         match self.wrong {
@@ -44,7 +44,7 @@ impl Getopts {
         }
     }
 
-    /// Keeps what was read, and returns its status.
+    /// Stores what was read, and returns its status.
     pub fn keep(&mut self, read: Result<(Reading, Status), Refused>) -> Status {
         let refused = match read {
             Ok((reading, status)) => {
@@ -62,7 +62,8 @@ impl Getopts {
         refused.status()
     }
 
-    /// What words give, and the status of their fault. Where counts alone are wrong they are read all the same.
+    /// Reads words. Returns what they give, and the status of their error. If an option only occurs too often or is
+    /// missing, what was read is returned as well.
     #[inline]
     pub fn read(&self, words: Result<Words<'_>, Refused>) -> Result<(Reading, Status), Refused> {
         let (mut texts, options) = (self.texts(words)?, &self.options);
@@ -89,7 +90,7 @@ impl Getopts {
         Ok((reading, status))
     }
 
-    /// The canonical line, each word with a zero byte after it, and how many they are.
+    /// The canonical line, with a zero byte after each word, and the number of words.
     pub fn canonical(
         &self,
         words: Result<Words<'_>, Refused>,
@@ -106,7 +107,7 @@ impl Getopts {
         Ok(Some((bytes, line.len())))
     }
 
-    /// A usage text with a zero byte after it.
+    /// A usage text, followed by a zero byte.
     pub fn usage(&self, start: Option<&[u8]>, whole: bool) -> Option<String> {
         let start = text(start.filter(|_| self.wrong.is_none())?)?;
         let made = match whole {

@@ -1,4 +1,4 @@
-//! What words gave, as C reads it.
+//! The result of reading words, in the form that C gets.
 
 use crate::Granted;
 use crate::c::{Text, text};
@@ -9,19 +9,19 @@ use library::bytes::push_bytes;
 use library::fallible::{TryList, Vec};
 use library::proved::{Fail, Matches, Occurrences};
 
-/// What words gave: nothing where they weren't read.
+/// The result of reading words: empty if they couldn't be read.
 pub struct Reading {
     matches: Option<Matches>,
-    /// The message if there is one, the values and the free words, each with a zero byte after it.
+    /// The message, if there is one, the values and the free words, each followed by a zero byte.
     texts: Vec<u8>,
-    /// The values of each option, of which one is NULL where it was given without, and NULL; then the free words, and
-    /// NULL.
+    /// The values of each option's occurrences (NULL if there is none), then NULL; after all options the free words,
+    /// then NULL.
     lists: Vec<Text>,
-    /// Where the values of each option begin in the lists, and then the free words.
+    /// Where in `lists` the values of each option begin, and then the free words.
     starts: Vec<usize>,
 }
 
-/// A list of texts of C that has none: NULL.
+/// An empty list of C strings: just NULL.
 static NONE: usize = 0;
 
 impl Reading {
@@ -29,7 +29,7 @@ impl Reading {
         Reading { matches: None, texts: Vec::new(), lists: Vec::new(), starts: Vec::new() }
     }
 
-    /// What words gave that so many options were read by, and the message of a fault.
+    /// The result of reading words with this number of options, and the message of an error.
     pub fn of(
         matches: Option<Matches>,
         fault: Option<&Fail>,
@@ -59,7 +59,7 @@ impl Reading {
         Ok(reading)
     }
 
-    /// Adds a list of texts. There is room for it: a word gives one text at most, so they are no longer than the words.
+    /// Adds a list of texts. Its space was reserved: each word gives at most one text, which is no longer than the word.
     #[inline]
     fn push_list<'m>(
         &mut self,
@@ -83,12 +83,12 @@ impl Reading {
         Ok(())
     }
 
-    /// The message, where words weren't read or their counts are wrong.
+    /// The message, if the words were rejected.
     pub fn message(&self) -> Text {
         self.texts.as_ptr()
     }
 
-    /// The place of an option and what was given of it.
+    /// The index of an option, and its occurrences.
     #[inline(always)]
     fn find(&self, name: Option<&[u8]>) -> Option<(usize, Occurrences<'_>)> {
         let matches = self.matches.as_ref()?;
@@ -119,7 +119,7 @@ impl Reading {
         found.copied().unwrap_or(null())
     }
 
-    /// The list of a place: that of an option, or that of the free words behind them.
+    /// The list at an index: that of an option or, after those, that of the free words.
     fn list(&self, place: Option<usize>) -> *const Text {
         match place.and_then(|place| self.starts.get(place)) {
             Some(start) => self.lists[*start..].as_ptr(),
@@ -145,7 +145,7 @@ impl Reading {
     }
 }
 
-/// Which occurrence of so many is asked for: the nth, or the last where this is `GETOPTS_LAST`.
+/// The index of the requested occurrence, out of `count`: `nth`, or the last for `GETOPTS_LAST`.
 fn nth_of(nth: usize, count: usize) -> Option<usize> {
     let last = count.checked_sub(1)?;
     match nth {
@@ -154,7 +154,7 @@ fn nth_of(nth: usize, count: usize) -> Option<usize> {
     }
 }
 
-/// What a message has before the name, the name, and what it has after it.
+/// The parts of a message: before the name, the name, and after it.
 fn parts_of(fault: &Fail) -> [&str; 3] {
     match fault {
         Fail::ArgumentMissing(name) => ["Argument to option '", name, "' missing"],

@@ -1,4 +1,4 @@
-//! A table of options: its rows are declared, or what is wrong with it is said.
+//! Tables of options: declares their rows, or says what is wrong with them.
 
 use crate::Granted;
 use crate::c::{Row, text};
@@ -6,19 +6,19 @@ use library::alloc::{AllocError, Global};
 use library::fallible::{TryCopies, TryList, Vec};
 use library::proved::{HasArg, Occur, Options, ParsingStyle};
 
-/// The modes, which are added.
+/// The modes, which may be added.
 const STOP: u32 = 16;
 const LONG_ONLY: u32 = 32;
 
-/// The most bytes of a name that is too long which a message has.
+/// How many bytes of a name that is too long a message shows at most.
 const SHOWN: usize = 40;
 
 const TEXTS: [&str; 4] = ["short name", "long name", "hint", "description"];
 
-/// What is wrong, with a zero byte after it; `None` where nothing is.
+/// What is wrong, followed by a zero byte; `None` if nothing is.
 type Wrong = Option<Vec<u8>>;
 
-/// Declares the rows of a table, and says how many they are and what is wrong.
+/// Declares the rows of a table. Returns how many there are, and what is wrong.
 pub fn declare<'c>(
     options: &mut Options,
     rows: Option<impl Iterator<Item = Row<'c>>>,
@@ -33,7 +33,7 @@ pub fn declare<'c>(
         groups += 1;
     }
     if modes & !(STOP | LONG_ONLY) != 0 {
-        return Ok((0, said(&[&digits(modes as usize)?, b" is no sum of modes"])?));
+        return Ok((0, said(&[b"invalid modes: ", &digits(modes as usize)?])?));
     }
     if modes & STOP != 0 {
         options.parsing_style(ParsingStyle::StopAtFirstFree);
@@ -42,7 +42,7 @@ pub fn declare<'c>(
     Ok((groups, None))
 }
 
-/// The two parts of a kind, where it is one.
+/// The two parts of a kind, if it is valid.
 fn kind_of(kind: u32) -> Option<(HasArg, Occur)> {
     let hasarg = [HasArg::No, HasArg::Yes, HasArg::Maybe].into_iter().nth(kind as usize % 4)?;
     let occur = [Occur::Optional, Occur::Req, Occur::Multi].into_iter().nth(kind as usize / 4)?;
@@ -61,11 +61,11 @@ fn declare_row(options: &mut Options, place: usize, row: &Row<'_>) -> Granted<Wr
     }
 }
 
-/// What a kind is made of.
+/// What a kind consists of.
 const KINDS: &[u8] =
-    b": it has one of GETOPTS_NO, YES and MAYBE, and one of GETOPTS_OPTIONAL, REQ and MULTI";
+    b": combine one of GETOPTS_NO, YES and MAYBE with one of GETOPTS_OPTIONAL, REQ and MULTI";
 
-/// What is wrong with a row: the first of all that may be.
+/// What is wrong with a row: the first mistake, in the order of the cases below.
 #[cold]
 fn wrong_row(place: usize, row: &Row<'_>) -> Granted<Wrong> {
     let ([short, long, ..], bad) =
@@ -75,17 +75,17 @@ fn wrong_row(place: usize, row: &Row<'_>) -> Granted<Wrong> {
         _ if short.len() > 1 => [b"short name '", shown(short), b"' has ", &len],
         _ if long.len() == 1 => [b"long name '", long, b"' has 1 byte", b""],
         _ if short.len() + long.len() == 0 => [b"both names are empty", b"", b"", b""],
-        _ if kind_of(row.kind).is_none() => [&kind, b" is no kind", KINDS, b""],
+        _ if kind_of(row.kind).is_none() => [b"invalid kind ", &kind, KINDS, b""],
         nth => [b"the ", TEXTS[nth.unwrap_or(0)].as_bytes(), b" isn't UTF-8 below U+10FF80", b""],
     };
     let (place, end): (_, &[u8]) = (digits(place)?, if short.len() > 1 { b" bytes" } else { b"" });
     said(&[b"table[", &place, b"]: ", says[0], says[1], says[2], says[3], end])
 }
 
-/// What a message has of a name: all, or its first bytes, of which a last character that isn't whole is left out.
+/// The part of a name that a message shows: all, or its first bytes up to the end of a character.
 fn shown(name: &[u8]) -> &[u8] {
     let mut end = name.len().min(SHOWN);
-    // A character has three bytes at most that go on with it.
+    // A character has at most three continuation bytes.
     let goes_on = |end: usize| name.get(end).map_or(false, |byte| byte & 0xC0 == 0x80);
     while goes_on(end) && SHOWN - end < 3 {
         end -= 1;
@@ -93,7 +93,7 @@ fn shown(name: &[u8]) -> &[u8] {
     &name[..end]
 }
 
-/// A message of these parts.
+/// The message that consists of these parts.
 fn said(parts: &[&[u8]]) -> Granted<Wrong> {
     let mut message = Vec::empty(Global);
     for part in parts {

@@ -1,4 +1,4 @@
-//! Words of C as texts: those that are texts as they stand, the others by marks.
+//! Words of C as texts: those that aren't valid text are encoded by marks.
 
 use crate::Refused;
 use crate::c::{Words, text};
@@ -7,15 +7,15 @@ use library::bytes::push_text;
 use library::fallible::{String, TryCopies, TryText, Vec};
 use library::proved::Fail;
 
-/// So many words need no memory for their texts.
+/// Up to this many words, no list of their texts is allocated.
 const FEW: usize = 16;
 
-/// Words, and what is known of them once they were asked for.
+/// Words, and what is known about them after `ask`.
 pub struct Texts<'c> {
     words: Words<'c>,
-    /// The bytes that they take, with a zero byte after each.
+    /// How many bytes they have, each with a zero byte after it.
     pub bytes: usize,
-    /// Whether one is read by marks.
+    /// Whether any of them is encoded by marks.
     pub marked: bool,
 }
 
@@ -25,7 +25,7 @@ impl<'c> Texts<'c> {
         Texts { words, bytes: 0, marked: false }
     }
 
-    /// What a call answers on the words.
+    /// Calls a function with the words as texts.
     #[inline]
     pub fn ask<T>(&mut self, call: impl FnOnce(&[&str]) -> Result<T, Fail>) -> Result<T, Refused> {
         let (mut few, mut many) = ([""; FEW], None);
@@ -49,7 +49,7 @@ impl<'c> Texts<'c> {
     }
 }
 
-/// Puts the texts of those words that have marks in their places.
+/// Encodes the words that aren't valid text, and puts the results in their places.
 #[cold]
 fn put_marked<'m>(
     texts: &mut [&'m str],

@@ -1,4 +1,4 @@
-// A C++ program on what bindings/c/install.sh put there: it tells its options and its free words.
+// A C++ program that uses the installed library: it prints its options and its free words.
 #include <getopts.h>
 
 #include <iostream>

@@ -1,4 +1,4 @@
-/* What the calls of getopts.h say of wrong tables, of counts that aren't kept, of numbers, and of words of any bytes. */
+/* Tests the functions of getopts.h: wrong tables, wrong counts, numbers, and arguments of any bytes. */
 #include "../getopts.h"
 
 #include <errno.h>
@@ -8,9 +8,9 @@
 #include <string.h>
 
 #define LEN_38 "12345678901234567890123456789012345678"
-#define KINDS ": it has one of GETOPTS_NO, YES and MAYBE, and one of GETOPTS_OPTIONAL, REQ and MULTI"
+#define KINDS ": combine one of GETOPTS_NO, YES and MAYBE with one of GETOPTS_OPTIONAL, REQ and MULTI"
 
-_Static_assert(sizeof(enum getopts_kind) == 4 && sizeof(enum getopts_modes) == 4, "as the library has them");
+_Static_assert(sizeof(enum getopts_kind) == 4 && sizeof(enum getopts_modes) == 4, "as the library expects");
 
 static int failed;
 
@@ -21,8 +21,8 @@ static void expect(bool holds, const char *what) {
     failed = 1;
 }
 
-/* A table of three rows, of which the second is wrong or not. */
-static void wrong_rows_are_named(void) {
+/* A table of three rows; the second may be wrong. */
+static void wrong_rows_are_reported(void) {
     static const struct {
         struct getopts_option row;
         const char *message;
@@ -31,12 +31,12 @@ static void wrong_rows_are_named(void) {
         { { "a", "b", NULL, NULL, GETOPTS_NO }, "table[1]: long name 'b' has 1 byte" },
         { { "", "", NULL, NULL, GETOPTS_NO }, "table[1]: both names are empty" },
         { { "", NULL, NULL, NULL, GETOPTS_NO }, "table[1]: both names are empty" },
-        { { "a", NULL, NULL, NULL, (enum getopts_kind)7 }, "table[1]: 7 is no kind" KINDS },
-        { { "a", NULL, NULL, NULL, (enum getopts_kind)12 }, "table[1]: 12 is no kind" KINDS },
-        { { "a", NULL, NULL, NULL, (enum getopts_kind)(GETOPTS_YES + GETOPTS_STOP) }, "table[1]: 17 is no kind" KINDS },
-        { { "a", NULL, NULL, NULL, (enum getopts_kind)GETOPTS_LONG_ONLY }, "table[1]: 32 is no kind" KINDS },
-        { { "a", NULL, NULL, NULL, (enum getopts_kind)-1 }, "table[1]: 4294967295 is no kind" KINDS },
-        /* At most 40 bytes of a name are shown, and no character of it is cut. */
+        { { "a", NULL, NULL, NULL, (enum getopts_kind)7 }, "table[1]: invalid kind 7" KINDS },
+        { { "a", NULL, NULL, NULL, (enum getopts_kind)12 }, "table[1]: invalid kind 12" KINDS },
+        { { "a", NULL, NULL, NULL, (enum getopts_kind)(GETOPTS_YES + GETOPTS_STOP) }, "table[1]: invalid kind 17" KINDS },
+        { { "a", NULL, NULL, NULL, (enum getopts_kind)GETOPTS_LONG_ONLY }, "table[1]: invalid kind 32" KINDS },
+        { { "a", NULL, NULL, NULL, (enum getopts_kind)-1 }, "table[1]: invalid kind 4294967295" KINDS },
+        /* At most 40 bytes of a name are shown, without cutting a character. */
         { { LEN_38 "\u00e9", NULL, NULL, NULL, GETOPTS_NO }, "table[1]: short name '" LEN_38 "\u00e9' has 40 bytes" },
         { { LEN_38 "\u00e9x", NULL, NULL, NULL, GETOPTS_NO }, "table[1]: short name '" LEN_38 "\u00e9' has 41 bytes" },
         { { LEN_38 "x\u00e9", NULL, NULL, NULL, GETOPTS_NO }, "table[1]: short name '" LEN_38 "x' has 41 bytes" },
@@ -65,9 +65,9 @@ static void wrong_rows_are_named(void) {
         int wanted = rows[nth].message[0] != '\0' ? GETOPTS_BAD : GETOPTS_OK;
         expect(strcmp(getopts_message(options), rows[nth].message) == 0, rows[nth].message);
         expect(getopts_read(options, 1, words) == wanted, "the status of a table");
-        expect(strcmp(getopts_message(options), rows[nth].message) == 0, "the message after a reading");
+        expect(strcmp(getopts_message(options), rows[nth].message) == 0, "the message after getopts_read");
         expect(getopts_canonical(options, 1, words, &line) == wanted, "the canonical line of a wrong table");
-        expect((usage = getopts_usage(options, "brief")) == NULL || wanted == GETOPTS_OK, "a wrong table's usage");
+        expect((usage = getopts_usage(options, "brief")) == NULL || wanted == GETOPTS_OK, "usage of a wrong table");
         free(usage);
         free(line);
         getopts_delete(options);
@@ -80,38 +80,38 @@ static void modes_are_checked(void) {
         int modes;
         const char *message;
     } rows[] = {
-        { 4, "4 is no sum of modes" }, { GETOPTS_STOP + GETOPTS_YES, "17 is no sum of modes" },
-        { GETOPTS_LONG_ONLY + GETOPTS_MULTI, "40 is no sum of modes" }, { 64, "64 is no sum of modes" },
+        { 4, "invalid modes: 4" }, { GETOPTS_STOP + GETOPTS_YES, "invalid modes: 17" },
+        { GETOPTS_LONG_ONLY + GETOPTS_MULTI, "invalid modes: 40" }, { 64, "invalid modes: 64" },
         { GETOPTS_ORDINARY, "" }, { GETOPTS_STOP + GETOPTS_LONG_ONLY, "" },
     };
     for (size_t nth = 0; nth < sizeof rows / sizeof *rows; nth++) {
         struct getopts *options = getopts_new(table, (enum getopts_modes)rows[nth].modes);
         int wanted = rows[nth].message[0] != '\0' ? GETOPTS_BAD : GETOPTS_OK;
         expect(strcmp(getopts_message(options), rows[nth].message) == 0, rows[nth].message);
-        expect(getopts_read(options, 0, NULL) == wanted, "a reading with a sum of modes");
+        expect(getopts_read(options, 0, NULL) == wanted, "getopts_read with these modes");
         getopts_delete(options);
     }
 }
 
-/* A table and a brief that are NULL are wrong, words are read only if none is NULL, and no option is named NULL. */
-static void null_is_bad(void) {
+/* A table or brief that is NULL is an error, and so is a word that is NULL; no option is named NULL. */
+static void null_is_rejected(void) {
     static const struct getopts_option table[] = { { "v", NULL, NULL, NULL, GETOPTS_NO }, { NULL, NULL, NULL, NULL, 0 } };
     char *words[] = { "-v", NULL, "x", NULL }, **line, *usage;
     struct getopts *none = getopts_new(NULL, GETOPTS_ORDINARY), *options = getopts_new(table, GETOPTS_ORDINARY);
     expect(strcmp(getopts_message(none), "the table is NULL") == 0, "no table");
-    expect(getopts_read(none, 1, words) == GETOPTS_BAD, "a reading with no table");
-    expect(strcmp(getopts_message(none), "the table is NULL") == 0, "no table, after a reading");
-    expect((usage = getopts_usage(none, "brief")) == NULL && !getopts_defined(none, "v"), "a usage with no table");
-    expect(getopts_read(options, 1, words) == GETOPTS_OK, "words before one that is NULL");
-    expect(getopts_read(options, 3, words) == GETOPTS_BAD, "a word that is NULL");
+    expect(getopts_read(none, 1, words) == GETOPTS_BAD, "getopts_read without a table");
+    expect(strcmp(getopts_message(none), "the table is NULL") == 0, "no table, after getopts_read");
+    expect((usage = getopts_usage(none, "brief")) == NULL && !getopts_defined(none, "v"), "usage without a table");
+    expect(getopts_read(options, 1, words) == GETOPTS_OK, "words before a NULL");
+    expect(getopts_read(options, 3, words) == GETOPTS_BAD, "a NULL word");
     expect(strcmp(getopts_message(options), "a word is NULL") == 0, "its message");
     expect(getopts_count(options, "v") == 1 && getopts_position(options, "v", 0) == 0, "what was read before");
-    expect(getopts_canonical(options, 3, words, &line) == GETOPTS_BAD && line == NULL, "a line with a word that is NULL");
-    expect(!getopts_defined(options, NULL) && getopts_count(options, NULL) == 0, "a name that is NULL");
+    expect(getopts_canonical(options, 3, words, &line) == GETOPTS_BAD && line == NULL, "a line with a NULL word");
+    expect(!getopts_defined(options, NULL) && getopts_count(options, NULL) == 0, "a NULL name");
     expect(getopts_position(options, NULL, 0) == -1 && getopts_value(options, NULL, 0) == NULL, "what it was given");
-    expect(getopts_usage(options, NULL) == NULL && getopts_short_usage(options, NULL) == NULL, "a brief that is NULL");
-    expect(getopts_read(options, 1, NULL) == GETOPTS_BAD, "words that are NULL");
-    expect(getopts_read(options, 1, words + 1) == GETOPTS_BAD, "a first word that is NULL");
+    expect(getopts_usage(options, NULL) == NULL && getopts_short_usage(options, NULL) == NULL, "a NULL brief");
+    expect(getopts_read(options, 1, NULL) == GETOPTS_BAD, "NULL words");
+    expect(getopts_read(options, 1, words + 1) == GETOPTS_BAD, "a NULL first word");
     expect(getopts_read(options, 0, NULL) == GETOPTS_OK && getopts_read(options, -1, NULL) == GETOPTS_OK, "no words");
     expect(strcmp(getopts_message(options), "") == 0 && getopts_count(options, "v") == 0, "nothing after no words");
     free(usage);
@@ -119,24 +119,24 @@ static void null_is_bad(void) {
     getopts_delete(options);
 }
 
-/* Each call on options that couldn't be made. */
-static void no_options_is_no_memory(void) {
+/* All functions without options, as after a failed getopts_new. */
+static void null_options_mean_no_memory(void) {
     char *words[] = { "-v", NULL }, **line = words;
     long value = 42;
-    expect(getopts_read(NULL, 1, words) == GETOPTS_NO_MEMORY, "a reading by no options");
+    expect(getopts_read(NULL, 1, words) == GETOPTS_NO_MEMORY, "getopts_read without options");
     expect(strcmp(getopts_message(NULL), "Out of memory") == 0, "its message");
-    expect(getopts_canonical(NULL, 1, words, &line) == GETOPTS_NO_MEMORY && line == NULL, "a line by no options");
-    expect(getopts_usage(NULL, "brief") == NULL && getopts_short_usage(NULL, "program") == NULL, "a usage of none");
-    expect(!getopts_defined(NULL, "v") && getopts_count(NULL, "v") == 0, "a name of no options");
+    expect(getopts_canonical(NULL, 1, words, &line) == GETOPTS_NO_MEMORY && line == NULL, "a line without options");
+    expect(getopts_usage(NULL, "brief") == NULL && getopts_short_usage(NULL, "program") == NULL, "a usage of NULL");
+    expect(!getopts_defined(NULL, "v") && getopts_count(NULL, "v") == 0, "a name without options");
     expect(getopts_position(NULL, "v", 0) == -1 && getopts_value(NULL, "v", GETOPTS_LAST) == NULL, "what it was given");
-    expect(getopts_values(NULL, "v")[0] == NULL && getopts_free_words(NULL)[0] == NULL, "lists of none");
-    expect(getopts_long_value(NULL, "v", 0, &value) && value == 42, "a number of none");
-    expect(getopts_free_count(NULL) == 0 && getopts_trailing_start(NULL) == -1, "free words of none");
+    expect(getopts_values(NULL, "v")[0] == NULL && getopts_free_words(NULL)[0] == NULL, "lists without options");
+    expect(getopts_long_value(NULL, "v", 0, &value) && value == 42, "a number without options");
+    expect(getopts_free_count(NULL) == 0 && getopts_trailing_start(NULL) == -1, "free words without options");
     getopts_delete(NULL);
 }
 
-/* A kind that was left out is that of a plain flag. */
-static void no_kind_is_a_flag(void) {
+/* Without a kind, an option is a flag. */
+static void default_kind_is_flag(void) {
     static const struct getopts_option table[] = {
         { .short_name = "q", .long_name = "quiet" }, { .short_name = NULL },
     };
@@ -155,19 +155,19 @@ static const struct getopts_option required[] = {
     { NULL, NULL, NULL, NULL, GETOPTS_NO },
 };
 
-/* Help beside a required option, and what was read where an option came again. */
-static void counts_are_no_reason_to_forget(void) {
+/* What was read stays available if only a count is wrong. */
+static void wrong_counts_keep_results(void) {
     char *help[] = { "-h", "x", "--", "y", NULL }, *again[] = { "-oa", "--output", "b", NULL };
     char *unknown[] = { "-h", "-x", NULL };
     struct getopts *options = getopts_new(required, GETOPTS_ORDINARY);
-    expect(getopts_read(options, 4, help) == GETOPTS_OPTION_MISSING, "a required option that is missing");
+    expect(getopts_read(options, 4, help) == GETOPTS_OPTION_MISSING, "a missing required option");
     expect(strcmp(getopts_message(options), "Required option 'output' missing") == 0, "its message");
     expect(getopts_count(options, "help") == 1 && getopts_position(options, "h", 0) == 0, "help beside it");
     expect(getopts_defined(options, "o") && getopts_count(options, "o") == 0, "the missing option");
-    expect(getopts_free_count(options) == 2 && getopts_trailing_start(options) == 1, "the free words beside it");
+    expect(getopts_free_count(options) == 2 && getopts_trailing_start(options) == 1, "free words beside it");
     expect(getopts_read(options, 3, help) == GETOPTS_OPTION_MISSING && getopts_trailing_start(options) == -1,
            "no word after --");
-    expect(getopts_read(options, 3, again) == GETOPTS_OPTION_DUPLICATED, "an option that came again");
+    expect(getopts_read(options, 3, again) == GETOPTS_OPTION_DUPLICATED, "a duplicated option");
     expect(strcmp(getopts_message(options), "Option 'output' given more than once") == 0, "its message");
     expect(getopts_count(options, "o") == 2 && strcmp(getopts_value(options, "o", 1), "b") == 0, "both values");
     expect(getopts_read(options, 2, unknown) == GETOPTS_UNRECOGNIZED_OPTION, "an unknown option");
@@ -176,11 +176,11 @@ static void counts_are_no_reason_to_forget(void) {
     getopts_delete(options);
 }
 
-/* A reading whose texts take as many bytes as its words and its message. */
-static void all_texts_stay(void) {
+/* The stored texts take exactly the bytes of the words and the message. */
+static void texts_stay_valid(void) {
     char *words[] = { "first", "second", "third", NULL };
     struct getopts *options = getopts_new(required, GETOPTS_ORDINARY);
-    expect(getopts_read(options, 3, words) == GETOPTS_OPTION_MISSING && getopts_free_count(options) == 3, "free words alone");
+    expect(getopts_read(options, 3, words) == GETOPTS_OPTION_MISSING && getopts_free_count(options) == 3, "free words");
     for (size_t nth = 0; nth < 3; nth++)
         expect(strcmp(getopts_free_words(options)[nth], words[nth]) == 0, "each of them");
     expect(strcmp(getopts_message(options), "Required option 'output' missing") == 0, "the message before them");
@@ -214,13 +214,13 @@ static void numbers_are_checked(void) {
         expect(value == (rows[nth].fits ? rows[nth].value : 42) && errno == 5, rows[nth].text);
     }
     long value = 42;
-    expect(getopts_long_value(options, "output", 1, &value) && value == 42, "a number that isn't there");
-    expect(getopts_long_value(options, "nope", 0, &value) && value == 42, "a number of no option");
+    expect(getopts_long_value(options, "output", 1, &value) && value == 42, "a missing number");
+    expect(getopts_long_value(options, "nope", 0, &value) && value == 42, "a number of an unknown option");
     getopts_delete(options);
 }
 
-/* Words of any bytes come back as they were given, in every place. */
-static void bytes_come_back(void) {
+/* Arguments of any bytes are returned unchanged. */
+static void bytes_are_preserved(void) {
     static const char *const words[] = {
         "\xff.txt", "caf\xe9", "a\x80", "\xe2\x82", "\xe2\x82\xc3\xa9", "\xf0\x90\x8d", "\xc0\x80", "\xed\xa0\x80",
         "\xf4\x90\x80\x80", "\xf4\x8f\xbe\x80", "\xf4\x8f\xbf\xbf", "\xf4\x8f\xbd\xbf", "\xc2\x80\xc2\x9f", "\u65e5\xff\u672c",
@@ -249,8 +249,8 @@ static void bytes_come_back(void) {
     getopts_delete(options);
 }
 
-/* The list of all values is that of each. */
-static void values_are_listed(void) {
+/* getopts_values and getopts_value agree. */
+static void values_match_value(void) {
     static const struct getopts_option table[] = {
         { "d", "data", NULL, NULL, GETOPTS_MAYBE + GETOPTS_MULTI }, { "v", NULL, NULL, NULL, GETOPTS_NO + GETOPTS_MULTI },
         { NULL, NULL, NULL, NULL, GETOPTS_NO },
@@ -263,35 +263,35 @@ static void values_are_listed(void) {
     expect(getopts_read(options, 7, words) == GETOPTS_OK && getopts_count(options, "d") == 5, "values");
     const char *const *values = getopts_values(options, "data");
     for (size_t nth = 0; nth < 5; nth++) {
-        expect((values[nth] == NULL) == (wanted[nth] == NULL), "a value that is there");
+        expect((values[nth] == NULL) == (wanted[nth] == NULL), "a value or NULL");
         expect(values[nth] == NULL || strcmp(values[nth], wanted[nth]) == 0, "a value of the list");
-        expect(values[nth] == getopts_value(options, "d", nth), "one pointer");
+        expect(values[nth] == getopts_value(options, "d", nth), "the same pointer");
     }
     expect(getopts_value(options, "d", 5) == NULL && getopts_position(options, "d", 5) == -1, "no more values");
     expect(getopts_position(options, "data", GETOPTS_LAST) == 6 && getopts_position(options, "v", GETOPTS_LAST) == 2,
         "the last positions");
     expect(getopts_read(options, 6, words) == GETOPTS_OK, "values again");
     expect(strcmp(getopts_value(options, "data", GETOPTS_LAST), "\xff") == 0, "the last value");
-    expect(getopts_value(options, "x", GETOPTS_LAST) == NULL, "the last value of no option");
+    expect(getopts_value(options, "x", GETOPTS_LAST) == NULL, "the last value of an unknown option");
     values = getopts_values(options, "data");
     expect(values[4] == NULL && getopts_values(options, "v")[2] == NULL, "NULL after the last");
-    expect(getopts_values(options, "x")[0] == NULL && getopts_values(options, NULL)[0] == NULL, "no values of no option");
+    expect(getopts_values(options, "x")[0] == NULL && getopts_values(options, NULL)[0] == NULL, "no values");
     getopts_delete(options);
 }
 
 int main(void) {
-    wrong_rows_are_named();
+    wrong_rows_are_reported();
     modes_are_checked();
-    null_is_bad();
-    no_options_is_no_memory();
-    no_kind_is_a_flag();
-    counts_are_no_reason_to_forget();
-    all_texts_stay();
+    null_is_rejected();
+    null_options_mean_no_memory();
+    default_kind_is_flag();
+    wrong_counts_keep_results();
+    texts_stay_valid();
     numbers_are_checked();
-    bytes_come_back();
-    values_are_listed();
-    expect(strcmp(getopts_version(), GETOPTS_VERSION) == 0, "one version");
+    bytes_are_preserved();
+    values_match_value();
+    expect(strcmp(getopts_version(), GETOPTS_VERSION) == 0, "the version of header and library");
     if (!failed)
-        printf("all as getopts.h says\n");
+        printf("all tests passed\n");
     return failed;
 }

@@ -1,7 +1,7 @@
-/* Random tables and words, half of them broken, and what getopts.h promises of each: random COUNT.
+/* Tests the promises of getopts.h on random tables, half of them invalid, and random words. Usage: random COUNT
  *
- * With REFUSES each call is made while malloc refuses one request after the other, once that request alone, and once that
- * one and all after it. It is linked with --wrap for malloc, realloc and free. */
+ * With REFUSES, it makes each allocation of each call fail in turn, once alone and once with all later ones. Link it
+ * with --wrap for malloc, realloc and free. */
 #include "../getopts.h"
 
 #include <stdint.h>
@@ -25,7 +25,7 @@ static void expect(bool holds, const char *what) {
 #define TEN "0123456789"
 #define HUNDRED TEN TEN TEN TEN TEN TEN TEN TEN TEN TEN
 
-/* The first six are right in most places. */
+/* The first six are valid in most places. */
 static const char *const texts[] = {
     "", "a", "b", "ab", "verbose", "\u00e9", NULL, "\xff", "\xc3", "a\xff", "\xed\xa0\x80", "\u65e5", "\xf4\x8f\xbf\xbf",
 };
@@ -35,7 +35,7 @@ static const char *const parts[] = {
 };
 enum { TEXTS = sizeof texts / sizeof *texts, PARTS = sizeof parts / sizeof *parts, ROWS = 6, WORDS = 20 };
 
-/* Whether a text is UTF-8 below U+10FF80: of those above the broken ones begin so. */
+/* Whether one of the texts above is UTF-8 below U+10FF80: the others contain one of these. */
 static bool is_text(const char *text) {
     return text == NULL || (strstr(text, "\xff") == NULL && strstr(text, "\xed\xa0") == NULL
         && strstr(text, "\xf4\x8f\xbf") == NULL && strcmp(text, "\xc3") != 0);
@@ -49,14 +49,14 @@ static bool is_right(const struct getopts_option *row) {
         && is_text(row->short_name) && is_text(row->long_name) && is_text(row->hint) && is_text(row->description);
 }
 
-/* What was read of an option is told alike by each call. */
-static void asked(const struct getopts *options, const char *name) {
+/* All functions agree on an option. */
+static void check_option(const struct getopts *options, const char *name) {
     size_t count = getopts_count(options, name);
     const char *const *values = getopts_values(options, name);
-    expect(getopts_defined(options, name) || count == 0, "an option that isn't defined isn't given");
+    expect(getopts_defined(options, name) || count == 0, "an undefined option isn't given");
     for (size_t nth = 0; nth <= count; nth++) {
-        expect(values[nth] == getopts_value(options, name, nth), "each value is that of the list");
-        expect((getopts_position(options, name, nth) >= 0) == (nth < count), "a position for each");
+        expect(values[nth] == getopts_value(options, name, nth), "getopts_values and getopts_value agree");
+        expect((getopts_position(options, name, nth) >= 0) == (nth < count), "a position for each occurrence");
     }
     expect(count == 0 || getopts_value(options, name, GETOPTS_LAST) == values[count - 1], "the last value");
 }
@@ -68,18 +68,18 @@ static bool same(char *const *words, char *const *others) {
     return words[nth] == NULL && others[nth] == NULL;
 }
 
-/* Reads words, and their canonical line, which says the same and is its own canonical line. */
+/* Reads words, and checks that their canonical line is its own canonical line. */
 static int read_line(struct getopts *options, const struct getopts_option *table, size_t count, char **words) {
     char **line = NULL, **again = NULL;
     int status = getopts_read(options, (int)count, words);
-    expect((getopts_message(options)[0] == '\0') == (status == GETOPTS_OK), "a message if it fails");
+    expect((getopts_message(options)[0] == '\0') == (status == GETOPTS_OK), "a message exactly if it fails");
     for (const struct getopts_option *row = table; row->short_name != NULL || row->long_name != NULL; row++) {
-        asked(options, row->short_name);
-        asked(options, row->long_name);
+        check_option(options, row->short_name);
+        check_option(options, row->long_name);
     }
     expect(getopts_free_words(options)[getopts_free_count(options)] == NULL, "NULL after the free words");
-    expect(getopts_canonical(options, (int)count, words, &line) == status, "one status");
-    expect(status == GETOPTS_OK || line == NULL, "no line of a fault");
+    expect(getopts_canonical(options, (int)count, words, &line) == status, "getopts_read and getopts_canonical agree");
+    expect(status == GETOPTS_OK || line == NULL, "no canonical line on an error");
     int len = 0;
     while (line != NULL && line[len] != NULL)
         len++;
@@ -98,13 +98,13 @@ void *__wrap_malloc(size_t size);
 void *__wrap_realloc(void *block, size_t size);
 void __wrap_free(void *block);
 
-/* Which request is refused, 0 for none, and whether those after it too; how many came, and were refused; blocks in use. */
+/* Which allocation fails (0: none), and if all later ones fail (on). Counts: allocations, failures, blocks in use. */
 static struct {
     size_t at, requests, refused, blocks, runs;
     bool on;
 } heap;
 
-static bool refuses(void) {
+static bool fails(void) {
     heap.requests++;
     bool refused = heap.at > 0 && (heap.requests == heap.at || (heap.on && heap.requests > heap.at));
     heap.refused += refused;
@@ -112,14 +112,14 @@ static bool refuses(void) {
 }
 
 void *__wrap_malloc(size_t size) {
-    void *block = refuses() ? NULL : __real_malloc(size);
+    void *block = fails() ? NULL : __real_malloc(size);
     heap.blocks += block != NULL;
     return block;
 }
 
 void *__wrap_realloc(void *block, size_t size) {
     bool is_new = block == NULL;
-    block = refuses() ? NULL : __real_realloc(block, size);
+    block = fails() ? NULL : __real_realloc(block, size);
     heap.blocks += is_new && block != NULL;
     return block;
 }
@@ -134,8 +134,8 @@ static void mix(uint64_t *sum, const char *text) {
         *sum = *sum * 31 + (unsigned char)*text;
 }
 
-/* All that is told of what was read, as one number. */
-static uint64_t told(const struct getopts *options, const struct getopts_option *table) {
+/* A hash of everything that was read. */
+static uint64_t hash_of(const struct getopts *options, const struct getopts_option *table) {
     uint64_t sum = (uint64_t)getopts_trailing_start(options);
     for (const struct getopts_option *row = table; row->short_name != NULL || row->long_name != NULL; row++) {
         const char *name = row->short_name != NULL && row->short_name[0] != '\0' ? row->short_name : row->long_name;
@@ -149,12 +149,12 @@ static uint64_t told(const struct getopts *options, const struct getopts_option 
     return sum;
 }
 
-static int of_text(char *text) {
+static int status_of_text(char *text) {
     free(text);
     return text != NULL ? GETOPTS_OK : GETOPTS_NO_MEMORY;
 }
 
-/* A call of five, and its status. */
+/* Makes one of five calls, and returns its status. */
 static int call(int which, struct getopts *options, const struct getopts_option *table, size_t count, char **words) {
     char **line = NULL;
     if (which == 0) {
@@ -165,27 +165,27 @@ static int call(int which, struct getopts *options, const struct getopts_option 
     if (which == 1)
         return getopts_read(options, (int)count, words);
     if (which > 2)
-        return of_text((which == 3 ? getopts_usage : getopts_short_usage)(options, "brief"));
+        return status_of_text((which == 3 ? getopts_usage : getopts_short_usage)(options, "brief"));
     int status = getopts_canonical(options, (int)count, words, &line);
     free(line);
     return status;
 }
 
-/* A call with a refusal says so, leaves no block, and loses nothing of what was read before: the first half. */
-static void refused(struct getopts *options, const struct getopts_option *table, size_t count, char **words) {
+/* If an allocation fails, a call reports it, leaks nothing, and keeps what was read before (half of the words). */
+static void check_failures(struct getopts *options, const struct getopts_option *table, size_t count, char **words) {
     for (int which = 0; which < 5; which++)
         for (int on = 0; on < 2; on++)
             for (size_t at = 1; at == 1 || heap.refused > 0; at++, heap.runs += heap.refused > 0) {
                 getopts_read(options, (int)count / 2, words);
                 size_t blocks = heap.blocks;
-                uint64_t before = told(options, table);
+                uint64_t before = hash_of(options, table);
                 heap.at = at, heap.on = on == 1, heap.requests = heap.refused = 0;
                 int status = call(which, options, table, count, words);
                 heap.at = 0;
                 if (heap.refused == 0)
                     continue;
-                expect(status == GETOPTS_NO_MEMORY && heap.blocks == blocks, "it says so and leaves no block");
-                expect(told(options, table) == before, "what was read before stays");
+                expect(status == GETOPTS_NO_MEMORY && heap.blocks == blocks, "reported, and nothing leaked");
+                expect(hash_of(options, table) == before, "earlier results stay");
                 expect(which != 1 || strcmp(getopts_message(options), "Out of memory") == 0, "its message");
             }
 }
@@ -222,20 +222,20 @@ int main(int argc, char **argv) {
                 strcat(room[word], parts[below(PARTS)]);
         }
         int status = read_line(options, table, len, words);
-        expect((status == GETOPTS_BAD) == !right, "bad if the table is wrong");
+        expect((status == GETOPTS_BAD) == !right, "GETOPTS_BAD exactly if the table is wrong");
         statuses[status]++;
 #ifdef REFUSES
-        refused(options, table, len, words);
+        check_failures(options, table, len, words);
 #endif
         wrong += !right;
         getopts_delete(options);
     }
     for (int status = GETOPTS_OK; status <= GETOPTS_BAD; status++)
-        expect(statuses[status] > 0 || status == GETOPTS_NO_MEMORY, "each status comes");
+        expect(statuses[status] > 0 || status == GETOPTS_NO_MEMORY, "every status occurs");
     printf("%ld tables, %zu wrong; %zu lines accepted\n", count, wrong, statuses[GETOPTS_OK]);
 #ifdef REFUSES
-    printf("%zu requests refused\n", heap.runs);
-    expect(heap.runs > 100 && heap.blocks == 0, "requests are refused, and none is left");
+    printf("%zu allocations failed\n", heap.runs);
+    expect(heap.runs > 100 && heap.blocks == 0, "allocations failed, and nothing leaked");
 #endif
     return failed > 0;
 }

@@ -1,5 +1,5 @@
-/* Asks getopts.h what rows ask, in the form of crates/getopts_vectors: rows ROWS ANSWERS. It writes each row that it
- * answers, and then the answer. What the library for C doesn't have is passed over. */
+/* Answers rows of crates/getopts_vectors through getopts.h. Usage: rows ROWS ANSWERS. Writes each row that it can
+ * answer, followed by the answer, and skips what the C library doesn't have. */
 #include "../getopts.h"
 
 #include <stdio.h>
@@ -8,7 +8,7 @@
 
 enum { FIELDS = 4096, GROUPS = 1024 };
 
-/* A text that grows. */
+/* A growable text. */
 struct text {
     char *bytes;
     size_t len, room;
@@ -29,7 +29,7 @@ static void add_all(struct text *text, const char *bytes) {
         add(text, *bytes);
 }
 
-/* Adds a field: a tab, and the text with its tabs and ends written out. */
+/* Adds a field: a tab, and the text with tabs and newlines escaped. */
 static void field(struct text *text, const char *bytes) {
     add(text, '\t');
     for (; *bytes != '\0'; bytes++) {
@@ -49,7 +49,7 @@ static void number(struct text *text, long number) {
     field(text, digits);
 }
 
-/* A field that is '-' where there is no value, and else '=' and the value. */
+/* Adds '-' if there is no value, otherwise '=' and the value. */
 static void optional(struct text *text, const char *value) {
     struct text field_text = { 0 };
     add_all(&field_text, value != NULL ? "=" : "-");
@@ -59,14 +59,14 @@ static void optional(struct text *text, const char *value) {
     free(field_text.bytes);
 }
 
-/* What a case has declared, and what its words gave. */
+/* The declarations of a case, and the result of its words. */
 static struct getopts_option table[GROUPS + 1];
 static size_t groups;
 static enum getopts_modes modes;
 static struct getopts *read;
 static int status;
 
-/* The fields of a line, and what is answered. */
+/* The fields of a line, and its answer. */
 static char *fields[FIELDS + 1];
 static int count;
 static struct text answer;
@@ -91,13 +91,13 @@ static void split(char *line) {
     fields[count] = NULL;
 }
 
-static void let_read_go(void) {
+static void delete_read(void) {
     getopts_delete(read);
     read = NULL;
 }
 
-static void anew(void) {
-    let_read_go();
+static void reset(void) {
+    delete_read();
     for (; groups > 0; groups--) {
         free((char *)table[groups - 1].short_name);
         free((char *)table[groups - 1].long_name);
@@ -127,7 +127,7 @@ static int kind_of(const char *kind, const char *occurrence) {
         + (occurrence[0] == 'r' ? GETOPTS_REQ : occurrence[0] == 'o' ? GETOPTS_OPTIONAL : GETOPTS_MULTI);
 }
 
-/* Does what a line says that has no answer, and returns whether it is such a line. */
+/* Executes a line that has no answer; returns whether it is one. */
 static bool declares(void) {
     static const struct { const char *word; int kind; } adding[] = {
         { "optflag", GETOPTS_NO + GETOPTS_OPTIONAL }, { "optflagmulti", GETOPTS_NO + GETOPTS_MULTI },
@@ -146,29 +146,29 @@ static bool declares(void) {
     else if (strcmp(fields[0], "mode") == 0)
         modes = (modes & GETOPTS_STOP) | (strcmp(fields[1], "long-only") == 0 ? GETOPTS_LONG_ONLY : 0);
     else if (strcmp(fields[0], "case") == 0 || strcmp(fields[0], "anew") == 0)
-        anew();
+        reset();
     else
         return strcmp(fields[0], "keep") == 0;
     return true;
 }
 
-/* Adds a fault, its name and its text. */
-static void fault(int of_status, const char *message) {
-    static const struct { const char *word; size_t before, after; } faults[] = {
+/* Adds an error, its name and its message. */
+static void error(int of_status, const char *message) {
+    static const struct { const char *word; size_t before, after; } errors[] = {
         { "", 0, 0 }, { "ArgumentMissing", 20, 9 }, { "UnrecognizedOption", 22, 1 },
         { "OptionMissing", 17, 9 }, { "OptionDuplicated", 8, 22 }, { "UnexpectedArgument", 8, 27 },
     };
-    char *name = copy(message + faults[of_status].before);
-    name[strlen(name) - faults[of_status].after] = '\0';
-    field(&answer, faults[of_status].word);
+    char *name = copy(message + errors[of_status].before);
+    name[strlen(name) - errors[of_status].after] = '\0';
+    field(&answer, errors[of_status].word);
     field(&answer, name);
     field(&answer, message);
     free(name);
 }
 
-/* Answers words: the free words, or the fault. Where counts are ignored, those of options are no fault. */
+/* Answers words: with the free words, or the error. Wrong counts may be ignored. */
 static void words(bool ignoring_counts) {
-    let_read_go();
+    delete_read();
     read = getopts_new(table, modes);
     status = read != NULL ? getopts_read(read, count - 1, fields + 1) : GETOPTS_NO_MEMORY;
     if (ignoring_counts && (status == GETOPTS_OPTION_MISSING || status == GETOPTS_OPTION_DUPLICATED))
@@ -181,11 +181,11 @@ static void words(bool ignoring_counts) {
     for (char *const *word = getopts_free_words(read); status == GETOPTS_OK && *word != NULL; word++)
         field(&answer, *word);
     if (status != GETOPTS_OK)
-        fault(status, getopts_message(read));
+        error(status, getopts_message(read));
     add(&answer, '\n');
 }
 
-/* Adds the values of an option, with their positions or without. */
+/* Adds the values of an option, with or without their positions. */
 static void values(const char *name, bool positions) {
     for (size_t nth = 0; nth < getopts_count(read, name); nth++) {
         if (getopts_value(read, name, nth) == NULL)
@@ -201,7 +201,7 @@ static void positions(const char *name) {
         number(&answer, getopts_position(read, name, nth));
 }
 
-/* Adds what a question asks of an option, in the words of the Rust crate. */
+/* Adds the answer to a question about an option, in the terms of the Rust crate. */
 static void of_option(const char *question, const char *name) {
     size_t times = getopts_count(read, name);
     const char *value = getopts_value(read, name, 0);
@@ -235,7 +235,7 @@ static void of_option(const char *question, const char *name) {
     }
 }
 
-/* Answers what was given of an option. */
+/* Answers a question about an option of the words. */
 static void of_words(void) {
     add_all(&answer, fields[0]);
     if (read == NULL || status != GETOPTS_OK) {
@@ -252,7 +252,7 @@ static void of_words(void) {
     add(&answer, '\n');
 }
 
-/* Answers what asks of the options alone. */
+/* Answers a question about the declarations. */
 static void of_options(const char *what) {
     struct getopts *options = getopts_new(table, modes);
     char **line = NULL, *text = NULL;
@@ -261,7 +261,7 @@ static void of_options(const char *what) {
         int found = getopts_canonical(options, count - 1, fields + 1, &line);
         field(&answer, found != GETOPTS_OK ? "refused" : line == NULL ? "none" : "line");
         if (found != GETOPTS_OK && getopts_read(options, count - 1, fields + 1) == found)
-            fault(found, getopts_message(options));
+            error(found, getopts_message(options));
         for (char **word = line; word != NULL && *word != NULL; word++)
             field(&answer, *word);
     } else {
@@ -275,7 +275,7 @@ static void of_options(const char *what) {
     getopts_delete(options);
 }
 
-/* Answers a line, and returns whether the layer can. */
+/* Answers a line; returns whether the C library can. */
 static bool answers(void) {
     static const char *const of_names[] = {
         "option", "positions", "opt_present", "opt_count", "opt_str", "opt_default", "opt_strs",
@@ -316,7 +316,7 @@ int main(int argc, char **argv) {
             printf("%s\n%.*s", line, (int)answer.len, answer.bytes);
         free(line);
     }
-    anew();
+    reset();
     free(answer.bytes);
     free(rows.bytes);
     return fclose(stdout) != 0;

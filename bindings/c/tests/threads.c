@@ -1,4 +1,4 @@
-/* Threads that ask one struct getopts at a time, and that read by their own. */
+/* Threads that query one struct getopts at the same time, and others that read with their own. */
 #include "../getopts.h"
 
 #include <pthread.h>
@@ -11,10 +11,10 @@ static const struct getopts_option table[] = {
 };
 static char *words[] = { "-vv", "--output=x", "f", NULL };
 
-static void *asks(void *shared) {
+static void *query(void *shared) {
     size_t wrong = 0;
-    for (int turn = 0; turn < 2000; turn++) {
-        struct getopts *options = turn % 4 == 0 ? getopts_new(table, GETOPTS_ORDINARY) : shared;
+    for (int step = 0; step < 2000; step++) {
+        struct getopts *options = step % 4 == 0 ? getopts_new(table, GETOPTS_ORDINARY) : shared;
         if (options != shared && (options == NULL || getopts_read(options, 3, words) != GETOPTS_OK))
             return shared;
         wrong += getopts_count(options, "v") != 2 || strcmp(getopts_value(options, "output", 0), "x") != 0
@@ -30,12 +30,12 @@ int main(void) {
     pthread_t threads[4];
     int failed = getopts_read(options, 3, words) != GETOPTS_OK;
     for (int nth = 0; nth < 4; nth++)
-        failed |= pthread_create(&threads[nth], NULL, asks, options);
+        failed |= pthread_create(&threads[nth], NULL, query, options);
     for (int nth = 0; nth < 4; nth++) {
         void *wrong = NULL;
         failed |= pthread_join(threads[nth], &wrong) != 0 || wrong != NULL;
     }
     getopts_delete(options);
-    printf(failed ? "FAILED\n" : "as one thread\n");
+    printf(failed ? "FAILED\n" : "threads agree\n");
     return failed;
 }

@@ -1,4 +1,4 @@
-//! Shows what its words are as options, as the program `getopts_show` does.
+//! Prints how its arguments were parsed, like the program `getopts_show`.
 
 use getopts::{Matches, Options};
 use std::process::ExitCode;

@@ -1,14 +1,14 @@
-//! What Rattle's `std::alloc` names.
+//! The types of Rattle's `std::alloc`.
 
-/// The allocator that calls are handed: Rust's own.
+/// The allocator to pass to methods: Rust's global allocator.
 #[derive(Clone, Copy, Debug)]
 pub struct Global;
 
-/// Memory was refused.
+/// An allocation failed.
 #[derive(Clone, Copy, Debug, PartialEq, Eq)]
 pub struct AllocError;
 
-/// Memory was refused, and this is handed back.
+/// An allocation failed; the value that couldn't be stored is returned.
 #[derive(Clone, Copy, Debug, PartialEq, Eq)]
 pub struct AllocFailed<T>(pub T);
 

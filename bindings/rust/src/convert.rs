@@ -1,8 +1,8 @@
-//! What Rattle's `std::convert` names.
+//! The trait of Rattle's `std::convert`.
 
-/// What has a text.
+/// Conversion to text.
 pub trait AsStr {
-    /// The text.
+    /// Borrows the text.
     fn as_str(&self) -> &str;
 }
 

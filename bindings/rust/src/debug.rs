@@ -1,10 +1,10 @@
-//! `{:?}` of options and matches, which reads as that of the crate getopts.
+//! The `Debug` output of options and matches, which is the same as in the crate getopts.
 
 use crate::proved::matches::MatchedGroups;
 use crate::{HasArg, Occur, proved};
 use std::fmt::{Debug, Formatter, Result};
 
-/// An option that was declared, with its short and its long name.
+/// A declared option, with its short and long name.
 pub struct Group<'a> {
     pub names: [&'a str; 2],
     pub hint: &'a str,
@@ -57,7 +57,7 @@ impl Debug for Group<'_> {
     }
 }
 
-/// An option that matches know: by its short name, or by its long name, which has the short one as an alias.
+/// An option in matches: named by its long name, with the short name as an alias, or else by its short name.
 pub struct Opt<'a>(pub Group<'a>);
 
 impl Debug for Opt<'_> {
@@ -74,7 +74,7 @@ impl Debug for Opt<'_> {
     }
 }
 
-/// The main of two names.
+/// The main name of an option: the long one, if it has one.
 struct Name<'a>([&'a str; 2]);
 
 impl Debug for Name<'_> {
@@ -87,7 +87,7 @@ impl Debug for Name<'_> {
     }
 }
 
-/// What an occurrence of an option gave: a value, or none.
+/// An occurrence of an option, with or without a value.
 pub struct Given<V>(pub Option<V>);
 
 impl<V: Debug> Debug for Given<V> {

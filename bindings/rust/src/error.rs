@@ -1,8 +1,8 @@
-//! What Rattle's `std::error` names: without the feature `std` a trait that nothing asks for.
+//! The trait of Rattle's `std::error`; with the feature `bare` a placeholder that nothing uses.
 
 #[cfg(not(feature = "bare"))]
 pub use std::error::Error;
 
-/// What is an error.
+/// Marks errors.
 #[cfg(feature = "bare")]
 pub trait Error {}

@@ -1,4 +1,4 @@
-//! Refusals.
+//! Errors.
 
 use crate::alloc::AllocError;
 use crate::{Matches, proved};
@@ -6,26 +6,27 @@ use std::alloc::{Layout, handle_alloc_error};
 use std::error::Error;
 use std::fmt;
 
-/// Why a line was refused.
+/// Why a command line was rejected.
 ///
-/// Scan faults come first, the first in word order: `ArgumentMissing`, `UnrecognizedOption` and
-/// `UnexpectedArgument`, with the name as typed. Count faults come after a whole scan, that of the
-/// first option in order of definition: `OptionMissing` and `OptionDuplicated`, with the main name.
+/// `ArgumentMissing`, `UnrecognizedOption` and `UnexpectedArgument` report the first word that can't be
+/// read, with the option's name as typed. If all words can be read, `OptionMissing` and
+/// `OptionDuplicated` report the first option, in order of declaration, that occurs the wrong number of
+/// times, with its main name.
 #[derive(Clone, Debug, PartialEq, Eq)]
 pub enum Fail {
-    /// The option needs an argument, and the line ends.
+    /// The option needs an argument, but the command line ends.
     ArgumentMissing(String),
-    /// No option has this name. Also a word that isn't UTF-8, as `{:?}` prints it.
+    /// No option has this name. Also reports a word that isn't UTF-8, as `{:?}` prints it.
     UnrecognizedOption(String),
-    /// A required option isn't there.
+    /// A required option is missing.
     OptionMissing(String),
-    /// An option that may come once came again.
+    /// An option that may occur only once was given again.
     OptionDuplicated(String),
-    /// The option takes no argument, and one was attached.
+    /// The option takes no argument, but one was attached.
     UnexpectedArgument(String),
 }
 
-/// What `parse` answers: the matches of an accepted line, or why the line was refused.
+/// The result of `parse`: the matches of an accepted command line, or why it was rejected.
 pub type Result = std::result::Result<Matches, Fail>;
 
 impl Error for Fail {}
@@ -55,13 +56,13 @@ impl From<proved::Fail> for Fail {
     }
 }
 
-/// Ends the process, as any allocation in Rust that is refused does.
+/// Aborts the process, like any failed allocation in Rust.
 #[cold]
 fn out_of_memory() -> ! {
     handle_alloc_error(Layout::new::<u8>())
 }
 
-/// What a call gives that memory was granted to.
+/// Returns a result, or aborts if an allocation failed.
 #[inline]
 pub(crate) fn granted<T>(result: std::result::Result<T, AllocError>) -> T {
     result.unwrap_or_else(|_| out_of_memory())

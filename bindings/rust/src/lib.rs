@@ -1,7 +1,7 @@
-//! Command-line options: the surface of the crate `getopts` 0.2.24 over its proved port.
+//! A formally verified command-line option parser, with the types and methods of the crate `getopts`
+//! 0.2.24.
 //!
-//! A program declares option groups, reads a list of words by them, asks what was given, and prints
-//! help:
+//! A program declares options, parses its arguments, queries the result, and prints help:
 //!
 //! ```
 //! # #[cfg(not(feature = "bare"))] {
@@ -20,11 +20,12 @@
 //! # }
 //! ```
 //!
-//! A program's own words are `std::env::args_os().skip(1)`: the first is the program's name. `std::env::args()` panics where
-//! a word isn't UTF-8; `parse` refuses such a word, and `parse_os` reads it.
+//! A program's own arguments are `std::env::args_os().skip(1)`, without the program's name. If one isn't UTF-8, `parse`
+//! rejects it and `parse_os` accepts it; the iterator `std::env::args()` would panic.
 //!
-//! `README.md` says what differs from the crate, what is proved and what it costs. The feature `proved` makes the proved
-//! source itself public, and `bare` leaves that alone. Its calls are handed the allocator, and report refused memory:
+//! `README.md` says what differs from the original crate, what is proved and what it costs. The feature `proved` makes
+//! the proved source itself public, and `bare` leaves nothing else. Its methods take the allocator, and return an error
+//! if an allocation fails:
 //!
 //! ```
 //! # #[cfg(any(feature = "proved", feature = "bare"))] {
@@ -60,15 +61,15 @@ mod options;
 mod os;
 mod width;
 
-/// Declares the modules that the feature `proved` makes public.
+/// Declares the modules that the features `proved` and `bare` make public.
 macro_rules! modules {
     ($seen:vis) => {
         $seen mod alloc;
         $seen mod fallible;
-        // The source has laws, which do nothing, parts that this crate doesn't use, and Rattle's forms.
+        // The source has parts that this crate doesn't use, and is written in Rattle's style.
         #[allow(unused_variables, unused_labels, unused_imports, dead_code, missing_docs, clippy::all)]
         $seen mod proved;
-        // What is left of `getopts_bytes`: words of any bytes as texts.
+        // The erased `getopts_bytes`: encodes words that aren't UTF-8 as text.
         #[allow(dead_code, clippy::all)]
         $seen mod bytes;
     };
@@ -88,7 +89,7 @@ pub use options::Options;
 pub use os::OsMatches;
 pub use proved::{HasArg, Occur, ParsingStyle};
 
-/// The examples of the README are tested.
+/// Tests the examples in the README.
 #[cfg(all(doctest, not(feature = "bare")))]
 #[doc = include_str!("../README.md")]
 struct Readme;

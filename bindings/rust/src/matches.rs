@@ -1,4 +1,4 @@
-//! What an accepted line gave.
+//! The matches of an accepted command line.
 
 use crate::alloc::Global;
 use crate::debug;
@@ -10,11 +10,11 @@ use std::fmt;
 use std::result::Result;
 use std::str::FromStr;
 
-/// What an accepted line gave: the options by name, and the words that are no option.
+/// The matches of an accepted command line: its options, by name, and its positional arguments.
 pub struct Matches {
-    /// The free words, in the order of the line.
+    /// The positional arguments (*free words*), in command-line order.
     pub free: Vec<String>,
-    /// What was proved of the line.
+    /// The proved library's matches.
     held: MatchedGroups,
     trailing_start: Option<usize>,
 }
@@ -45,7 +45,7 @@ impl Matches {
         Matches { free: proved.free, held: proved.held, trailing_start: proved.trailing_start }
     }
 
-    /// The place of the option that has a name.
+    /// The index of the option with this name.
     #[inline]
     pub(crate) fn place(&self, name: &str) -> usize {
         match self.held.place_of(name) {
@@ -64,7 +64,7 @@ impl Matches {
         self.given_at(self.place(name))
     }
 
-    /// What is made of each option that was given.
+    /// For each option, what `each` returns for its occurrences.
     pub(crate) fn of_each<I: IntoIterator, T>(
         &self,
         given_at: impl Fn(usize) -> I,
@@ -75,7 +75,7 @@ impl Matches {
         given.collect()
     }
 
-    /// Prints matches with these free words and occurrences.
+    /// Formats matches with these free words and occurrences.
     pub(crate) fn show<V: fmt::Debug, I: IntoIterator<Item = (usize, Option<V>)>>(
         &self,
         mut shown: fmt::DebugStruct<'_, '_>,
@@ -87,7 +87,7 @@ impl Matches {
         shown.field("free", free).field("args_end", &self.free_trailing_start()).finish()
     }
 
-    /// The value of an option's first occurrence, lent. The crate getopts has no such call.
+    /// Borrows the value of an option's first occurrence. The crate getopts has no such method.
     ///
     /// ```
     /// let mut options = getopts::Options::new();
@@ -96,12 +96,12 @@ impl Matches {
     /// ```
     ///
     /// # Panics
-    /// Where no option has the name.
+    /// If no option has this name.
     pub fn value(&self, name: &str) -> Option<&str> {
         self.given(name).first_value()
     }
 
-    /// The values of an option's occurrences, in the order of the line, lent. The crate getopts has no such call.
+    /// Borrows the values of an option's occurrences, in command-line order. The crate getopts has no such method.
     ///
     /// ```
     /// let mut options = getopts::Options::new();
@@ -111,14 +111,14 @@ impl Matches {
     /// ```
     ///
     /// # Panics
-    /// Where no option has the name.
+    /// If no option has this name.
     #[inline]
     pub fn values(&self, name: &str) -> impl Iterator<Item = &str> + '_ {
         self.occurrences(name).filter_map(|(_, value)| value)
     }
 
-    /// The positions and values of an option's occurrences, in the order of the line, lent. The crate getopts has no such
-    /// call.
+    /// Borrows the positions and values of an option's occurrences, in command-line order. The crate getopts has no
+    /// such method.
     ///
     /// ```
     /// let mut options = getopts::Options::new();
@@ -128,13 +128,13 @@ impl Matches {
     /// ```
     ///
     /// # Panics
-    /// Where no option has the name.
+    /// If no option has this name.
     #[inline]
     pub fn occurrences(&self, name: &str) -> impl Iterator<Item = (usize, Option<&str>)> + '_ {
         self.given(name).into_iter()
     }
 
-    /// Whether some option has this name. The other calls that take a name panic where none has.
+    /// Whether an option has this name. Most other methods panic if none has.
     ///
     /// ```
     /// let mut options = getopts::Options::new();
@@ -146,7 +146,7 @@ impl Matches {
         self.held.place_of(name).is_some()
     }
 
-    /// Whether an option was given, by any of its names.
+    /// Whether an option was given, by either name.
     ///
     /// ```
     /// let mut options = getopts::Options::new();
@@ -155,12 +155,12 @@ impl Matches {
     /// ```
     ///
     /// # Panics
-    /// Where no option has the name.
+    /// If no option has this name.
     pub fn opt_present(&self, name: &str) -> bool {
         !self.given(name).is_empty()
     }
 
-    /// How often an option was given, by any of its names.
+    /// How often an option was given, by either name.
     ///
     /// ```
     /// let mut options = getopts::Options::new();
@@ -169,12 +169,12 @@ impl Matches {
     /// ```
     ///
     /// # Panics
-    /// Where no option has the name.
+    /// If no option has this name.
     pub fn opt_count(&self, name: &str) -> usize {
         self.given(name).len()
     }
 
-    /// The positions of an option's occurrences: indexes of words, a separate argument counted.
+    /// The positions of an option's occurrences: indexes of words, counting separate arguments.
     ///
     /// ```
     /// let mut options = getopts::Options::new();
@@ -184,12 +184,12 @@ impl Matches {
     /// ```
     ///
     /// # Panics
-    /// Where no option has the name.
+    /// If no option has this name.
     pub fn opt_positions(&self, name: &str) -> Vec<usize> {
         granted(self.given(name).positions(Global))
     }
 
-    /// Whether the option of some name in the list was given. A name that no option has doesn't count.
+    /// Whether any of the named options was given. Undefined options count as not given.
     ///
     /// ```
     /// let mut options = getopts::Options::new();
@@ -202,7 +202,7 @@ impl Matches {
         names.iter().any(given)
     }
 
-    /// Whether the option of some name in the list was given. Names are looked at up to that one.
+    /// Whether any of the named options was given. Stops at the first one that was.
     ///
     /// ```
     /// let mut options = getopts::Options::new();
@@ -211,7 +211,7 @@ impl Matches {
     /// ```
     ///
     /// # Panics
-    /// Where no option has a name that is looked at.
+    /// If it reaches a name that no option has.
     pub fn opts_present_any<C: IntoIterator>(&self, names: C) -> bool
     where
         C::Item: AsRef<str>,
@@ -219,7 +219,7 @@ impl Matches {
         names.into_iter().any(|name| self.opt_present(name.as_ref()))
     }
 
-    /// The value for the first name in the list whose option's first occurrence has one.
+    /// The value of the first named option that has one in its first occurrence. Stops at that option.
     ///
     /// ```
     /// let mut options = getopts::Options::new();
@@ -229,13 +229,12 @@ impl Matches {
     /// ```
     ///
     /// # Panics
-    /// Where no option has a name that is looked at.
+    /// If it reaches a name that no option has.
     pub fn opts_str(&self, names: &[String]) -> Option<String> {
         names.iter().find_map(|name| self.opt_str(name))
     }
 
-    /// The value for the first name in the list whose option's first occurrence has one. Names are
-    /// looked at up to that one.
+    /// The value of the first named option that has one in its first occurrence. Stops at that option.
     ///
     /// ```
     /// let mut options = getopts::Options::new();
@@ -245,7 +244,7 @@ impl Matches {
     /// ```
     ///
     /// # Panics
-    /// Where no option has a name that is looked at.
+    /// If it reaches a name that no option has.
     pub fn opts_str_first<C: IntoIterator>(&self, names: C) -> Option<String>
     where
         C::Item: AsRef<str>,
@@ -253,7 +252,7 @@ impl Matches {
         names.into_iter().find_map(|name| self.opt_str(name.as_ref()))
     }
 
-    /// The values of an option's occurrences, in the order of the line.
+    /// The values of an option's occurrences, in command-line order.
     ///
     /// ```
     /// let mut options = getopts::Options::new();
@@ -262,12 +261,12 @@ impl Matches {
     /// ```
     ///
     /// # Panics
-    /// Where no option has the name.
+    /// If no option has this name.
     pub fn opt_strs(&self, name: &str) -> Vec<String> {
         let given = self.given(name);
         let (count, mut values) = (given.len(), Vec::new());
         for value in given.into_iter().filter_map(|(_, value)| value) {
-            // Most options with a value have one each time.
+            // Most options that have a value have one in each occurrence.
             if values.is_empty() {
                 values.reserve_exact(count);
             }
@@ -276,7 +275,7 @@ impl Matches {
         values
     }
 
-    /// The positions and values of those of an option's occurrences that have a value.
+    /// The positions and values of an option's occurrences, without those that have no value.
     ///
     /// ```
     /// let mut options = getopts::Options::new();
@@ -286,7 +285,7 @@ impl Matches {
     /// ```
     ///
     /// # Panics
-    /// Where no option has the name.
+    /// If no option has this name.
     pub fn opt_strs_pos(&self, name: &str) -> Vec<(usize, String)> {
         granted(self.given(name).pairs(Global))
     }
@@ -300,13 +299,13 @@ impl Matches {
     /// ```
     ///
     /// # Panics
-    /// Where no option has the name.
+    /// If no option has this name.
     pub fn opt_str(&self, name: &str) -> Option<String> {
         self.value(name).map(str::to_string)
     }
 
-    /// The value of an option's first occurrence, or `def` where that has none. `None` where the
-    /// option wasn't given.
+    /// The value of an option's first occurrence, or `def` if that has none. `None` if the option
+    /// wasn't given.
     ///
     /// ```
     /// let mut options = getopts::Options::new();
@@ -316,13 +315,13 @@ impl Matches {
     /// ```
     ///
     /// # Panics
-    /// Where no option has the name.
+    /// If no option has this name.
     pub fn opt_default(&self, name: &str, def: &str) -> Option<String> {
         let value = self.given(name).first_value_or(def);
         value.map(str::to_string)
     }
 
-    /// The value of an option's first occurrence, read as a `T`.
+    /// Parses the value of an option's first occurrence as a `T`.
     ///
     /// ```
     /// let mut options = getopts::Options::new();
@@ -331,15 +330,15 @@ impl Matches {
     /// ```
     ///
     /// # Errors
-    /// Where the value can't be read as a `T`.
+    /// If the value can't be parsed as a `T`.
     ///
     /// # Panics
-    /// Where no option has the name.
+    /// If no option has this name.
     pub fn opt_get<T: FromStr>(&self, name: &str) -> Result<Option<T>, T::Err> {
         self.value(name).map(str::parse).transpose()
     }
 
-    /// The value of an option's first occurrence, read as a `T`, or `def` where there is none.
+    /// Parses the value of an option's first occurrence as a `T`, or returns `def` if there is none.
     ///
     /// ```
     /// let mut options = getopts::Options::new();
@@ -349,15 +348,15 @@ impl Matches {
     /// ```
     ///
     /// # Errors
-    /// Where the value can't be read as a `T`.
+    /// If the value can't be parsed as a `T`.
     ///
     /// # Panics
-    /// Where no option has the name.
+    /// If no option has this name.
     pub fn opt_get_default<T: FromStr>(&self, name: &str, def: T) -> Result<T, T::Err> {
         self.value(name).map_or(Ok(def), str::parse)
     }
 
-    /// Where the words after `--` begin among the free words.
+    /// The index in `free` of the first word after `--`, or `None` if no word follows a `--` that ends the options.
     ///
     /// ```
     /// let options = getopts::Options::new();

@@ -1,4 +1,4 @@
-//! Options: what a program declares.
+//! The options that a program declares.
 
 use crate::alloc::Global;
 use crate::debug::{Group, groups_of};
@@ -8,12 +8,12 @@ use crate::{Fail, HasArg, Matches, Occur, ParsingStyle, Result, proved};
 use std::ffi::OsStr;
 use std::fmt;
 
-/// Options that a program declares, a parsing style and a mode.
+/// The options of a program, with a parsing style and a mode.
 #[derive(PartialEq, Eq)]
 pub struct Options {
     proved: proved::Options,
-    /// The options with two empty names, which the proved ones can't have: of each its place among all, its hint, its
-    /// description and its kinds.
+    /// The options with two empty names, which the proved library doesn't allow: each with its index among all options,
+    /// its hint and description, and its kinds.
     nameless: Vec<(usize, [String; 2], HasArg, Occur)>,
 }
 
@@ -44,13 +44,13 @@ impl fmt::Debug for Options {
     }
 }
 
-/// So many words take no list, where they are this small.
+/// Fewer than `FEW` items of at most `SMALL` bytes stay on the stack.
 const FEW: usize = 16;
 const SMALL: usize = 64;
-/// The most room that a list begins with: an iterator may give fewer items than it promises.
+/// The largest initial capacity of a list: an iterator may give fewer items than it promises.
 const FIRST_ROOM: usize = 1024;
 
-/// What is made of the texts of words, or where a word has none, of that word and of all.
+/// Calls `ask` with the words as texts. If a word isn't text, calls `otherwise` with it and all words.
 #[inline]
 pub(crate) fn read_words<A: AsRef<OsStr>, T>(
     words: impl Iterator<Item = A>,
@@ -65,7 +65,7 @@ pub(crate) fn read_words<A: AsRef<OsStr>, T>(
     }
 }
 
-/// By no list. Of larger items this would take too much of a thread's stack.
+/// Reads words without a list. With larger items, this would take too much stack.
 fn read_few<A: AsRef<OsStr>, T>(
     mut words: impl Iterator<Item = A>,
     text_of: impl Fn(&OsStr) -> Option<&str>,
@@ -90,7 +90,7 @@ fn read_few<A: AsRef<OsStr>, T>(
     }
 }
 
-/// By a list.
+/// Reads words into a list.
 fn read_list<A: AsRef<OsStr>, T>(
     first: impl IntoIterator<Item = A>,
     others: impl Iterator<Item = A>,
@@ -113,7 +113,7 @@ fn read_list<A: AsRef<OsStr>, T>(
     }
 }
 
-/// Puts the texts of words into a list that has a place for each, up to the first that has none.
+/// Stores the words as texts. Returns the first word that isn't text, if there is one.
 #[inline]
 fn put_texts<'a>(
     texts: &mut [&'a str],
@@ -127,7 +127,7 @@ fn put_texts<'a>(
 }
 
 impl Options {
-    /// No options, in `FloatingFrees` and ordinary mode.
+    /// Creates empty options, in the style `FloatingFrees` and in ordinary mode.
     ///
     /// ```
     /// let options = getopts::Options::new();
@@ -137,7 +137,7 @@ impl Options {
         Options { proved: proved::Options::new(Global), nameless: Vec::new() }
     }
 
-    /// Sets what the first free word does to the words after it.
+    /// Sets whether options may follow the first positional argument (*free word*).
     ///
     /// ```
     /// use getopts::{Options, ParsingStyle};
@@ -150,8 +150,8 @@ impl Options {
         self
     }
 
-    /// Sets whether a long name follows one dash or two, and no short names are joined in a word: short options stand
-    /// alone, so neither `-vv` nor `-ofile` is read.
+    /// Turns long-only mode on or off. In this mode a long name may follow one dash or two, and short options stand
+    /// alone: `-vv` and `-ofile` aren't accepted.
     ///
     /// ```
     /// let mut options = getopts::Options::new();
@@ -163,7 +163,7 @@ impl Options {
         self
     }
 
-    /// Adds an option with any kind of argument and of occurrence.
+    /// Adds an option, with any kind of argument and any number of occurrences.
     ///
     /// ```
     /// use getopts::{HasArg, Occur, Options};
@@ -173,7 +173,7 @@ impl Options {
     /// ```
     ///
     /// # Panics
-    /// Where the short name has more than one byte, or the long name has just one.
+    /// If the short name has more than one byte, or the long name has exactly one.
     pub fn opt(
         &mut self,
         short_name: &str,
@@ -202,7 +202,7 @@ impl Options {
         self
     }
 
-    /// Adds an option that takes no argument and may come once.
+    /// Adds an option without an argument that may occur once.
     ///
     /// ```
     /// let mut options = getopts::Options::new();
@@ -211,12 +211,12 @@ impl Options {
     /// ```
     ///
     /// # Panics
-    /// Where the short name has more than one byte, or the long name has just one.
+    /// If the short name has more than one byte, or the long name has exactly one.
     pub fn optflag(&mut self, short: &str, long: &str, desc: &str) -> &mut Options {
         self.opt(short, long, desc, "", HasArg::No, Occur::Optional)
     }
 
-    /// Adds an option that takes no argument and may come any number of times.
+    /// Adds an option without an argument that may occur any number of times.
     ///
     /// ```
     /// let mut options = getopts::Options::new();
@@ -225,12 +225,12 @@ impl Options {
     /// ```
     ///
     /// # Panics
-    /// Where the short name has more than one byte, or the long name has just one.
+    /// If the short name has more than one byte, or the long name has exactly one.
     pub fn optflagmulti(&mut self, short: &str, long: &str, desc: &str) -> &mut Options {
         self.opt(short, long, desc, "", HasArg::No, Occur::Multi)
     }
 
-    /// Adds an option that may have an argument and may come once.
+    /// Adds an option with an optional argument that may occur once.
     ///
     /// ```
     /// let mut options = getopts::Options::new();
@@ -239,12 +239,12 @@ impl Options {
     /// ```
     ///
     /// # Panics
-    /// Where the short name has more than one byte, or the long name has just one.
+    /// If the short name has more than one byte, or the long name has exactly one.
     pub fn optflagopt(&mut self, short: &str, long: &str, desc: &str, hint: &str) -> &mut Options {
         self.opt(short, long, desc, hint, HasArg::Maybe, Occur::Optional)
     }
 
-    /// Adds an option that needs an argument and may come any number of times.
+    /// Adds an option with a mandatory argument that may occur any number of times.
     ///
     /// ```
     /// let mut options = getopts::Options::new();
@@ -253,12 +253,12 @@ impl Options {
     /// ```
     ///
     /// # Panics
-    /// Where the short name has more than one byte, or the long name has just one.
+    /// If the short name has more than one byte, or the long name has exactly one.
     pub fn optmulti(&mut self, short: &str, long: &str, desc: &str, hint: &str) -> &mut Options {
         self.opt(short, long, desc, hint, HasArg::Yes, Occur::Multi)
     }
 
-    /// Adds an option that needs an argument and may come once.
+    /// Adds an option with a mandatory argument that may occur once.
     ///
     /// ```
     /// let mut options = getopts::Options::new();
@@ -267,12 +267,12 @@ impl Options {
     /// ```
     ///
     /// # Panics
-    /// Where the short name has more than one byte, or the long name has just one.
+    /// If the short name has more than one byte, or the long name has exactly one.
     pub fn optopt(&mut self, short: &str, long: &str, desc: &str, hint: &str) -> &mut Options {
         self.opt(short, long, desc, hint, HasArg::Yes, Occur::Optional)
     }
 
-    /// Adds an option that needs an argument and comes exactly once.
+    /// Adds a required option with a mandatory argument: it has to occur exactly once.
     ///
     /// ```
     /// let mut options = getopts::Options::new();
@@ -281,7 +281,7 @@ impl Options {
     /// ```
     ///
     /// # Panics
-    /// Where the short name has more than one byte, or the long name has just one.
+    /// If the short name has more than one byte, or the long name has exactly one.
     pub fn reqopt(&mut self, short: &str, long: &str, desc: &str, hint: &str) -> &mut Options {
         self.opt(short, long, desc, hint, HasArg::Yes, Occur::Req)
     }
@@ -293,7 +293,7 @@ impl Options {
         self.nameless.push((place, texts, hasarg, occur));
     }
 
-    /// The proved options. Panics where an option has two empty names, which no line can be read by.
+    /// The proved options. Panics if an option has two empty names.
     pub(crate) fn named(&self) -> &proved::Options {
         if !self.nameless.is_empty() {
             panic!("this long-format option was given no name");
@@ -301,7 +301,7 @@ impl Options {
         &self.proved
     }
 
-    /// Reads words.
+    /// Parses a command line, given without the program's own name.
     ///
     /// ```
     /// let mut options = getopts::Options::new();
@@ -313,14 +313,14 @@ impl Options {
     /// assert_eq!(fail.to_string(), "Argument to option 'output' missing");
     /// ```
     ///
-    /// A program's own words are `std::env::args_os().skip(1)`; `std::env::args()` panics where one isn't UTF-8. All items
-    /// are taken before the first is read.
+    /// A program's own arguments are `std::env::args_os().skip(1)`; `std::env::args()` panics if one isn't UTF-8. All
+    /// items are taken before the first is read.
     ///
     /// # Errors
-    /// A [`Fail`] says why the words were refused.
+    /// If the command line is rejected; see [`Fail`].
     ///
     /// # Panics
-    /// Where an option has two empty names.
+    /// If an option has two empty names.
     pub fn parse<C: IntoIterator>(&self, args: C) -> Result
     where
         C::Item: AsRef<OsStr>,
@@ -329,10 +329,10 @@ impl Options {
         Ok(Matches::of(matches))
     }
 
-    /// Reads words as `parse` does, but doesn't check how often options came: a required option may be missing,
-    /// and an option that may come once may have come again. The crate getopts has no such call.
+    /// Parses a command line like `parse`, but doesn't check how often options occur: a required option may be missing,
+    /// and an option that may occur once may occur several times. The crate getopts has no such method.
     ///
-    /// It is for a program that prints its help beside a required option that is missing:
+    /// Use it to print help even if a required option is missing:
     ///
     /// ```
     /// let mut options = getopts::Options::new();
@@ -343,11 +343,10 @@ impl Options {
     /// ```
     ///
     /// # Errors
-    /// Where the words themselves can't be read: `ArgumentMissing`, `UnrecognizedOption` and
-    /// `UnexpectedArgument`.
+    /// If a word can't be read: `ArgumentMissing`, `UnrecognizedOption` or `UnexpectedArgument`.
     ///
     /// # Panics
-    /// Where an option has two empty names.
+    /// If an option has two empty names.
     pub fn parse_ignoring_counts<C: IntoIterator>(&self, args: C) -> Result
     where
         C::Item: AsRef<OsStr>,
@@ -356,7 +355,7 @@ impl Options {
         Ok(Matches::of(matches))
     }
 
-    /// What the proved options make of words. The first that isn't UTF-8 is refused.
+    /// Calls `ask` with the proved options and the words. Rejects the first word that isn't UTF-8.
     fn read<C: IntoIterator, T>(
         &self,
         args: C,
@@ -374,11 +373,11 @@ impl Options {
         )
     }
 
-    /// Writes an accepted line again with main names alone: `--main` or `--main=value` for each option
-    /// in the order of the line, then `--`, then the free words.
+    /// Rewrites an accepted command line with main names (the long name if there is one): `--main` or
+    /// `--main=value` for each option in command-line order, then `--`, then the positional arguments.
     ///
-    /// The answer is `None` where an option that the line gives has a main name that holds `=`. The
-    /// crate getopts has no such call.
+    /// Returns `None` if the main name of a given option contains `=`. The crate getopts has no such
+    /// method.
     ///
     /// ```
     /// let mut options = getopts::Options::new();
@@ -388,10 +387,10 @@ impl Options {
     /// ```
     ///
     /// # Errors
-    /// Where `parse` would refuse the words.
+    /// If `parse` would reject the command line.
     ///
     /// # Panics
-    /// Where an option has two empty names.
+    /// If an option has two empty names.
     pub fn canonical<C: IntoIterator>(
         &self,
         args: C,
@@ -402,7 +401,7 @@ impl Options {
         self.read(args, canonical_texts)
     }
 
-    /// All options in one line.
+    /// Returns a usage line with all options.
     ///
     /// ```
     /// let mut options = getopts::Options::new();
@@ -411,12 +410,12 @@ impl Options {
     /// ```
     ///
     /// # Panics
-    /// Where an option has two empty names.
+    /// If an option has two empty names.
     pub fn short_usage(&self, program_name: &str) -> String {
         granted(self.named().short_usage(Global, program_name))
     }
 
-    /// The brief, and each option with its description, for a help screen.
+    /// Returns the help text: the brief, and each option with its description.
     ///
     /// ```
     /// let mut options = getopts::Options::new();
@@ -426,12 +425,12 @@ impl Options {
     /// ```
     ///
     /// # Panics
-    /// Where an option has two empty names.
+    /// If an option has two empty names.
     pub fn usage(&self, brief: &str) -> String {
         granted(self.named().usage(Global, brief))
     }
 
-    /// What a closure makes of the rows of the usage text. All rows are made before it runs.
+    /// Passes the rows of the usage text to a closure, and returns its result. All rows are created before it runs.
     ///
     /// ```
     /// let mut options = getopts::Options::new();
@@ -441,7 +440,7 @@ impl Options {
     /// ```
     ///
     /// # Panics
-    /// Where an option has two empty names.
+    /// If an option has two empty names.
     pub fn usage_with_format<F: FnMut(&mut dyn Iterator<Item = String>) -> String>(
         &self,
         mut formatter: F,
@@ -451,7 +450,7 @@ impl Options {
     }
 }
 
-// The proved calls at borrowed texts, compiled here once and not in each program that calls them.
+// The proved methods for borrowed texts, compiled here once instead of in each program that calls them.
 
 pub(crate) fn parse_texts(options: &proved::Options, words: &[&str]) -> proved::Result {
     options.parse_words(Global, words)

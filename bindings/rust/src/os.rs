@@ -1,4 +1,4 @@
-//! Words of any bytes, such as file names that aren't UTF-8.
+//! Command lines that may not be UTF-8, for example because of file names.
 
 use crate::bytes::{plain_text, push_bytes, push_text};
 use crate::fail::granted;
@@ -10,26 +10,27 @@ use std::fmt;
 use std::result::Result;
 use std::str::FromStr;
 
-/// What an accepted line of words of any bytes gave.
+/// The matches of an accepted command line that may not be UTF-8.
 ///
-/// A call that takes a name panics where no option has it, but for `opt_defined`.
+/// Methods panic on a name that no option has, except `opt_defined`.
 #[derive(Clone, PartialEq, Eq)]
 pub struct OsMatches {
-    /// The free words, in the order of the line.
+    /// The positional arguments (*free words*), in command-line order.
     pub free: Vec<OsString>,
     matches: Matches,
-    /// Where a word was no text, the values of each option.
+    /// If a word wasn't text, the values of each option.
     values: Vec<Vec<Option<OsString>>>,
 }
 
 impl Options {
-    /// Reads words of any bytes: values and free words come back as they were given. The crate getopts has no such call.
+    /// Parses a command line like `parse`, but also accepts arguments that aren't UTF-8. Values and positional
+    /// arguments are returned as they were given. The crate getopts has no such method.
     ///
-    /// Words are of any bytes on Unix, and may hold lone surrogates on Windows; elsewhere they are texts. The name in a
-    /// fault is a text, with U+FFFD for what is none.
+    /// Arguments may be any bytes on Unix, and may contain lone surrogates on Windows; elsewhere they are text. Names
+    /// in errors are text, with U+FFFD in place of what isn't.
     ///
-    /// The characters from U+10FF80 on, the last of those for private use, stand for bytes here: a name that holds one
-    /// is found by `parse` alone.
+    /// The characters from U+10FF80 on, the last ones for private use, represent bytes here, so only `parse` finds an
+    /// option whose name contains one.
     ///
     /// ```
     /// use std::ffi::OsString;
@@ -41,13 +42,13 @@ impl Options {
     /// assert_eq!(matches.free, ["in.txt"]);
     /// ```
     ///
-    /// A program's own words are `std::env::args_os().skip(1)`.
+    /// A program's own arguments are `std::env::args_os().skip(1)`.
     ///
     /// # Errors
-    /// As `parse`.
+    /// See `parse`.
     ///
     /// # Panics
-    /// Where an option has two empty names.
+    /// If an option has two empty names.
     pub fn parse_os<C: IntoIterator>(&self, args: C) -> Result<OsMatches, Fail>
     where
         C::Item: AsRef<OsStr>,
@@ -55,7 +56,7 @@ impl Options {
         self.read_os(args, parse_texts)
     }
 
-    /// Reads words as `parse_os` does, but doesn't check how often options came, as `parse_ignoring_counts`.
+    /// Parses a command line like `parse_os`, but like `parse_ignoring_counts` doesn't check how often options occur.
     ///
     /// ```
     /// let mut options = getopts::Options::new();
@@ -65,10 +66,10 @@ impl Options {
     /// ```
     ///
     /// # Errors
-    /// As `parse_ignoring_counts`.
+    /// See `parse_ignoring_counts`.
     ///
     /// # Panics
-    /// Where an option has two empty names.
+    /// If an option has two empty names.
     pub fn parse_os_ignoring_counts<C: IntoIterator>(&self, args: C) -> Result<OsMatches, Fail>
     where
         C::Item: AsRef<OsStr>,
@@ -121,7 +122,7 @@ impl OsMatches {
         }
     }
 
-    /// Whether some option has this name.
+    /// Whether an option has this name.
     ///
     /// ```
     /// let mut options = getopts::Options::new();
@@ -133,7 +134,7 @@ impl OsMatches {
         self.matches.opt_defined(name)
     }
 
-    /// Whether an option was given, by any of its names.
+    /// Whether an option was given, by either name.
     ///
     /// ```
     /// let mut options = getopts::Options::new();
@@ -144,7 +145,7 @@ impl OsMatches {
         self.matches.opt_present(name)
     }
 
-    /// How often an option was given, by any of its names.
+    /// How often an option was given, by either name.
     ///
     /// ```
     /// let mut options = getopts::Options::new();
@@ -155,7 +156,7 @@ impl OsMatches {
         self.matches.opt_count(name)
     }
 
-    /// The positions of an option's occurrences: indexes of words, a separate argument counted.
+    /// The positions of an option's occurrences: indexes of words, counting separate arguments.
     ///
     /// ```
     /// let mut options = getopts::Options::new();
@@ -179,7 +180,7 @@ impl OsMatches {
         self.occurrences(name).next()?.1
     }
 
-    /// The values of an option's occurrences, in the order of the line.
+    /// The values of an option's occurrences, in command-line order.
     ///
     /// ```
     /// let mut options = getopts::Options::new();
@@ -192,7 +193,7 @@ impl OsMatches {
         self.occurrences(name).filter_map(|(_, value)| value)
     }
 
-    /// The positions and values of an option's occurrences, in the order of the line.
+    /// The positions and values of an option's occurrences, in command-line order.
     ///
     /// ```
     /// let mut options = getopts::Options::new();
@@ -215,7 +216,7 @@ impl OsMatches {
         })
     }
 
-    /// The value of an option's first occurrence, or `def` where that has none. `None` where the option wasn't given.
+    /// The value of an option's first occurrence, or `def` if that has none. `None` if the option wasn't given.
     ///
     /// ```
     /// let mut options = getopts::Options::new();
@@ -232,7 +233,7 @@ impl OsMatches {
         Some(value.unwrap_or(def.as_ref()))
     }
 
-    /// The value of an option's first occurrence, read as a `T`.
+    /// Parses the value of an option's first occurrence as a `T`.
     ///
     /// ```
     /// let mut options = getopts::Options::new();
@@ -241,13 +242,13 @@ impl OsMatches {
     /// ```
     ///
     /// # Errors
-    /// Where the value can't be read as a `T`, with the error of `T`, or with none where the value isn't UTF-8.
+    /// If the value can't be parsed as a `T`, the error of `T`; if it isn't UTF-8, `None`.
     pub fn opt_get<T: FromStr>(&self, name: &str) -> Result<Option<T>, Option<T::Err>> {
         let read = |value: &OsStr| value.to_str().ok_or(None)?.parse().map_err(Some);
         self.value(name).map(read).transpose()
     }
 
-    /// Where the words after `--` begin among the free words.
+    /// The index in `free` of the first word after `--`, or `None` if no word follows a `--` that ends the options.
     ///
     /// ```
     /// let options = getopts::Options::new();
@@ -265,14 +266,14 @@ impl fmt::Debug for OsMatches {
     }
 }
 
-/// The text of a word that is itself, as ASCII is.
+/// The text of a word that doesn't need to be encoded, such as ASCII.
 #[inline]
 fn plain(word: &OsStr) -> Option<&str> {
     let is_plain = |text: &&str| text.is_ascii() || plain_text(text.as_bytes()).is_some();
     word.to_str().filter(is_plain)
 }
 
-/// The text of a word: itself, or by marks.
+/// A word as text: itself, or encoded by marks.
 fn text_of(word: &OsStr) -> Result<Cow<'_, str>, Fail> {
     match plain(word) {
         Some(text) => Ok(Cow::Borrowed(text)),
@@ -284,14 +285,14 @@ fn text_of(word: &OsStr) -> Result<Cow<'_, str>, Fail> {
     }
 }
 
-/// The word that a text stands for.
+/// The word that a text encodes.
 fn os_of(text: &str) -> OsString {
     let mut bytes = Vec::new();
     granted(push_bytes(&mut bytes, text));
     word_of(bytes)
 }
 
-/// A fault whose name has U+FFFD for what is no text.
+/// An error, with U+FFFD in its name for what isn't text.
 fn shown(fail: Fail) -> Fail {
     let shown = |name: String| {
         let mut bytes = Vec::new();
@@ -302,7 +303,7 @@ fn shown(fail: Fail) -> Fail {
         Fail::ArgumentMissing(name) => Fail::ArgumentMissing(shown(name)),
         Fail::UnrecognizedOption(name) => Fail::UnrecognizedOption(shown(name)),
         Fail::UnexpectedArgument(name) => Fail::UnexpectedArgument(shown(name)),
-        // These have names that were declared.
+        // Their names are declared names.
         Fail::OptionMissing(_) | Fail::OptionDuplicated(_) => fail,
     }
 }
@@ -317,8 +318,7 @@ fn word_of(bytes: Vec<u8>) -> OsString {
     std::os::unix::ffi::OsStringExt::from_vec(bytes)
 }
 
-/// The bytes of a word. Half of a pair that stands alone has the three bytes that UTF-8 would have for it, which are no
-/// text.
+/// The bytes of a word. A lone surrogate is encoded as three bytes (WTF-8), which aren't valid UTF-8.
 #[cfg(windows)]
 fn bytes_of(word: &OsStr) -> Result<Cow<'_, [u8]>, Fail> {
     let mut bytes = Vec::new();
@@ -342,7 +342,7 @@ fn word_of(bytes: Vec<u8>) -> OsString {
         let (text, half) = rest.split_at(end);
         units.extend(std::str::from_utf8(text).unwrap_or("").encode_utf16());
         let unit = |high: u8, low: u8| 0xD000 | u16::from(high & 0x3F) << 6 | u16::from(low & 0x3F);
-        // No word is cut within a half.
+        // No word is cut within a surrogate.
         rest = match half {
             [0xED, high, low, rest @ ..] => {
                 units.push(unit(*high, *low));
@@ -369,7 +369,7 @@ fn word_of(bytes: Vec<u8>) -> OsString {
 
 #[cfg(test)]
 mod tests {
-    //! Words with the texts that stand for them, as the rule of the marks gives them, and back.
+    //! Words and the texts that encode them, by the rule of marks, in both directions.
 
     use crate::bytes::{plain_text, push_bytes, push_text};
 
@@ -383,7 +383,7 @@ mod tests {
             b"gr\xC3\xBCn \xE2\x82\xAC\xF0\x90\x8D\x88",
             "grün €\u{10348}",
         ),
-        // the first and the last character of each length, those beside the surrogates, and the last one before the marks
+        // the first and last character of each length, the ones next to the surrogates, and the last before the marks
         (
             b"\x7F\xC2\x80\xDF\xBF\xE0\xA0\x80\xED\x9F\xBF\xEE\x80\x80\xEF\xBF\xBF\xF0\x90\x80\x80\xF4\x8F\xBD\xBF",
             "\u{7F}\u{80}\u{7FF}\u{800}\u{D7FF}\u{E000}\u{FFFF}\u{10000}\u{10FF7F}",
@@ -391,11 +391,11 @@ mod tests {
         (b"\xFF.txt", "\u{10FFFF}.txt"),
         (b"-n\x80", "-n\u{10FF80}"),
         (b"caf\xE9=x", "caf\u{10FFE9}=x"),
-        // a character that is cut short, before another and at the end
+        // a truncated character, before another one and at the end
         (b"\xE2\x82a", "\u{10FFE2}\u{10FF82}a"),
         (b"\xE2\x82\xC3\xA9", "\u{10FFE2}\u{10FF82}é"),
         (b"a\xF0\x90\x8D", "a\u{10FFF0}\u{10FF90}\u{10FF8D}"),
-        // too long forms, surrogates, and past the last character
+        // overlong forms, surrogates, and beyond the last character
         (b"\xC0\xAF", "\u{10FFC0}\u{10FFAF}"),
         (b"\xE0\x80\xAF", "\u{10FFE0}\u{10FF80}\u{10FFAF}"),
         (b"\xED\xA0\x80", "\u{10FFED}\u{10FFA0}\u{10FF80}"),

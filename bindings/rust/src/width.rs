@@ -1,8 +1,8 @@
-//! The columns of texts: with the feature `unicode` those of the crate `unicode-width`, else bytes.
+//! The widths of texts: with the feature `unicode` those of the crate `unicode-width`, otherwise their bytes.
 
-/// Texts that have columns.
+/// Texts with a width.
 pub trait UnicodeWidthStr {
-    /// How many columns a text takes. Printable ASCII takes as many as it has bytes.
+    /// How many columns a text takes. Printable ASCII takes one column per byte.
     fn width(&self) -> usize;
 }
 

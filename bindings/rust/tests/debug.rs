@@ -1,10 +1,10 @@
-//! `{:?}` of options and matches reads as that of the crate getopts.
+//! `{:?}` of options and matches prints the same as in the crate getopts.
 
 use getopts::{Options, ParsingStyle};
 
 // These texts were printed by the crate getopts 0.2.24.
 #[test]
-fn options_read_as_the_crates() {
+fn debug_of_options_matches_getopts() {
     let mut options = Options::new();
     options
         .optopt("o", "output", "set the output file", "NAME")
@@ -21,7 +21,7 @@ fn options_read_as_the_crates() {
 }
 
 #[test]
-fn matches_read_as_the_crates() {
+fn debug_of_matches_matches_getopts() {
     let mut options = Options::new();
     options
         .optopt("o", "output", "", "NAME")
@@ -45,7 +45,7 @@ fn matches_read_as_the_crates() {
 }
 
 #[test]
-fn a_nameless_option_reads_as_the_crates() {
+fn debug_of_nameless_option_matches_getopts() {
     let mut options = Options::new();
     options.optflag("", "", "none").optflag("a", "", "").optopt("", "", "", "X");
     assert_eq!(

@@ -1,4 +1,4 @@
-//! A program that ignores what calls return is built without a warning, as with the crate getopts.
+//! Ignoring results causes no warnings, as with the crate getopts.
 #![deny(unused_must_use)]
 
 use getopts::Options;

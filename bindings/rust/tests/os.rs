@@ -1,4 +1,4 @@
-//! Words of any bytes, borrowed values, and what the calls of matches ask.
+//! Arguments of any bytes, borrowed values, and methods of matches.
 
 use getopts::{Fail, HasArg, Occur, Options};
 use std::ffi::{OsStr, OsString};
@@ -16,8 +16,8 @@ fn options() -> Options {
     options
 }
 
-/// Words that are no texts, where the system has such.
-fn odd() -> Vec<OsString> {
+/// Arguments that aren't valid Unicode, if the system has such.
+fn not_unicode() -> Vec<OsString> {
     #[cfg(unix)]
     {
         use std::os::unix::ffi::OsStringExt;
@@ -59,8 +59,8 @@ fn joined(front: &str, word: &OsStr) -> OsString {
 }
 
 #[test]
-fn words_of_any_bytes_come_back() {
-    for word in odd() {
+fn arguments_of_any_bytes_are_preserved() {
+    for word in not_unicode() {
         let words = [
             joined("-o", &word),
             joined("--color=", &word),
@@ -81,14 +81,14 @@ fn words_of_any_bytes_come_back() {
         assert_eq!(matches.opt_default("c", "auto"), Some(&*word));
         let read = matches.opt_get::<String>("o");
         assert_eq!(read, word.to_str().map(|text| Some(text.into())).ok_or(None));
-        // What stands for a byte is not printed.
+        // The characters that stand for bytes aren't printed.
         assert!(format!("{matches:?}").contains(&format!("vals: [[(0, Val({word:?}))]")));
         assert!(format!("{matches:?}").contains(&format!("free: [{word:?}]")));
     }
 }
 
 #[test]
-fn texts_are_read_as_by_parse() {
+fn parse_os_matches_parse() {
     let words = ["-oé", "--verbose", "日本", "-c", "--", "-x"];
     let (texts, matches) = (options().parse(words).unwrap(), options().parse_os(words).unwrap());
     for name in ["o", "verbose", "c"] {
@@ -108,8 +108,8 @@ fn texts_are_read_as_by_parse() {
 }
 
 #[test]
-fn a_fault_has_a_text() {
-    for word in odd().iter().filter(|word| word.to_str().is_none()) {
+fn errors_have_text() {
+    for word in not_unicode().iter().filter(|word| word.to_str().is_none()) {
         match options().parse_os([joined("--", word)]).unwrap_err() {
             Fail::UnrecognizedOption(name) => assert!(name.contains('\u{FFFD}') || name.is_empty()),
             fail => panic!("{fail}"),
@@ -120,7 +120,7 @@ fn a_fault_has_a_text() {
 }
 
 #[test]
-fn a_name_with_what_stands_for_a_byte_is_found_by_parse_alone() {
+fn parse_os_never_finds_names_with_byte_characters() {
     let (name, mut options) = ("\u{10FF80}", Options::new());
     options.optflag("", name, "");
     let word = format!("--{name}");
@@ -129,7 +129,7 @@ fn a_name_with_what_stands_for_a_byte_is_found_by_parse_alone() {
 }
 
 #[test]
-fn values_are_lent() {
+fn values_are_borrowed() {
     let matches = options().parse(["-oa", "--color=", "x", "-c", "y", "-c"]).unwrap();
     assert_eq!(
         (matches.value("o"), matches.value("c"), matches.value("v")),
@@ -140,13 +140,13 @@ fn values_are_lent() {
 }
 
 #[test]
-fn a_name_that_no_option_has_panics() {
+fn undefined_name_panics() {
     let matches = options().parse(["x"]).unwrap();
     let os = options().parse_os(["x"]).unwrap();
     std::panic::set_hook(Box::new(|_| {}));
     let says = |call: &dyn Fn()| {
-        let fault = std::panic::catch_unwind(std::panic::AssertUnwindSafe(call)).unwrap_err();
-        assert_eq!(fault.downcast_ref::<String>().unwrap(), "No option 'y' defined");
+        let panic = std::panic::catch_unwind(std::panic::AssertUnwindSafe(call)).unwrap_err();
+        assert_eq!(panic.downcast_ref::<String>().unwrap(), "No option 'y' defined");
     };
     says(&|| assert!(matches.value("y").is_none()));
     says(&|| assert!(matches.values("y").next().is_none()));
@@ -165,7 +165,7 @@ impl AsRef<OsStr> for Large {
     }
 }
 
-/// Words from an iterator that promises too many.
+/// An iterator that promises too many items.
 struct Promised<I>(I);
 
 impl<I: Iterator> Iterator for Promised<I> {
@@ -179,7 +179,7 @@ impl<I: Iterator> Iterator for Promised<I> {
 }
 
 #[test]
-fn any_items_are_read() {
+fn parse_takes_any_iterator() {
     for count in [0, 1, 15, 16, 17, 20, 2_000] {
         let words = || Promised(std::iter::repeat("x").take(count));
         assert_eq!(options().parse(words()).unwrap().free, vec!["x"; count]);

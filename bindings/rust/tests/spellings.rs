@@ -3,7 +3,7 @@
 use getopts::Options;
 
 #[test]
-fn four_spellings_and_a_refusal() {
+fn readme_example() {
     let mut options = Options::new();
     options.optopt("o", "output", "set output file name", "NAME");
     options.optflagmulti("v", "verbose", "say more");

@@ -1,4 +1,4 @@
-//! The crate `proved-getopts`, by the name and the version of the crate `getopts` that it stands in for.
+//! Re-exports `proved-getopts` under the name and version of the crate `getopts`, which it replaces.
 #![no_std]
 
 pub use ::getopts::*;
