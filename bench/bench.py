@@ -1,18 +1,18 @@
 #!/usr/bin/env python3
-"""Counts what jobs take on this library and on its peers, by valgrind.
+"""Counts with valgrind what jobs cost in this library and in its peers.
 
-usage: bench.py OUT [--getopts FOLDER] [JOB..]      prints the tables of all jobs, or of some: > bench/last_run.txt
-       bench.py --count WHAT A B PROGRAM WORD..     prints what one turn of a program takes
-       bench.py --rows LINE                         prints the rows of a line
+usage: bench.py OUT [--getopts FOLDER] [JOB..]      prints the tables of all or some jobs: > bench/last_run.txt
+       bench.py --count WHAT A B PROGRAM WORD..     prints what one iteration of a program costs
+       bench.py --rows LINE                         prints a command line as rows
        bench.py --shell [PROGRAM]                   prints the instructions of getopts_shell, getopt(1) and true
 
-OUT is a folder outside the repository, where the peers' programs are built. FOLDER has the Rust crate getopts; without it
-cargo takes the crate from the public registry. The variable OURS names a built getopts_bench; without it `rt run` proves
-and builds one.
+The peers' programs are built in OUT, a folder outside the repository. FOLDER contains the Rust crate getopts; without
+it, cargo downloads the crate. OURS may name a getopts_bench that is already built; otherwise `rt run` proves and builds
+one.
 
-WHAT is `instructions`, `requests` (for memory; a growth of memory that is held counts as one) or `peak` (the most bytes held
-at once). The number of turns is put last: what B turns take more than A turns is divided by B - A, so what is done before
-the turns isn't counted.
+WHAT is `instructions`, `requests` (allocations, with every reallocation counted as one) or `peak` (the most bytes
+allocated at once). The program's last argument is the number of iterations. The cost of B iterations minus that of A is
+divided by B - A, so that work before the iterations isn't counted.
 """
 
 import concurrent.futures
@@ -31,13 +31,13 @@ TOOLS = {"instructions": ("--tool=callgrind --callgrind-out-file=/dev/null", r"C
          "requests": ("--leak-check=no", r"total heap usage: ([\d,]+)"),
          "peak": ("--tool=dhat --dhat-out-file=/dev/null", r"At t-gmax: *([\d,]+)")}
 
-# How many turns of a line are taken from how many, where these are no 100 and 300. Where a turn takes no memory, it is as
-# long from the first on.
+# The two numbers of iterations for a line, if they aren't 100 and 300. If nothing is allocated, the first iteration
+# costs as much as later ones.
 TURNS = {"long": (2, 6), "many": (2, 6), "many11": (2, 6), "files": (1, 2), "equal": (0, 1), "4000": (0, 1)}
 
 
 def turn_of(job):
-    """What a turn of a job does, the line, and the two numbers of turns."""
+    """What an iteration of a job does, its line, and the two numbers of iterations."""
     work, _, line = job.rpartition("-")
     return work or (job if job in ("equal", "usage") else "whole"), line, *TURNS.get(line, (100, 300))
 
@@ -45,19 +45,19 @@ def turn_of(job):
 JOBS = {job: turn_of(job) for job in """small read-small canonical-small copied-small os-small typical read-typical
     copied-typical long read-long canonical-long copied-long os-long many read-many canonical-many copied-many many11 front
     read-front asked-front none rustc sub60 files equal usage defined-4000""".split()}
-# Of these the most bytes held at once are counted.
-MEMORY = [("peak", "The most bytes held at once for reading 100,000 words, above the words and the options",
+# Jobs whose peak memory is counted.
+MEMORY = [("peak", "Peak bytes while reading 100,000 words, besides the words and the options",
            {"memory": ("read", "memory", 0, 1)}),
-          ("peak", "Bytes that matches hold",
+          ("peak", "Bytes that matches take",
            {"held-small": ("held", "small", 10, 110), "held-long": ("held", "long", 10, 110),
             "held-described": ("held", "described", 10, 110)})]
-# The jobs of C, and the peers whose turn takes its words, so that copies are made of these before the turns.
+# The jobs in C, and the peers whose iterations consume their words, which are therefore copied before.
 OF_C = ["small", "typical", "long", "none"]
 TAKING = ["lexopt", "pico-args", "clap"]
 
 
 def stored(line):
-    """The options of a line that getopts_bench has, each with the call that declares it, and the words."""
+    """A line stored in getopts_bench: its options, each with the method that declares it, and its words."""
     rows = [row.split("\t") for row in (CRATE / f"data/{line}.rows").read_text(encoding="utf-8").splitlines()]
     return [row for row in rows if row[0].startswith("opt")], [row[1] for row in rows if row[0] == "word"]
 
@@ -71,7 +71,7 @@ def long(rounds):
 
 
 def shuffled(options):
-    """The options in an order that isn't that of their names, and is the same at each run."""
+    """The options in an order that differs from that of their names, but is the same in each run."""
     return random.Random(1).sample(options, len(options))
 
 
@@ -98,7 +98,7 @@ def described():
     return [[*option[:3], "d" * 1000, *option[4:]] for option in options], words
 
 
-# The lines that are made: their options and their words.
+# Generated lines: their options and their words.
 LINES = {
     "long": lambda: long(250), "memory": lambda: long(25_000),
     "files": lambda: (stored("small")[0], [f"src/file{at:05}.rs" for at in range(100_000)]),
@@ -110,19 +110,19 @@ LINES = {
 
 
 def parts(line):
-    """The options of a line and its words."""
+    """The options and the words of a line."""
     return LINES.get(line, lambda: stored(line))()
 
 
 def rows(line):
-    """The rows of a line, as getopts_bench and the peers read them."""
+    """A line as the rows that getopts_bench and the peers read."""
     options, words = parts(line)
     said = [*options, ("words", str(len(words))), *(("word", word) for word in words)]
     return "".join("\t".join(row) + "\n" for row in said)
 
 
 def lexopt_line(line):
-    """The options of a line as the peer lexopt has them. What has one value at most on the line is an `Option`."""
+    """The options of a line for the peer lexopt. An option with at most one value on the line is an `Option`."""
     options, words = parts(line)
     text = f'    "{line}" {{\n'
     for at, (call, short, long, *_) in enumerate(options):
@@ -134,7 +134,7 @@ def lexopt_line(line):
 
 
 def lexopt_lines():
-    """The lines that are read whole, as the peer lexopt has them."""
+    """The lines of the jobs that read everything, for the peer lexopt."""
     lines = dict.fromkeys(line for work, line, *_ in JOBS.values() if work == "whole")
     return f"lines! {{\n{''.join(lexopt_line(line) for line in lines)}}}\n"
 
@@ -145,7 +145,7 @@ def stop(why):
 
 
 def counted(what, words, env=None):
-    """What a run takes, as valgrind counts it."""
+    """What a run costs, as valgrind counts it."""
     flag, found = TOOLS[what]
     done = subprocess.run(["valgrind", *flag.split(), *(str(word) for word in words)], stdout=subprocess.DEVNULL,
                           stderr=subprocess.PIPE, text=True, errors="replace", env=env)
@@ -153,20 +153,20 @@ def counted(what, words, env=None):
 
 
 def of_a_turn(what, few, more, words):
-    """What one turn takes of a program whose last word is the number of turns."""
+    """What one iteration costs in a program whose last argument is the number of iterations."""
     return (counted(what, [*words, more]) - counted(what, [*words, few])) // (more - few)
 
 
 def sum_of(words):
-    """The sum of one turn, or nothing where the program doesn't do the job."""
+    """The checksum of one iteration, or None if the program doesn't do the job."""
     done = subprocess.run([*(str(word) for word in words), "1"], capture_output=True, text=True)
     return done.stdout if done.returncode == 0 else None
 
 
 def built(out, getopts):
-    """The programs by their columns, each as its words."""
+    """The programs by their columns, each as the start of its command line."""
     for tool in ("cargo", "cc", "valgrind", os.environ.get("OURS", "rt")):
-        shutil.which(tool) or stop(f"there is no {tool}")
+        shutil.which(tool) or stop(f"{tool} not found")
     build = HERE.parent / "tests/differential/build.sh"
     for name, crate, flags in (("peers", getopts, ""), ("over_ours", HERE.parent / "bindings/rust/getopts", " --features over_ours")):
         (out / name / "src").mkdir(parents=True, exist_ok=True)
@@ -174,7 +174,7 @@ def built(out, getopts):
         subprocess.run(["bash", build, HERE / "peers", out / name, *([crate] if crate else [])], check=True,
                        env={**os.environ, "CARGO_FLAGS": os.environ.get("CARGO_FLAGS", "") + flags})
     if "OURS" not in os.environ:
-        print("bench.py: proves and builds getopts_bench, some minutes where nothing is kept ..", file=sys.stderr)
+        print("bench.py: proving and building getopts_bench, which may take some minutes ..", file=sys.stderr)
         subprocess.run(["rt", "run", "--", "whole", CRATE / "data/small.rows", "1"], cwd=CRATE, check=True,
                        stdout=subprocess.DEVNULL)
     peers, ours = (out / f"{name}/target/release/peers" for name in ("peers", "over_ours"))
@@ -183,7 +183,7 @@ def built(out, getopts):
 
 
 def built_of_c(out):
-    """The programs in C by their columns."""
+    """The C programs by their columns."""
     subprocess.run(["sh", HERE.parent / "bindings/c/install.sh", out / "c"], check=True, stdout=subprocess.DEVNULL)
     subprocess.run(["cc", "-O2", HERE / "c_peers.c", "-I", out / "c/include", out / "c/lib/libgetopts.a", "-o", out / "c_peers"],
                    check=True)
@@ -191,7 +191,7 @@ def built_of_c(out):
 
 
 def row(out, programs, what, job, work, line, few, more):
-    """A row of a table, with a star where the sum of one turn isn't that of the first program that does the job."""
+    """Prints a row of a table, with a star if the checksum differs from that of the first program that does the job."""
     file = out / f"{line}.rows"
     file.write_text(rows(line), encoding="utf-8")
     calls = [[*program, work, file, *([more] if column in TAKING else [])] for column, program in programs.items()]
@@ -214,20 +214,20 @@ def tables(out, getopts, asked):
     versions = re.findall(r'^name = "(getopts|lexopt|pico-args|clap|unicode-width)"\nversion = "(.*)"', lock, re.M)
     said = [subprocess.check_output([tool, "--version"], text=True).strip() for tool in ("valgrind", "rustc")]
     print("# " + ", ".join([*(" ".join(it) for it in versions), *said, "glibc " + platform.libc_ver()[1]]))
-    for what, title, jobs, columns in (("instructions", "Instructions of one turn", JOBS, programs),
-                                       ("instructions", "Instructions of one turn in C", {job: JOBS[job] for job in OF_C}, of_c),
-                                       ("requests", "Requests for memory of one turn", JOBS, programs),
+    for what, title, jobs, columns in (("instructions", "Instructions per iteration", JOBS, programs),
+                                       ("instructions", "Instructions per iteration in C", {job: JOBS[job] for job in OF_C}, of_c),
+                                       ("requests", "Allocations per iteration", JOBS, programs),
                                        *((*table, programs) for table in MEMORY)):
         chosen = [job for job in jobs if not asked or job in asked]
         if chosen:
             print(f"\n{title}\n{'job':<16} " + " ".join(f"{column:>14}" for column in columns))
         for job in chosen:
             row(out, columns, what, job, *jobs[job])
-    print("\n* its sum isn't that of the first column")
+    print("\n* its checksum differs from that of the first column")
 
 
 def shell(program=HERE.parent / f"bindings/shell/{platform.machine()}/getopts_shell"):
-    """The instructions from start to end of three programs, which may not depend on the environment."""
+    """The instructions of whole runs of three programs, in a fixed environment."""
     table = ("-i|--input FILE       read this file\n[-o|--output FILE]    write to FILE\n"
              "[-v|--verbose]..      say more\n[-c|--color [WHEN]]   colour the output\n"
              "[-L DIR]..            add a folder\n[-h|--help]           print this help")

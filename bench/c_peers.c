@@ -1,10 +1,11 @@
-/* Runs the job `whole` of getopts_bench in C, on bindings/c and on two parsers of glibc, and prints the same sum.
+/* Runs the job `whole` of getopts_bench in C, with bindings/c and two parsers of glibc, and prints the same sum.
  *
  * usage: c_peers PEER whole ROWS TIMES
  *
- * PEER is `getopts`, `getopt_long` or `argp`. Tables and words are made before the turns. A turn of bindings/c makes
- * options of its table, reads the words, and takes each count and value. The two others give one option after the
- * other, whose value a turn takes as it comes; they sort the words, so each turn has a copy of the pointers to them. */
+ * PEER is `getopts`, `getopt_long` or `argp`. Tables and words are prepared before the first iteration. With
+ * bindings/c, an iteration creates the options, parses the words, and takes each count and value. The other two return
+ * one option after the other, and an iteration takes each value as it comes; they reorder the words, so each iteration
+ * gets a copy of the pointers to them. */
 #define _GNU_SOURCE
 #include <argp.h>
 #include <getopt.h>
@@ -27,7 +28,7 @@ static void declare(int takes, const char *short_name, const char *long_name) {
     int key = *short_name ? *short_name : FIRST_KEY + options;
     enum getopts_kind kind = GETOPTS_MULTI + (takes ? GETOPTS_YES : GETOPTS_NO);
     table[options] = (struct getopts_option){ short_name, long_name, "H", "d", kind };
-    /* No word has the name that stands for none. */
+    /* A name that no word has, for options without a long name. */
     long_options[options] = (struct option){ *long_name ? long_name : "\1", takes, NULL, key };
     argp_options[options++] = (struct argp_option){ *long_name ? long_name : NULL, key, takes ? "H" : NULL, 0, "d", 0 };
     if (*short_name)
@@ -60,7 +61,7 @@ static size_t length(const char *value) {
     return value ? strlen(value) : 0;
 }
 
-static size_t getopts_turn(void) {
+static size_t getopts_iteration(void) {
     struct getopts *given = getopts_new(table, GETOPTS_ORDINARY);
     if (getopts_read(given, count - 1, words + 1) != GETOPTS_OK)
         exit(2);
@@ -77,7 +78,7 @@ static size_t getopts_turn(void) {
     return sum;
 }
 
-static size_t getopt_long_turn(void) {
+static size_t getopt_long_iteration(void) {
     size_t sum = 0;
     memcpy(moved, words, (count + 1) * sizeof *words);
     optind = 0;
@@ -98,7 +99,7 @@ static error_t take(int key, char *value, struct argp_state *state) {
     return 0;
 }
 
-static size_t argp_turn(void) {
+static size_t argp_iteration(void) {
     static const struct argp argp = { argp_options, take, "FILE..", NULL, NULL, NULL, NULL };
     size_t sum = 0;
     memcpy(moved, words, (count + 1) * sizeof *words);
@@ -110,12 +111,12 @@ static size_t argp_turn(void) {
 int main(int argc, char **argv) {
     if (argc != 5 || strcmp(argv[2], "whole") != 0 || !read_rows(argv[3]))
         return 2;
-    size_t (*turn)(void) = strcmp(argv[1], "getopts") == 0 ? getopts_turn : getopt_long_turn;
+    size_t (*iteration)(void) = strcmp(argv[1], "getopts") == 0 ? getopts_iteration : getopt_long_iteration;
     size_t sum = 0;
     if (strcmp(argv[1], "argp") == 0)
-        turn = argp_turn;
+        iteration = argp_iteration;
     for (int times = atoi(argv[4]); times > 0; times--)
-        sum += turn();
+        sum += iteration();
     printf("%zu\n", sum);
     return 0;
 }

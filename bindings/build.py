@@ -1,13 +1,11 @@
 #!/usr/bin/env python3
-"""Makes what this repository carries built, from the proved source: the static programs for shell scripts, and the erased
-Rust.
+"""Rebuilds what is checked in but generated from the proved source: the shell binaries and the erased Rust.
 
 usage: bindings/build.py [--check] [shell | rust]..
 
-The program is proved over its libraries as `rt ci`, or `rt lib` in their folders, left them, and built for each processor
-from one proof. Beside it proved.sha256 has its sums, those of its sources, and the toolchain. With --check nothing is made
-or proved: it says whether what is carried, and its sources, are those. Where they are, nothing is made without --check
-either.
+The program is proved with the libraries that `rt ci`, or `rt lib` in their folders, left, and built for every processor
+from one proof. proved.sha256 records the checksums of the binaries and of their sources, and the toolchain; what hasn't
+changed since isn't rebuilt. With --check, nothing is proved or built: the status is 1 if anything is out of date.
 """
 
 import hashlib
@@ -30,21 +28,21 @@ def stop(why):
 
 def kit():
     """The folder of the toolchain."""
-    return Path(shutil.which("rt") or stop("there is no rt on the path")).resolve().parents[1]
+    return Path(shutil.which("rt") or stop("rt not found: put the toolchain's bin folder on the path")).resolve().parents[1]
 
 
 def libraries(crate):
-    """The libraries that crates.txt names beside a crate."""
+    """The libraries of a crate, from crates.txt."""
     return re.search(rf"^{crate}\b[^:\n]*:(.*)$", (ROOT / "crates.txt").read_text(), re.M)[1].split()
 
 
 def build(processor, to):
-    """Builds the program's object, for each processor of this kind, over its libraries as they were proved."""
+    """Proves the program with its proved libraries, and builds its object file for a processor."""
     externs = []
     for library in ["std", *libraries(CRATE)]:
         own = ROOT / f"crates/{library}/out/rlib/{library}.rlib"
         at = own if (ROOT / "crates" / library).is_dir() else kit() / f"rlibs/{library}.rlib"
-        at.is_dir() or stop(f"{at} isn't there: run 'rt ci', or 'rt lib' in crates/{library}")
+        at.is_dir() or stop(f"{at} is missing: run 'rt ci', or 'rt lib' in crates/{library}")
         externs += ["--extern", f"{library}={at}", "-L", f"dependency={at.parent}"]
     words = ["--crate-name", CRATE, "src/main.rt", "--links", f"{CRATE}=", "--jobs", os.environ.get("JOBS", "1"), *externs,
              "--antt-project", kit() / "rattle/logic/antt-project.json", "--logic-built", kit() / "logic_built",
@@ -53,13 +51,13 @@ def build(processor, to):
     (ROOT / f"crates/{CRATE}/out").mkdir(exist_ok=True)
     done = subprocess.run([kit() / "bin/rattle", "build", *words], cwd=ROOT / "crates" / CRATE, capture_output=True, text=True)
     if done.returncode:
-        stop(f"{CRATE} isn't proved, or can't be built:\n{(done.stdout + done.stderr)[-3000:]}")
+        stop(f"proving or building {CRATE} failed:\n{(done.stdout + done.stderr)[-3000:]}")
 
 
 def link(processor, to, *words):
-    """Links a static program of start.c, musl and what the words name."""
+    """Links a static program from start.c, musl and the files and flags in words."""
     musl, tools = Path(f"/usr/lib/{processor}-linux-musl"), kit() / "toolchain/bin"
-    (musl / "libc.a").exists() or stop(f"there is no {musl}/libc.a: apt-get install musl-dev, or musl-dev:arm64")
+    (musl / "libc.a").exists() or stop(f"{musl}/libc.a is missing: apt-get install musl-dev, or musl-dev:arm64")
     flags = "-std=c11 -O2 -Wall -Wextra -Wpedantic -Wshadow -Wconversion -Werror -fno-pic -nostdinc".split()
     start = Path(f"{to}.start.o")
     subprocess.run([tools / "clang", f"--target={processor}-linux-musl", *flags, "-isystem",
@@ -70,11 +68,15 @@ def link(processor, to, *words):
 
 
 def sum_of(file):
-    return hashlib.sha256(file.read_bytes()).hexdigest() if file.exists() else "-"
+    """The checksum of a file. In Rattle sources it leaves out comment lines, which don't change the binary."""
+    text = file.read_bytes() if file.exists() else None
+    if file.suffix == ".rt" and text is not None:
+        text = re.sub(rb"^ *//.*\n", b"", text, flags=re.M)
+    return "-" if text is None else hashlib.sha256(text).hexdigest()
 
 
 def sums():
-    """The lines of proved.sha256 as it has to be for what is there: the toolchain, what is made, and its sources."""
+    """The lines that proved.sha256 should have now: the toolchain, the binaries and their sources."""
     files = [*(FOLDER / processor / CRATE for processor in PROCESSORS), FOLDER / "start.c"]
     crates = dict.fromkeys([CRATE, *(more for one in libraries(CRATE) for more in (one, *libraries(one)))])
     for crate in crates:
@@ -84,14 +86,14 @@ def sums():
 
 
 def shell(check):
-    """Makes the static programs, where what they are of isn't as it was; or says so."""
+    """Rebuilds the binaries if something has changed, or with --check only reports it."""
     kept = FOLDER / "proved.sha256"
     lines = kept.read_text().splitlines() if kept.exists() else []
     changed = sorted({line.split("  ")[-1] for line in set(lines) ^ set(sums())})
     if not changed:
-        return print("what bindings/shell carries is of today's source")
+        return print("bindings/shell is up to date")
     if check:
-        stop(f"what bindings/shell carries isn't of today's source: build.py makes it anew: {', '.join(changed)}")
+        stop(f"bindings/shell is out of date: run bindings/build.py (changed: {', '.join(changed)})")
     with tempfile.TemporaryDirectory() as room:
         for processor in PROCESSORS:
             to, built = FOLDER / processor / CRATE, Path(room) / "built"
@@ -101,7 +103,7 @@ def shell(check):
             shutil.copyfile(built, to)
             to.chmod(0o755)
             Path(f"{to}.sha256").write_text(f"{sum_of(to)}  {to.name}\n")
-            print(f"made {to.relative_to(ROOT)}")
+            print(f"built {to.relative_to(ROOT)}")
     kept.write_text("\n".join(sums()) + "\n")
 
 

@@ -1,4 +1,4 @@
-"""What the tests share: tools that may be lacking, programs that run, and the programs that the proofs leave."""
+"""What the tests share: required tools, running programs, and the programs that `rt ci` builds."""
 
 import functools
 import os
@@ -18,22 +18,22 @@ os.environ.pop("POSIXLY_CORRECT", None)
 ROOT = Path(__file__).resolve().parents[1]
 MACHINE = platform.machine()
 VECTORS = ROOT / "crates/getopts_vectors"
-# Rows with their answers beside them.
+# Test cases with the expected answers.
 ROWS = [VECTORS / f"data/{name}.rows" for name in ("rules", "recorded")]
-# Lines that each door's example has to answer as getopts_show does.
+# Command lines for which the example in each language has to print the same as getopts_show.
 LINES = ["--output=x.txt --verbose in.txt", "-vvLd -La -Lb -c auto -o x.txt f -- g -v", "-v --help", "--nope", "-o",
          "-o a -o b", "--verbose=x", "", "-c", "--output= é --color=日本"]
 
 
 def pytest_addoption(parser):
-    parser.addoption("--quick", action="store_true", help="fewer random cases, no other targets, nothing is proved")
+    parser.addoption("--quick", action="store_true", help="fewer random cases, no other targets, no proofs")
     parser.addoption("--many", action="store_true", help="ten times as many random cases")
-    parser.addoption("--fix", action="store_true", help="writes anew what a script makes: figures, contracts")
+    parser.addoption("--fix", action="store_true", help="update figures, tables and contracts on the pages")
     parser.addoption("--getopts", help="a folder with the Rust crate getopts 0.2.24")
 
 
 def pytest_collection_modifyitems(items):
-    # Edits take longest, and wait for libraries alone.
+    # Edits take longest, and only wait for libraries.
     items.sort(key=lambda item: not item.name.startswith("test_edit["))
     for item in items:
         if {"show", "shell", "vectors", "bench", "built"} & set(item.fixturenames):
@@ -42,14 +42,14 @@ def pytest_collection_modifyitems(items):
 
 @pytest.fixture(scope="session")
 def other_targets(request):
-    """Skips a test of another target in a quick run."""
+    """Skips tests for other targets with --quick."""
     if request.config.getoption("--quick"):
-        pytest.skip("--quick: no other targets")
+        pytest.skip("--quick: other targets aren't tested")
 
 
 @pytest.fixture(scope="session")
 def cases(request):
-    """cases(N, MANY): how many random cases there are where the gate has N. With --many there are MANY times as many."""
+    """cases(N, MANY): the number of random cases: N; with --many N * MANY, with --quick N / 10."""
     option = request.config.getoption
     return lambda count, many=10: count * many if option("--many") else max(1, count // 10) if option("--quick") else count
 
@@ -59,19 +59,19 @@ def crate(request):
     """The folder with the Rust crate getopts 0.2.24."""
     folder = request.config.getoption("--getopts")
     if not folder:
-        pytest.skip("no folder with the Rust crate getopts 0.2.24 was given: --getopts FOLDER")
+        pytest.skip("needs the Rust crate getopts 0.2.24: --getopts FOLDER")
     return Path(folder).resolve()
 
 
 def need(*tools):
-    """Skips a test where one of its tools isn't there."""
+    """Skips the test if one of these tools is missing."""
     for tool in tools:
         if not shutil.which(str(tool)):
-            pytest.skip(f"there is no {tool}: see CONTRIBUTING.md")
+            pytest.skip(f"{tool} not found: see CONTRIBUTING.md")
 
 
 def run(*words, status=0, env=None, **how):
-    """Runs a command, which has to end with this status, and returns what it wrote to its two streams."""
+    """Runs a command, which has to exit with this status, and returns its standard output and standard error."""
     done = subprocess.run([str(word) for word in words], capture_output=True, env={**os.environ, **(env or {})}, **how)
     said = os.fsdecode(done.stdout), os.fsdecode(done.stderr)
     assert done.returncode == status, f"{words[0]}: status {done.returncode}\n{said[0][-3000:]}{said[1][-3000:]}"
@@ -79,20 +79,20 @@ def run(*words, status=0, env=None, **how):
 
 
 def answer(*words, env=None, **how):
-    """What a program wrote, whatever its status, and the status."""
+    """The output of a program, and its exit status."""
     done = subprocess.run([str(word) for word in words], capture_output=True, env={**os.environ, **(env or {})}, **how)
     return done.stdout + done.stderr, done.returncode
 
 
 def script(path, text):
-    """Writes a program."""
+    """Writes an executable script."""
     path.write_text(text)
     path.chmod(0o755)
     return path
 
 
 def note_sums(log):
-    """Notes the sum of each library's sources, by which `rt check` knows what is proved: `rt ci` leaves libraries without."""
+    """Stores the checksum of each library's sources: `rt check` needs it, and `rt ci` doesn't write it."""
     sys.path.insert(0, str(kit() / "bin"))
     import rtlib
     for crate in rtlib.crates_below(str(ROOT)):
@@ -100,13 +100,13 @@ def note_sums(log):
 
 
 def wait_for(*crates):
-    """Where test.sh runs `rt ci` beside the tests: waits until it has proved these crates, or took them over. A library
-    that it left gets its sum, so that no later check proves it again."""
+    """If test.sh is running `rt ci`, waits until it has proved or restored these crates. Gives each library that it
+    built its checksum, so that no later check proves it again."""
     log = Path(os.environ.get("CI_LOG", "/nowhere"))
     for crate in crates:
         while log.exists() and not re.search(rf"^rt: {crate} (proved$|is kept: )", log.read_text(errors="replace"), re.M):
             if Path(f"{log}.ended").exists():
-                pytest.fail(f"{crate} isn't proved")
+                pytest.fail(f"{crate} wasn't proved")
             time.sleep(1)
         noted, library = Path(f"{log}.{crate}"), ROOT / f"crates/{crate}/out/rlib"
         if noted.exists() and library.exists() and library.stat().st_mtime > noted.stat().st_mtime:
@@ -114,11 +114,11 @@ def wait_for(*crates):
 
 
 def program(crate):
-    """The program of a crate, as `rt ci` or `rt run` leaves it."""
+    """The program of a crate, as `rt ci` or `rt run` built it."""
     wait_for(crate)
     built = ROOT / f"crates/{crate}/out/{crate}"
     if not built.exists():
-        pytest.skip(f"{crate} isn't built: 'rt ci', or 'rt run' in crates/{crate}, builds it")
+        pytest.skip(f"{crate} isn't built: run 'rt ci', or 'rt run' in crates/{crate}")
     return built
 
 
@@ -131,17 +131,17 @@ vectors, bench = built("vectors", "getopts_vectors"), built("bench", "getopts_be
 
 
 @pytest.fixture(scope="session")
-def carried():
-    """The program for this machine that bindings/shell carries."""
+def checked_in():
+    """The program for this machine that is checked in under bindings/shell."""
     there = ROOT / f"bindings/shell/{MACHINE}/getopts_shell"
     if not there.exists():
-        pytest.skip(f"bindings/shell carries no program for {MACHINE}")
+        pytest.skip(f"bindings/shell has no program for {MACHINE}")
     return there
 
 
 def rows_in(file):
-    """The rows of a file: the fields of each, between tabs, and the text below it, each line after '> '. A row 'text' has a
-    text, or how often and what, that {NAME} stands for below."""
+    """The test cases of a file: the tab-separated fields of each row, and the text below it, each line after '> '. A
+    row 'text' defines what {NAME} stands for in later rows: the text below it, or a string repeated so many times."""
     rows, texts = [], {}
 
     def whole(text):
@@ -169,13 +169,13 @@ def kit():
 
 
 def tracked():
-    """Each file of the repository, but for what is built."""
+    """All files of the repository except those that git ignores."""
     names = run("git", "ls-files", "-co", "--exclude-standard", cwd=ROOT)[0].splitlines()
     return [name for name in names if (ROOT / name).is_file()]
 
 
 def copy_tree(to, *libraries):
-    """Copies what isn't built to a folder, and these libraries as they were proved."""
+    """Copies the repository's files to a folder, and the proofs of these libraries."""
     for name in tracked():
         (to / name).parent.mkdir(parents=True, exist_ok=True)
         shutil.copy2(ROOT / name, to / name)
@@ -188,12 +188,12 @@ def copy_tree(to, *libraries):
 
 @pytest.fixture
 def copy(tmp_path):
-    """A copy of the repository, without what is built."""
+    """A copy of the repository, without anything built."""
     return copy_tree(tmp_path / "copy")
 
 
-def preloaded(source, room):
-    """A library to preload, built by the toolchain's compiler and linker."""
+def preload_library(source, room):
+    """A library for LD_PRELOAD, built by the toolchain's compiler and linker."""
     tools, flags = kit() / "toolchain/bin", "-O2 -Wall -Wextra -Werror -ffreestanding -nostdinc -fPIC -c".split()
     run(tools / "clang", *flags, source, "-o", room / "it.o")
     run(tools / "ld.lld", "-shared", "-o", room / "it.so", room / "it.o")
@@ -201,20 +201,20 @@ def preloaded(source, room):
 
 
 @pytest.fixture(scope="session")
-def refuse(tmp_path_factory):
-    """What refuses memory, as a library to preload."""
-    return preloaded(ROOT / "tests/memory/refuse.c", tmp_path_factory.mktemp("refuse"))
+def failing_malloc(tmp_path_factory):
+    """A library for LD_PRELOAD that makes allocations fail."""
+    return preload_library(ROOT / "tests/memory/refuse.c", tmp_path_factory.mktemp("refuse"))
 
 
-def refused_in_turn(preload, words, refusal=(b"", 3), like=None, marks=False):
-    """Refuses each request for memory in turn, alone and with all after it, and returns how many were. A run with a
-    refusal writes `refusal`, its output and status; with none refused it answers as the words `like`, or as ever. With
-    marks the requests between the program's marks count."""
+def fail_each_allocation(preload, words, refusal=(b"", 3), like=None, marks=False):
+    """Makes each allocation fail in turn, once alone and once with all later ones, and returns how many failed. A run
+    with a failure has to end with `refusal`, its output and status; a run without one as the command `like`, or else
+    as usual. With marks, only allocations between the program's marks are counted."""
     def outcome(at, on):
         env = {**os.environ, "REFUSE_AT": str(at), "REFUSE_ON": str(on), "REFUSE_MARKS": str(int(marks))}
         env.update({"LD_PRELOAD": str(preload)} if preload else {})
         done = subprocess.run([str(word) for word in words], capture_output=True, env=env)
-        # A program that ends by a signal says nothing of its refusals.
+        # A program killed by a signal doesn't report its failures.
         said = re.search(rb"^refused (\d+) marks (\d+)\n\Z", done.stderr, re.M)
         return (done.stdout, done.returncode), *((int(said[1]), int(said[2])) if said else (1, None))
 
@@ -227,12 +227,12 @@ def refused_in_turn(preload, words, refusal=(b"", 3), like=None, marks=False):
     for on in (0, 1):
         for at in range(1, 10_001):
             ended, refused, met = outcome(at, on)
-            assert met == marked or (met is None and ended[1] < 0), f"request {at}: {met} marks of {marked}: {ended}"
+            assert met == marked or (met is None and ended[1] < 0), f"allocation {at}: {met} of {marked} marks: {ended}"
             if refused == 0:
                 assert ended == ever
                 break
-            assert ended == refusal, f"request {at}, all after it: {on}"
+            assert ended == refusal, f"allocation {at}, with all later ones: {on}"
             count += 1
         else:
-            pytest.fail("more than 10,000 requests")
+            pytest.fail("more than 10,000 allocations")
     return count

@@ -1,10 +1,10 @@
-"""A second reader of the rules, by docs/GRAMMAR.md alone: a search for readings and for faults, as they are defined, and
-what rows of text ask of them."""
+"""An independent implementation of docs/GRAMMAR.md: a search for readings and faults as defined there, and the answers
+to rows that follow from them."""
 
 import re
 
 ESCAPES = {b"\\": b"\\\\", b"\t": b"\\t", b"\n": b"\\n", b"\r": b"\\r"}
-KINDS = {  # of argument and of occurrence, by the call that declares the group
+KINDS = {  # the kinds of argument and of occurrence, for each declaring call
     "optflag": ("no", "optional"), "optflagmulti": ("no", "multi"), "optflagopt": ("maybe", "optional"),
     "optmulti": ("yes", "multi"), "optopt": ("yes", "optional"), "reqopt": ("yes", "req"),
 }
@@ -23,13 +23,13 @@ class Group:
 
 
 class Options:
-    """Groups, a style and a mode, and the readings of a line by them."""
+    """Groups, a style and a mode: how they read a line."""
 
     def __init__(self, groups=(), stops=False, long_only=False):
         self.groups, self.stops, self.long_only = [*groups], stops, long_only
 
     def resolve(self, name):
-        """The place of the group that a name resolves to: by its main name, or else by its alias."""
+        """The index of the group that a name resolves to: by main name, or else by alias."""
         mains = [group.main for group in self.groups]
         named = [name, *(group.main for group in self.groups if group.alias == name)]
         return next((mains.index(main) for main in named if main in mains), None)
@@ -39,18 +39,18 @@ class Options:
         return None if place is None else self.groups[place].kind
 
     def long_forms(self, word):
-        """The name of a word that has a long form in this mode, and perhaps the argument attached to it."""
+        """If a word has a long form in this mode: its name, and the attached argument or None."""
         dashes = re.match(rb"(?s)--(?=.)|-(?=[^-])", word)
         if dashes and (dashes[0] == b"--" or self.long_only):
             name, equals, value = word[dashes.end():].partition(b"=")
             yield name, value if equals else None
 
     def cluster(self, word):
-        """What follows the dash of a cluster."""
+        """The part of a cluster after its dash, or nothing."""
         return word[1:] if re.match(b"-[^-]", word) and not self.long_only else b""
 
     def items(self, word, after):
-        """Each lawful item that begins with this word: what it mentions, its words, whether it is bare."""
+        """The lawful items that begin with this word: what each mentions, its number of words, whether it is bare."""
         if not is_dashed(word) and not self.stops:
             yield [], 1, False
         for name, value in self.long_forms(word):
@@ -78,8 +78,8 @@ class Options:
                     yield mentions + [(place, after[0])], 2, False
 
     def readings(self, words, whole=False):
-        """Each reading of the words: occurrences, free words and the trailing start. There is one at most. In a whole
-        one no word ends the options."""
+        """The readings of the words, at most one: occurrences, free words and trailing start. In a whole reading no
+        word ends the options."""
         found = {len(words): [([], [], None)]}
         for at in range(len(words) - 1, -1, -1):
             found[at] = []
@@ -99,7 +99,7 @@ class Options:
         return found[0]
 
     def faults(self, words):
-        """Each scan fault of the words. Those before the word at fault have a whole reading."""
+        """The scan faults of the words. The words before one have a whole reading."""
         for at, word in enumerate(words):
             if not self.readings(words[:at], whole=True):
                 continue
@@ -122,7 +122,7 @@ class Options:
                     yield "ArgumentMissing", letter
 
     def parse(self, words, with_counts=True):
-        """The occurrences, free words and trailing start, or the fault and its name."""
+        """Occurrences, free words and trailing start; or a fault and its name."""
         readings = self.readings(words)
         if not readings:
             faults = list(self.faults(words))
@@ -171,13 +171,13 @@ def optional(value):
 
 
 class Session:
-    """A case as it is answered: its options, and what its last words gave."""
+    """The state of a case: its options, and the result of its last words."""
 
     def __init__(self):
         self.options, self.read = Options(), None
 
     def answer(self, word, fields):
-        """The lines that answer a line, each `None` where the rules here don't say it."""
+        """The answer to a row, as lines; a line is None if it doesn't follow from the rules."""
         if word in ("case", "anew"):
             self.__init__()
             return [line("case", *fields)] if word == "case" else []
@@ -221,7 +221,7 @@ class Session:
         return line(word, "none") if written is None else line(word, "line", *written)
 
     def given(self, name):
-        """The places and values of an option's occurrences, or None where there is none of this name."""
+        """The positions and values of an option's occurrences, or None if the name is undefined."""
         place = self.options.resolve(name)
         return None if place is None else [(at, value) for mine, at, value in self.read[0] if mine == place]
 
@@ -251,7 +251,7 @@ def parts(written):
 
 
 def rows_of(text):
-    """Each line of a text that is a row, with the answers that stand below it."""
+    """The rows of a text, each with the answers below it."""
     rows = []
     for one in text.split(b"\n"):
         if one.startswith(b"> "):
@@ -263,9 +263,9 @@ def rows_of(text):
     return rows
 
 
-def held(rows):
-    """The rows, with a canonical line asked beyond them below each line of words and the positions of each name; how
-    many lines of answers the rules give; and the rows whose answers the rules don't give."""
+def answer_rows(rows):
+    """Answers rows. Returns the rows and further ones (the canonical line of all words, the positions of all names),
+    the number of stored answer lines that were checked, and the rows whose stored answers are wrong."""
     session, beyond, given, differ, case = Session(), [], 0, [], b""
     for one, answers in rows:
         word, fields = parts(one)
@@ -275,7 +275,7 @@ def held(rows):
         if word != "case" and expected != [None]:
             given += len(answers)
             if expected != answers:
-                differ.append((case, one, b"by the rules: " + b" / ".join(expected), b"in the row: " + b" / ".join(answers)))
+                differ.append((case, one, b"model: " + b" / ".join(expected), b"stored: " + b" / ".join(answers)))
         if word in ("words", "ignoring_counts"):
             asked = [line("canonical", *fields)]
             if len(session.read) == 3:

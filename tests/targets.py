@@ -1,7 +1,7 @@
-"""The targets on which the Rust crate and the library for C are tested, by Debian's rustc 1.63.
+"""The targets on which the Rust crate and the C library are tested, with Debian's rustc 1.63.
 
-Of libstd-rust-dev and libstd-rust-1.63 for arm64 and i386, which Debian doesn't install beside those of this machine
-(dpkg --add-architecture, apt-get download, dpkg -x), put the folders usr/lib/rustlib/TARGET beside the others there."""
+Debian can't install libstd-rust-dev and libstd-rust-1.63 for arm64 and i386 beside those of this machine. Unpack them
+(dpkg --add-architecture, apt-get download, dpkg -x) and put usr/lib/rustlib/TARGET beside the folders there."""
 
 import os
 import shutil
@@ -10,11 +10,11 @@ from pathlib import Path
 import pytest
 from conftest import ROOT, need, run
 
-# What cargo builds lies in the folders of the tests.
+# Cargo has to build in the folders of the tests.
 os.environ.pop("CARGO_TARGET_DIR", None)
 REGISTRY = Path("/usr/share/cargo/registry")
 LOADER = "/usr/i686-linux-gnu/lib/ld-linux.so.2"
-# What a rustc of 1.63 is asked for that newer ones have.
+# Lets rustc 1.63 use features that later versions have.
 OLD = {"RUSTC": "/usr/bin/rustc", "RUSTC_BOOTSTRAP": "1"}
 WASI = """import { WASI } from "node:wasi";
 import { readFile } from "node:fs/promises";
@@ -23,7 +23,7 @@ const wasi = new WASI({ version: "preview1", args: argv.slice(2), env, preopens:
 const module = await WebAssembly.compile(await readFile(argv[2]));
 process.exitCode = wasi.start(await WebAssembly.instantiate(module, { wasi_snapshot_preview1: wasi.wasiImport }));
 """
-# Of each target the compiler that links its programs, or none where rustc does, and what runs them.
+# For each target, the compiler that links its programs (None: rustc does), and the command that runs them.
 TARGETS = {
     "x86_64-unknown-linux-gnu": ("cc", []),
     "aarch64-unknown-linux-gnu": ("aarch64-linux-gnu-gcc", ["qemu-aarch64", "-L", "/usr/aarch64-linux-gnu"]),
@@ -31,12 +31,12 @@ TARGETS = {
     "wasm32-wasi": (None, ["node", "{room}/wasi.mjs"]),
     "x86_64-pc-windows-gnu": ("x86_64-w64-mingw32-gcc", ["wine"]),
 }
-# Where a panic ends the program, what asks for one is left out.
+# Targets that unwind. On others a panic ends the program, so tests that panic are skipped.
 UNWINDS = {target for target in TARGETS if "linux" in target}
 
 
 def offline(registry=REGISTRY):
-    """What cargo is told so that it takes Debian's crates, or those of a folder, where unicode-width is installed."""
+    """Flags that make cargo use Debian's crates, or those of a folder, if unicode-width is installed."""
     if not list(REGISTRY.glob("unicode-width-*")):
         return []
     return ["--offline", "--config", 'source.crates-io.replace-with="debian"',
@@ -44,13 +44,13 @@ def offline(registry=REGISTRY):
 
 
 def cargo(folder, *words, env=None, registry=REGISTRY):
-    """Runs the cargo on the path in a folder, and returns what it wrote."""
+    """Runs cargo in a folder, and returns its output."""
     need("cargo", "cc")
     return run("cargo", words[0], *offline(registry), *words[1:], cwd=folder, env=env)
 
 
-def committed(clone):
-    """Makes a repository of a folder."""
+def commit_repository(clone):
+    """Commits a folder to a new repository, and returns its URL."""
     need("git")
     for words in (["init", "-q"], ["add", "-A"], ["-c", "user.name=a", "-c", "user.email=a@b", "commit", "-q", "-m", "a"]):
         run("git", *words, cwd=clone)
@@ -58,7 +58,7 @@ def committed(clone):
 
 
 def runner(target, room):
-    """What runs a target's programs."""
+    """The command that runs a target's programs."""
     (room / "wasi.mjs").write_text(WASI)
     words = [word.format(room=room) for word in TARGETS[target][1]]
     need(*words[:1])
@@ -74,10 +74,10 @@ def need_std(target):
 
 
 def cargo_for(target, folder, *words, env=None):
-    """Runs Debian's cargo for a target on a copy of a crate, in whose folder it writes, and returns what it wrote."""
+    """Runs Debian's cargo for a target in the folder of a copied crate, and returns its output."""
     linker, by = TARGETS[target]
     if not Path("/usr/bin/cargo").exists() or not offline():
-        pytest.skip("there is no /usr/bin/cargo or no unicode-width: apt-get install cargo librust-unicode-width-dev")
+        pytest.skip("/usr/bin/cargo or unicode-width not found: apt-get install cargo librust-unicode-width-dev")
     need(*[linker] if linker else [])
     need_std(target)
     name = f"CARGO_TARGET_{target.upper().replace('-', '_')}"
@@ -87,8 +87,8 @@ def cargo_for(target, folder, *words, env=None):
     return run("/usr/bin/cargo", *words, cwd=folder, env={**OLD, **env})
 
 
-def copied(to, *names):
-    """Copies what is tracked of folders, so that what cargo writes stays out of them."""
+def copy_folders(to, *names):
+    """Copies folders without cargo's files, so that cargo doesn't write to the originals."""
     for name in names:
         ignored = shutil.ignore_patterns("target", "Cargo.lock")
         shutil.copytree(ROOT / name, to / name, ignore=ignored, dirs_exist_ok=True)

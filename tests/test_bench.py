@@ -1,4 +1,4 @@
-"""What the programs take, as valgrind counts it: some jobs are near their record, and a shell script's call is short."""
+"""Instruction counts by valgrind: some jobs stay near their record, and a call from a shell script stays cheap."""
 
 import re
 
@@ -6,14 +6,14 @@ import bench as bench_py
 import pytest
 from conftest import ROOT, need, run
 
-# How far a job may be from its record: C libraries differ.
+# How far a job may be from its record, as C libraries differ.
 WITHIN = 0.02
-# The most instructions that getopts_shell may take for six options and five words.
+# Upper limit on the instructions of getopts_shell for six options and five words.
 MOST = 38_000
 
 
 @pytest.mark.parametrize("job", ["small", "typical", "long", "many", "rustc", "usage"])
-def test_near_its_record(job, bench, tmp_path):
+def test_instructions_near_record(job, bench, tmp_path):
     need("valgrind")
     work, line, few, more = bench_py.JOBS[job]
     (tmp_path / "rows").write_text(bench_py.rows(line), encoding="utf-8")
@@ -24,13 +24,13 @@ def test_near_its_record(job, bench, tmp_path):
     assert abs(counted - int(recorded[1])) <= WITHIN * int(recorded[1]), f"{counted}: run bench/bench.py again"
 
 
-def test_shell_call(carried):
+def test_shell_call(checked_in):
     need("valgrind", "getopt")
-    assert 0 < bench_py.shell(carried)["getopts_shell"] <= MOST
+    assert 0 < bench_py.shell(checked_in)["getopts_shell"] <= MOST
 
 
-def test_count_and_rows():
-    """The script's own calls."""
+def test_bench_commands():
+    """The commands that bench.py calls itself with."""
     need("valgrind", "getopt")
     stored = (ROOT / "crates/getopts_bench/data/none.rows").read_text(encoding="utf-8")
     assert run(ROOT / "bench/bench.py", "--rows", "none")[0] == bench_py.rows("none") == stored

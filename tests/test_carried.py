@@ -1,4 +1,4 @@
-"""What the repository carries built is of today's source: by the sums of what was made, its sources and the toolchain."""
+"""Checked-in generated files are up to date, by checksums of the files, their sources and the toolchain."""
 
 import pytest
 from conftest import ROOT, need, run
@@ -6,21 +6,21 @@ from conftest import ROOT, need, run
 BUILD = "bindings/build.py"
 
 
-def test_of_the_source():
+def test_binaries_match_source():
     need("rt")
     run(ROOT / BUILD, "--check", "shell")
 
 
 @pytest.mark.parametrize("file", ["crates/getopts/src/scan.rt", "bindings/shell/start.c",
                                   "bindings/shell/x86_64/getopts_shell"])
-def test_a_change_is_found(file, copy):
+def test_change_is_found(file, copy):
     need("rt")
     with open(copy / file, "ab") as changed:
         changed.write(b"\n")
     assert file in run(copy / BUILD, "--check", "shell", status=1)[1]
 
 
-def test_erased_rust():
+def test_erased_rust_matches_source():
     need("rustfmt")
     run(ROOT / BUILD, "--check", "rust")
 

@@ -1,14 +1,15 @@
-"""Wrong bodies, each an edit under must-fail: the prover has to refuse each against the contract as it stands.
+"""Mutants under must-fail, each an edit of a function body: the prover has to reject every one against the unchanged
+contract.
 
-An edit names the function that it turns ('fn'), a file, and texts that stand there once ('old') with those in their place
-('new'), each of one or more lines. A function that an edit adds needs an 'ensures': of one without it the prover knows
-nothing, so any body is refused. Such an edit, or one that adds a way out, has also texts that are right in the same place
-('right'), and with these the prover has to prove the function.
+An edit names the function that it changes ('fn'), a file, and texts of one or more lines that occur there exactly once
+('old') with their replacements ('new'). A function that an edit adds needs an 'ensures': without one the prover knows
+nothing about it, so it would reject any body. An edit that adds a function or another way to return also has correct
+replacements ('right'), with which the prover has to prove the function.
 
-On a copy of the repository each edit is put beside its function, under a name of its own and with a copy of its proof
-files, so that one check of the crate tries all that were asked for. A method of a trait can't be copied: it is edited in
-its place. Half of what the check of a small program takes is reading the library, so the modules of two programs are put
-beside those of a third. The edits in private/ turn bodies that no public clause speaks of; they are tried with --many.
+In a copy of the repository, each edited function is added beside the original, under its own name and with a copy of
+the proof files, so that one check of the crate tries all selected edits. A trait method can't be copied: it is edited
+in place. Half the time to check a small program goes into reading the library, so the modules of two programs are added
+to a third. The edits in private/ change bodies about which no public clause says anything; --many tries them too.
 """
 
 import itertools
@@ -19,17 +20,17 @@ import pytest
 from conftest import ROOT, answer, copy_tree, kit, wait_for
 
 LIBRARIES = ["getopts", "getopts_bytes"]
-# Programs whose modules are tried in another, which has no module of the same name.
+# Programs whose modules are checked as part of another program, which has no modules of the same names.
 GUESTS = {"getopts_greet": "getopts_uses", "getopts_show": "getopts_uses"}
-# What a check says of a proof file that names a step which an edit took away: it says nothing of the contract.
+# Errors in a proof file that names a step removed by the edit. They don't show that the contract rejects the edit.
 NAMES = re.compile(r"has no field|has no `|is not in scope|was not admitted|was rejected, was not checked")
-# What stands in the proof file of a wrong body that has none, and what is said of it.
+# The proof file for a wrong body that has none, and the error that it causes.
 UNOFFERED = "use Rattle.std.proofs.Common.{◌≡◌, refl, true, false}\nunoffered : true ≡ false\nunoffered = refl\n"
 OWN_ERROR = "error: `unoffered`: "
 
 
 class Edit:
-    """An edit, with its wrong texts or its right ones."""
+    """An edit, with its wrong or its right replacements."""
 
     def __init__(self, path, variant):
         self.path, self.variant, self.name = path, variant, path.stem + (":right" if variant == "right" else "")
@@ -46,11 +47,11 @@ class Edit:
         return "\n".join(texts.get(kind, "") for _, texts in self.pairs)
 
     def applied(self, folder):
-        """The files of the crate that the edit turns, as it leaves them."""
+        """The edited files of the crate."""
         files = {}
         for file, texts in self.pairs:
             text = files.get(file) or (folder / file).read_text(encoding="utf-8")
-            assert text.count(texts["old"]) == 1, f"this doesn't stand once in {file}: {texts['old']}"
+            assert text.count(texts["old"]) == 1, f"{file} should contain this exactly once: {texts['old']}"
             files[file] = text.replace(texts["old"], texts.get(self.variant, texts["new"]))
         return files
 
@@ -64,7 +65,7 @@ def named(functions, text):
 
 
 def span(text, name, owner=None):
-    """Where a function stands in a text: one of a module, or a method in an impl of its type."""
+    """The start and end of a function in a text: a function of the module, or a method in an impl of its type."""
     starts = [it.start() for it in re.finditer(rf"^impl(<[^>]*>)? {owner}\b[^\n]*\{{", text, re.M)] if owner else [0]
     for start in starts:
         end = text.find("\n}\n", start) if owner else len(text)
@@ -75,7 +76,7 @@ def span(text, name, owner=None):
 
 
 class Copies:
-    """The edits of a crate as copies of their functions, in its folder."""
+    """Adds the edits of a crate to its folder, as copies of their functions."""
 
     def __init__(self, folder):
         self.folder, self.files, self.count = folder, {}, 0
@@ -84,7 +85,7 @@ class Copies:
         return self.files.setdefault(file, (self.folder / file).read_text(encoding="utf-8"))
 
     def add(self, edit):
-        """Copies an edit's function, or turns it in its place where it can't be copied, and returns its name there."""
+        """Adds a copy of the edited function, or edits it in place if it can't be copied. Returns its name."""
         path = edit.function.split("::")[1:]
         owner = path[-2] if len(path) > 1 and path[-2][0].isupper() else None
         files = edit.applied(self.folder)
@@ -113,13 +114,13 @@ class Copies:
 
     def put_in_place(self, edit):
         for file, texts in edit.pairs:
-            assert self.text(file).count(texts["old"]) == 1, f"another edit turned this in {file}: {texts['old']}"
+            assert self.text(file).count(texts["old"]) == 1, f"another edit changed this in {file}: {texts['old']}"
             self.files[file] = self.text(file).replace(texts["old"], texts.get(edit.variant, texts["new"]))
         return edit.function
 
     def copy_proofs(self, path, new, variant):
-        """Copies a function's proof files. Where a wrong body has none, one with an error of its own stands in for the file
-        that rattle would offer, for which it reads all again."""
+        """Copies a function's proof files. If a wrong body has none, adds one with an error: without it rattle would
+        suggest a proof file, for which it reads everything again."""
         source, to = (self.folder.joinpath("proofs", *path[:-1], name) for name in (path[-1], new))
         module, texts = ".".join(["proofs", *path[:-1]]), {}
         for file in source.rglob("*.antt"):
@@ -133,7 +134,7 @@ class Copies:
 
 
 def join(folder, guest):
-    """Puts the modules of a program beside those of the one in this folder."""
+    """Adds the modules of a program to those of the program in this folder."""
     for file in (file for part in ("src", "specs", "proofs") for file in (guest / part).rglob("*") if file.is_file()):
         to, text = folder / file.relative_to(guest), file.read_text(encoding="utf-8")
         if file.name == "main.rt":
@@ -145,28 +146,28 @@ def join(folder, guest):
 
 
 def verdict(said, function):
-    """`proved`, `refused`, `let through` where only its own false file fails, or why a check doesn't say which."""
+    """`proved`, `rejected`, `accepted` if only the added false proof file fails, or why the result is unclear."""
     proof = "./proofs/" + function.partition("::")[2].replace("::", "/") + "/"
     lines = said.split("\n")
     own = next((line for line in lines if line.startswith(f"fn {function}: ")), "")
     if own.startswith(f"fn {function}: proved"):
         return "proved"
     if "no proof: " in own and "`search` did not prove" in own:
-        return "refused"
+        return "rejected"
     if own.startswith(f"fn {function}: not proved"):
         errors = [line for line in lines if proof in line and ": error: " in line and not NAMES.search(line)]
         notes = itertools.takewhile(lambda line: not line.startswith("fn "), reversed(lines[:lines.index(own)]))
         goals = [line for line in notes if re.match(r"note: src/.*: it is not proved that ", line)]
         if goals or any(OWN_ERROR not in line for line in errors):
-            return "refused"
+            return "rejected"
         if errors and own.endswith(": not proved"):
-            return "let through"
+            return "accepted"
     return own or next((line for line in lines if ": error: " in line), said[-300:])
 
 
 @pytest.fixture(scope="session")
 def verdicts(request, tmp_path_factory):
-    """verdicts(HOST): what the prover says to each edit of a crate, and of its guests, that was asked for."""
+    """verdicts(HOST): the prover's verdict on each selected edit of a crate and its guests."""
     kit()
     found = {}
 
@@ -176,20 +177,20 @@ def verdicts(request, tmp_path_factory):
             items = [item for item in request.session.items if item.name.startswith("test_edit[")]
             asked = [edit for edit in (item.callspec.params["edit"] for item in items)
                      if edit.host == host and is_tried(edit, request.config)]
-            found[host] = tried(asked, tmp_path_factory.mktemp(host))
+            found[host] = try_edits(asked, tmp_path_factory.mktemp(host))
         return found[host]
 
     return of
 
 
-def tried(edits, room):
+def try_edits(edits, room):
     host = edits[0].host
     below = [] if host in LIBRARIES else LIBRARIES
     wait_for(*below)
     copy = copy_tree(room / "copy", *below)
     folder, crates = copy / "crates" / host, copy / "crates.txt"
     if not below:
-        # It uses no other of these crates, whatever is written there.
+        # The crate doesn't use the others, whatever crates.txt says.
         crates.write_text(re.sub(": getopts$", ":", crates.read_text(), flags=re.M))
     for crate in sorted({edit.crate for edit in edits} - {host}):
         join(folder, folder.parent / crate)
@@ -198,12 +199,12 @@ def tried(edits, room):
     for file, text in copies.files.items():
         (folder / file).write_text(text, encoding="utf-8")
     only = [word for function in functions.values() for word in ("--only", function)]
-    # Those of callers are the last of a run, when processors are free.
+    # Edits of callers come last, when processors are free.
     jobs = os.environ.get("JOBS", "2" if below else "1")
     said = answer("rt", "check", "--jobs", jobs, *only, cwd=folder)[0].decode(errors="replace")
     (room / "said").write_text(said)
     again = set(re.findall(r"^crate (\w+): ", said, re.M)) - {host}
-    assert not again or "CI_LOG" not in os.environ, f"proved again: {again}"
+    assert not again or "CI_LOG" not in os.environ, f"proved again needlessly: {again}"
     return {edit: verdict(said, function) for edit, function in functions.items()}
 
 
@@ -212,7 +213,7 @@ def is_tried(edit, config):
 
 
 def marks(edit):
-    """The edits of a crate are tried by one worker, those of callers once their libraries are proved."""
+    """One worker tries all edits of a crate; edits of callers wait for their libraries to be proved."""
     group = pytest.mark.xdist_group(f"edits of {edit.host}")
     return [group] if edit.crate in LIBRARIES else [group, pytest.mark.built]
 
@@ -220,16 +221,17 @@ def marks(edit):
 @pytest.mark.parametrize("edit", [pytest.param(edit, id=f"{edit.crate}-{edit.name}", marks=marks(edit)) for edit in ALL])
 def test_edit(edit, verdicts, request):
     if not is_tried(edit, request.config):
-        pytest.skip("edits: --quick tries none, and those of private bodies --many alone")
-    assert verdicts(edit.host).get(edit, "the check failed before") == ("proved" if edit.variant == "right" else "refused")
+        pytest.skip("--quick tries no edits, and only --many those in private/")
+    wanted = "proved" if edit.variant == "right" else "rejected"
+    assert verdicts(edit.host).get(edit, "an earlier check failed") == wanted
 
 
 @pytest.mark.parametrize("edit", [pytest.param(edit, id=f"{edit.crate}-{edit.name}")
                                   for edit in ALL if edit.variant == "new"])
-def test_form(edit):
-    """Each text stands where the edit says, and what it adds has an ensures and a right text beside it."""
+def test_edit_is_well_formed(edit):
+    """Each old text occurs where the edit says; functions it adds have an `ensures`, and the edit a right text."""
     edit.applied(ROOT / "crates" / edit.crate)
     functions = dict(re.findall(r"\bfn (\w+)(.*?)(?=\bfn \w|\Z)", edit.texts("new"), re.S))
     for name in functions.keys() - set(re.findall(r"\bfn (\w+)", edit.texts("old"))):
-        assert re.search(r"\bensures\b", functions[name]), f"it adds {name}, which has no ensures"
-        assert edit.texts("right").strip(), f"it adds {name}, and has no right text"
+        assert re.search(r"\bensures\b", functions[name]), f"it adds {name} without an ensures"
+        assert edit.texts("right").strip(), f"it adds {name}, but has no right text"

@@ -1,14 +1,14 @@
-"""The built programs where memory is refused: the first request, then the second, and so on until a run ends with none
-refused, once that one request alone, and once that one and all after it."""
+"""The built programs when allocations fail: the first, then the second, and so on until a run has no failure, once with
+only that failure and once with all later allocations failing too."""
 
 import subprocess
 from pathlib import Path
 
 import pytest
-from conftest import LINES, MACHINE, ROOT, VECTORS, kit, refused_in_turn, run
+from conftest import LINES, MACHINE, ROOT, VECTORS, kit, fail_each_allocation, run
 
 TABLE = "[-v|--verbose]..  say more\n-o|--output FILE  write to FILE\n[-V|--version]!  print it\n[-h|--help]  print this help"
-# The program's own help, a script's help, words, an option that stands alone, a completion script, accepted words.
+# The program's own help, a script's help, parsed words, an option given alone, a completion script, and variables.
 SHELL_LINES = ["-h", "-u backup TABLE", "backup TABLE -h", "backup TABLE -V", "-V o_ backup TABLE -vV",
                "-c zsh backup TABLE", "backup TABLE -vo x y"]
 
@@ -17,31 +17,31 @@ def words_of(line):
     return [TABLE if word == "TABLE" else word for word in line.split()]
 
 
-def test_calls_of_the_library(vectors, refuse):
-    """Each call: the line that was refused is answered again, so that what the call borrowed is as it was."""
+def test_calls_of_the_library(vectors, failing_malloc):
+    """All calls of the library: after a failure the same row is answered again, so what was borrowed is unchanged."""
     rows = VECTORS / "data/refused.rows"
     done = subprocess.run([vectors, rows], stdout=subprocess.PIPE, check=True)
-    assert refused_in_turn(refuse, [vectors, rows], (done.stdout, 3), marks=True) > 600
+    assert fail_each_allocation(failing_malloc, [vectors, rows], (done.stdout, 3), marks=True) > 600
 
 
 @pytest.mark.parametrize("line", LINES[:4])
-def test_getopts_show(show, refuse, line):
-    assert refused_in_turn(refuse, [show, *line.split()])
+def test_getopts_show(show, failing_malloc, line):
+    assert fail_each_allocation(failing_malloc, [show, *line.split()])
 
 
 @pytest.mark.parametrize("line", SHELL_LINES)
-def test_getopts_shell(shell, refuse, line):
-    assert refused_in_turn(refuse, [shell, *words_of(line)])
+def test_getopts_shell(shell, failing_malloc, line):
+    assert fail_each_allocation(failing_malloc, [shell, *words_of(line)])
 
 
 @pytest.fixture(scope="module")
 def static(shell, tmp_path_factory):
-    """The program as a static one of the proved object, whose heap is that of bindings/shell/start.c."""
+    """The proved object linked as a static program, with the heap of bindings/shell/start.c."""
     musl, object_file = Path("/usr/lib/x86_64-linux-musl"), shell.with_suffix(".o")
     if MACHINE != "x86_64" or not (musl / "libc.a").exists():
-        pytest.skip("this isn't x86-64 Linux with musl: apt-get install musl-dev")
+        pytest.skip("needs x86-64 Linux with musl: apt-get install musl-dev")
     if not object_file.exists():
-        pytest.skip("'rt ci' kept the proof of getopts_shell, and no object")
+        pytest.skip("'rt ci' kept the proof of getopts_shell but not its object")
     room = tmp_path_factory.mktemp("static")
     flags = "-O2 -Wall -Wextra -Werror -ffreestanding -nostdinc --target=x86_64-linux-musl -fno-pic -DSTATIC -c".split()
     run(kit() / "toolchain/bin/clang", *flags, ROOT / "tests/memory/refuse.c", "-o", room / "refuse.o")
@@ -53,4 +53,4 @@ def static(shell, tmp_path_factory):
 @pytest.mark.parametrize("line", SHELL_LINES)
 def test_static_getopts_shell(static, shell, line):
     words = words_of(line)
-    assert refused_in_turn(None, [static, *words], like=[shell, *words])
+    assert fail_each_allocation(None, [static, *words], like=[shell, *words])

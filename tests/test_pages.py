@@ -1,8 +1,8 @@
-"""The pages: what they name, quote and state is what the sources, the proofs and the records have. And no module uses one
-that uses it, and scripts, Rust and manual pages are well formed.
+"""The pages: their names, quotes and figures match the sources, the proofs and the records. Also: no circular imports,
+and well-formed scripts, Rust and manual pages.
 
-Each figure of ten or more on a page is counted, measured or recorded (FIGURES). With --fix those that differ are replaced,
-and CONTRACTS.md and PROOFS' table of wrong bodies are written anew.
+Every figure of ten or more on a page is counted, measured or recorded (FIGURES). --fix updates the figures,
+CONTRACTS.md and the table of wrong bodies in PROOFS.
 """
 
 import functools
@@ -29,16 +29,16 @@ sources = {name: read(name) for name in tracked if re.match(r"crates/\w*/src/.*\
 modules = sources | {name: read(name) for name in tracked if re.match(r"bindings/.*\.rs$", name)}
 CALLING, CONTRACTS = (next(name for name in pages if name.endswith(end)) for end in ("CALLING.md", "CONTRACTS.md"))
 edits = {name: read(name) for name in tracked if name.endswith(".edit") and "/private/" not in name}
-ANEW = "'bash test.sh -k pages --fix' writes it anew"
+OUTDATED = "out of date: run 'bash test.sh -k pages --fix'"
 
 
-def none(failures):
+def assert_none(failures):
     failures = list(dict.fromkeys(failures))
     assert not failures, "\n".join(failures)
 
 
-def fix(page, text, request):
-    """With --fix, writes a page anew."""
+def fix_page(page, text, request):
+    """With --fix, updates a page."""
     if request.config.getoption("--fix") and text != pages[page]:
         (ROOT / page).write_text(text, encoding="utf-8")
         pages[page] = text
@@ -46,12 +46,12 @@ def fix(page, text, request):
 
 # ---- figures
 
-INSTRUCTIONS = "Instructions of one turn"
+INSTRUCTIONS = "Instructions per iteration"
 
 
 @functools.cache
 def tables():
-    """The tables of bench/last_run.txt: by their titles and jobs, the figures by the names of their columns."""
+    """The tables of bench/last_run.txt: for each title and job, the figures by column."""
     kept = {}
     for title, heads, rows in re.findall(r"^(.+)\njob (.*)\n((?:.+\n)*)", read("bench/last_run.txt"), re.M):
         columns = re.split(r"\s{2,}", heads.strip())
@@ -65,12 +65,12 @@ def cell(title, job, column):
 
 
 def share(job):
-    """What part of the Rust crate's instructions the drop-in takes, in hundredths."""
+    """The drop-in's instructions as a percentage of the Rust crate's."""
     return f"{100 * int(cell(INSTRUCTIONS, job, 'bindings/rust')) / max(1, int(cell(INSTRUCTIONS, job, 'Rust crate'))):.0f}"
 
 
 def ahead(column, title=INSTRUCTIONS, ours="bindings/rust"):
-    """On which jobs a peer takes fewer instructions than ours."""
+    """The jobs on which a peer needs fewer instructions than ours."""
     both = {job: (int(cells[column].rstrip("*")), int(cells[ours].rstrip("*"))) for (kind, job), cells in tables().items()
             if kind == title and "-" not in (cells[column], cells[ours])}
     fewer = [f"`{job}`" for job, (peers, own) in both.items() if peers < own]
@@ -84,7 +84,7 @@ def megabytes(column):
 
 @functools.cache
 def minutes(command):
-    """The least and the most minutes of a command in tests/times.txt, of processors and by the clock."""
+    """The shortest and longest times of a command in tests/times.txt: processor time and elapsed time, in minutes."""
     rows = [line.rsplit(maxsplit=2) for line in read("tests/times.txt").split("\n") if line and line[0] != "#"]
     spans = []
     for kind in (1, 2):
@@ -95,14 +95,14 @@ def minutes(command):
 
 @functools.cache
 def toolchain():
-    """The toolchain's name, and the sum of the logic that it proves with."""
+    """The toolchain's name, and the checksum of its logic."""
     name, _, logic = run("rt", "version")[0].split() if shutil.which("rt") else ["unknown"] * 3
     return [name, logic]
 
 
-HELD = "Bytes that matches hold"
-PEAK = "The most bytes held at once for reading 100,000 words, above the words and the options"
-# The figures that stand in no table of jobs: a page, a pattern whose groups are figures, and what each has to be.
+HELD = "Bytes that matches take"
+PEAK = "Peak bytes while reading 100,000 words, besides the words and the options"
+# Figures outside the tables of jobs: the page, a pattern whose groups are the figures, and the expected values.
 FIGURES = [
     ("README.md", r"\| ([\d,]+) named wrong bodies", lambda: [str(len(edits))]),
     ("README.md", r"toolchain \(([\w-]+), logic `(\w+)`", toolchain),
@@ -116,7 +116,10 @@ FIGURES = [
        lambda folder=folder: re.findall(r'rust-version = "(.*)"', read(f"bindings/{folder}/Cargo.toml")))
       for folder in ("rust", "c", "shell")),
     ("bindings/c/README.md", r"grows by (\d+) KB", lambda: re.findall(r"grows by (\d+) KB", read("bindings/c/getopts.h"))),
-    ("bench/README.md", r"holds is ([\d.]+) MB here, ([\d.]+) MB in the Rust\s+crate and ([\d.]+) MB",
+    *(("bindings/c/README.md", rf"{words} ([\d,]+)\s+against\s+(?:our )?([\d,]+)",
+       lambda job=job: [f"{int(cell(f'{INSTRUCTIONS} in C', job, column)):,}" for column in ("getopt_long", "bindings/c")])
+      for job, words in {"small": "command lines:", "typical": r"words,\s+and", "long": "takes more,"}.items()),
+    ("bench/README.md", r"peak is ([\d.]+) MB in this library,\s+([\d.]+) MB in\s+the Rust crate and ([\d.]+) MB",
      lambda: [megabytes("this library"), megabytes("Rust crate"), megabytes("bindings/rust")]),
     *(("README.md", rf"`{line}`: ([\d,]+) options, ([\d,]+) ", lambda line=line: [f"{len(part):,}" for part in bench_py.parts(line)])
       for line in ("small", "typical", "rustc", "sub60", "long", "files")),
@@ -132,7 +135,7 @@ FIGURES = [
       for line, words in {"small": "of `small`", "long": "1,000 words", "described": "descriptions"}.items()),
 ]
 
-# What is no figure: versions, rules of the language, the jobs of the bench and the sizes of tests.
+# Numbers that aren't checked: versions, rules of the language, benchmark jobs and sizes of tests.
 NO_FIGURES = re.compile(r"""
     \bU\+\w+ | \b0\.2\.24\b | \d{4}-\d\d-\d\d | Apache-2\.0 | x86-64(-v2)?
     | 1,000\ words | 100,000\ words | 20\ options | 10\ words
@@ -140,7 +143,7 @@ NO_FIGURES = re.compile(r"""
 """, re.X)
 
 def table_figures(page):
-    """The figures in tables of jobs, by the job and the column of each."""
+    """The figures in tables of jobs, with their expected values."""
     columns = []
     for row in re.finditer(r"^\|.*\|$", pages[page], re.M):
         cells = [(row.start() + it.start(1), it[1]) for it in re.finditer(r"(?<=\|) *([^|]*?) *(?=\|)", row[0])]
@@ -154,17 +157,17 @@ def table_figures(page):
 
 
 def figures_of(page):
-    """The figures of a page that are known: where each is, what it is, and what it has to be."""
+    """The known figures of a page: position, text and expected text."""
     yield from table_figures(page)
     for name, pattern, values in FIGURES:
         if name == page:
             it = re.search(pattern, pages[page])
             for group, wanted in enumerate(values(), 1):
-                yield (it.start(group), it[group], wanted) if it else (0, f"nothing for '{pattern}'", wanted)
+                yield (it.start(group), it[group], wanted) if it else (0, f"no match for '{pattern}'", wanted)
 
 
 def unknown_in(page):
-    """The numbers of ten or more in the prose of a page that no check knows."""
+    """The numbers of ten or more in a page's prose that nothing checks."""
     blank = lambda it: " " * len(it[0])
     prose = re.sub(r"^```.*?^```|^    [^\n]*$|`[^`\n]*`|\]\([^)]*\)", blank, pages[page], flags=re.M | re.S)
     prose = list(NO_FIGURES.sub(blank, prose))
@@ -186,10 +189,10 @@ def test_figures(page, request):
     text = pages[page]
     for at, is_now, wanted in sorted(wrong(), reverse=True):
         text = text[:at] + wanted + text[at + len(is_now):] if at else text
-    fix(page, text, request)
-    none([f"{place(at)}: {is_now} has to be {wanted} (what is measured stands in bench/last_run.txt and tests/times.txt)"
-          for at, is_now, wanted in wrong()] +
-         [f"{place(at)}: no check knows the figure {it}" for at, it in unknown_in(page)])
+    fix_page(page, text, request)
+    assert_none([f"{place(at)}: {is_now} should be {wanted} (measured: see bench/last_run.txt and tests/times.txt)"
+                 for at, is_now, wanted in wrong()] +
+         [f"{place(at)}: nothing checks the figure {it}" for at, it in unknown_in(page)])
 
 
 # ---- code
@@ -198,7 +201,7 @@ USE = re.compile(r"^[ \t]*(?:pub )?(?:ghost )?use ([^;{\n]*?)(?:\{([^}]*)\})?;?[
 
 
 def imports_of(text):
-    """The names that a text imports, each with the path that it comes from."""
+    """The names that a text imports, with their paths."""
     names = {}
     for path, several in USE.findall(text):
         front, _, last = path.strip().rpartition("::")
@@ -213,28 +216,28 @@ examples = sources | {name: read(name) for name in tracked if name.startswith("b
 
 
 @pytest.mark.parametrize("page, block", blocks, ids=[f"{page}-{at}" for at, (page, _) in enumerate(blocks)])
-def test_code_of_the_pages(page, block):
-    """Each block stands in a file that is proved or tested, and has the imports that it needs."""
+def test_code_blocks(page, block):
+    """Each block occurs in a file that is proved or tested, and has the imports that it needs."""
     code = USE.sub("", block).strip()
     found = [name for name, text in examples.items() if f"\n{code}\n" in textwrap.dedent(text) or
              textwrap.indent(code, "    ") in text]
-    assert found, "no file has its code"
+    assert found, "no file contains this code"
     here, there = imports_of(block), imports_of(examples[found[0]])
     for name in here | there:
         used = re.search(rf"(?<!\w){re.escape(name.strip('◌'))}(?!\w)", code) is not None
         assert used == (name in here), name
-        assert name not in here or here[name] == there.get(name), f"{found[0]} doesn't import {name} from there"
+        assert name not in here or here[name] == there.get(name), f"{found[0]} doesn't import {name} from that path"
 
 
 # ---- contracts
 
-# A public function with its contract: up to a brace behind its head, or to one below its clauses.
+# A public function with its contract: up to a brace after its signature, or to one below its clauses.
 FUNCTION = re.compile(r"""^(\ *)pub\ fn\ (\w+)
     (?: (?:(?!\n\ *(?:requires|ensures)\ )[\s\S])*? (?=\ \{(?:.*\})?$) | [\s\S]*? (?=\n\1\{\}?$) )""", re.M | re.X)
 
 
 def contracts_in(text):
-    """Each public function of a module's text, with the type that it is of, its name and its contract."""
+    """Each public function of a module: its type if it is a method, its name and its contract."""
     for item in text.split("\n}\n"):
         owner = re.search(r"^impl(?:<[^>]*>)? (?:[\w<>: ]+ for )?(\w+)", item, re.M)
         for it in FUNCTION.finditer(item):
@@ -242,7 +245,7 @@ def contracts_in(text):
 
 
 def contracts():
-    """The public functions of the library with their contracts, in the order of its modules."""
+    """The library's public functions with their contracts, in the order of its modules."""
     root = read("crates/getopts/src/lib.rt")
     public = set(re.findall(r"\w+", " ".join(re.findall(r"^pub use (.*?);", root, re.M | re.S))))
     parts = []
@@ -263,7 +266,7 @@ def clauses_in(text):
 
 
 def imports(text):
-    """The lines that bring the words of the clauses into a file, one a module."""
+    """The `ghost use` lines for the names in the clauses, one per module."""
     words, modules, known = set(re.findall(r"\w+|[^\w\s]+", " ".join(clauses_in(text)))), {}, set()
     for _, source in sorted(it for it in sources.items() if "/getopts/" in it[0]):
         for module, names in re.findall(r"ghost use (Rattle[\w.]*)\.\{([^}]*)\};", source):
@@ -277,25 +280,25 @@ def imports(text):
 
 
 def test_contracts(request):
-    """CONTRACTS.md has the contract of each public function, as the sources have it."""
+    """CONTRACTS.md has the contracts of all public functions, as in the sources."""
     block = f"```text\n{contracts()}\n{imports(contracts())}```"
     wanted = re.sub(r"^```\w+\n.*?^```", lambda _: block, pages[CONTRACTS], flags=re.M | re.S)
-    fix(CONTRACTS, wanted, request)
-    assert pages[CONTRACTS] == wanted, ANEW
+    fix_page(CONTRACTS, wanted, request)
+    assert pages[CONTRACTS] == wanted, OUTDATED
 
 
 def test_offered_lemmas_are_cited():
-    """Some proof imports each lemma that CONTRACTS.md offers."""
+    """Each lemma that CONTRACTS.md offers is imported by some proof."""
     offered = re.search(r"^\*\*Lemmas to cite\*\*.*?\n\n", pages[CONTRACTS], re.M | re.S)[0]
     proofs = "".join(read(name) for name in tracked if re.match(r"crates/\w+/proofs/", name))
     cited = re.findall(r"[\w-]+", " ".join(re.findall(r"^use [\w.]+\{([^}]*)\}", proofs, re.M)))
-    none(f"nothing cites {name}" for name in re.findall(r"`([\w-]+)`", offered) if name not in cited)
+    assert_none(f"nothing cites {name}" for name in re.findall(r"`([\w-]+)`", offered) if name not in cited)
 
 
 # ---- promises
 
 def clauses_of():
-    """The named clauses of each function."""
+    """The names of each function's clauses."""
     clauses = {}
     for text in sources.values():
         for function in re.split(r"\bfn (?=\w)", text)[1:]:
@@ -305,49 +308,49 @@ def clauses_of():
     return clauses
 
 
-def test_promises_have_clauses():
-    """Each function in a table of PROOFS has the clauses that stand beside it."""
-    clauses, lacking = clauses_of(), []
+def test_promised_clauses_exist():
+    """Each function in a table of PROOFS has the clauses listed beside it."""
+    clauses, missing = clauses_of(), []
     for row in re.findall(r"^\|.*\|$", pages["docs/PROOFS.md"], re.M):
         for part in re.split(r"[;|]", re.sub(r"\([^)]*\)", "", row)):
             if it := re.match(r"\s*((?:`\w+`(?:, )?)+|there): ((?:`\w+`(?:, )?)+)", part):
                 for function in re.findall(r"\w+", it[1]) if "`" in it[1] else [it[1]]:
-                    lacking += [f"{function} has no clause {clause}" for clause in re.findall(r"\w+", it[2])
+                    missing += [f"{function} has no clause {clause}" for clause in re.findall(r"\w+", it[2])
                                 if clause not in clauses.get(function, ())]
-    none(lacking)
+    assert_none(missing)
 
 
 # ---- names
 
 @pytest.mark.parametrize("crate", ["getopts", "getopts_show", "getopts_bytes", "getopts_shell"])
 def test_definitions_are_in_the_grammar(crate):
-    """GRAMMAR has each public definition, of getopts_shell each fact."""
+    """GRAMMAR names each public definition; of getopts_shell only the facts."""
     named = set(re.findall(r"`([A-Za-z_][\w-]*)`", pages["docs/GRAMMAR.md"]))
     here = [name for name in tracked if name.startswith(f"crates/{crate}/specs/")]
-    # Modules that stand under private clauses alone have their rules in comments.
+    # The rules of modules that only private clauses cite are in comments.
     order = read(f"crates/{crate}/specs/Lib.antt") if here else ""
     private = re.findall(r"mod (\w+)", order.partition("Cited by private clauses alone")[2]) + ["Held"]
-    # What computes the results is a tool, but for what the clauses cite.
+    # Definitions that compute results are tools, except those that clauses cite.
     tools = set(re.findall(r"[a-z]\w*", read(f"crates/{crate}/specs/Results.antt"))) if crate == "getopts" else set()
-    lacking = []
+    missing = []
     for name in here:
         if not re.match(rf"crates/{crate}/specs/(?:{'|'.join(private)})\b", name):
             for it in re.findall(r"^(?:abbrev |unfoldable )?pub (?:record |data )?([A-Za-z_][\w-]*)", read(name), re.M):
                 passed_over = it in ("mod", "use") or crate == "getopts_shell" and it[0].islower()
                 passed_over |= name.endswith("/Results.antt") and it in tools and not it.endswith("_result")
-                lacking += [] if passed_over or it in named else [f"{it} of {name}"]
-    none(lacking)
+                missing += [] if passed_over or it in named else [f"{it} of {name}"]
+    assert_none(missing)
 
 
 def test_wrong_bodies(request):
-    """PROOFS has each public edit, by crates."""
+    """PROOFS lists every public edit, by crate."""
     crates, page, head = {}, "docs/PROOFS.md", "| crate | wrong bodies |\n|---|---|\n"
     for name in sorted(edits):
         crates.setdefault(name.split("/")[2], []).append(f"`{os.path.basename(name)[:-5]}`")
     rows = [f"| `{crate}` | {', '.join(bodies)} |\n" for crate, bodies in sorted(crates.items())]
     wanted = re.sub(rf"(?<={re.escape(head)})(\|.*\n)*", "".join(rows), pages[page], count=1)
-    fix(page, wanted, request)
-    assert pages[page] == wanted, ANEW
+    fix_page(page, wanted, request)
+    assert pages[page] == wanted, OUTDATED
 
 
 # Names of the toolchain, of Rust and of Debian's packages.
@@ -357,7 +360,7 @@ OTHERS = """Send Sync unicode-width x86-64-v2 POSIXLY_CORRECT optind IFS BASH_EN
 
 @functools.cache
 def words():
-    """The words of the sources, and the names of files."""
+    """The words in the sources, and the file names."""
     found = set(OTHERS.split()) | set(toolchain()) | {part for name in tracked for part in re.split(r"[/.]", name)}
     for name in tracked:
         if re.search(r"\.(rt|antt|rs|c|h|cpp|sh|py|edit|toml|txt|ini|rows)$|/stdin$|^crates.txt$|^HANDLES$", name):
@@ -368,38 +371,38 @@ def words():
 
 @pytest.mark.parametrize("page", pages)
 def test_names_and_links(page):
-    """What a page names in backquotes exists, as a word of the sources or a file; so does what it links to. The folder
-    of the library is copied alone, so its pages link to nothing outside it."""
+    """Every name in backquotes exists as a word in the sources or a file, and every link has its target. The library's
+    folder may be copied alone, so its pages link to nothing outside it."""
     failures, copied = [], "crates/getopts/"
     prose = re.sub(r"^```.*?^```", "", pages[page], flags=re.M | re.S)
     for span in sorted(set(re.findall(r"`([A-Za-z_][\w-]*)`", prose))):
         failures += [] if span in words() else [f"nothing is called {span}"]
     for owner, name in sorted(set(re.findall(r"`([A-Z]\w*)::(\w+)", prose))):
         of_it = [text for text in modules.values() if re.search(rf"\bimpl\b.*\b{owner}\b", text)]
-        failures += [f"no {owner} has {name}"] if of_it and not re.search(rf"\bfn {name}\b", "\n".join(of_it)) else []
+        failures += [f"{owner} has no {name}"] if of_it and not re.search(rf"\bfn {name}\b", "\n".join(of_it)) else []
     for path in sorted(set(re.findall(r"`([\w./-]+\.(?:md|rt|antt|rs|c|h|sh|py|edit|txt))`", prose))):
         there = [path, os.path.normpath(os.path.join(os.path.dirname(page), path))]
         if not any(f"/{it}".endswith(f"/{end}") for it in tracked for end in there):
-            failures.append(f"there is no file {path}")
+            failures.append(f"no such file: {path}")
     for target, heading in re.findall(r"\]\(([^)#]*)#?([^)]*)\)", prose):
         there = os.path.normpath(os.path.join(os.path.dirname(page), target)) if target else page
-        failures += [] if "://" in target or (ROOT / there).exists() else [f"there is no {target}"]
-        failures += [f"{target} isn't copied"] if page.startswith(copied) and not there.startswith(copied) else []
+        failures += [] if "://" in target or (ROOT / there).exists() else [f"no such file: {target}"]
+        failures += [f"{target} isn't in {copied}"] if page.startswith(copied) and not there.startswith(copied) else []
         headings = re.findall(r"^#+ (.*)", pages.get(there, ""), re.M)
         anchors = [re.sub(r"[^\w -]", "", it).lower().replace(" ", "-") for it in headings]
         failures += [] if not heading or heading in anchors else [f"{target} has no heading {heading}"]
-    none(failures)
+    assert_none(failures)
 
 
 # ---- modules
 
 @pytest.mark.parametrize("crate", sorted({name.split("/")[1] for name in sources}))
-def test_no_module_uses_one_that_uses_it(crate):
+def test_no_circular_imports(crate):
     uses = {}
     for name, text in sources.items():
         if (it := re.match(rf"crates/{crate}/src/(\w+)\.rt$", name)) and it[1] not in ("lib", "main"):
             uses[it[1]] = set(re.findall(r"^\s*use crate::(\w+)", text, re.M)) - {it[1]}
-    # It raises an error that names the modules of a circle.
+    # Raises an error that names the modules of a circle.
     graphlib.TopologicalSorter(uses).prepare()
 
 
@@ -417,12 +420,12 @@ def test_shell_scripts():
 
 
 @pytest.mark.parametrize("manifest", [name for name in tracked if name.endswith("/Cargo.toml")])
-def test_rust(manifest):
+def test_rust_format(manifest):
     need("cargo", "rustfmt")
     run("cargo", "fmt", "--check", cwd=(ROOT / manifest).parent)
 
 
 @pytest.mark.parametrize("page", [name for name in tracked if re.search(r"\.\d$", name)])
-def test_manual(page):
+def test_manual_pages(page):
     need("man", "groff")
     assert run("man", "--warnings", "-E", "UTF-8", "-l", ROOT / page)[1] == ""

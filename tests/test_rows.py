@@ -1,13 +1,13 @@
-"""The library's answers to rows of text: by the rows themselves, by a second reader of the rules, and by the Rust crate."""
+"""The library's answers to rows, compared with stored answers, with model.py, and with the Rust crate."""
 
 import functools
 import subprocess
 
 import pytest
 from conftest import ROOT, ROWS, VECTORS, need, run
-from model import held, rows_of
+from model import answer_rows, rows_of
 
-# Lines that can't be answered, and why.
+# Invalid rows, and their errors.
 WRONG = {"nope": "unknown word", "style\tother": "wrong fields", "mode": "wrong fields", "opt_str": "wrong fields",
          "optflag\ta": "wrong fields", "optopt\ta\tall\tall": "wrong fields", "words\ta\\q": "wrong escape",
          "opt\ta\tall\tall\tH\tyess\tmulti": "wrong fields", "opt\ta\tall\tall\tH\tyes\toften": "wrong fields",
@@ -17,7 +17,7 @@ WRONG = {"nope": "unknown word", "style\tother": "wrong fields", "mode": "wrong 
 
 @pytest.fixture
 def compare(vectors, tmp_path):
-    """Compares rows of a text, and returns what the program wrote of them."""
+    """Runs getopts_vectors on rows, and returns its output."""
     def compared(text, status=0):
         (tmp_path / "some.rows").write_bytes(text)
         return run(vectors, "some.rows", status=status, cwd=tmp_path)
@@ -30,19 +30,19 @@ def written(rows):
 
 @functools.cache
 def all_rows():
-    """All rows, with what the rules answer beyond them: each line's canonical line, and each name's positions."""
+    """All rows, and further rows that model.py answers: each canonical line, and the positions of each name."""
     rows = [row for file in ROWS for row in rows_of(file.read_bytes())]
-    asked, given, differ = held(rows)
+    asked, given, differ = answer_rows(rows)
     assert not differ, b"\n  ".join(differ[0]).decode()
     assert given > 5000 and len(asked) > len(rows) + 15_000
     return asked
 
 
-def test_rules_give_the_rows():
+def test_model_matches_stored_rows():
     assert all_rows()
 
 
-def test_rows_and_what_the_rules_ask_beyond(compare):
+def test_rows_of_model(compare):
     assert compare(written(all_rows()))[0].endswith(" 0 differ\n")
 
 
@@ -53,21 +53,21 @@ def test_stored_rows(vectors):
 
 
 @pytest.mark.parametrize("row", WRONG)
-def test_line_that_cannot_be_answered(compare, row):
+def test_invalid_row(compare, row):
     said, why = compare(b"case\tone\n" + row.encode() + b"\n", status=2)
     assert why == f"getopts_vectors: line 2: {WRONG[row]}\n"
 
 
-def test_line_before_the_first_case(compare):
+def test_row_before_first_case(compare):
     assert "line 1: before the first case" in compare(b"opt_str\ta\n", status=2)[1]
 
 
-def test_file_that_is_not_there(vectors):
+def test_missing_file(vectors):
     assert run(vectors, "/nowhere.rows", status=2)[1] == "getopts_vectors: a file can't be read\n"
 
 
-def test_random_cases_by_the_rust_crate(vectors, crate, cases, tmp_path):
-    """The Rust crate answers random cases, and the library has to answer as it does."""
+def test_random_cases_match_rust_crate(vectors, crate, cases, tmp_path):
+    """The library gives the same answers as the Rust crate to random cases."""
     need("cargo", "cc")
     run("bash", ROOT / "tests/differential/build.sh", ROOT / "tests/differential/twin", tmp_path, crate)
     twin = tmp_path / "target/release/twin"

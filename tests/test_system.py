@@ -1,8 +1,8 @@
-"""The built programs on rows of words, and as a system may run them: words that are no text, none at all, and long ones;
-outputs that take nothing, little, or fail in the middle; little memory and little stack.
+"""The built programs on rows of arguments, and under unusual conditions: arguments that aren't UTF-8, none at all, and
+long ones; output that accepts nothing, little, or fails midway; little memory and little stack.
 
-Each run ends with the status that the README gives, never by a signal that the system didn't send, and writes what the
-README says. The program for shell scripts is the one that bindings/shell has for this machine, a static file.
+Every run exits with the status that the README documents, is never killed by a signal that the system didn't send, and
+writes what the README says. The program for shell scripts is the static one in bindings/shell for this machine.
 """
 
 import errno
@@ -13,23 +13,23 @@ import signal
 import subprocess
 
 import pytest
-from conftest import MACHINE, ROOT, preloaded, program, rows_in
+from conftest import MACHINE, ROOT, preload_library, program, rows_in
 
 SHOW = ROOT / "crates/getopts_show/out/getopts_show"
 BUILT = ROOT / "crates/getopts_shell/out/getopts_shell"
 SHELL = ROOT / f"bindings/shell/{MACHINE}/getopts_shell"
 
-# The statuses: shown, refused, want of memory or words that are no text, and output that failed.
-SHOWN, REFUSED, NOTHING, NOT_WRITTEN = 0, 2, 3, 4
-# What the system's loader ends with where it can't begin the program; it says why on standard error.
+# Exit statuses: shown, rejected, out of memory or arguments that aren't UTF-8, and failed output.
+SHOWN, REJECTED, NOTHING, NOT_WRITTEN = 0, 2, 3, 4
+# Exit status of the system's loader if it can't start the program; standard error says why.
 NOT_LOADED = 127
 
 MIB = 1 << 20
 LARGE = 100_000_000
-# The longest word that Linux hands to a program, and its end.
+# The longest argument, without its NUL, that Linux passes to a program.
 LONGEST = 131_071
 LONG_WORDS = ["x" * 100_000] * 15
-FAULT = b"getopts_show: Unrecognized option: 'nope'\n"
+ERROR = b"getopts_show: Unrecognized option: 'nope'\n"
 
 
 @pytest.fixture(autouse=True)
@@ -39,13 +39,13 @@ def built():
 
 @pytest.fixture(scope="module")
 def preload(tmp_path_factory):
-    """What stands between the program and the C library."""
-    return {"LD_PRELOAD": str(preloaded(ROOT / "tests/system/between.c", tmp_path_factory.mktemp("between")))}
+    """A library for LD_PRELOAD that wraps calls to the C library."""
+    return {"LD_PRELOAD": str(preload_library(ROOT / "tests/system/between.c", tmp_path_factory.mktemp("between")))}
 
 
 def run(words=(), program=SHOW, limits=None, closed=(), name=None, stdout=subprocess.PIPE, stderr=subprocess.PIPE,
         environment=None, **how):
-    """Runs a program with some files closed and limits: its status (less than 0 for a signal), and what it wrote."""
+    """Runs a program with closed files and limits: its status (negative for a signal), and its output."""
     def before():
         for which, most in (limits or {}).items():
             resource.setrlimit(which, (most, most))
@@ -61,15 +61,15 @@ def described(text):
     return f"{text[:60]!r} of {len(text)} bytes"
 
 
-def ends(what, ended, status, text):
-    """The run ended with this status, and had written this text."""
+def check(what, ended, status, text):
+    """Checks the status and the output of a run."""
     ended_with, wrote = ended
     assert ended_with == status, f"{what}: {described(wrote)}"
-    assert wrote == text, f"{what}: wrote {described(wrote)}, and not {described(text)}"
+    assert wrote == text, f"{what}: wrote {described(wrote)}, expected {described(text)}"
 
 
-def shown(given=(), free=()):
-    """What the program writes of options, each as its name, the place of its word and its value, and of free words."""
+def output(given=(), free=()):
+    """The output of getopts_show for options (name, position and value of each) and free words."""
     lines = []
     for name in ("output", "help", "verbose", "L", "color"):
         own = [(place, value) for each, place, value in given if each == name]
@@ -81,69 +81,69 @@ def shown(given=(), free=()):
     return "".join(f"{line}\n" for line in lines).encode()
 
 
-V_X = shown([("verbose", 0, None)], ["x"])
+V_X = output([("verbose", 0, None)], ["x"])
 
 
 @pytest.mark.parametrize("row", rows_in("tests/system/answers.rows"), ids=lambda row: " ".join(row[0]))
 def test_row(row):
     (status, *words), text = row
-    ends(words, run(words), int(status), text.encode())
+    check(words, run(words), int(status), text.encode())
 
 
 def test_many_words():
-    ends("200 words", run(["free"] * 200), SHOWN, shown(free=["free"] * 200))
+    check("200 words", run(["free"] * 200), SHOWN, output(free=["free"] * 200))
 
 
-def test_words_that_are_no_text():
+def test_words_not_utf8():
     for word in (b"\xff", b"-o\xc3", b"--\xed\xa0\x80", b"--output=\xc0\x80", b"\xf4\x90\x80\x80"):
         for words in ([word], [b"-v", word, b"x"], [b"-v", b"x", word], [b"--", b"x", word], [b"-o", word],
                       [b"--nope", word], [word, b"--help"]):
-            ends(f"words {words}", run(words), NOTHING, b"")
-    ends("a name that is no text", run(["--nope"], name=b"\xff"), REFUSED, FAULT)
-    ends("a name that is no text, and a word", run(["-v", "x"], name=b"\xc3"), SHOWN, V_X)
+            check(f"words {words}", run(words), NOTHING, b"")
+    check("a program name that isn't UTF-8", run(["--nope"], name=b"\xff"), REJECTED, ERROR)
+    check("a program name that isn't UTF-8, and a word", run(["-v", "x"], name=b"\xc3"), SHOWN, V_X)
 
 
 def test_no_words(preload):
-    ends("no words", run(), SHOWN, shown())
-    ends("an empty name", run(name=b""), SHOWN, shown())
-    ends("no words and no name", run(["-v"], environment={**preload, "NO_WORDS": "1"}), SHOWN, shown())
+    check("no words", run(), SHOWN, output())
+    check("an empty name", run(name=b""), SHOWN, output())
+    check("no words and no name", run(["-v"], environment={**preload, "NO_WORDS": "1"}), SHOWN, output())
 
 
-# What the program for shell scripts is given, and what it answers.
+# Arguments of getopts_shell, and the beginning of its output.
 GIVEN = ["try", "[-v]..  say more\n[-o FILE]  write to FILE", "-vo", "it's"]
 CODE = rb"\set -- '--v' '--o=it'\''s' '--' 'x'" + b"\n"
 
 
 def each(*calls):
-    """Calls of a test, each a program and its words."""
+    """Parametrizes a test by calls: a program and its arguments."""
     return pytest.mark.parametrize("program, words", calls, ids=[f"{call[0].name} {call[1][-1][:9]}" for call in calls])
 
 
 @each((SHOW, ["-v", "x"]), (SHOW, ["--help"]), (SHOW, ["--nope"]), (SHELL, [*GIVEN, "x"]))
-def test_outputs_that_take_nothing(program, words):
-    ends("a closed output", run(words, program, closed=[1], stdout=None), NOT_WRITTEN, b"")
-    ends("all files closed", run(words, program, closed=[0, 1, 2], stdout=None, stderr=None), NOT_WRITTEN, b"")
+def test_output_that_accepts_nothing(program, words):
+    check("a closed output", run(words, program, closed=[1], stdout=None), NOT_WRITTEN, b"")
+    check("all files closed", run(words, program, closed=[0, 1, 2], stdout=None, stderr=None), NOT_WRITTEN, b"")
     with open("/dev/null", "rb") as only_read, open("/dev/full", "wb") as full:
-        ends("an output that is only read", run(words, program, stdout=only_read), NOT_WRITTEN, b"")
-        ends("a full output", run(words, program, stdout=full), NOT_WRITTEN, b"")
+        check("a read-only output", run(words, program, stdout=only_read), NOT_WRITTEN, b"")
+        check("a full output", run(words, program, stdout=full), NOT_WRITTEN, b"")
     for restore in (True, False):
         reader, writer = os.pipe()
         os.close(reader)
-        ends(f"a pipe whose reader is gone, with the signal {'' if restore else 'not '}restored",
-             run(words, program, stdout=writer, restore_signals=restore), NOT_WRITTEN, b"")
+        check(f"a closed pipe, with the signal {'' if restore else 'not '}restored",
+              run(words, program, stdout=writer, restore_signals=restore), NOT_WRITTEN, b"")
         os.close(writer)
 
 
 @each((SHELL, [*GIVEN, "--nope"]), (SHELL, ["try", "-ab"]), (SHELL, ["--nope"]))
-def test_error_streams_that_take_nothing(program, words):
-    ends("a closed error stream", run(words, program, closed=[2], stderr=None), NOT_WRITTEN, b"")
+def test_error_stream_that_accepts_nothing(program, words):
+    check("a closed error stream", run(words, program, closed=[2], stderr=None), NOT_WRITTEN, b"")
     with open("/dev/full", "wb") as full:
-        ends("a full error stream", run(words, program, stderr=full), NOT_WRITTEN, b"")
+        check("a full error stream", run(words, program, stderr=full), NOT_WRITTEN, b"")
 
 
 @each((SHOW, ["-v", "x"]), (SHOW, ["-h"]), (SHELL, [*GIVEN, "x"]), (SHELL, ["-h"]))
-def test_texts_are_written_at_once(program, words):
-    """Each write to such a pipe is a packet, which one read takes."""
+def test_single_write(program, words):
+    """Each write to a pipe with O_DIRECT is a packet, and each read takes one packet."""
     text = run(words, program)[1]
     reader, writer = os.pipe2(os.O_DIRECT)
     run(words, program, stdout=writer)
@@ -155,46 +155,46 @@ def test_texts_are_written_at_once(program, words):
 
 @each((SHOW, ["x" * 200]), (SHELL, [*GIVEN, "x" * 200]))
 @pytest.mark.parametrize("ignored", [True, False])
-def test_a_file_of_so_many_bytes(program, words, ignored, tmp_path):
-    """A limit on the length of files. The system sends a signal where it isn't ignored, as Python ignores it."""
+def test_limited_file_size(program, words, ignored, tmp_path):
+    """With a limit on file sizes. The system sends a signal unless that is ignored, as Python does."""
     text = run(words, program)[1]
     for most in (0, 1, 100, len(text) - 1, len(text)):
         with open(tmp_path / "file", "wb") as file:
             status, said = run(words, program, {resource.RLIMIT_FSIZE: most}, stdout=file, restore_signals=not ignored)
         wanted = SHOWN if most == len(text) else NOT_WRITTEN if ignored else -signal.SIGXFSZ
-        # With the signal not ignored, what fits is written first, and the next write brings it.
-        ends(f"at most {most} bytes", (status, said + (tmp_path / "file").read_bytes()), wanted, text[:most])
+        # If the signal isn't ignored, the first write is cut short, and the next one raises it.
+        check(f"at most {most} bytes", (status, said + (tmp_path / "file").read_bytes()), wanted, text[:most])
 
 
-def test_a_full_pipe():
+def test_full_pipe():
     reader, writer = os.pipe()
     os.set_blocking(writer, False)
     status, _ = run([*GIVEN, *LONG_WORDS], SHELL, stdout=writer)
     os.close(writer)
     with os.fdopen(reader, "rb") as some:
-        ends("static, a pipe that is full", (status, some.read()[:6]), NOT_WRITTEN, CODE[:6])
+        check("static, a full pipe", (status, some.read()[:6]), NOT_WRITTEN, CODE[:6])
 
 
 @pytest.mark.parametrize("program, words, status, text", [
-    (SHOW, ["-v", "x"], SHOWN, V_X), (SHOW, ["--nope"], REFUSED, FAULT),
+    (SHOW, ["-v", "x"], SHOWN, V_X), (SHOW, ["--nope"], REJECTED, ERROR),
     (BUILT, ["x", "[-a]", "-a"], SHOWN, b"\\set -- '--a' '--'\n"),
-    (BUILT, ["x", "[-a]", "-b"], REFUSED, b"x: Unrecognized option: 'b'\nUsage: x [-a]\n")])
-def test_writes_that_take_little_or_fail(program, words, status, text, preload):
+    (BUILT, ["x", "[-a]", "-b"], REJECTED, b"x: Unrecognized option: 'b'\nUsage: x [-a]\n")])
+def test_short_and_failing_writes(program, words, status, text, preload):
     for most in (1, 2, 3, 7, 4096):
-        ends(f"writes of {most} bytes", run(words, program, environment={**preload, "WRITE_MOST": str(most)}), status, text)
+        check(f"writes of {most} bytes", run(words, program, environment={**preload, "WRITE_MOST": str(most)}), status, text)
     for error in (0, errno.EIO, errno.ENOSPC, errno.EAGAIN, errno.EBADF, errno.EPIPE, errno.EINTR):
         fails = {**preload, "WRITE_MOST": "1", "WRITE_ERROR": str(error)}
         for at in range(1, len(text) + 1):
             ended = run(words, program, environment={**fails, "WRITE_AT": str(at)})
-            # A write that was interrupted may be tried again.
+            # An interrupted write may be retried.
             again = error == errno.EINTR and ended == (status, text)
             assert again or ended == (NOT_WRITTEN, text[:at - 1]), f"write {at} fails with error {error}"
 
 
 def test_large_words(preload):
     word = "x" * LONGEST
-    ends("the longest word that the system hands on", run([word]), SHOWN, shown(free=[word]))
-    ends("many long words", run(LONG_WORDS), SHOWN, shown(free=LONG_WORDS))
+    check("the longest word that the system allows", run([word]), SHOWN, output(free=[word]))
+    check("many long words", run(LONG_WORDS), SHOWN, output(free=LONG_WORDS))
     for what, free in (("words", ["x", ""]), ("the longest word", [word]), ("long words", LONG_WORDS),
                        ("many words", ["f"] * 20_000), ("no words", [])):
         status, wrote = run([*GIVEN, *free], SHELL)
@@ -204,18 +204,18 @@ def test_large_words(preload):
         run(["x" * (LONGEST + 1)])
     assert longer.value.errno == errno.E2BIG
     letters = "x" * LARGE
-    for head, text in (("", lambda: shown(free=[letters])), ("--output=", lambda: shown([("output", 0, letters)])),
-                       ("-o", lambda: shown([("output", 0, letters)])),
+    for head, text in (("", lambda: output(free=[letters])), ("--output=", lambda: output([("output", 0, letters)])),
+                       ("-o", lambda: output([("output", 0, letters)])),
                        ("--", lambda: b"getopts_show: Unrecognized option: '" + letters.encode() + b"'\n")):
         given = {**preload, "WORD_BYTES": str(LARGE), "WORD_HEAD": head}
-        ends(f"a word of {head!r} and 100 MB", run(environment=given), REFUSED if head == "--" else SHOWN, text())
+        check(f"a word of {head!r} and 100 MB", run(environment=given), REJECTED if head == "--" else SHOWN, text())
         with open("/dev/full", "wb") as full:
-            ends("the same to a full output", run(environment=given, stdout=full), NOT_WRITTEN, b"")
+            check("the same with a full output", run(environment=given, stdout=full), NOT_WRITTEN, b"")
 
 
-def with_little(what, limits, status, text, **how):
-    """Runs with each limit on memory, from the least up. With too little the system can't begin the program, and
-    nothing is written; with more it says want of memory and writes nothing; with enough it is as ever."""
+def try_limits(what, limits, status, text, **how):
+    """Runs with increasing limits on memory. With too little, the system can't start the program, and nothing is
+    written; with more, the program reports that it is out of memory, and writes nothing; with enough, it works."""
     begun = enough = 0
     for most in limits:
         try:
@@ -226,23 +226,23 @@ def with_little(what, limits, status, text, **how):
         enough += ended == (status, text)
         right = ended in ((NOTHING, b""), (status, text)) or (not begun and not ended[1])
         assert right, f"{what} in {most} bytes: status {ended[0]}, wrote {described(ended[1])}"
-    assert 0 < enough < begun, f"{what}: enough {enough} times of {begun} that it began"
+    assert 0 < enough < begun, f"{what}: started {begun} times, with enough memory {enough} times"
 
 
 def test_little_memory(preload):
-    with_little("long words", range(MIB // 4, 20 * MIB, MIB // 4), SHOWN, shown(free=LONG_WORDS), words=LONG_WORDS)
-    with_little("a fault", range(MIB // 8, 4 * MIB, MIB // 32), REFUSED, FAULT, words=["--nope"])
-    with_little("a word of 100 MB", range(200 * MIB, 900 * MIB, 50 * MIB), SHOWN, shown([("output", 0, "x" * LARGE)]),
-                environment={**preload, "WORD_BYTES": str(LARGE), "WORD_HEAD": "-o"})
-    with_little("static, words", range(MIB // 8, MIB, 4096), SHOWN, CODE, words=[*GIVEN, "x"], program=SHELL)
-    with_little("static, long words", range(MIB // 4, 20 * MIB, MIB // 4), SHOWN, run([*GIVEN, *LONG_WORDS], SHELL)[1],
-                words=[*GIVEN, *LONG_WORDS], program=SHELL)
+    try_limits("long words", range(MIB // 4, 20 * MIB, MIB // 4), SHOWN, output(free=LONG_WORDS), words=LONG_WORDS)
+    try_limits("an error", range(MIB // 8, 4 * MIB, MIB // 32), REJECTED, ERROR, words=["--nope"])
+    try_limits("a word of 100 MB", range(200 * MIB, 900 * MIB, 50 * MIB), SHOWN, output([("output", 0, "x" * LARGE)]),
+               environment={**preload, "WORD_BYTES": str(LARGE), "WORD_HEAD": "-o"})
+    try_limits("static, words", range(MIB // 8, MIB, 4096), SHOWN, CODE, words=[*GIVEN, "x"], program=SHELL)
+    try_limits("static, long words", range(MIB // 4, 20 * MIB, MIB // 4), SHOWN, run([*GIVEN, *LONG_WORDS], SHELL)[1],
+               words=[*GIVEN, *LONG_WORDS], program=SHELL)
 
 
 @pytest.mark.parametrize("program, words, text, sizes", [
     (SHOW, ["-v", "x"], V_X, (16, 24, 32, 48, 64, 96, 128, 256, 1024)), (SHELL, [*GIVEN, "x"], CODE, (16, 32, 64, 256)),
-    (SHOW, ["f"] * 20_000, shown(free=["f"] * 20_000), (2048, 4096, 8192))], ids=["show", "shell", "many words"])
+    (SHOW, ["f"] * 20_000, output(free=["f"] * 20_000), (2048, 4096, 8192))], ids=["show", "shell", "many words"])
 def test_little_stack(program, words, text, sizes):
-    """Limits on the stack. What the words themselves take of it the system asks for before the program begins."""
+    """Limits on the stack. The system itself puts the arguments there before the program starts."""
     for kib in sizes:
-        ends(f"a stack of {kib} KiB", run(words, program, {resource.RLIMIT_STACK: kib * 1024}), SHOWN, text)
+        check(f"a stack of {kib} KiB", run(words, program, {resource.RLIMIT_STACK: kib * 1024}), SHOWN, text)

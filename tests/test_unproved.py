@@ -1,4 +1,4 @@
-"""Without any proof: programs with their stored arguments, which `rt ci` runs proved, and getopts_show over writers."""
+"""Tests without proofs: programs with their stored arguments, which `rt ci` runs proved, and getopts_show's writers."""
 
 import json
 import subprocess
@@ -8,40 +8,40 @@ from conftest import ROOT, VECTORS, need, rows_in, run
 from test_rows import all_rows, written
 
 CRATES = sorted(path.parent.name for path in (ROOT / "crates").glob("*/src"))
-# The rows of getopts_vectors take longer unproved: test_rows has what is short.
+# The rows of getopts_vectors take longer unproved: test_rows runs the short ones.
 PROGRAMS = [crate for crate in CRATES if (ROOT / f"crates/{crate}/stdout").exists() and crate != "getopts_vectors"]
 
 
 @pytest.fixture
 def unproved(request):
     if not request.config.getoption("--quick"):
-        pytest.skip("what is unproved: only with --quick; 'rt ci' runs it proved")
+        pytest.skip("runs only with --quick; 'rt ci' runs the proved program")
     need("rt")
 
 
-def tried(crate, *words, status=0):
-    """What `rt try` writes in a crate."""
+def rt_try(crate, *words, status=0):
+    """The output of `rt try` in a crate."""
     return run("nice", "rt", "try", *words, status=status, cwd=ROOT / "crates" / crate, stdin=subprocess.DEVNULL)
 
 
 @pytest.mark.parametrize("crate", PROGRAMS)
 def test_program(crate, unproved):
-    """The program writes what is stored, in a folder with its data."""
+    """The program's output matches the stored one."""
     folder = ROOT / "crates" / crate
     words = (folder / "args").read_text().splitlines() if (folder / "args").exists() else []
     words = [folder / "data" / word if (folder / "data" / word).is_file() else word for word in words]
     status = int((folder / "status").read_text()) if (folder / "status").exists() else 0
-    assert tried(crate, "--", *words, status=status)[0] == (folder / "stdout").read_text()
+    assert rt_try(crate, "--", *words, status=status)[0] == (folder / "stdout").read_text()
 
 
 def test_rows(tmp_path, unproved):
-    """The rows, and what the rules ask beyond them. The large rows take minutes unproved."""
+    """All rows except the large ones, which would take minutes unproved."""
     (tmp_path / "beyond.rows").write_bytes(written(all_rows()))
-    said, _ = tried("getopts_vectors", "--", tmp_path / "beyond.rows", VECTORS / "data/refused.rows")
+    said, _ = rt_try("getopts_vectors", "--", tmp_path / "beyond.rows", VECTORS / "data/refused.rows")
     assert said.count(" 0 differ\n") == 2
 
 
-# `show` over writers in memory, a test for each. {ROWS} are rows of words, their text and their status.
+# Tests of `show` with writers in memory. {ROWS} are arguments with the expected text and status.
 WRITERS = """
 #[cfg(test)]
 mod writers {
@@ -52,8 +52,7 @@ mod writers {
 
     const ROWS: &[(&[&str], &str, u8)] = &[{ROWS}];
 
-    /// What it holds, how many bytes it takes at a time, how often it was written to, which write fails, and whether
-    /// the flush does.
+    /// A writer that takes at most so many bytes at once. One write may fail, and the flush.
     #[derive(Drop)]
     struct Memory {
         held: Vec<u8>,
@@ -82,7 +81,7 @@ mod writers {
         }
     }
 
-    /// Each row ends with this status, or else with its own and with its text in the writer.
+    /// Checks that each row ends with the status `failed`, or with its own and its text in the writer.
     fn shows(
         rt: &(impl Abort + AllocGlobal),
         most: usize,
@@ -100,14 +99,14 @@ mod writers {
     }
 {TESTS}}
 """
-# How many bytes a writer takes, which write fails (0: none), whether the flush does, and a status that isn't the row's.
+# How many bytes a writer takes, which write fails (0: none), whether the flush fails, and the status of a failure.
 KINDS = {"takes_all": "usize::MAX, 0, false, None", "takes_one_byte": "1, 0, false, None",
          "first_write_fails": "usize::MAX, 1, false, Some(4)", "third_write_fails": "1, 3, false, Some(4)",
          "takes_no_byte": "0, 0, false, Some(4)", "flush_fails": "usize::MAX, 0, true, Some(4)"}
 
 
 def test_writers(copy):
-    """`show` ends with 4 where a write or the flush of its writer fails, and else has written its text."""
+    """`show` returns 4 if a write or the flush of its writer fails, and otherwise writes all of its text."""
     need("rt")
     texts = lambda *all: ", ".join(json.dumps(text, ensure_ascii=False) for text in all)
     rows = "".join(f"(&[{texts(*words)}], {texts(text)}, {status}), "

@@ -2,17 +2,17 @@
 # Builds a package that uses the crate getopts, in a folder outside the repository.
 # usage: build.sh PACKAGE OUT [GETOPTS]
 #   PACKAGE   tests/differential/twin or bench/peers
-#   OUT       where it is built; what was built there is kept for the next time
-#   GETOPTS   a folder with that crate; without it cargo takes 0.2.24 from the public registry
+#   OUT       the folder to build in; later builds reuse what is there
+#   GETOPTS   a folder with the crate; without it cargo takes 0.2.24 from the public registry
 #
-# Where GETOPTS is given, Debian's packages stand in for the public registry if they have all that is needed. CARGO_FLAGS
-# are handed to cargo.
+# With GETOPTS, Debian's packages replace the public registry if they include all dependencies. CARGO_FLAGS are passed
+# to cargo.
 set -euo pipefail
 if [ $# -lt 2 ] || [ $# -gt 3 ]; then
     echo 'usage: tests/differential/build.sh PACKAGE OUT [GETOPTS]' >&2
     exit 2
 fi
-command -v cargo >/dev/null || { echo 'tests/differential/build.sh: there is no cargo on the path' >&2; exit 2; }
+command -v cargo >/dev/null || { echo 'tests/differential/build.sh: cargo not found' >&2; exit 2; }
 mkdir -p "$2/.cargo"
 cp -r "$1/." "$2"
 read -r -a flags <<<"${CARGO_FLAGS:-}"

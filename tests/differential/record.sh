@@ -1,6 +1,6 @@
 #!/usr/bin/env bash
-# Records rows of getopts_vectors from the Rust crate: chooses cases, and writes them with what the crate answers to
-# them. Nothing of this repository's library has a part in it.
+# Records rows for getopts_vectors: chooses cases, and stores them with the Rust crate's answers. This repository's
+# library isn't involved.
 # usage: record.sh [GETOPTS], a folder with the Rust crate; without it cargo takes 0.2.24 from the public registry
 set -euo pipefail
 here=$(cd "$(dirname "$0")" && pwd)

@@ -1,10 +1,9 @@
-/* Refuses requests for memory. It is loaded before the C library, by LD_PRELOAD; or, with STATIC, it stands in a static
+/* Makes allocations fail. It is loaded before the C library, by LD_PRELOAD; with STATIC, it is linked into a static
  * program before the heap of bindings/shell/start.c, by --wrap.
  *
- * Counted are all requests of the program, or, with REFUSE_MARKS=1, those between a request of BEFORE
- * bytes and one of AFTER bytes. The request whose number is REFUSE_AT is refused, and with REFUSE_ON=1
- * all after it too. At the end of the program a line on standard error says how many requests were
- * refused, and how many marks were met. */
+ * It counts all allocations of the program; with REFUSE_MARKS=1, only those between a request for BEFORE bytes and one
+ * for AFTER bytes. The allocation with the number REFUSE_AT fails; with REFUSE_ON=1, all later ones fail too. When the
+ * program ends, a line on standard error says how many allocations failed, and how many marks there were. */
 
 typedef unsigned long size;
 
@@ -28,7 +27,7 @@ static size number_in(const char *name) {
     return number;
 }
 
-/* Before this no request is counted. */
+/* Earlier allocations aren't counted. */
 __attribute__((constructor)) static void begin(void) {
     at = number_in("REFUSE_AT");
     keeps_on = number_in("REFUSE_ON") == 1;
@@ -36,7 +35,7 @@ __attribute__((constructor)) static void begin(void) {
     counting = !marked;
 }
 
-static int refuses(size bytes) {
+static int fails(size bytes) {
     if (marked && (bytes == BEFORE || bytes == AFTER)) {
         counting = bytes == BEFORE;
         marks++;
@@ -63,14 +62,14 @@ struct block __wrap_rattle_alloc(size bytes, size alignment);
 struct block __wrap_rattle_realloc(void *place, size kept, size bytes, size alignment);
 
 struct block __wrap_rattle_alloc(size bytes, size alignment) {
-    return refuses(bytes) ? (struct block){ 0, &at } : __real_rattle_alloc(bytes, alignment);
+    return fails(bytes) ? (struct block){ 0, &at } : __real_rattle_alloc(bytes, alignment);
 }
 
 struct block __wrap_rattle_realloc(void *place, size kept, size bytes, size alignment) {
-    return refuses(bytes) ? (struct block){ 0, &at } : __real_rattle_realloc(place, kept, bytes, alignment);
+    return fails(bytes) ? (struct block){ 0, &at } : __real_rattle_realloc(place, kept, bytes, alignment);
 }
 
-/* glibc's names, for which the object asks that `rt ci` builds: it looks for features of the processor. */
+/* Names of glibc that the object built by `rt ci` needs: it queries the processor's features. */
 const void *__x86_get_cpuid_feature_leaf(unsigned leaf);
 long __write(int file, const void *bytes, size count);
 
@@ -85,19 +84,19 @@ long __write(int file, const void *bytes, size count) {
 }
 #else
 void *malloc(size bytes) {
-    return refuses(bytes) ? 0 : __libc_malloc(bytes);
+    return fails(bytes) ? 0 : __libc_malloc(bytes);
 }
 
 void *calloc(size count, size bytes) {
-    return refuses(count * bytes) ? 0 : __libc_calloc(count, bytes);
+    return fails(count * bytes) ? 0 : __libc_calloc(count, bytes);
 }
 
 void *realloc(void *place, size bytes) {
-    return refuses(bytes) ? 0 : __libc_realloc(place, bytes);
+    return fails(bytes) ? 0 : __libc_realloc(place, bytes);
 }
 
 void *aligned_alloc(size alignment, size bytes) {
-    return refuses(bytes) ? 0 : __libc_memalign(alignment, bytes);
+    return fails(bytes) ? 0 : __libc_memalign(alignment, bytes);
 }
 
 int posix_memalign(void **place, size alignment, size bytes) {

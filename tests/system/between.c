@@ -1,9 +1,9 @@
-/* Stands between a program and the C library, by LD_PRELOAD.
+/* Wraps calls of the C library, by LD_PRELOAD.
  *
- * WRITE_MOST=N: a write takes at most N bytes. WRITE_AT=N: the Nth write takes nothing, and fails with the
- * error WRITE_ERROR; with the error 0 it answers that it took no byte.
- * WORD_BYTES=N: the program is given its own name and one word, WORD_HEAD and then N times the letter x.
- * NO_WORDS=1: it is given no words at all, and no name. */
+ * WRITE_MOST=N: a write accepts at most N bytes. WRITE_AT=N: the Nth write fails with the error WRITE_ERROR; if that
+ * is 0, it returns 0 bytes instead.
+ * WORD_BYTES=N: the program gets its own name and one argument, WORD_HEAD followed by N times the letter x.
+ * NO_WORDS=1: it gets no arguments, not even its name. */
 
 typedef unsigned long size;
 typedef int main_of(int count, char **words, char **environment);
@@ -41,7 +41,7 @@ long write(int file, const void *bytes, size count) {
     return __write(file, bytes, count < most ? count : most);
 }
 
-/* The word: its head, and then the letters. */
+/* The argument: its head, then the letters. */
 static char *long_word(size bytes) {
     const char *head = getenv("WORD_HEAD");
     char *word = malloc(MOST_HEAD + bytes + 1), *end = word;
@@ -55,8 +55,7 @@ static char *long_word(size bytes) {
     return word;
 }
 
-/* The words that the program is given in place of its own, and after them the environment, as the system has
- * them. */
+/* The arguments that the program gets instead of its own, followed by the environment, as the system lays them out. */
 static char *given[MOST_WORDS];
 
 static int give(char **words) {

@@ -1,5 +1,5 @@
-/* Tests bindings/shell/start.c: that each of its functions does what Rattle's crates `os` and `libc` declare of it. It is
- * linked with --wrap=main, as a program is, and run with the words "" and "three". */
+/* Tests bindings/shell/start.c: its functions have to do what Rattle's crates `os` and `libc` declare. It is linked
+ * with --wrap=main, like a program, and run with the arguments "" and "three". */
 #define _DEFAULT_SOURCE
 #include "../../bindings/shell/start.h"
 
@@ -19,7 +19,7 @@ static void expect(bool holds, const char *what) {
         printf("FAILED: %s\n", what);
 }
 
-/* Words, in buffers of each length up to some more than they need. */
+/* Reads arguments into buffers of various lengths, up to more than needed. */
 static void words(void) {
     static const char *const given[] = { "", "three" };
     for (size_t nth = 0; nth < 2; nth++)
@@ -30,7 +30,7 @@ static void words(void) {
             memset(wanted, '.', sizeof wanted);
             memcpy(wanted, given[nth], whole < len ? whole : len);
             expect(rattle_arg(nth + 1, buffer, len) == (whole <= len ? (ssize_t)whole : -2), "the length of a word");
-            expect(memcmp(buffer, wanted, sizeof buffer) == 0, "a word, or its front in a buffer that is full");
+            expect(memcmp(buffer, wanted, sizeof buffer) == 0, "a word, or as much of it as fits");
         }
     unsigned char none = '.';
     expect(rattle_arg(3, &none, 1) == -1 && rattle_arg(SIZE_MAX, &none, 1) == -1 && none == '.', "no such word");
@@ -39,15 +39,15 @@ static void words(void) {
 static void errors_and_signals(void) {
     int ends[2];
     rattle_set_errno(EBADF);
-    expect(rattle_errno() == EBADF && errno == EBADF, "the error that was set");
-    expect(__sysv_signal(SIGPIPE, SIG_IGN) == SIG_DFL && __sysv_signal(SIGPIPE, SIG_IGN) == SIG_IGN, "the handler before");
+    expect(rattle_errno() == EBADF && errno == EBADF, "errno after it was set");
+    expect(__sysv_signal(SIGPIPE, SIG_IGN) == SIG_DFL && __sysv_signal(SIGPIPE, SIG_IGN) == SIG_IGN, "the old handler");
     expect(pipe(ends) == 0 && close(ends[0]) == 0, "a pipe");
-    expect(write(ends[1], "x", 1) == -1 && rattle_errno() == EPIPE, "a write to a pipe without reader");
+    expect(write(ends[1], "x", 1) == -1 && rattle_errno() == EPIPE, "a write to a pipe without a reader");
     close(ends[1]);
 }
 
-/* Blocks that are alive, each with a byte that it is filled with. */
-enum { BLOCKS = 200, TURNS = 200000 };
+/* Allocated blocks, each with the byte that fills it. */
+enum { BLOCKS = 200, STEPS = 200000 };
 
 static struct {
     unsigned char *at, fill;
@@ -66,8 +66,8 @@ static bool is_filled(const unsigned char *at, unsigned char fill, size_t size) 
     return size == 0 || (at[0] == fill && memcmp(at, at + 1, size - 1) == 0);
 }
 
-/* One block is made, grown, made smaller or freed; it keeps its bytes, and no other changes them. */
-static void turn(void) {
+/* Allocates, grows, shrinks or frees one block; nothing else may change its bytes. */
+static void step(void) {
     size_t nth = below(BLOCKS), size = below(100) > 0 ? below(below(20) > 0 ? 200 : 20000) : below(1000000);
     unsigned char *old = blocks[nth].at, fill = (unsigned char)below(256);
     expect(old == NULL || is_filled(old, blocks[nth].fill, blocks[nth].size), "the bytes of a block");
@@ -81,19 +81,19 @@ static void turn(void) {
     expect(got.ok && (uintptr_t)got.block % 16 == 0, "a block");
     if (!got.ok)
         return;
-    expect(is_filled(got.block, blocks[nth].fill, kept), "what is kept of a block");
+    expect(is_filled(got.block, blocks[nth].fill, kept), "the kept bytes of a block");
     memset(got.block, fill, size);
     blocks[nth].at = got.block, blocks[nth].fill = fill, blocks[nth].size = size;
 }
 
-/* What can't be had is refused, and leaves the block as it was. */
+/* Allocations that are too large fail, and leave the block unchanged. */
 static void too_much(void) {
     static const size_t sizes[] = { (size_t)1 << 47, ((size_t)1 << 62) - 16, (size_t)1 << 62, SIZE_MAX / 2 };
     struct block block = rattle_alloc(10, 1);
     memset(block.block, 'x', 10);
     for (size_t nth = 0; nth < sizeof sizes / sizeof *sizes; nth++) {
         struct block none = rattle_alloc(sizes[nth], 16), same = rattle_realloc(block.block, 10, sizes[nth], 16);
-        expect(!none.ok && none.block != NULL && !same.ok && same.block != NULL, "more than there is");
+        expect(!none.ok && none.block != NULL && !same.ok && same.block != NULL, "more memory than there is");
         expect(is_filled(block.block, 'x', 10), "the block that couldn't grow");
     }
     rattle_dealloc(block.block);
@@ -102,13 +102,13 @@ static void too_much(void) {
 int main(void) {
     words();
     errors_and_signals();
-    for (size_t nth = 0; nth < TURNS; nth++)
-        turn();
+    for (size_t nth = 0; nth < STEPS; nth++)
+        step();
     too_much();
-    /* What was freed serves again: otherwise this would take a terabyte. */
+    /* Freed memory is reused: otherwise this would need a terabyte. */
     for (size_t nth = 0; nth < 1000000; nth++) {
         struct block block = rattle_alloc(1000000, 1);
-        expect(block.ok, "a block that was freed");
+        expect(block.ok, "reusing a freed block");
         rattle_dealloc(block.block);
     }
     if (failed == 0)

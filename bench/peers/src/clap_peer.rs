@@ -6,8 +6,8 @@ use std::ffi::OsString;
 
 const FREE: &str = "free";
 
-/// Declares the options, reads the words, and adds up each count and value and the free words.
-pub fn turn(input: &Input, words: Vec<OsString>) -> usize {
+/// Declares the options, parses the words, and adds up all counts and the lengths of values and free words.
+pub fn iteration(input: &Input, words: Vec<OsString>) -> usize {
     let matches = command(&input.options).get_matches_from(words);
     let mut sum = lengths(&matches, FREE).sum::<usize>();
     for option in &input.options {

@@ -1,13 +1,13 @@
 //! The Rust crate `getopts`.
 
 use crate::input::{Input, Kind, Named};
-use crate::turns;
+use crate::iterations;
 use getopts::{Matches, Options};
 use std::hint::black_box;
 
 const BRIEF: &str = "Usage: getopts_show [options] FILE";
 
-/// The sum of a job's turns.
+/// The sum of a job's iterations.
 pub fn run(job: &str, input: &Input, times: usize) -> Option<usize> {
     match job {
         "whole" => return Some(whole(input, times, taken)),
@@ -18,9 +18,9 @@ pub fn run(job: &str, input: &Input, times: usize) -> Option<usize> {
     }
     let options = declared(&input.options);
     match job {
-        "read" => Some(turns(times, || matches_of(&options, &input.words).free.len())),
+        "read" => Some(iterations(times, || matches_of(&options, &input.words).free.len())),
         "equal" => Some(equal(&options, &input.words, times)),
-        "usage" => Some(turns(times, || options.usage(BRIEF).len())),
+        "usage" => Some(iterations(times, || options.usage(BRIEF).len())),
         "defined" => Some(counted(&options, input, times, Matches::opt_defined)),
         "asked" => Some(counted(&options, input, times, Matches::opt_present)),
         "held" => Some(held(&options, &input.words, times)),
@@ -29,7 +29,7 @@ pub fn run(job: &str, input: &Input, times: usize) -> Option<usize> {
 }
 
 fn whole(input: &Input, times: usize, taken: impl Fn(&Matches, &[Named]) -> usize) -> usize {
-    turns(times, || {
+    iterations(times, || {
         let matches = matches_of(&declared(&input.options), &input.words);
         taken(&matches, &input.options)
     })
@@ -38,10 +38,10 @@ fn whole(input: &Input, times: usize, taken: impl Fn(&Matches, &[Named]) -> usiz
 fn equal(options: &Options, words: &[String], times: usize) -> usize {
     let (first, second) = words.split_at(words.len() / 2);
     let (matches, others) = (matches_of(options, first), matches_of(options, second));
-    turns(times, || usize::from(black_box(&matches) == black_box(&others)))
+    iterations(times, || usize::from(black_box(&matches) == black_box(&others)))
 }
 
-/// How many names the call answers with yes.
+/// The number of names for which the call returns true.
 fn counted(
     options: &Options,
     input: &Input,
@@ -49,12 +49,14 @@ fn counted(
     call: fn(&Matches, &str) -> bool,
 ) -> usize {
     let matches = matches_of(options, &input.words);
-    turns(times, || input.options.iter().filter(|option| call(&matches, option.main())).count())
+    iterations(times, || {
+        input.options.iter().filter(|option| call(&matches, option.main())).count()
+    })
 }
 
 fn held(options: &Options, words: &[String], times: usize) -> usize {
     let mut kept = Vec::with_capacity(times);
-    turns(times, || {
+    iterations(times, || {
         let matches = matches_of(options, words);
         let count = matches.free.len();
         kept.push(matches);
@@ -62,7 +64,7 @@ fn held(options: &Options, words: &[String], times: usize) -> usize {
     })
 }
 
-/// Options by these names, which may come any number of times but for the last kind.
+/// Options with these names, all repeatable except the last kind.
 fn declared(named: &[Named]) -> Options {
     let mut options = Options::new();
     for option in named {
@@ -76,10 +78,10 @@ fn declared(named: &[Named]) -> Options {
 }
 
 fn matches_of(options: &Options, words: &[String]) -> Matches {
-    options.parse(words).expect("the line is accepted")
+    options.parse(words).expect("the line is valid")
 }
 
-/// What matches give, added up, by calls that copy the values.
+/// Adds up the matches with calls that copy the values.
 fn copied(matches: &Matches, named: &[Named]) -> usize {
     let mut sum = total_length(&matches.free);
     for option in named {
@@ -89,7 +91,7 @@ fn copied(matches: &Matches, named: &[Named]) -> usize {
     sum
 }
 
-/// The Rust crate has no calls that lend the values.
+/// The Rust crate has no calls that borrow the values.
 #[cfg(not(feature = "over_ours"))]
 use copied as taken;
 #[cfg(feature = "over_ours")]
@@ -99,14 +101,14 @@ fn total_length(texts: &[String]) -> usize {
     texts.iter().map(String::len).sum()
 }
 
-/// What stands in for the Rust crate alone has.
+/// Calls that only the replacement of the Rust crate has.
 #[cfg(feature = "over_ours")]
 mod over_ours {
-    use super::{declared, total_length, turns};
+    use super::{declared, iterations, total_length};
     use crate::input::{Input, Named};
     use getopts::Matches;
 
-    /// What matches give, added up, by a call that lends the values.
+    /// Adds up the matches with a call that borrows the values.
     pub fn taken(matches: &Matches, named: &[Named]) -> usize {
         let mut sum = total_length(&matches.free);
         for option in named {
@@ -117,11 +119,11 @@ mod over_ours {
         sum
     }
 
-    /// Turns that declare the options, read the words as words of any bytes, and take what they give.
+    /// Each iteration declares the options, parses the words as `OsString`s, and takes counts and values.
     pub fn os(input: &Input, times: usize) -> usize {
         let words = input.owned_words();
-        turns(times, || {
-            let matches = declared(&input.options).parse_os(&words).expect("the line is accepted");
+        iterations(times, || {
+            let matches = declared(&input.options).parse_os(&words).expect("the line is valid");
             let mut sum = matches.free.iter().map(|word| word.len()).sum();
             for option in &input.options {
                 for (_, value) in matches.occurrences(option.main()) {

@@ -1,4 +1,4 @@
-//! What the jobs declare and read: the same rows as `getopts_bench` reads.
+//! The options and words of the jobs, from the same rows as `getopts_bench`.
 
 use std::ffi::OsString;
 
@@ -10,18 +10,18 @@ pub enum Kind {
     Maybe,
 }
 
-/// An option to declare. All forms of its names are made beforehand, so that no turn has to make them.
+/// An option to declare. All forms of its names are prepared before the first iteration.
 pub struct Named {
     pub short: &'static str,
     pub long: &'static str,
     pub desc: &'static str,
     pub hint: &'static str,
-    /// The names with their dashes. A name that isn't there has no more than the dashes.
+    /// The names with their dashes. A missing name is only the dashes.
     pub dashed: [&'static str; 2],
-    /// A name of its own for the peer that asks for one.
+    /// A unique name, for the peer that needs one.
     pub id: &'static str,
     pub kind: Kind,
-    /// Whether it comes more than once among the words.
+    /// Whether it occurs more than once in the words.
     pub again: bool,
 }
 
@@ -46,13 +46,13 @@ impl Named {
         self.kind == Kind::Flag
     }
 
-    /// Whether a word gives the option, where none stands in a cluster behind another.
+    /// Whether a word gives the option, assuming that no option follows another in a cluster.
     fn is_given_by(&self, word: &str) -> bool {
         let [short, long] = self.dashed;
         !self.short.is_empty() && word.starts_with(short) || word.split('=').next() == Some(long)
     }
 
-    /// The long name where there is one, else the short name.
+    /// The long name if there is one, else the short name.
     pub fn main(&self) -> &'static str {
         if self.long.is_empty() {
             self.short
@@ -62,12 +62,12 @@ impl Named {
     }
 }
 
-/// The text, for as long as the program runs.
+/// The text, leaked so that it lives as long as the program.
 fn kept(text: String) -> &'static str {
     Box::leak(text.into_boxed_str())
 }
 
-/// Options to declare, and the words to read by them.
+/// Options to declare, and words to parse.
 #[derive(Default)]
 pub struct Input {
     pub options: Vec<Named>,
@@ -75,7 +75,7 @@ pub struct Input {
 }
 
 impl Input {
-    /// The options and the words of a file of rows.
+    /// Reads options and words from a file of rows.
     pub fn of(rows: &str) -> Option<Input> {
         let mut input = Input::default();
         for row in kept(std::fs::read_to_string(rows).ok()?).lines() {
@@ -95,7 +95,7 @@ impl Input {
         Some(input)
     }
 
-    /// The words, for a peer that takes them.
+    /// A copy of the words, for a peer that consumes them.
     pub fn owned_words(&self) -> Vec<OsString> {
         self.words.iter().map(OsString::from).collect()
     }

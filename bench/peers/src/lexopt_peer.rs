@@ -1,19 +1,19 @@
-//! The crate `lexopt`, which gives one item at a time.
+//! The crate `lexopt`, which returns one item at a time.
 //!
-//! `bench.py` writes `lines.rs`: of each line its options, each with a name for a field, what the field holds, and the
-//! pattern that `lexopt`'s users write.
+//! `bench.py` writes `lines.rs`: the options of each line, each with a field name, the field's type, and the pattern
+//! that users of `lexopt` would write.
 
 use lexopt::Arg::{Long, Short, Value};
 use lexopt::Parser;
 use std::ffi::OsString;
 
-/// Reads some words, and adds up each count and value and the free words.
-pub type Turn = fn(Vec<OsString>) -> usize;
+/// Parses words, and adds up all counts and the lengths of values and free words.
+pub type Iteration = fn(Vec<OsString>) -> usize;
 
-/// The turn of a line by its name: a struct with a field for each option, and a `match` on each item.
+/// The iteration for a line, by its name: a struct with a field for each option, and a `match` on each item.
 macro_rules! lines {
     ($($line:literal { $($field:ident: $held:ty = $option:pat,)* })*) => {
-        pub fn turn_of(line: &str) -> Option<Turn> {
+        pub fn iteration_of(line: &str) -> Option<Iteration> {
             match line {
                 $($line => {
                     #[derive(Default)]
@@ -24,7 +24,7 @@ macro_rules! lines {
                     Some(|words| {
                         let mut given = Given::default();
                         let mut parser = Parser::from_args(words);
-                        while let Some(item) = parser.next().expect("the line is accepted") {
+                        while let Some(item) = parser.next().expect("the line is valid") {
                             match item {
                                 $($option => given.$field.hold(&mut parser),)*
                                 Value(word) => given.free.push(text(word)),
@@ -42,9 +42,9 @@ macro_rules! lines {
 
 include!("lines.rs");
 
-/// What a field holds of an option.
+/// What a field stores of an option.
 trait Held {
-    /// Holds the option that the parser gave, with its value if it has one.
+    /// Stores the option that the parser returned, with its value if it has one.
     fn hold(&mut self, parser: &mut Parser);
 
     /// Its count, and the lengths of its values.
@@ -89,7 +89,7 @@ fn value(parser: &mut Parser) -> String {
 }
 
 fn text(word: OsString) -> String {
-    word.into_string().expect("words are texts")
+    word.into_string().expect("words are UTF-8")
 }
 
 fn total_length(texts: &[String]) -> usize {

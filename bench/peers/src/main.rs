@@ -1,13 +1,13 @@
-//! Runs the jobs of `getopts_bench` on other libraries, and prints the same sums.
+//! Runs the jobs of `getopts_bench` with other libraries, and prints the same sums.
 //!
 //! usage: peers PEER JOB ROWS [READY] TIMES
 //!
-//! PEER is `getopts` (the Rust crate, or what stands in for it), `lexopt`, `pico-args` or `clap`. The jobs and
-//! the rows are those of `getopts_bench`: `whole` of each peer, and of `getopts` the others too, but for
-//! `canonical`, which the crate has not. What stands in for it has also `os`, which is `whole` by `parse_os`.
+//! PEER is `getopts` (the Rust crate, or its replacement), `lexopt`, `pico-args` or `clap`. Jobs and rows are those of
+//! `getopts_bench`: all peers do `whole`; `getopts` does the others too, except `canonical`, which the crate lacks.
+//! The replacement also does `os`, which is `whole` with `parse_os`.
 //!
-//! The peers but `getopts` take their words. Of these READY copies are made before the first turn, at least TIMES,
-//! so that no turn makes words. The status is 2 where the peer doesn't do the job.
+//! All peers except `getopts` consume their words. READY copies of the words, at least TIMES, are made before the first
+//! iteration, so that no iteration creates words. The status is 2 if the peer doesn't do the job.
 
 mod clap_peer;
 mod getopts_peer;
@@ -28,15 +28,13 @@ fn main() -> ExitCode {
             ExitCode::SUCCESS
         }
         None => {
-            eprintln!(
-                "peers: arguments are PEER JOB ROWS [READY] TIMES, where the peer does the job"
-            );
+            eprintln!("usage: peers PEER JOB ROWS [READY] TIMES; not every peer does every job");
             ExitCode::from(2)
         }
     }
 }
 
-/// The sum of the job that the words name.
+/// The sum of the job given by the arguments.
 fn sum_of(words: &[String]) -> Option<usize> {
     let [peer, job, rows, ready @ .., times] = words else {
         return None;
@@ -50,16 +48,16 @@ fn sum_of(words: &[String]) -> Option<usize> {
     };
     let mut copies = vec![input.owned_words(); ready.parse().ok()?];
     let line = Path::new(rows).file_stem()?.to_str()?;
-    let turn: Box<dyn Fn(Vec<OsString>) -> usize> = match (peer.as_str(), job.as_str()) {
-        ("lexopt", "whole") => Box::new(lexopt_peer::turn_of(line)?),
-        ("pico-args", "whole") => Box::new(|words| pico_peer::turn(&input, words)),
-        ("clap", "whole") => Box::new(|words| clap_peer::turn(&input, words)),
+    let iteration: Box<dyn Fn(Vec<OsString>) -> usize> = match (peer.as_str(), job.as_str()) {
+        ("lexopt", "whole") => Box::new(lexopt_peer::iteration_of(line)?),
+        ("pico-args", "whole") => Box::new(|words| pico_peer::iteration(&input, words)),
+        ("clap", "whole") => Box::new(|words| clap_peer::iteration(&input, words)),
         _ => return None,
     };
-    Some(turns(times, || turn(copies.pop().expect("there is a copy for each turn"))))
+    Some(iterations(times, || iteration(copies.pop().expect("a copy for each iteration"))))
 }
 
-/// The sum of what the turns give. The sum wraps.
-fn turns(times: usize, mut turn: impl FnMut() -> usize) -> usize {
-    (0..times).fold(0, |sum, _| sum.wrapping_add(turn()))
+/// The wrapping sum of the results of all iterations.
+fn iterations(times: usize, mut iteration: impl FnMut() -> usize) -> usize {
+    (0..times).fold(0, |sum, _| sum.wrapping_add(iteration()))
 }

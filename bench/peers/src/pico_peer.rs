@@ -1,11 +1,11 @@
-//! The crate `pico-args`, which looks for one option after the other.
+//! The crate `pico-args`, which searches for one option after the other.
 
 use crate::input::{Input, Named};
 use pico_args::Arguments;
 use std::ffi::OsString;
 
-/// Takes each count and value and the free words, and adds them up.
-pub fn turn(input: &Input, words: Vec<OsString>) -> usize {
+/// Adds up all counts and the lengths of values and free words.
+pub fn iteration(input: &Input, words: Vec<OsString>) -> usize {
     let mut arguments = Arguments::from_vec(words);
     let mut sum = 0;
     for option in &input.options {
@@ -27,7 +27,7 @@ pub fn turn(input: &Input, words: Vec<OsString>) -> usize {
     sum + arguments.finish().iter().map(|word| word.len()).sum::<usize>()
 }
 
-/// Whether the flag is there once more. It is taken.
+/// Takes one occurrence of the flag; returns whether there was one.
 fn is_next(arguments: &mut Arguments, option: &Named) -> bool {
     let [short, long] = option.dashed;
     match (option.short, option.long) {
@@ -37,7 +37,7 @@ fn is_next(arguments: &mut Arguments, option: &Named) -> bool {
     }
 }
 
-/// The value of an option that comes once. It is taken.
+/// Takes the value of an option that occurs once.
 fn value(arguments: &mut Arguments, option: &Named) -> Option<String> {
     let [short, long] = option.dashed;
     let value = match (option.short, option.long) {
@@ -45,10 +45,10 @@ fn value(arguments: &mut Arguments, option: &Named) -> Option<String> {
         (_, "") => arguments.opt_value_from_str(short),
         _ => arguments.opt_value_from_str([short, long]),
     };
-    value.expect("the line is accepted")
+    value.expect("the line is valid")
 }
 
-/// The values of the option. They are taken.
+/// Takes all values of the option.
 fn values(arguments: &mut Arguments, option: &Named) -> Vec<String> {
     let [short, long] = option.dashed;
     let values = match (option.short, option.long) {
@@ -56,5 +56,5 @@ fn values(arguments: &mut Arguments, option: &Named) -> Vec<String> {
         (_, "") => arguments.values_from_str(short),
         _ => arguments.values_from_str([short, long]),
     };
-    values.expect("the line is accepted")
+    values.expect("the line is valid")
 }

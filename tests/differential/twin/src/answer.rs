@@ -1,25 +1,25 @@
-//! What the Rust crate answers to the lines of cases.
+//! The Rust crate's answers to the lines of cases.
 
 use crate::form::Line;
 use getopts::{Fail, HasArg, Matches, Occur, Options, ParsingStyle};
 use std::panic::catch_unwind;
 use std::str::FromStr;
 
-/// Options, and what the last words gave by them.
+/// Options, and the result of the last words.
 #[derive(Clone, Default)]
 struct Side {
     options: Options,
     read: Option<Result<Matches, Fail>>,
 }
 
-/// The case that is read.
+/// The state of a case.
 #[derive(Default)]
 pub struct Session {
     side: Side,
     kept: Option<Side>,
 }
 
-/// `-` for no value, else `=` and the value.
+/// `-` without a value, else `=` and the value.
 fn optional(value: Option<String>) -> String {
     value.map_or("-".to_string(), |value| format!("={value}"))
 }
@@ -29,7 +29,7 @@ fn line(head: &[&str], rest: impl IntoIterator<Item = String>) -> String {
 }
 
 impl Session {
-    /// Does what a line says, and gives its answer.
+    /// Executes a line, and returns its answer.
     pub fn answer(&mut self, asked: &Line) -> String {
         let fields = asked.fields();
         let options = &mut self.side.options;
@@ -44,12 +44,12 @@ impl Session {
             "style" => match f(0) {
                 "floating" => _ = options.parsing_style(ParsingStyle::FloatingFrees),
                 "stop" => _ = options.parsing_style(ParsingStyle::StopAtFirstFree),
-                other => panic!("no style {other}"),
+                other => panic!("unknown style {other}"),
             },
             "mode" => match f(0) {
                 "ordinary" => _ = options.long_only(false),
                 "long-only" => _ = options.long_only(true),
-                other => panic!("no mode {other}"),
+                other => panic!("unknown mode {other}"),
             },
             "opt" | "add_group" => {
                 _ = options.opt(f(0), f(1), f(2), f(3), kind_of(f(4)), occur_of(f(5)));
@@ -72,34 +72,34 @@ impl Session {
             _ => return self.ask(asked),
         }
         match asked.word() {
-            "words" | "ignoring_counts" | "clear" => self.told(),
+            "words" | "ignoring_counts" | "clear" => self.result_of_words(),
             _ => String::new(),
         }
     }
 
-    /// What the last words gave.
-    fn told(&self) -> String {
+    /// The result of the last words.
+    fn result_of_words(&self) -> String {
         match &self.side.read {
             Some(Ok(matches)) => {
                 let start = matches.free_trailing_start().map(|start| start.to_string());
                 line(&["accepted", start.as_deref().unwrap_or("-")], matches.free.clone())
             }
-            Some(Err(fail)) => line(&["refused"], fault(fail)),
+            Some(Err(fail)) => line(&["refused"], error_fields(fail)),
             None => line(&["clear", "nothing"], []),
         }
     }
 
     fn same(&self, what: &str) -> String {
-        let kept = self.kept.as_ref().expect("something kept");
+        let kept = self.kept.as_ref().expect("a kept side");
         let same = match what {
             "options" => kept.options == self.side.options,
             "answers" => kept.read == self.side.read,
-            other => panic!("nothing is called {other}"),
+            other => panic!("unknown: {other}"),
         };
         line(&["same", what], [same.to_string()])
     }
 
-    /// What a line asks of the options.
+    /// Answers a question about the options.
     fn ask(&self, asked: &Line) -> String {
         let options = &self.side.options;
         match (asked.word(), asked.fields()) {
@@ -129,12 +129,12 @@ fn canonical(options: &Options, words: &[String]) -> String {
     match options.canonical(words) {
         Ok(Some(words)) => line(&["canonical", "line"], words),
         Ok(None) => line(&["canonical", "none"], []),
-        Err(fail) => line(&["canonical", "refused"], fault(&fail)),
+        Err(fail) => line(&["canonical", "refused"], error_fields(&fail)),
     }
 }
 
-/// A fault, its name and its text.
-fn fault(fail: &Fail) -> [String; 3] {
+/// The kind of an error, its name and its text.
+fn error_fields(fail: &Fail) -> [String; 3] {
     let (variant, name) = match fail {
         Fail::ArgumentMissing(name) => ("ArgumentMissing", name),
         Fail::UnrecognizedOption(name) => ("UnrecognizedOption", name),
@@ -145,7 +145,7 @@ fn fault(fail: &Fail) -> [String; 3] {
     [variant.to_string(), name.clone(), fail.to_string()]
 }
 
-/// What a line asks of matches.
+/// Answers a question about matches.
 fn ask_of_matches(matches: &Matches, asked: &Line) -> String {
     if asked.word() == "any" {
         return any(matches, asked.fields());
@@ -188,11 +188,11 @@ fn ask_of_matches(matches: &Matches, asked: &Line) -> String {
         }
         ("number", [default]) => line(head, got::<i64>(matches, name, default)),
         ("truth", [default]) => line(head, got::<bool>(matches, name, default)),
-        _ => panic!("nobody asks for {asked:?}"),
+        _ => panic!("unknown line {asked:?}"),
     }
 }
 
-/// A value as it is read, and with a default.
+/// A converted value, without and with a default.
 fn got<T: FromStr + ToString>(matches: &Matches, name: &str, default: &str) -> [String; 2] {
     let default = default.parse::<T>().ok().expect("a default");
     let value = matches.opt_get::<T>(name).map(|got| got.map(|it| it.to_string()));
@@ -213,8 +213,8 @@ fn pairs(matches: &Matches, name: &str) -> Vec<String> {
     fields.collect()
 }
 
-/// What a line asks of several names at once. Those calls that panic on an undefined name are made where
-/// all names are defined.
+/// Answers a question about several names. Calls that panic on an undefined name are made only if all names are
+/// defined.
 fn any(matches: &Matches, names: &[String]) -> String {
     let head = &["any", &matches.opts_present(names).to_string()];
     if !names.iter().all(|name| matches.opt_defined(name)) {
@@ -228,7 +228,7 @@ fn any(matches: &Matches, names: &[String]) -> String {
     line(head, all)
 }
 
-/// The calls that add a group.
+/// The methods that add a group.
 pub const ADDING: [fn(&mut Options, &str, &str); 7] = [
     |options, short, long| _ = options.opt(short, long, "", "", HasArg::No, Occur::Multi),
     |options, short, long| _ = options.optflag(short, long, ""),
@@ -239,8 +239,7 @@ pub const ADDING: [fn(&mut Options, &str, &str); 7] = [
     |options, short, long| _ = options.reqopt(short, long, "", ""),
 ];
 
-/// Whether the Rust takes these names: nothing panics where one of its calls adds them and words are
-/// read. The calls agree.
+/// Whether the Rust crate accepts these names: no panic in adding them and parsing. All methods have to agree.
 fn names_lawful(short: &str, long: &str) -> bool {
     let taken = ADDING.map(|add| {
         let names = (short.to_string(), long.to_string());
@@ -251,7 +250,7 @@ fn names_lawful(short: &str, long: &str) -> bool {
         })
         .is_ok()
     });
-    assert!(taken.iter().all(|one| *one == taken[0]), "the calls agree on names");
+    assert!(taken.iter().all(|one| *one == taken[0]), "all methods agree on names");
     taken[0]
 }
 
@@ -260,7 +259,7 @@ pub fn kind_of(kind: &str) -> HasArg {
         "yes" => HasArg::Yes,
         "no" => HasArg::No,
         "maybe" => HasArg::Maybe,
-        other => panic!("no kind {other}"),
+        other => panic!("unknown kind {other}"),
     }
 }
 
@@ -269,6 +268,6 @@ pub fn occur_of(occur: &str) -> Occur {
         "req" => Occur::Req,
         "optional" => Occur::Optional,
         "multi" => Occur::Multi,
-        other => panic!("no occurrence kind {other}"),
+        other => panic!("unknown occurrence kind {other}"),
     }
 }

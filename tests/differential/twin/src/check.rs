@@ -1,16 +1,15 @@
-//! Rows with their answers beside them, as `crates/getopts_vectors` has them and the tests of C write them: a
-//! line of an answer comes after its question, after `> `, and a line `| TEXT` goes on with the one above it,
-//! by TEXT and a line end.
+//! Checks rows with stored answers, as in `crates/getopts_vectors` and from the tests of C: the lines of an answer
+//! follow its question and begin with `> `; a line `| TEXT` appends TEXT and a newline to the line above.
 
 use crate::answer::Session;
 use crate::form::Line;
 use std::iter::Peekable;
 use std::str::Lines;
 
-/// The words of lines that ask for calls which the crate doesn't have.
+/// Lines about calls that the Rust crate doesn't have.
 const NOT_HAD: [&str; 4] = ["opt_place", "occurrences_at", "usage_rows", "wrap"];
 
-/// The answer that stands next.
+/// Reads the answer that comes next.
 fn answer_beside(lines: &mut Peekable<Lines>) -> String {
     let mut answer = String::new();
     while let Some(line) = lines.next_if(|line| line.starts_with("> ")) {
@@ -24,8 +23,8 @@ fn answer_beside(lines: &mut Peekable<Lines>) -> String {
     answer
 }
 
-/// Prints each difference and how many answers are alike, and returns whether some are and none differs. Lines of these
-/// words are passed over.
+/// Prints each difference and the number of equal answers, and returns whether there are some and none differ. Skips
+/// lines that begin with one of these words.
 pub fn check(rows: &str, words: &[String]) -> bool {
     let mut lines = rows.lines().peekable();
     let mut session = Session::default();
@@ -45,11 +44,11 @@ pub fn check(rows: &str, words: &[String]) -> bool {
             cases += 1;
         } else if found != wanted {
             differ += 1;
-            println!("{line:?} of case {cases}\n  wanted {wanted:?}\n  not    {found:?}");
+            println!("{line:?} of case {cases}\n  expected {wanted:?}\n  found    {found:?}");
         } else if !found.is_empty() {
             same += 1;
         }
     }
-    println!("{cases} cases, {same} answers alike, {differ} differ, {passed} passed over");
+    println!("{cases} cases, {same} answers equal, {differ} differ, {passed} skipped");
     differ == 0 && same > 0
 }

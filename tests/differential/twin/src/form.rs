@@ -1,7 +1,7 @@
-//! The form of cases and answers: lines of a word and fields, parted by tabs.
-//! `crates/getopts_vectors/src/main.rt` says which lines there are.
+//! The format of cases and answers: lines of a word and fields, separated by tabs.
+//! `crates/getopts_vectors/src/main.rt` lists the lines.
 
-/// A text as a field has it.
+/// Escapes a text for a field.
 pub fn escaped(text: &str) -> String {
     let mut field = String::with_capacity(text.len());
     for c in text.chars() {
@@ -16,7 +16,7 @@ pub fn escaped(text: &str) -> String {
     field
 }
 
-/// The text that a field stands for.
+/// The text of an escaped field.
 fn text_of(field: &str) -> Option<String> {
     let mut text = String::with_capacity(field.len());
     let mut chars = field.chars();
@@ -45,18 +45,18 @@ impl Line {
         Line(parts.iter().map(|part| part.to_string()).collect())
     }
 
-    /// The line's bytes, with its line end.
+    /// The line as written, with a newline.
     pub fn written(&self) -> String {
         let fields: Vec<String> = self.0.iter().map(|part| escaped(part)).collect();
         fields.join("\t") + "\n"
     }
 
-    /// A line that was written; none for one that is passed over.
+    /// Parses a line; `None` for comments and empty lines.
     pub fn read(line: &str) -> Option<Line> {
         if line.is_empty() || line.starts_with('#') {
             return None;
         }
-        let parts = line.split('\t').map(|field| text_of(field).expect("an escape that is known"));
+        let parts = line.split('\t').map(|field| text_of(field).expect("a valid escape"));
         Some(Line(parts.collect()))
     }
 
@@ -85,7 +85,7 @@ impl Case {
     }
 }
 
-/// A line with its answer below it, each line of that after `> `. The answer of `case` isn't written.
+/// A line with its answer below it, each of whose lines begins with `> `. `case` has no answer.
 pub fn row(line: &Line, answer: &str) -> String {
     let mut row = line.written();
     if line.word() != "case" {

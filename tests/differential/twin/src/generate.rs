@@ -1,4 +1,4 @@
-//! The making of cases from a seed.
+//! Generates cases from a seed.
 
 use crate::answer::Session;
 use crate::form::{Case, Line};
@@ -7,7 +7,7 @@ use crate::random::Random;
 use crate::tables::{self, Table};
 use crate::texts;
 
-/// A case as it is made: what it has declared, and what the Rust crate answered to it so far.
+/// A case under construction: its declarations, and the Rust crate's answers so far.
 struct Making {
     lines: Vec<Line>,
     declared: Declared,
@@ -25,7 +25,7 @@ impl Making {
         making
     }
 
-    /// Adds a line, and gives its answer.
+    /// Adds a line, and returns its answer.
     fn add(&mut self, line: Line) -> String {
         self.declared.take(&line);
         let answer = self.session.answer(&line);
@@ -43,7 +43,7 @@ impl Making {
         }
     }
 
-    /// Adds words, and says whether they are accepted.
+    /// Adds words, and returns whether they are accepted.
     fn words(&mut self, words: &[String]) -> bool {
         let mut line = vec!["words".to_string()];
         line.extend(words.iter().cloned());
@@ -51,7 +51,7 @@ impl Making {
     }
 }
 
-/// The case with this number, of those of a seed.
+/// The case of a seed with this number.
 pub fn case(seed: u64, number: usize) -> Case {
     let mut random = Random::new(seed ^ (number as u64).wrapping_mul(0xd6e8_feb8_6659_fd93));
     let random = &mut random;
@@ -68,7 +68,7 @@ pub fn case(seed: u64, number: usize) -> Case {
     Case { lines: making.lines }
 }
 
-/// A random group, with no description.
+/// A random group without a description.
 fn group(random: &mut Random) -> Group {
     let (short, long) = match random.below(4) {
         0 => (texts::short_name(random), String::new()),
@@ -97,7 +97,7 @@ fn declared(random: &mut Random, most: usize) -> Declared {
     Declared { groups, stop: random.one_in(4), long_only: random.one_in(4) }
 }
 
-/// A name of a group, or one that is made up.
+/// A group's name, or a random one.
 fn name(random: &mut Random, declared: &Declared) -> String {
     if declared.groups.is_empty() || random.one_in(14) {
         return match random.below(5) {
@@ -116,7 +116,7 @@ fn name(random: &mut Random, declared: &Declared) -> String {
     }
 }
 
-/// One or two words that are an item, or nearly.
+/// One or two words that form an item, or almost do.
 fn item(random: &mut Random, declared: &Declared) -> Vec<String> {
     let mut words = Vec::new();
     match random.below(20) {
@@ -139,7 +139,7 @@ fn item(random: &mut Random, declared: &Declared) -> Vec<String> {
     words
 }
 
-/// A dash, characters, and perhaps a text after them.
+/// A dash, characters, and perhaps a text.
 fn cluster(random: &mut Random, declared: &Declared) -> String {
     let mut word = "-".to_string();
     for _ in 0..1 + random.below(3) {
@@ -160,7 +160,7 @@ fn words(random: &mut Random, declared: &Declared, most: usize) -> Vec<String> {
     (0..random.below(most + 1)).flat_map(|_| item(random, declared)).collect()
 }
 
-/// Adds what a line of accepted words is asked.
+/// Adds the questions about accepted words.
 fn ask(random: &mut Random, making: &mut Making, words: &[String], most: usize) {
     let declared = making.declared.clone();
     let counts_words = declared.counts_words(words);
@@ -182,7 +182,7 @@ fn ask(random: &mut Random, making: &mut Making, words: &[String], most: usize) 
     }
 }
 
-/// A line of words by a few options.
+/// A line of words for a few options.
 fn line(random: &mut Random, number: usize) -> Making {
     let mut making = Making::begin("line", number);
     let declared = declared(random, 4);
@@ -194,7 +194,7 @@ fn line(random: &mut Random, number: usize) -> Making {
     making
 }
 
-/// A long line of words by a few options.
+/// A long line of words for a few options.
 fn long_line(random: &mut Random, number: usize) -> Making {
     let mut making = Making::begin("long", number);
     let mut declared = declared(random, 6);
@@ -239,7 +239,7 @@ fn text(random: &mut Random, number: usize) -> Making {
     making
 }
 
-/// Pairs of names, lawful or not.
+/// Pairs of names, valid or not.
 fn names(random: &mut Random, number: usize) -> Making {
     let mut making = Making::begin("names", number);
     for _ in 0..1 + random.below(3) {
@@ -254,7 +254,7 @@ fn names(random: &mut Random, number: usize) -> Making {
     making
 }
 
-/// Copies, and whether they are equal: of options with one thing changed, or of two lines of words.
+/// Copies and their equality: of options with one change, or of the results of two lines.
 fn same(random: &mut Random, number: usize) -> Making {
     let mut making = Making::begin("same", number);
     let first = declared(random, 3);
@@ -311,7 +311,7 @@ fn change(random: &mut Random, declared: &mut Declared) {
     }
 }
 
-/// Words that say nearly the same as others.
+/// Words with almost the same meaning as others.
 fn changed_words(random: &mut Random, declared: &Declared, words: &[String]) -> Vec<String> {
     let mut words = words.to_vec();
     match random.below(5) {
@@ -332,7 +332,7 @@ fn changed_words(random: &mut Random, declared: &Declared, words: &[String]) -> 
     words
 }
 
-/// Values that are read as numbers and truths.
+/// Values converted to numbers and booleans.
 fn value(random: &mut Random, number: usize) -> Making {
     let mut making = Making::begin("value", number);
     let kind = random.of(&["yes", "yes", "maybe", "no"]);
@@ -367,7 +367,7 @@ fn value(random: &mut Random, number: usize) -> Making {
     making
 }
 
-/// Lines of words by the options of a real program.
+/// Lines of words for the options of a real program.
 fn table(random: &mut Random, theme: &str, number: usize, rows: &str) -> Making {
     let table = Table::of(rows);
     let mut making = Making::begin(theme, number);
@@ -390,7 +390,7 @@ fn table(random: &mut Random, theme: &str, number: usize, rows: &str) -> Making 
     making
 }
 
-/// An option as its program's users write it, a test's or a file's name, or anything.
+/// An option as users of the program write it, the name of a test or file, or anything else.
 fn real_item(random: &mut Random, declared: &Declared) -> Vec<String> {
     if random.one_in(6) {
         return item(random, declared);

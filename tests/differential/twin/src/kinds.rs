@@ -1,11 +1,10 @@
-//! The kinds of what a case has in it. They are names for counting and choosing cases: no answer
-//! depends on them.
+//! The kinds of things in a case. They are names for counting and choosing cases: no answer depends on them.
 
 use crate::form::Case;
 use crate::options::{Declared, Group};
 use std::collections::BTreeSet;
 
-/// The group that a name resolves to, and how.
+/// The group to which a name resolves, and how.
 fn resolved<'d>(groups: &'d [Group], name: &str) -> Option<(&'d Group, &'static str)> {
     if name.is_empty() {
         return None;
@@ -32,7 +31,7 @@ fn shape(word: Option<&String>) -> &'static str {
     }
 }
 
-/// The kinds of a line's items. The second answer says whether the next word is taken, too.
+/// Adds the kinds of an item. Returns whether it also takes the next word.
 fn item(declared: &Declared, words: &[String], kinds: &mut BTreeSet<String>) -> bool {
     let word = &words[0];
     let next = words.get(1);
@@ -92,7 +91,7 @@ fn item(declared: &Declared, words: &[String], kinds: &mut BTreeSet<String>) -> 
     false
 }
 
-/// The kinds of a line of words.
+/// Adds the kinds of a line of words.
 fn line(declared: &Declared, words: &[String], kinds: &mut BTreeSet<String>) {
     kinds.insert(format!("{} words", words.len().min(6)));
     let mut place = 0;
@@ -120,7 +119,7 @@ fn line(declared: &Declared, words: &[String], kinds: &mut BTreeSet<String>) {
     kinds.insert(format!("end, {} free", frees.min(2)));
 }
 
-/// The kinds of a usage text's groups.
+/// Adds the kinds of a group in a usage text.
 fn text(group: &Group, kinds: &mut BTreeSet<String>) {
     let long = match group.long.chars().count() {
         0 => "no long name",
@@ -164,7 +163,7 @@ fn text(group: &Group, kinds: &mut BTreeSet<String>) {
     }
 }
 
-/// The kinds of what a case has in it; `answers` are those of the Rust crate to it.
+/// The kinds of things in a case and in the Rust crate's answers to it.
 pub fn of_case(case: &Case, answers: &str) -> BTreeSet<String> {
     let mut kinds = BTreeSet::new();
     let mut declared = Declared::default();
@@ -224,12 +223,12 @@ pub fn of_case(case: &Case, answers: &str) -> BTreeSet<String> {
                 _ = kinds.insert(format!("positions, {} of them", (fields.len() - 2).min(4)))
             }
             "any" | "same" | "lawful" => {
-                let told: Vec<&str> = fields[1..].iter().map(|field| told(field)).collect();
-                kinds.insert(format!("{}, {}", fields[0], told.join(", ")));
+                let fields: Vec<&str> = fields[1..].iter().map(|field| known(field)).collect();
+                kinds.insert(format!("{}, {}", fields[0], fields.join(", ")));
             }
             "number" | "truth" if fields.len() == 4 => {
-                let told: Vec<&str> = fields[2..].iter().map(|field| told(field)).collect();
-                kinds.insert(format!("{}, {}", fields[0], told.join(", ")));
+                let fields: Vec<&str> = fields[2..].iter().map(|field| known(field)).collect();
+                kinds.insert(format!("{}, {}", fields[0], fields.join(", ")));
             }
             "usage" | "rows" | "short" => {
                 _ = kinds.insert(format!("{} of {} bytes", fields[0], answer.len() / 100 * 100))
@@ -241,7 +240,7 @@ pub fn of_case(case: &Case, answers: &str) -> BTreeSet<String> {
     let mode = if declared.long_only { "long-only" } else { "ordinary" };
     kinds.insert(format!("{style}, {mode}"));
     match case.name().split('-').next() {
-        // A table's kinds stand by themselves: its cases are long, and have several lines of words.
+        // Kinds of real programs are separate: their cases are long, with several lines of words.
         Some(table @ ("harness" | "doctool")) => {
             kinds.into_iter().map(|kind| format!("{table}: {kind}")).collect()
         }
@@ -249,8 +248,8 @@ pub fn of_case(case: &Case, answers: &str) -> BTreeSet<String> {
     }
 }
 
-/// A field, where it is one of a few, or that it has a value.
-fn told(field: &str) -> &'static str {
+/// A field if it is one of these, else `a value`.
+fn known(field: &str) -> &'static str {
     const KNOWN: [&str; 8] =
         ["true", "false", "undefined", "-", "error", "options", "answers", "nothing"];
     KNOWN.iter().find(|known| **known == field).unwrap_or(&"a value")

@@ -1,5 +1,5 @@
-//! The Rust crate `getopts`, in the form of the rows of `crates/getopts_vectors`: makes cases from a seed,
-//! answers them, and chooses those that are recorded.
+//! Runs the Rust crate `getopts` on rows of `crates/getopts_vectors`: generates cases from a seed, answers them, and
+//! chooses those to record.
 
 mod answer;
 mod check;
@@ -16,12 +16,12 @@ mod texts;
 use std::io::{BufRead, BufWriter, Write};
 use std::process::ExitCode;
 
-const USE: &str = "twin generate SEED COUNT     prints the cases of a seed
-twin answer                  prints the cases on its standard input as rows, with their answers beside them
-twin choose SEED COUNT LEAST of so many cases of a seed prints at least LEAST that show all pairs of kinds
-twin check ROWS [WORD..]     answers rows that have their answers beside them; status 1 where one differs. Lines of
-                             these words are passed over
-twin panics                  prints what each call says that panics";
+const USE: &str = "twin generate SEED COUNT     prints the first COUNT cases of a seed
+twin answer                  prints the cases on its standard input as rows with answers
+twin choose SEED COUNT LEAST prints at least LEAST of the first COUNT cases of a seed, which show all pairs of kinds
+twin check ROWS [WORD..]     answers rows and compares stored answers; status 1 if one differs. Skips lines that begin
+                             with one of these words
+twin panics                  prints the messages of panics";
 
 fn number(word: Option<&String>) -> u64 {
     word.and_then(|word| word.parse().ok()).unwrap_or_else(|| panic!("{USE}"))
@@ -33,7 +33,7 @@ fn text_of(file: Option<&String>) -> String {
 }
 
 fn main() -> ExitCode {
-    // Names that the Rust panics on are asked about, so panics are no news.
+    // Cases ask about names on which the Rust crate panics, so panics aren't printed.
     std::panic::set_hook(Box::new(|_| {}));
     let words: Vec<String> = std::env::args().skip(1).collect();
     let mut out = BufWriter::new(std::io::stdout().lock());

@@ -1,4 +1,4 @@
-//! Groups as a case declares them, for the making of cases and for the names of their kinds.
+//! The groups that a case declares, for generating cases and naming their kinds.
 
 use crate::form::Line;
 
@@ -10,11 +10,11 @@ pub struct Group {
     pub hint: String,
     pub kind: &'static str,
     pub occur: &'static str,
-    /// The line that declares it.
+    /// The method in the line that declares it.
     pub call: &'static str,
 }
 
-/// The lines that declare groups, with the kind and the occurrence kind that each stands for.
+/// The methods that declare groups, each with its kind and occurrence kind.
 pub const CALLS: [(&str, &str, &str); 6] = [
     ("optflag", "no", "optional"),
     ("optflagmulti", "no", "multi"),
@@ -28,11 +28,11 @@ const KINDS: [&str; 3] = ["yes", "no", "maybe"];
 const OCCURS: [&str; 3] = ["req", "optional", "multi"];
 
 fn known(text: &str, among: &[&'static str]) -> &'static str {
-    among.iter().find(|one| **one == text).expect("a word that is known")
+    among.iter().find(|one| **one == text).expect("a known word")
 }
 
 impl Group {
-    /// The group that a line declares, if it declares one.
+    /// The group that a line declares, if any.
     pub fn of_line(line: &Line) -> Option<Group> {
         let fields = line.fields();
         let field = |place: usize| fields.get(place).cloned().unwrap_or_default();
@@ -62,7 +62,7 @@ impl Group {
     }
 }
 
-/// What a case has declared so far.
+/// The declarations of a case so far.
 #[derive(Clone, Debug, Default)]
 pub struct Declared {
     pub groups: Vec<Group>,
@@ -71,7 +71,7 @@ pub struct Declared {
 }
 
 impl Declared {
-    /// The lines that declare it.
+    /// The lines that declare this.
     pub fn lines(&self) -> Vec<Line> {
         let mut lines = Vec::new();
         if self.stop {
@@ -84,7 +84,7 @@ impl Declared {
         lines
     }
 
-    /// Takes up what a line declares.
+    /// Adds the declaration of a line.
     pub fn take(&mut self, line: &Line) {
         match (line.word(), line.fields()) {
             ("case" | "anew", _) => *self = Declared::default(),
@@ -94,8 +94,7 @@ impl Declared {
         }
     }
 
-    /// The same options to the Rust crate, each allowed any number of times, with one more flag at their
-    /// end.
+    /// The same options in the Rust crate, all repeatable, with the flag `PROBE` added.
     fn probed(&self) -> getopts::Options {
         let mut options = getopts::Options::new();
         if self.stop {
@@ -110,11 +109,11 @@ impl Declared {
         options
     }
 
-    /// Whether no word of a line is the separate argument of an option, so that counting items and
-    /// counting words give the same positions. A line that can't be read has no positions.
+    /// Whether no word of a line is the separate argument of an option, so that counting items and counting words
+    /// give the same positions. Lines that can't be parsed have no positions.
     ///
-    /// The flag `PROBE` is put where the line's options end. As many words as stand before it are items
-    /// exactly where its position is their number.
+    /// The flag `PROBE` is added where the line's options end: its position is the number of words before it exactly
+    /// if each of these words is an item.
     pub fn counts_words(&self, words: &[String]) -> bool {
         let options = self.probed();
         let probe = format!("--{PROBE}");

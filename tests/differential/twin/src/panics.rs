@@ -1,10 +1,10 @@
-//! The texts of panics: what each call says that is handed names which it doesn't take.
+//! The panic messages of calls with names that they don't accept.
 
 use crate::answer::ADDING;
 use getopts::{Matches, Options};
 use std::panic::{catch_unwind, AssertUnwindSafe};
 
-/// The text of a call's panic, or that there was none.
+/// The message of a call's panic, or `no panic`.
 fn text_of<T>(call: impl FnOnce() -> T) -> String {
     match catch_unwind(AssertUnwindSafe(call)) {
         Ok(_) => "no panic".to_string(),
@@ -15,7 +15,7 @@ fn text_of<T>(call: impl FnOnce() -> T) -> String {
     }
 }
 
-/// A line for each call: the names, and the text of its panic.
+/// A line for each call: the names and the panic message.
 pub fn lines() -> Vec<String> {
     let mut lines = Vec::new();
     for (short, long) in [("ab", ""), ("é", ""), ("", "a"), ("ab", "c"), ("", "")] {
@@ -40,7 +40,7 @@ pub fn lines() -> Vec<String> {
     lines
 }
 
-/// Of calls that ask for a name that no option has.
+/// Calls with an undefined name.
 fn of_name(matches: &Matches, name: &str) -> Vec<String> {
     let texts = [
         text_of(|| matches.opt_present(name)),
@@ -56,7 +56,7 @@ fn of_name(matches: &Matches, name: &str) -> Vec<String> {
     texts.map(|text| format!("{name:?}: {text}")).to_vec()
 }
 
-/// Of calls that ask for two names, of which no option has the one.
+/// Calls with two names, one of them undefined.
 fn of_names(matches: &Matches, names: [&str; 2]) -> Vec<String> {
     let owned = names.map(String::from);
     let texts = [

@@ -1,4 +1,4 @@
-//! Random numbers from a seed: the same seed gives the same cases everywhere.
+//! Random numbers from a seed: a seed gives the same cases on all systems.
 
 pub struct Random {
     state: u64,
@@ -22,7 +22,7 @@ impl Random {
         (self.next() % end as u64) as usize
     }
 
-    /// True once in so many times.
+    /// True once in `times` calls on average.
     pub fn one_in(&mut self, times: usize) -> bool {
         self.below(times) == 0
     }

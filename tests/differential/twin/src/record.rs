@@ -1,18 +1,18 @@
-//! The choice of the recorded cases: the shortest that show each pair of kinds.
+//! Chooses the cases to record: the shortest that show each pair of kinds.
 
 use crate::answer::Session;
 use crate::form::Case;
 use crate::{generate, kinds};
 use std::collections::HashMap;
 
-/// What the Rust crate answers to a case.
+/// The Rust crate's answers to a case.
 pub fn answers(case: &Case) -> String {
     let mut session = Session::default();
     case.lines.iter().map(|line| session.answer(line)).collect()
 }
 
-/// Whether the recorded cases show two kinds together, and not each by itself alone: a kind of item with
-/// another, and any kind with a style and mode or with how a line of words came out.
+/// Whether recorded cases have to show two kinds together: two kinds of items, or any kind with a style and mode or
+/// with the result of a line.
 fn go_together(first: &str, second: &str) -> bool {
     let is_item =
         |kind: &str| ["cluster", "long", "free", "stop"].iter().any(|word| kind.starts_with(word));
@@ -26,14 +26,14 @@ fn go_together(first: &str, second: &str) -> bool {
         || (is_setting(second) && !is_text(first))
 }
 
-/// A case that may be recorded: its bytes with its answers, and the kinds that it shows.
+/// A case that may be recorded: its size with answers, and the pairs of kinds that it shows.
 struct Candidate {
     size: usize,
     case: Case,
     shows: Vec<(u32, u32)>,
 }
 
-/// So many cases of a seed, shortest first.
+/// The first `count` cases of a seed, shortest first.
 fn candidates(seed: u64, count: usize) -> Vec<Candidate> {
     let mut numbers: HashMap<String, u32> = HashMap::new();
     let mut candidates = Vec::new();
@@ -58,8 +58,8 @@ fn candidates(seed: u64, count: usize) -> Vec<Candidate> {
     candidates
 }
 
-/// Of so many cases of a seed, at least `least` that show each kind, and those pairs that go together,
-/// as often as one another where there are as many; short ones first.
+/// Chooses at least `least` of the first `count` cases of a seed, short ones first, so that all kinds and pairs of
+/// kinds are shown equally often, as far as there are cases.
 pub fn chosen(seed: u64, count: usize, least: usize) -> Vec<Case> {
     let candidates = candidates(seed, count);
     let mut shown: HashMap<(u32, u32), usize> = HashMap::new();
@@ -75,7 +75,7 @@ pub fn chosen(seed: u64, count: usize, least: usize) -> Vec<Case> {
             }
         }
         let number = taken.iter().filter(|taken| **taken).count();
-        eprintln!("{number} cases show all of it {times} times");
+        eprintln!("{number} cases show everything {times} times");
         if number >= least {
             break;
         }

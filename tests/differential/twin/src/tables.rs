@@ -1,5 +1,5 @@
-//! The options of two real programs: of the harness that runs a Rust crate's tests, and of the tool that makes its
-//! documentation. Names, kinds and hints are those that the programs have; the descriptions are written anew.
+//! The options of two real programs: Rust's test harness, and rustdoc. Names, kinds and hints are original; the
+//! descriptions are our own.
 
 use crate::form::Line;
 use crate::options::Group;
@@ -11,7 +11,7 @@ pub const DOCTOOL: &str = include_str!("doctool.rows");
 pub struct Table {
     pub groups: Vec<Group>,
     pub brief: String,
-    /// Lines of words as the program's users write them.
+    /// Lines of words that users of the program would write.
     pub lines: Vec<Vec<String>>,
 }
 

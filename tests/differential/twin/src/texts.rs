@@ -1,6 +1,5 @@
-//! Random texts. The characters that usage texts measure are such that tables of widths of any age agree
-//! on them: ASCII, letters, CJK, combining marks; no control characters, no emoji sequences, no letters
-//! that join.
+//! Random texts. All versions of Unicode's width tables agree on their characters: ASCII, letters, CJK, combining
+//! marks; no control characters, emoji sequences or joining letters.
 
 use crate::random::Random;
 
@@ -63,13 +62,13 @@ pub fn value(random: &mut Random) -> String {
     random.of(&VALUES).to_string()
 }
 
-/// A few characters of those that lines are made of.
+/// A few characters that occur in lines.
 pub fn noise(random: &mut Random) -> String {
     const CHARS: [char; 12] = ['-', '-', '=', 'a', 'b', 'c', 'v', ' ', 'é', '1', 'L', 'h'];
     (0..random.below(6)).map(|_| random.of(&CHARS)).collect()
 }
 
-/// A description of several words, or of words that fill a row of 54 columns or nearly.
+/// A description: several words, or words that almost or exactly fill a row of 54 columns.
 pub fn description(random: &mut Random) -> String {
     match random.below(8) {
         0 => String::new(),
@@ -89,7 +88,7 @@ fn words(random: &mut Random) -> String {
     text
 }
 
-/// Words whose columns with the spaces between them are near 54, one row or two of them.
+/// Up to three rows of words, each about 54 columns wide with its spaces.
 fn near_a_row(random: &mut Random) -> String {
     let mut text = String::new();
     for row in 0..1 + random.below(3) {
