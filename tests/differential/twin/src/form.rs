@@ -79,10 +79,6 @@ impl Case {
     pub fn written(&self) -> String {
         self.lines.iter().map(Line::written).collect()
     }
-
-    pub fn name(&self) -> &str {
-        &self.lines[0].0[1]
-    }
 }
 
 /// A line with its answer below it, each of whose lines begins with `> `. `case` has no answer.

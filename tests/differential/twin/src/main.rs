@@ -1,15 +1,12 @@
-//! Runs the Rust crate `getopts` on rows of `crates/getopts_vectors`: generates cases from a seed, answers them, and
-//! chooses those to record.
+//! Runs the Rust crate `getopts` on rows of `crates/getopts_vectors`: generates cases from a seed, and answers them.
 
 mod answer;
 mod check;
 mod form;
 mod generate;
-mod kinds;
 mod options;
 mod panics;
 mod random;
-mod record;
 mod tables;
 mod texts;
 
@@ -18,7 +15,6 @@ use std::process::ExitCode;
 
 const USE: &str = "twin generate SEED COUNT     prints the first COUNT cases of a seed
 twin answer                  prints the cases on its standard input as rows with answers
-twin choose SEED COUNT LEAST prints at least LEAST of the first COUNT cases of a seed, which show all pairs of kinds
 twin check ROWS [WORD..]     answers rows and compares stored answers; status 1 if one differs. Skips lines that begin
                              with one of these words
 twin panics                  prints the messages of panics";
@@ -52,13 +48,6 @@ fn main() -> ExitCode {
                     let row = form::row(&line, &session.answer(&line));
                     out.write_all(row.as_bytes()).expect("a write");
                 }
-            }
-        }
-        Some("choose") => {
-            let (seed, count) = (number(words.get(1)), number(words.get(2)));
-            let cases = record::chosen(seed, count as usize, number(words.get(3)) as usize);
-            for case in cases {
-                out.write_all(case.written().as_bytes()).expect("a write");
             }
         }
         Some("check") => {
