@@ -35,17 +35,18 @@ if [ ! -f "$machine/getopts_shell" ]; then
 fi
 (cd "$machine" && sha256sum -c getopts_shell.sha256 >/dev/null)
 mkdir -p "$to/bin" "$to/share/man/man1" "$papers"
-# put FILE PLACE MODE: replaces a file only once the new one is complete.
+# put FILE PLACE MODE: replaces a file only once the new one is complete. FILE may be - for standard input.
 put() {
     if [ -d "$2" ]; then
         echo "install.sh: $2 is a folder" >&2
         exit 1
     fi
-    cp "$1" "$2.new"
+    cat "$1" >"$2.new"
     chmod "$3" "$2.new"
     mv -f "$2.new" "$2"
 }
 put "$machine/getopts_shell" "$program" 755
-put getopts_shell.1 "$page" 644
+text=$(awk -f man.awk README.md)
+printf '%s\n' "$text" | put - "$page" 644
 for name in $licences; do put "$name" "$papers/${name##*/}" 644; done
 echo "installed $program and its manual page"
