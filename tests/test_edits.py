@@ -1,10 +1,11 @@
 """Mutants under must-fail, each an edit of a function body: the prover has to reject every one against the unchanged
 contract.
 
-An edit names the function that it changes ('fn'), a file, and texts of one or more lines that occur there exactly once
-('old') with their replacements ('new'). A function that an edit adds needs an 'ensures': without one the prover knows
-nothing about it, so it would reject any body. An edit that adds a function or another way to return also has correct
-replacements ('right'), with which the prover has to prove the function.
+An edit names the function that it changes ('fn'), and texts of one or more lines that occur exactly once in its module
+('old') with their replacements ('new'). Texts in another file follow the name of that file ('file'). A function that an
+edit adds needs an 'ensures': without one the prover knows nothing about it, so it would reject any body. An edit that
+adds a function or another way to return also has correct replacements ('right'), with which the prover has to prove the
+function.
 
 In a copy of the repository, each edited function is added beside the original, under its own name and with a copy of
 the proof files, so that one check of the crate tries all selected edits. A trait method can't be copied: it is edited
@@ -36,8 +37,9 @@ class Edit:
         self.path, self.variant, self.name = path, variant, path.stem + (":right" if variant == "right" else "")
         self.crate = path.relative_to(ROOT / "tests/must-fail").parts[0]
         self.host = GUESTS.get(self.crate, self.crate)
-        text, file, self.pairs = path.read_text(encoding="utf-8") + "\n", "", []
+        text, self.pairs = path.read_text(encoding="utf-8") + "\n", []
         self.function = re.search("^fn: (.*)", text, re.M)[1].replace(self.crate, self.host, 1)
+        file = "src/" + ("/".join(re.findall(r"(?<=::)[a-z]\w*(?=::)", self.function)) or "main") + ".rt"
         for it in re.finditer(r"^(?:file: (.*)|((?:old:.*\n)+)((?:new:.*\n)+)((?:right:.*\n)*))", text, re.M):
             file, lines = it[1] or file, zip(("old", "new", "right"), it.groups()[1:])
             texts = {kind: re.sub(r"^\w+: ?", "", block[:-1], flags=re.M) for kind, block in lines if block}
