@@ -9,10 +9,10 @@ ghost use Rattle.std.specs.Cmp.Rules.{comparing};
 ghost use Rattle.std.proofs.Common.{rules};
 ghost use Rattle.getopts.specs.Names.{AreLawful, IsLawfullyNamed, main_name};
 ghost use Rattle.getopts.specs.Held.Groups.{signature_view, names_view, names_in, signature_with};
-ghost use Rattle.getopts.specs.Held.Groups.{AreLawfulSignatures, HasKeys, AreEndsOf, StandAt, two_at};
+ghost use Rattle.getopts.specs.Held.Groups.{AreLawfulSignatures, HasKeys, AreEndsOf, StandAt, two_at, ends_of};
 ghost use Rattle.getopts.specs.Held.Names.{names_at, HaveNamesOfBytes};
 
-use crate::names::{Names, is_of_bytes, key_of, short_byte};
+use crate::names::{NO_BYTE, Names, is_of_bytes, key_of, short_byte};
 use std::alloc::{AllocError, Global};
 use std::marker::Model;
 
@@ -105,11 +105,13 @@ pub(crate) struct Ends {
     pub second: usize,
 }
 
-/// A stored group: where its names are in the text of all names, what to look them up by, and its
-/// kinds.
+/// A stored group: where its long name begins and ends in the text of all names, what to look its
+/// names up by, and its kinds. It has 32 bytes, so that the first list of `FIRST_GROUPS` fits
+/// malloc's cache.
 #[derive(Debug, Clone, Copy)]
 pub(crate) struct SignatureRecord {
-    pub names: Ends,
+    pub long: usize,
+    pub end: usize,
     /// The key of the main name.
     pub key: u64,
     /// The byte of the short name, or `NO_BYTE`.
@@ -128,10 +130,29 @@ impl PartialEq for SignatureRecord {
     /// Whether the names are at the same places and the kinds are equal.
     #[inline(always)]
     fn eq(&self, other: &SignatureRecord) -> bool {
-        self.names.start == other.names.start
-            && self.names.first == other.names.first
-            && self.names.second == other.names.second
+        self.long == other.long
+            && self.end == other.end
+            && self.short == other.short
             && self.kinds == other.kinds
+    }
+}
+
+impl SignatureRecord {
+    /// Where its names start and end: a short name has one byte.
+    #[inline(always)]
+    fn ends(&self) -> Ends
+        ensures { result ≡ ends_of self.now }
+    {
+        let start = if self.short == NO_BYTE {
+            self.long
+        } else {
+            self.long.saturating_sub(1)
+        };
+        Ends {
+            start,
+            first: self.long,
+            second: self.end,
+        }
     }
 }
 
@@ -159,6 +180,7 @@ pub(crate) fn push_two(texts: &mut String, first: &str, second: &str) -> Ends
         ≤ string_capacity texts.old }
     ensures bytes { string_bytes texts.new ≡ string_bytes texts.old ++ (first.now ++ second.now) }
     ensures two { StandAt (string_bytes texts.new) result (first.now, second.now) }
+    ensures first { result.first ≡ result.start + length first.now }
 {
     let start = texts.len();
     let first = push_reserved(texts, first);
@@ -264,7 +286,7 @@ impl Signatures {
         requires { place < length self.now }
         ensures { result.now ≡ (names_at (names_in self.now) place).short }
     {
-        first_at(&self.text, self.records[place].names)
+        first_at(&self.text, self.records[place].ends())
     }
 
     /// The long name of the group at `place`.
@@ -273,7 +295,7 @@ impl Signatures {
         requires { place < length self.now }
         ensures { result.now ≡ (names_at (names_in self.now) place).long }
     {
-        second_at(&self.text, self.records[place].names)
+        second_at(&self.text, self.records[place].ends())
     }
 
     /// Both names of the group at `place`.
@@ -341,10 +363,12 @@ impl Signatures {
             self.records.reserve(1)?;
             self.text.reserve(bytes)?;
         }
+        is_of_bytes(short);
         let names = push_two(&mut self.text, short, long);
         let key = key_of(Names { short, long }.main());
         self.records.push_reserved(SignatureRecord {
-            names,
+            long: names.first,
+            end: names.second,
             key,
             short: short_byte(short),
             has_long: !long.is_empty(),

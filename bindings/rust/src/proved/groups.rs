@@ -3,7 +3,7 @@
 
 use crate::fallible::*;
 
-use super::names::{Names, is_of_bytes, key_of, short_byte};
+use super::names::{NO_BYTE, Names, is_of_bytes, key_of, short_byte};
 use crate::alloc::{AllocError, Global};
 
 /// Initial capacity: up to this many groups fit without reallocating.
@@ -83,11 +83,13 @@ pub(crate) struct Ends {
     pub second: usize,
 }
 
-/// A stored group: where its names are in the text of all names, what to look them up by, and its
-/// kinds.
+/// A stored group: where its long name begins and ends in the text of all names, what to look its
+/// names up by, and its kinds. It has 32 bytes, so that the first list of `FIRST_GROUPS` fits
+/// malloc's cache.
 #[derive(Debug, Clone, Copy)]
 pub(crate) struct SignatureRecord {
-    pub names: Ends,
+    pub long: usize,
+    pub end: usize,
     /// The key of the main name.
     pub key: u64,
     /// The byte of the short name, or `NO_BYTE`.
@@ -100,10 +102,27 @@ impl PartialEq for SignatureRecord {
     /// Whether the names are at the same places and the kinds are equal.
     #[inline(always)]
     fn eq(&self, other: &SignatureRecord) -> bool {
-        self.names.start == other.names.start
-            && self.names.first == other.names.first
-            && self.names.second == other.names.second
+        self.long == other.long
+            && self.end == other.end
+            && self.short == other.short
             && self.kinds == other.kinds
+    }
+}
+
+impl SignatureRecord {
+    /// Where its names start and end: a short name has one byte.
+    #[inline(always)]
+    fn ends(&self) -> Ends {
+        let start = if self.short == NO_BYTE {
+            self.long
+        } else {
+            self.long.saturating_sub(1)
+        };
+        Ends {
+            start,
+            first: self.long,
+            second: self.end,
+        }
     }
 }
 
@@ -181,13 +200,13 @@ impl Signatures {
     /// The short name of the group at `place`.
     #[inline(always)]
     pub(crate) fn short(&self, place: usize) -> &str {
-        first_at(&self.text, self.records[place].names)
+        first_at(&self.text, self.records[place].ends())
     }
 
     /// The long name of the group at `place`.
     #[inline(always)]
     pub(crate) fn long(&self, place: usize) -> &str {
-        second_at(&self.text, self.records[place].names)
+        second_at(&self.text, self.records[place].ends())
     }
 
     /// Both names of the group at `place`.
@@ -244,10 +263,12 @@ impl Signatures {
             self.records.try_grow(1)?;
             self.text.try_grow(bytes)?;
         }
+        is_of_bytes(short);
         let names = push_two(&mut self.text, short, long);
         let key = key_of(Names { short, long }.main());
         self.records.push_reserved(SignatureRecord {
-            names,
+            long: names.first,
+            end: names.second,
             key,
             short: short_byte(short),
             has_long: !long.is_empty(),

@@ -34,7 +34,7 @@ pub(crate) struct Occurrence<'l> {
 /// reallocating.
 const VALUE_BYTES: usize = 8;
 /// The most bytes that `VALUE_BYTES` reserves.
-const MOST_BYTES: usize = 8192;
+const MOST_BYTES: usize = 2048;
 
 /// Appends a value, and returns where it is. The first value reserves memory for `room` values.
 #[inline(always)]

@@ -13,7 +13,7 @@ use Rattle.getopts.specs.Options.{Signature, Group, MayBeDeclared, signatures_of
 use Rattle.getopts.specs.Canon.{main_at}
 use Rattle.getopts.specs.Held.Pieces.{IsOfBytes}
 use Rattle.getopts.specs.Held.Names.{names_at, HaveNamesOfBytes}
-use Rattle.getopts.specs.Held.Groups.{signature_with, names_in, two_at, AreEndsOf, StandAt}
+use Rattle.getopts.specs.Held.Groups.{signature_with, names_in, two_at, AreEndsOf, StandAt, ends_of}
 use Rattle.getopts.specs.Held.Groups.{signature_in, AreLawfulSignatures, HasKeys, IsHeld}
 use Rattle.getopts.specs.Held.Help.{groups_with, groups_view, HoldGroups}
 use Rattle.getopts.specs.declared.help.Groups.TheInside.{Inside}
@@ -80,10 +80,10 @@ pub HaveNamesOfBytes-in : (text : Text) → IsOfBytes text → (records : List S
 HaveNamesOfBytes-in text bytes [] place =
     (All-nil (λ byte. byte < 256), All-nil (λ byte. byte < 256))
 HaveNamesOfBytes-in text bytes (r ∷ records) zero = (
-  All-take (λ byte. byte < 256) (r.names.first - r.names.start) (drop r.names.start text)
-      (All-drop (λ byte. byte < 256) r.names.start text bytes),
-  All-take (λ byte. byte < 256) (r.names.second - r.names.first) (drop r.names.first text)
-      (All-drop (λ byte. byte < 256) r.names.first text bytes),
+  All-take (λ byte. byte < 256) ((ends_of r).first - (ends_of r).start) (drop (ends_of r).start text)
+      (All-drop (λ byte. byte < 256) (ends_of r).start text bytes),
+  All-take (λ byte. byte < 256) ((ends_of r).second - (ends_of r).first) (drop (ends_of r).first text)
+      (All-drop (λ byte. byte < 256) (ends_of r).first text bytes),
 )
 HaveNamesOfBytes-in text bytes (r ∷ records) (suc place) =
     HaveNamesOfBytes-in text bytes records place
@@ -100,7 +100,7 @@ pub signatures-push : (text more : Text) → IsUtf8 more → (records : List Sig
 signatures-push text more utf8 records held added last =
     let kept = each_kept (IsHeld text) (IsHeld (text ++ more)) (signature_in text)
     (signature_in (text ++ more)) (λ r held.
-    let stand = two-append text more utf8 r.names held.ends in
+    let stand = two-append text more utf8 (ends_of r) held.ends in
     let same : signature_in (text ++ more) r ≡ signature_in text r =
     ap (λ (names : Text × Text). signature_with r.kinds names.0 names.1) stand.are in (
       record {

@@ -1,5 +1,5 @@
 -- The names and kinds of groups, as they are stored or borrowed.
-use Rattle.std.specs.Prelude.{◌≡◌, ◌==◌, ◌≤◌, Bool, not, List, [], map}
+use Rattle.std.specs.Prelude.{◌≡◌, ◌==◌, ◌≤◌, ◌-◌, Bool, not, cond, List, [], map}
 use Rattle.std.specs.List.{AllByRecursion}
 use Rattle.std.specs.Ordering.{on, eq_of_both}
 use Rattle.std.specs.Str.{IsUtf8, IsCharBoundary}
@@ -40,11 +40,19 @@ names_in signatures = map (λ signature. signature.names) signatures
 abbrev pub same_kinds : Kinds → Kinds → Bool
 same_kinds = on (λ kinds. signature_with kinds [] []) same_signature
 
+-- where the names of a record are: a short name has one byte
+abbrev pub ends_of : SignatureRecord → Ends
+ends_of group = record {
+  start = cond (group.short == 256) group.long (group.long - 1);
+  first = group.long;
+  second = group.end;
+}
+
 -- whether two records' names are at the same places, and their kinds are the same
 abbrev pub same_record : SignatureRecord → SignatureRecord → Bool
-same_record = eq_of_both (on (λ group. group.names.start) ◌==◌)
-    (eq_of_both (on (λ group. group.names.first) ◌==◌)
-    (eq_of_both (on (λ group. group.names.second) ◌==◌) (on (λ group. group.kinds) same_kinds)))
+same_record = eq_of_both (on (λ group. group.long) ◌==◌)
+    (eq_of_both (on (λ group. group.end) ◌==◌)
+    (eq_of_both (on (λ group. group.short) ◌==◌) (on (λ group. group.kinds) same_kinds)))
 
 -- the two texts at these places
 abbrev pub two_at : Text → Ends → Text × Text
@@ -64,7 +72,7 @@ pub record StandAt (text : Text) (e : Ends) (two : Text × Text) : Type 0 where
 -- the signature of a record, by the text of all names
 abbrev pub signature_in : Text → SignatureRecord → Signature
 signature_in text group =
-    let names = two_at text group.names in signature_with group.kinds names.0 names.1
+    let names = two_at text (ends_of group) in signature_with group.kinds names.0 names.1
 
 -- the names and kinds that are stored
 abbrev pub signatures_view : Inside → List Signature
@@ -83,7 +91,7 @@ pub record HasKeys (group : SignatureRecord) (names : Names) : Type 0 where
 
 -- The names of the record are in the text of all names, and it has their keys.
 pub record IsHeld (text : Text) (group : SignatureRecord) : Type 0 where
-  pub ends : AreEndsOf text group.names
+  pub ends : AreEndsOf text (ends_of group)
   pub keys : HasKeys group (signature_in text group).names
 
 -- Each record has its names and keys, and the groups are valid.

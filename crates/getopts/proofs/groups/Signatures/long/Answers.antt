@@ -10,11 +10,12 @@ index-requires c =
 
 pub second_at-requires : goal.second_at-requires
 second_at-requires c =
-    rw c.deref.ensures (held_at _ c.self.inside.records.items _ _ c.index.result.now
+    rw (c.ends.ensures, c.deref.ensures) (held_at _ c.self.inside.records.items _ _ c.index.result.now
     c.self.invariant.held c.self.view_is c.requires c.index.ensures).0.ends
 
 pub returns : goal.returns
 returns c =
     let held = held_at _ c.self.inside.records.items _ _ c.index.result.now
     c.self.invariant.held c.self.view_is c.requires c.index.ensures in
-    rw (names_at-signature _ _ _ held.1, ← c.deref.ensures) c.second_at.ensures
+    let is = rw (c.ends.ensures, c.deref.ensures) at c.second_at.ensures in
+    rw (names_at-signature _ _ _ held.1) is

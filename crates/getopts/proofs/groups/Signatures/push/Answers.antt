@@ -1,5 +1,8 @@
 -- One more group has its names at the end of the common text.
-use Rattle.std.proofs.Common.{◌≡◌, not, List, [], ◌∷◌, ◌++◌, map, ap, sym, ◌∙◌, subst, arith}
+use Rattle.std.proofs.Common.{◌≡◌, ℕ, ◌+◌, ◌-◌, ◌<◌, ◌≤◌, ◌==◌, cond, not, List, [], ◌∷◌, ◌++◌, length, map, ap, sym}
+use Rattle.std.proofs.Common.{◌∙◌, subst, arith}
+use Rattle.std.proofs.lemmas.Bool.{ne_eqb}
+use Rattle.std.proofs.lemmas.List.Elements.{All-head}
 use Rattle.std.proofs.lemmas.Grind.{common_steps}
 use Rattle.std.proofs.lemmas.Str.{IsUtf8-append}
 use Rattle.std.specs.List.{AllByRecursion}
@@ -7,8 +10,9 @@ use Rattle.std.specs.Str.{IsUtf8}
 use Rattle.std.specs.String.{string_bytes}
 use Rattle.getopts.specs.Names.{Text, IsLawfullyNamed}
 use Rattle.getopts.specs.Options.{Signature}
-use Rattle.getopts.specs.Held.Groups.{signature_with, signature_in, HasKeys, IsHeld}
-use Rattle.getopts.specs.Held.Names.{key_of}
+use Rattle.getopts.specs.Held.Groups.{signature_with, signature_in, HasKeys, IsHeld, ends_of, two_at, AreEndsOf}
+use Rattle.getopts.specs.Held.Names.{key_of, short_code}
+use Rattle.getopts.specs.Held.Pieces.{IsOfBytes}
 use Rattle.getopts.specs.declared.groups.SignatureRecord.{SignatureRecord}
 use Rattle.getopts.proofs.Lists.{AllByRecursion-append}
 use Rattle.getopts.proofs.Held.Groups.{signatures-push}
@@ -21,7 +25,8 @@ use Rattle.getopts.proofs.groups.Signatures.push.Goals.{
 -- the added record
 abbrev added : goal.After-push_reserved → SignatureRecord
 added c = record {
-  names = c.push_two-names.result;
+  long = c.push_two-names.result.first;
+  end = c.push_two-names.result.second;
   key = c.key_of-key.result;
   short = c.short_byte.result;
   has_long = not c.is_empty-2.result;
@@ -56,10 +61,31 @@ text c = c.push_two-names.ensures.bytes
           rw w.self-inside-is (grind (arith, common_steps))
     ])
 
+-- the start of a short name follows from its byte
+short_starts : (short : Text) → IsOfBytes short → length short ≤ 1 → (start long : ℕ)
+    → long ≡ start + length short → cond (short_code short == 256) long (long - 1) ≡ start
+short_starts [] bytes small start long is = omega (arith, is)
+short_starts (byte ∷ []) bytes small start long is =
+    ap (λ b. cond b long (long - 1))
+    (ne_eqb byte 256 (λ same. omega (arith, same, All-head (λ byte. byte < 256) byte [] bytes)))
+    ∙ omega (arith, is)
+short_starts (byte ∷ other ∷ more) bytes small start long is = absurd (omega (arith, small))
+
+-- the names of the record are where they were put
+ends_are : (c : goal.After-push_reserved) → ends_of (added c) ≡ c.push_two-names.result
+ends_are c =
+    let two = c.push_two-names.result in
+    let start : (ends_of (added c)).start ≡ two.start =
+    ap (λ code. cond (code == 256) two.first (two.first - 1)) c.short_byte.ensures
+    ∙ short_starts c.args.short.now c.is_of_bytes.ensures c.requires.short_fits two.start
+    two.first c.push_two-names.ensures.first in
+    λ i. record { start = start i; first = two.first; second = two.second }
+
 signature_is : (c : goal.After-push_reserved)
     → signature_in (string_bytes c.push_two-names.new.texts) (added c) ≡ signature c
 signature_is c = ap (λ (names : Text × Text). signature_with c.args.kinds names.0 names.1)
-    c.push_two-names.ensures.two.are
+    (ap (two_at (string_bytes c.push_two-names.new.texts)) (ends_are c)
+    ∙ c.push_two-names.ensures.two.are)
 
 has_keys : (c : goal.After-push_reserved) → HasKeys (added c) (signature c).names
 has_keys c = record {
@@ -71,7 +97,8 @@ has_keys c = record {
 last : (c : goal.After-push_reserved)
     → IsHeld (string_bytes c.push_two-names.new.texts) (added c)
 last c = record {
-  ends = c.push_two-names.ensures.two.ends;
+  ends = subst (AreEndsOf (string_bytes c.push_two-names.new.texts)) (sym (ends_are c))
+      c.push_two-names.ensures.two.ends;
   keys = subst (λ (s : Signature). HasKeys (added c) s.names) (sym (signature_is c)) (has_keys c);
 }
 

@@ -1,8 +1,8 @@
 -- They are equal if there are as many, and those at each place are equal.
-use Rattle.std.proofs.Common.{sym, ◌∙◌, ◌≡◌, true, map, List, [], ◌∷◌, ◌==◌, ap}
+use Rattle.std.proofs.Common.{sym, ◌∙◌, ◌≡◌, ◌-◌, true, cond, map, List, [], ◌∷◌, ◌==◌, ap}
 use Rattle.std.specs.Cmp.Lexicographic.{pointwise}
 use Rattle.getopts.specs.Names.{Text}
-use Rattle.getopts.specs.Held.Groups.{signature_in, same_record, same_kinds, two_at}
+use Rattle.getopts.specs.Held.Groups.{signature_in, same_record, same_kinds, two_at, ends_of}
 use Rattle.getopts.specs.Held.Pieces.{between}
 use Rattle.std.proofs.lemmas.Slice.Eq.{bytes_eq-Decides}
 use Rattle.std.specs.Str.{bytes_eq}
@@ -32,17 +32,18 @@ loop-place-preserved c = record {
 one : (text : Text) (r q : SignatureRecord) → same_record r q ≡ true
     → same_signature (signature_in text r) (signature_in text q) ≡ true
 one text r q same =
-    let start = and_parts (r.names.start == q.names.start) _ same in
-    let first = and_parts (r.names.first == q.names.first) _ start.1 in
-    let second = and_parts (r.names.second == q.names.second) _ first.1 in
-    let s = eqb-true r.names.start q.names.start start.0 in
-    let f = eqb-true r.names.first q.names.first first.0 in
-    let e = eqb-true r.names.second q.names.second second.0 in
-    let names = and_from (bytes_eq (two_at text r.names).0 (two_at text q.names).0)
-    (bytes_eq (two_at text r.names).1 (two_at text q.names).1)
+    let long = and_parts (r.long == q.long) _ same in
+    let end = and_parts (r.end == q.end) _ long.1 in
+    let short = and_parts (r.short == q.short) _ end.1 in
+    let f = eqb-true r.long q.long long.0 in
+    let e = eqb-true r.end q.end end.0 in
+    let b = eqb-true r.short q.short short.0 in
+    let s : (ends_of r).start ≡ (ends_of q).start = λ i. cond (b i == 256) (f i) (f i - 1) in
+    let names = and_from (bytes_eq (two_at text (ends_of r)).0 (two_at text (ends_of q)).0)
+    (bytes_eq (two_at text (ends_of r)).1 (two_at text (ends_of q)).1)
     ((bytes_eq-Decides _ _).1 (λ i. between text (s i) (f i)))
     ((bytes_eq-Decides _ _).1 (λ i. between text (f i) (e i))) in
-    and_from _ (same_kinds r.kinds q.kinds) names second.1
+    and_from _ (same_kinds r.kinds q.kinds) names short.1
 
 all : (text : Text) (rs qs : List SignatureRecord) → pointwise same_record rs qs ≡ true
     → pointwise same_signature (map (signature_in text) rs) (map (signature_in text) qs) ≡ true
