@@ -11,6 +11,7 @@ HINT = r"(?![-|])[^ \t\[\]]+(?<!\.\.)"
 # The inside of an item's brackets: its names, and perhaps an argument.
 ITEM = re.compile(rf"(?:-({SHORT})|(?:-({SHORT})\|)?--(?!-)({LONG_BYTE}{{2,}}(?<![:.])))(?: {HINT}| \[{HINT}\])?")
 OPERAND = re.compile(r"(?:[A-Z][A-Z0-9_-]*|(\[)[A-Z][A-Z0-9_-]*\])(\.{2,3})?")
+OPERAND_FORM = "write an operand as FILE, [FILE], FILE.. or [FILE].."
 DASHES = "write a short name as -s, a long name as --long, and an operand in capital letters"
 APART = "write names as -s|--long, without spaces or commas"
 GAP = "put a tab or two spaces before the description"
@@ -29,10 +30,11 @@ def reason_of(item):
         (re.match(r"\[?[-|]|\]", argument), APART),
         (" " in end, GAP),
         (" " in argument, "an argument can't contain spaces, and a description needs a tab or two spaces before it"),
+        (re.match("[A-Z]", names) and " " in item, GAP),
+        (re.match("[A-Z]", names), OPERAND_FORM),
         ("=" in names, "write the argument after a space, as in '--long ARG'"),
         ("," in names[2:], APART),
         ("[" in names, BRACKETS),
-        (re.match("[A-Z]", names) and " " in item, GAP),
         (names[:1] != "-" or short == "-", DASHES),
         ("|" in names and not long.startswith("--"), "write a long name with two dashes after '|'"),
         (long.startswith("---"), DASHES),

@@ -21,7 +21,8 @@ use Rattle.getopts.specs.declared.groups.Occur.{Occur}
 use Rattle.getopts.specs.declared.groups.Occur.TheVariants.{Req, Optional, Multi}
 use Rattle.getopts_shell.specs.declared.item.TheConstants.{APART, BAR, BRACKETS, BYTES, COLON}
 use Rattle.getopts_shell.specs.declared.item.TheConstants.{DASHES, END, EQUALS, GAP, LETTER}
-use Rattle.getopts_shell.specs.declared.item.TheConstants.{LONG, MARK, ONE, OPEN, ORDER, SHORT, SPACE}
+use Rattle.getopts_shell.specs.declared.item.TheConstants.{LONG, MARK, ONE, OPEN, OPERAND, ORDER, SHORT}
+use Rattle.getopts_shell.specs.declared.item.TheConstants.{SPACE}
 use Rattle.getopts_shell.specs.declared.row.Often.{Often}
 use Rattle.getopts_shell.specs.declared.row.Often.TheVariants.{Once, Last, All, Alone}
 
@@ -383,10 +384,11 @@ reasons item =
     ∷ (begins_name (unopened (after 32 item)) || starts_with ◌==◌ (after 32 item) (codes "]"), APART.now)
     ∷ (holds 32 (after 93 item), GAP.now)
     ∷ (holds 32 (after 32 item), SPACE.now)
+    ∷ (begins_capital names && holds 32 item, GAP.now)
+    ∷ (begins_capital names, OPERAND.now)
     ∷ (holds 61 names, EQUALS.now)
     ∷ (holds 44 (drop 1 (drop 1 names)), APART.now)
     ∷ (holds 91 names, BRACKETS.now)
-    ∷ (begins_capital names && holds 32 item, GAP.now)
     ∷ (not (begins_with_dash names) || length short == 1, DASHES.now)
     ∷ (holds 124 names && not (starts_with ◌==◌ long (codes "--")), BAR.now)
     ∷ (starts_with ◌==◌ long (codes "---"), DASHES.now)

@@ -186,6 +186,8 @@ const GAP: &str = "put a tab or two spaces before the description";
 /// The reason if it has another second space.
 const SPACE: &str =
     "an argument can't contain spaces, and a description needs a tab or two spaces before it";
+/// The reason if its names begin like an operand.
+const OPERAND: &str = "write an operand as FILE, [FILE], FILE.. or [FILE]..";
 /// The reason if its names contain `=`.
 const EQUALS: &str = "write the argument after a space, as in '--long ARG'";
 /// The reason if its names contain `[`, or no other reason applies.
@@ -229,10 +231,11 @@ pub(crate) fn reason_of(item: &str) -> &'static str {
         (stands_apart(argument), APART),
         (end.contains(&b' '), GAP),
         (argument.contains(&b' '), SPACE),
+        (is_described(names, item), GAP),
+        (begins_capital(names), OPERAND),
         (names.contains(&b'='), EQUALS),
         (without_first(without_first(names)).contains(&b','), APART),
         (names.contains(&b'['), BRACKETS),
-        (is_described(names, item), GAP),
         (lack_dash(names, short), DASHES),
         (lack_two_dashes(names, long), BAR),
         (long.starts_with(b"---"), DASHES),
