@@ -186,6 +186,10 @@ class Session:
             return [self.result("accepted", self.read)]
         if word in ("canonical", "canonical_words", "canonical_filtered"):
             return [self.canonical(word, fields)]
+        if word == "parse_in_order":
+            read = self.options.parse(fields)
+            return [line(word) + b"\t" + (self.result("", read) if len(read) == 2 else
+                                          line("order", *(place for place, _, _ in read[0])))]
         if word == "lawful":
             short, long = fields
             return [line("lawful", "true" if len(short) < 2 and len(long) != 1 and short + long else "false")]
@@ -264,8 +268,8 @@ def rows_of(text):
 
 
 def answer_rows(rows):
-    """Answers rows. Returns the rows and further ones (the canonical line of all words, the positions of all names),
-    the number of stored answer lines that were checked, and the rows whose stored answers are wrong."""
+    """Answers rows. Returns the rows and further ones (the canonical line and the order of all words, the positions of all
+    names), the number of stored answer lines that were checked, and the rows whose stored answers are wrong."""
     session, beyond, given, differ, case = Session(), [], 0, [], b""
     for one, answers in rows:
         word, fields = parts(one)
@@ -277,7 +281,7 @@ def answer_rows(rows):
             if expected != answers:
                 differ.append((case, one, b"model: " + b" / ".join(expected), b"stored: " + b" / ".join(answers)))
         if word in ("words", "ignoring_counts"):
-            asked = [line("canonical", *fields)]
+            asked = [line("canonical", *fields), line("parse_in_order", *fields)]
             if len(session.read) == 3:
                 names = {name: 0 for group in session.options.groups for name in (group.short, group.long) if name}
                 asked += [line("positions", name) for name in names]

@@ -28,7 +28,7 @@
 
 /* The version of this header. A program that is compiled with it works with this version of the library and with later
  * ones that have the same first number. */
-#define GETOPTS_VERSION "2.1.0"
+#define GETOPTS_VERSION "2.2.0"
 
 /* The version of the Rust crate getopts that the library follows. */
 #define GETOPTS_CRATE_VERSION "0.2.24"
@@ -72,13 +72,14 @@ struct getopts_option {
     enum getopts_kind kind;  /* such as GETOPTS_YES + GETOPTS_REQ */
 };
 
-/* How words are read: one of these, or both modes added. Modes and kinds use different bits; getopts_new rejects a mode
+/* How words are read: one of these, or several modes added. Modes and kinds use different bits; getopts_new rejects a mode
  * that is added to a kind, and a kind that is added to modes. With GETOPTS_LONG_ONLY, short options stand alone:
  * `-I dir` and `-I=dir` are accepted, but not `-Idir`, `-O2` and `-vv`, which getopt_long_only accepts. */
 enum getopts_modes {
-    GETOPTS_ORDINARY = 0,   /* neither mode */
-    GETOPTS_STOP = 16,      /* all words from the first free one on are free */
-    GETOPTS_LONG_ONLY = 32, /* long names follow one dash or two */
+    GETOPTS_ORDINARY = 0,    /* no mode */
+    GETOPTS_STOP = 16,       /* all words from the first free one on are free */
+    GETOPTS_LONG_ONLY = 32,  /* long names follow one dash or two */
+    GETOPTS_KEEP_ORDER = 64, /* getopts_nth returns the options in order */
     GETOPTS_MODES_MAX = 0x7fffffff /* not a mode: it gives the type four bytes */
 };
 
@@ -129,6 +130,17 @@ const char *getopts_value(const struct getopts *options, const char *name, size_
  * occurrence without one is NULL too. Never returns NULL itself. Valid until the next getopts_read. */
 const char *const *getopts_values(const struct getopts *options, const char *name);
 
+/* Returns the row in the table of the nth option among all that were given, in the order of the words. Stores its value
+ * in *value, or NULL if it was given without one; `value` may be NULL. Returns -1 after the last option, if the last
+ * getopts_read failed, and without GETOPTS_KEEP_ORDER. The value is valid until the next getopts_read. A loop over it is
+ * like one over getopt_long, without free words:
+ *
+ *     for (size_t nth = 0; (row = getopts_nth(options, nth, &value)) >= 0; nth++)
+ *         switch (row) ..
+ *
+ * PREFIX/share/doc/getopts/order.c is a whole program. */
+int getopts_nth(const struct getopts *options, size_t nth, const char **value);
+
 /* Parses the value of the option's nth occurrence as a decimal number. If it is one that fits a long, stores it in
  * *value and returns true; otherwise stores nothing and returns false. If there is no value, stores nothing and returns
  * true, so that a default stays, even if no option has that name (see getopts_defined). */
@@ -153,14 +165,13 @@ char *getopts_short_usage(const struct getopts *options, const char *program);
 /* Rewrites words with main names (the long name if there is one, else the short one): `--main` or `--main=value` for
  * each option, in the order in which they were given, then `--`, then the free words. Returns what getopts_read would,
  * and doesn't change what that read last. Stores a list like argv in *line, which the caller frees with one free(). It
- * is NULL if the status isn't GETOPTS_OK, or if the words can't be written so because a main name contains `=`. In
- * PREFIX/share/doc/getopts/order.c, a switch in a loop handles such a list, as with getopt_long. */
+ * is NULL if the status isn't GETOPTS_OK, or if the words can't be written so because a main name contains `=`. */
 int getopts_canonical(const struct getopts *options, int count, char *const *words, char ***line);
 
 /* Frees options. NULL is allowed. */
 void getopts_delete(struct getopts *options);
 
-/* The version of the library that the program uses, such as "2.1.0". It isn't below GETOPTS_VERSION. */
+/* The version of the library that the program uses, such as "2.2.0". It isn't below GETOPTS_VERSION. */
 const char *getopts_version(void);
 
 #ifdef __cplusplus

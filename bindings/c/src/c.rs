@@ -220,6 +220,9 @@ unsafe extern "C" fn getopts_read(
     // SAFETY: as above. The words may be those of the previous reading: they aren't used once it is replaced.
     unsafe {
         let read = (*options).read(Words::of(count, words));
+        if (*options).keeps_order {
+            return (*options).keep_in_order(read, Words::of(count, words));
+        }
         (*options).keep(read)
     }
 }
@@ -282,6 +285,19 @@ unsafe extern "C" fn getopts_value(options: Option<&Getopts>, name: Text, nth: u
 #[no_mangle]
 unsafe extern "C" fn getopts_values(options: Option<&Getopts>, name: Text) -> *const Text {
     reading(options).values(unsafe { bytes(name) })
+}
+
+#[no_mangle]
+extern "C" fn getopts_nth(
+    options: Option<&Getopts>,
+    nth: usize,
+    value: Option<&mut Text>,
+) -> c_int {
+    let given = options.and_then(|options| options.nth(nth));
+    if let Some(value) = value {
+        *value = given.map_or(ptr::null(), |(_, text)| text);
+    }
+    given.map_or(-1, |(row, _)| row as c_int)
 }
 
 #[no_mangle]

@@ -1,7 +1,7 @@
 //! Options, and what was read last.
 
 use crate::c::{Row, Text, Words, text};
-use crate::reading::Reading;
+use crate::reading::{Reading, nth_of};
 use crate::words::Texts;
 use crate::{Granted, OK, Refused, Status, table};
 use library::alloc::Global;
@@ -14,6 +14,10 @@ pub struct Getopts {
     options: Options,
     /// How many options there are.
     groups: usize,
+    /// Whether a reading keeps the order of options.
+    pub keeps_order: bool,
+    /// For each option that was given, in order: its row, and where its value is in the lists of the reading.
+    order: Vec<(usize, usize)>,
     /// What is wrong with the table, if anything.
     wrong: Option<Vec<u8>>,
     /// What `getopts_message` returns: a constant below, what is wrong with the table, or the reading's message.
@@ -31,8 +35,9 @@ impl Getopts {
         let mut options = Options::new(Global);
         let (groups, wrong) = table::declare(&mut options, rows, modes)?;
         let message = wrong.as_ref().map_or(NOTHING.as_ptr(), |wrong| wrong.as_ptr());
-        let reading = Reading::nothing();
-        Ok(Getopts { options, groups, wrong, message, reading })
+        let (reading, keeps_order) = (Reading::nothing(), modes & table::KEEP_ORDER != 0);
+        let order = Vec::new();
+        Ok(Getopts { options, groups, keeps_order, order, wrong, message, reading })
     }
 
     /// The words as texts, if the table is valid.
@@ -88,6 +93,42 @@ impl Getopts {
         };
         let reading = Reading::of(matches, Some(&fault), self.groups, &texts)?;
         Ok((reading, status))
+    }
+
+    /// Keeps the result of a parse, as `keep` does, and the order of the options.
+    #[cold]
+    pub fn keep_in_order(
+        &mut self,
+        read: Result<(Reading, Status), Refused>,
+        words: Result<Words<'_>, Refused>,
+    ) -> Status {
+        let order = match &read {
+            Ok((reading, OK)) => self.order_of(reading, words),
+            _ => Ok(Vec::new()),
+        };
+        match (read, order) {
+            (Ok(read), Ok(order)) => {
+                self.order = order;
+                self.keep(Ok(read))
+            }
+            (Err(refused), _) | (_, Err(refused)) => self.keep(Err(refused)),
+        }
+    }
+
+    fn order_of(
+        &self,
+        reading: &Reading,
+        words: Result<Words<'_>, Refused>,
+    ) -> Result<Vec<(usize, usize)>, Refused> {
+        let mut texts = self.texts(words)?;
+        let rows = texts.ask(|words| self.options.parse_in_order(Global, words))?;
+        Ok(reading.in_order(&rows)?)
+    }
+
+    /// The row of the nth option among all that were given, and its value.
+    pub fn nth(&self, nth: usize) -> Option<(usize, Text)> {
+        let (row, at) = *self.order.get(nth_of(nth, self.order.len())?)?;
+        Some((row, self.reading.text_at(at)))
     }
 
     /// The canonical line, with a zero byte after each word, and the number of words.

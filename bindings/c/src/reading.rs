@@ -5,8 +5,9 @@ use crate::c::{Text, text};
 use crate::words::Texts;
 use core::mem::take;
 use core::ptr::null;
+use library::alloc::Global;
 use library::bytes::push_bytes;
-use library::fallible::{TryList, Vec};
+use library::fallible::{TryCopies, TryList, Vec};
 use library::proved::{Fail, Matches, Occurrences};
 
 /// The result of reading words: empty if they couldn't be read.
@@ -57,6 +58,21 @@ impl Reading {
             reading.matches = Some(matches);
         }
         Ok(reading)
+    }
+
+    /// For each option in order, given their rows: its row, and where its value is in the lists.
+    pub fn in_order(&self, rows: &[usize]) -> Granted<Vec<(usize, usize)>> {
+        let (mut next, mut order) =
+            (self.starts.try_clone()?, Vec::of_capacity(Global, rows.len())?);
+        for row in rows {
+            order.push((*row, next[*row]));
+            next[*row] += 1;
+        }
+        Ok(order)
+    }
+
+    pub fn text_at(&self, place: usize) -> Text {
+        self.lists[place]
     }
 
     /// Adds a list of texts. Its space was reserved: each word gives at most one text, which is no longer than the word.
@@ -146,7 +162,7 @@ impl Reading {
 }
 
 /// The index of the requested occurrence, out of `count`: `nth`, or the last for `GETOPTS_LAST`.
-fn nth_of(nth: usize, count: usize) -> Option<usize> {
+pub fn nth_of(nth: usize, count: usize) -> Option<usize> {
     let last = count.checked_sub(1)?;
     match nth {
         usize::MAX => Some(last),

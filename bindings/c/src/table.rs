@@ -9,6 +9,7 @@ use library::proved::{HasArg, Occur, Options, ParsingStyle};
 /// The modes, which may be added.
 const STOP: u32 = 16;
 const LONG_ONLY: u32 = 32;
+pub const KEEP_ORDER: u32 = 64;
 
 /// How many bytes of a name that is too long a message shows at most.
 const SHOWN: usize = 40;
@@ -32,7 +33,7 @@ pub fn declare<'c>(
         }
         groups += 1;
     }
-    if modes & !(STOP | LONG_ONLY) != 0 {
+    if modes & !(STOP | LONG_ONLY | KEEP_ORDER) != 0 {
         return Ok((0, said(&[b"invalid modes: ", &digits(modes as usize)?])?));
     }
     if modes & STOP != 0 {

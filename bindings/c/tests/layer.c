@@ -81,8 +81,8 @@ static void modes_are_checked(void) {
         const char *message;
     } rows[] = {
         { 4, "invalid modes: 4" }, { GETOPTS_STOP + GETOPTS_YES, "invalid modes: 17" },
-        { GETOPTS_LONG_ONLY + GETOPTS_MULTI, "invalid modes: 40" }, { 64, "invalid modes: 64" },
-        { GETOPTS_ORDINARY, "" }, { GETOPTS_STOP + GETOPTS_LONG_ONLY, "" },
+        { GETOPTS_LONG_ONLY + GETOPTS_MULTI, "invalid modes: 40" }, { 128, "invalid modes: 128" },
+        { GETOPTS_ORDINARY, "" }, { GETOPTS_STOP + GETOPTS_LONG_ONLY + GETOPTS_KEEP_ORDER, "" },
     };
     for (size_t nth = 0; nth < sizeof rows / sizeof *rows; nth++) {
         struct getopts *options = getopts_new(table, (enum getopts_modes)rows[nth].modes);
@@ -279,7 +279,85 @@ static void values_match_value(void) {
     getopts_delete(options);
 }
 
+/* The message of each error, and both usage texts. */
+static void texts_match_rust(void) {
+    static const struct {
+        char *words[3];
+        const char *message;
+    } rows[] = {
+        { { "-o", NULL }, "Argument to option 'o' missing" }, { { "--nope", NULL }, "Unrecognized option: 'nope'" },
+        { { "-h", NULL }, "Required option 'output' missing" },
+        { { "-oa", "-ob", NULL }, "Option 'output' given more than once" },
+        { { "-oa", "--help=x", NULL }, "Option 'help' does not take an argument" }, { { "-oa", "-h", NULL }, "" },
+    };
+    struct getopts *options = getopts_new(required, GETOPTS_ORDINARY);
+    for (size_t nth = 0; nth < sizeof rows / sizeof *rows; nth++) {
+        getopts_read(options, rows[nth].words[1] == NULL ? 1 : 2, (char **)rows[nth].words);
+        expect(strcmp(getopts_message(options), rows[nth].message) == 0, rows[nth].message);
+    }
+    char *line = getopts_short_usage(options, "x"), *usage = getopts_usage(options, "brief");
+    expect(strcmp(line, "Usage: x -o FILE [-h]") == 0, "the usage line");
+    expect(strcmp(usage, "brief\n\nOptions:\n    -o, --output FILE   \n    -h, --help          \n") == 0, "the usage text");
+    free(line);
+    free(usage);
+    getopts_delete(options);
+}
+
+/* Each mode and each kind changes how words are read. */
+static void modes_and_kinds_have_effects(void) {
+    static const struct getopts_option table[] = {
+        { "v", "verbose", NULL, NULL, GETOPTS_NO + GETOPTS_MULTI }, { "c", "color", "WHEN", NULL, GETOPTS_MAYBE },
+        { NULL, NULL, NULL, NULL, GETOPTS_NO },
+    };
+    static const struct {
+        enum getopts_modes modes;
+        char *words[3];
+        size_t count, color;
+        int frees;
+    } rows[] = {
+        { GETOPTS_ORDINARY, { "x", "-v", "-c" }, 1, 1, 1 }, { GETOPTS_STOP, { "x", "-v", "-c" }, 0, 0, 3 },
+        { GETOPTS_LONG_ONLY, { "-verbose", "x", "-color=y" }, 1, 1, 1 },
+        { GETOPTS_STOP + GETOPTS_LONG_ONLY, { "-verbose", "x", "-color=y" }, 1, 0, 2 },
+    };
+    for (size_t nth = 0; nth < sizeof rows / sizeof *rows; nth++) {
+        struct getopts *options = getopts_new(table, rows[nth].modes);
+        expect(getopts_read(options, 3, (char **)rows[nth].words) == GETOPTS_OK, "a mode");
+        expect(getopts_count(options, "v") == rows[nth].count && getopts_count(options, "c") == rows[nth].color
+            && getopts_free_count(options) == rows[nth].frees, "its counts");
+        getopts_delete(options);
+    }
+}
+
+/* Options in order, with their rows and values. There are none without the mode, or after a failed reading. */
+static void options_are_in_order(void) {
+    static const struct getopts_option table[] = {
+        { "v", NULL, NULL, NULL, GETOPTS_MULTI }, { "L", NULL, NULL, NULL, GETOPTS_YES + GETOPTS_MULTI },
+        { NULL, "p=x", NULL, NULL, GETOPTS_MAYBE }, { NULL, NULL, NULL, NULL, GETOPTS_NO },
+    };
+    static const struct {
+        int row;
+        const char *value;
+    } wanted[] = { { 0, NULL }, { 1, "a" }, { 1, "\xff" }, { 0, NULL }, { -1, NULL } };
+    char *words[] = { "-vLa", "x", "-L\xff", "-v", "--", "-v", NULL }, *failing[] = { "-v", "-L", NULL };
+    struct getopts *options = getopts_new(table, GETOPTS_KEEP_ORDER), *other = getopts_new(table, GETOPTS_ORDINARY);
+    const char *value = "";
+    expect(getopts_nth(options, 0, &value) == -1 && value == NULL, "nothing was read");
+    expect(getopts_read(options, 6, words) == GETOPTS_OK && getopts_read(other, 6, words) == GETOPTS_OK, "the words");
+    for (size_t nth = 0; nth < sizeof wanted / sizeof *wanted; nth++) {
+        expect(getopts_nth(options, nth, &value) == wanted[nth].row, "its row");
+        expect(value == wanted[nth].value || strcmp(value, wanted[nth].value) == 0, "its value");
+    }
+    expect(getopts_nth(options, GETOPTS_LAST, NULL) == 0 && getopts_nth(other, 0, NULL) == -1, "the last, and the mode");
+    expect(getopts_read(options, 2, failing) == GETOPTS_ARGUMENT_MISSING && getopts_nth(options, 0, NULL) == -1, "a failure");
+    expect(getopts_nth(NULL, 0, &value) == -1 && value == NULL, "no options");
+    getopts_delete(options);
+    getopts_delete(other);
+}
+
 int main(void) {
+    options_are_in_order();
+    texts_match_rust();
+    modes_and_kinds_have_effects();
     wrong_rows_are_reported();
     modes_are_checked();
     null_is_rejected();

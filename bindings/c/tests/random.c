@@ -68,8 +68,22 @@ static bool same(char *const *words, char *const *others) {
     return words[nth] == NULL && others[nth] == NULL;
 }
 
+/* Checks that the options in order are those of the canonical line, if there is one. */
+static void check_order(const struct getopts *options, const struct getopts_option *table, char **line) {
+    size_t nth = 0;
+    const char *value;
+    for (int row; (row = getopts_nth(options, nth, &value)) >= 0; nth++) {
+        bool is_long = table[row].long_name != NULL && table[row].long_name[0] != '\0';
+        const char *name = is_long ? table[row].long_name : table[row].short_name;
+        const char *rest = line != NULL ? line[nth] + 2 + strlen(name) : NULL;
+        expect(line == NULL || strncmp(line[nth] + 2, name, strlen(name)) == 0, "the name in the line");
+        expect(line == NULL || (value != NULL ? rest[0] == '=' && strcmp(rest + 1, value) == 0 : rest[0] == '\0'), "its value");
+    }
+    expect(line == NULL || strcmp(line[nth], "--") == 0, "the line has no more options");
+}
+
 /* Reads words, and checks that their canonical line is its own canonical line. */
-static int read_line(struct getopts *options, const struct getopts_option *table, size_t count, char **words) {
+static int read_line(struct getopts *options, const struct getopts_option *table, size_t count, char **words, bool ordered) {
     char **line = NULL, **again = NULL;
     int status = getopts_read(options, (int)count, words);
     expect((getopts_message(options)[0] == '\0') == (status == GETOPTS_OK), "a message exactly if it fails");
@@ -83,6 +97,10 @@ static int read_line(struct getopts *options, const struct getopts_option *table
     int len = 0;
     while (line != NULL && line[len] != NULL)
         len++;
+    if (ordered && status == GETOPTS_OK)
+        check_order(options, table, line);
+    else
+        expect(getopts_nth(options, 0, NULL) == -1, "no order");
     if (line != NULL)
         expect(getopts_canonical(options, len, line, &again) == GETOPTS_OK && again != NULL && same(line, again), "its own line");
     free(line);
@@ -146,6 +164,9 @@ static uint64_t hash_of(const struct getopts *options, const struct getopts_opti
     }
     for (char *const *word = getopts_free_words(options); *word != NULL; word++)
         mix(&sum, *word);
+    const char *value;
+    for (size_t nth = 0; getopts_nth(options, nth, &value) >= 0; nth++)
+        mix(&sum, value);
     return sum;
 }
 
@@ -210,7 +231,8 @@ int main(int argc, char **argv) {
                 break;
             right = right && is_right(&table[row]);
         }
-        struct getopts *options = getopts_new(table, (enum getopts_modes)(16 * below(4)));
+        size_t modes = below(8);
+        struct getopts *options = getopts_new(table, (enum getopts_modes)(16 * modes));
         expect(options != NULL && (getopts_message(options)[0] == '\0') == right, "a message if the table is wrong");
         static char room[WORDS][4096];
         char *words[WORDS + 1] = { NULL };
@@ -221,7 +243,7 @@ int main(int argc, char **argv) {
             for (size_t part = below(4); part > 0; part--)
                 strcat(room[word], parts[below(PARTS)]);
         }
-        int status = read_line(options, table, len, words);
+        int status = read_line(options, table, len, words, modes >= 4);
         expect((status == GETOPTS_BAD) == !right, "GETOPTS_BAD exactly if the table is wrong");
         statuses[status]++;
 #ifdef REFUSES

@@ -355,6 +355,41 @@ impl Options {
         Ok(Matches::of(matches))
     }
 
+    /// Parses words like `parse`, and returns the options that they give, in order, across all options: the main name of
+    /// each (the long name, or the short one if there is no long one) and its value. The crate getopts has no such method.
+    ///
+    /// Use it if the order of different options matters. Options in one word, such as `-vq`, have the same position.
+    ///
+    /// ```
+    /// let mut options = getopts::Options::new();
+    /// options.optflagmulti("q", "quiet", "say less").optmulti("I", "", "add a folder", "DIR");
+    /// let mut folders = Vec::new();
+    /// for (name, value) in options.parse_in_order(["-Isrc", "-qI", "lib", "in.txt"]).unwrap() {
+    ///     match name {
+    ///         "I" => folders.extend(value),
+    ///         "quiet" => folders.clear(),
+    ///         _ => {}
+    ///     }
+    /// }
+    /// assert_eq!(folders, ["lib"]);
+    /// ```
+    ///
+    /// # Errors
+    /// Fails if `parse` would reject the words.
+    ///
+    /// # Panics
+    /// Panics if both names of an option are empty.
+    pub fn parse_in_order<C: IntoIterator>(
+        &self,
+        args: C,
+    ) -> std::result::Result<Vec<(&str, Option<String>)>, Fail>
+    where
+        C::Item: AsRef<OsStr>,
+    {
+        let (given, groups) = (self.read(args, texts_in_order)?, self.proved.groups());
+        Ok(given.into_iter().map(|(place, value)| (groups.main(place), value)).collect())
+    }
+
     /// Calls `ask` with the proved options and the words. Rejects the first word that isn't UTF-8.
     fn read<C: IntoIterator, T>(
         &self,
@@ -458,6 +493,19 @@ pub(crate) fn parse_texts(options: &proved::Options, words: &[&str]) -> proved::
 
 pub(crate) fn read_texts(options: &proved::Options, words: &[&str]) -> proved::Result {
     options.parse_ignoring_counts(Global, words)
+}
+
+/// The place and the value of each option that words give, in order.
+fn texts_in_order(
+    options: &proved::Options,
+    words: &[&str],
+) -> std::result::Result<Vec<(usize, Option<String>)>, proved::Fail> {
+    let places = options.parse_in_order(Global, words)?;
+    let matches = options.parse_words(Global, words)?;
+    let groups = 0..options.groups().len();
+    let mut given: Vec<_> = groups.map(|at| matches.occurrences_at(at).into_iter()).collect();
+    let mut next_of = |place: usize| given[place].next().and_then(|(_, value)| value);
+    Ok(places.into_iter().map(|place| (place, next_of(place).map(String::from))).collect())
 }
 
 fn canonical_texts(

@@ -197,6 +197,7 @@ fn parse_reports_every_failed_allocation() {
         reports_failures(&options, |o| o.parse(Global, WORDS.iter().copied()));
         reports_failures(&options, |o| o.parse_ignoring_counts(Global, &WORDS));
         reports_failures(&options, |o| o.canonical_words(Global, &WORDS));
+        reports_failures(&options, |o| o.parse_in_order(Global, &WORDS));
         reports_failures(&options, |o| o.canonical(Global, WORDS.iter().copied()));
     }
     let many = ["-vofile", "free"].repeat(2000);

@@ -1,5 +1,5 @@
 -- The results of `canonical` for accepted words, and the laws of the lines that it returns.
-use Rattle.std.specs.Prelude.{◌≡◌, List, Option, MatchOption, Result, MatchResult}
+use Rattle.std.specs.Prelude.{◌≡◌, ℕ, List, map, Option, MatchOption, Result, MatchResult}
 use Rattle.getopts.specs.Names.{Text}
 use Rattle.getopts.specs.Options.{Declared}
 use Rattle.getopts.specs.Fail.{Fault}
@@ -41,3 +41,9 @@ IsCanonicalAnswer options words answer =
 abbrev pub KeepsLineLaws : Declared → Type 0
 KeepsLineLaws options = (words line : List Text) → (written : IsWritten options words line)
     → HasCanonicalLine options written.content
+
+-- Words are accepted, and these are the places of the options that they give, in order.
+pub record IsOrder (options : Declared) (words : List Text) (places : List ℕ) : Type 0 where
+  pub content : Content
+  pub accepted : IsAcceptedWith options words content
+  pub places_are : places ≡ map (λ m. m.group) content.mentions

@@ -1,4 +1,5 @@
-//! Canonical lines: accepted command lines, rewritten with main names alone.
+//! Canonical lines, which are accepted command lines rewritten with main names alone, and the order
+//! of options.
 
 ghost use Rattle.std.specs.Prelude.{◌≡◌, ◌<◌, length, map, IfOk, IfErr, IfSome, IfNone, OnOk, not};
 ghost use Rattle.std.specs.List.{AllByRecursion, list_all};
@@ -80,6 +81,19 @@ fn option_words(
     Ok(words)
 }
 
+/// The places of the groups of the occurrences.
+fn option_places(alloc: Global, found: &LineOccurrences) -> Result<Vec<usize>, AllocError>
+    ensures { IfOk result (λ places. places.items
+        ≡ map (λ m. m.group) (map (λ o. o.mention) found.now)) }
+{
+    let mut places = Vec::with_capacity(alloc, found.len())?;
+    for place in 0..found.len() {
+        let occurrence = found.at(place);
+        places.push(occurrence.group)?;
+    }
+    Ok(places)
+}
+
 /// The words for the occurrences, then `--`, then the free words.
 fn canonical_line(alloc: Global, groups: &Groups, line: Line) -> Result<Vec<String>, AllocError>
     requires { AllByRecursion (λ o. o.mention.group < length groups.now) line.found }
@@ -101,7 +115,7 @@ impl Options {
     ghost use Rattle.getopts.specs.Parse.{IsRefused};
     ghost use Rattle.getopts.specs.Gives.{GivesAs};
     ghost use Rattle.getopts.specs.Results.{canonical_result};
-    ghost use Rattle.getopts.specs.CanonAnswers.{IsWritten, IsUnwritable, KeepsLineLaws};
+    ghost use Rattle.getopts.specs.CanonAnswers.{IsWritten, IsUnwritable, IsOrder, KeepsLineLaws};
     ghost use Rattle.getopts.specs.Theorem.{LinesReadAgain};
 
     /// Rewrites an accepted command line with main names alone, for programs that log, compare or
@@ -143,6 +157,26 @@ impl Options {
     {
         let words = words_from(alloc, args)?;
         self.canonical_words(alloc, &words)
+    }
+
+    /// Parses words as `parse_words` does, and returns the options that they give, in order, across
+    /// all options.
+    ///
+    /// Use it if the order of different options matters, for example if the last of `-q` and `-v`
+    /// wins. (Options in one word, such as `-vq`, have the same position.) Each option is returned
+    /// as its place, which counts from 0 in the order of definition, as in `opt_place`. With the
+    /// options `q` and `v`, `["-vq", "x", "-v"]` gives 1, 0 and 1. Free words aren't in the list.
+    /// The value of an option's nth occurrence in the list is the nth of `occurrences_at` its place.
+    ///
+    /// Errors: see `parse_words`. The Rust crate has no such function.
+    pub fn parse_in_order<S: AsStr>(&self, alloc: Global, words: &[S]) -> Result<Vec<usize>, Fail>
+        ensures order { IfOk result (λ places.
+            IsOrder self.now (map S.text words.now) places.items) }
+        ensures refused { IfErr result (λ fail. Tells fail
+            (IsRefused self.now (map S.text words.now))) }
+    {
+        let accepted = self.accepted_line(alloc, words)?;
+        Ok(option_places(alloc, &accepted.line.found)?)
     }
 
     /// Rewrites an accepted command line like `canonical`, from a borrowed list of words.

@@ -1,2 +1,1 @@
 mod CompileLemmas
-mod LoudnessLemmas

@@ -45,6 +45,7 @@ pub fn ask(alloc: Global, options: &Options, word: &str, fields: &[String], answ
         "canonical" | "canonical_words" | "canonical_filtered" => {
             canonical(&written(alloc, options, word, fields), answer)
         }
+        "parse_in_order" => in_order(&options.parse_in_order(alloc, fields), answer),
         _ => answer.stop(UNKNOWN_WORD),
     }
 }
@@ -99,6 +100,20 @@ fn written(
             alloc,
             words.iter().map(|word| word.as_str()).filter(is_taken),
         ),
+    }
+}
+
+/// Answers the places of the options that words give, in order.
+fn in_order(order: &Result<Vec<usize>, Fail>, answer: &mut Answer) {
+    match order {
+        Ok(places) => {
+            answer.field("order");
+            places.put(answer);
+        }
+        Err(fail) => {
+            answer.field("refused");
+            fault(fail, answer);
+        }
     }
 }
 

@@ -3,7 +3,7 @@
 //!
 //! The expected answers come from elsewhere. Those of `data/rules.rows` and `data/large.rows` are
 //! written by hand, from the rules of the Rust crate and from its tests. Those of
-//! `data/recorded.rows` were written by the Rust crate itself (`tests/differential/record.sh`).
+//! `data/recorded.rows` were written by the Rust crate itself (`tests/differential`).
 //! `data/refused.rows` is for runs in which allocations fail. Calls that no row can describe are
 //! covered by `getopts_uses`.
 //!
@@ -53,6 +53,8 @@
 //! - `wrap LIMIT DESC`: the rows of `each_split_within`
 //! - `canonical WORD..`: `canonical line WORD..`, `canonical none`, or `canonical refused FAULT
 //!   NAME TEXT`; also `canonical_words` and `canonical_filtered`
+//! - `parse_in_order WORD..`: `parse_in_order order PLACE..`, or `parse_in_order refused FAULT NAME
+//!   TEXT`
 //!
 //! These make one call, and are answered with the line itself and the result:
 //!

@@ -127,10 +127,23 @@ impl Session {
 #[cfg(feature = "canonical")]
 fn canonical(options: &Options, words: &[String]) -> String {
     match options.canonical(words) {
-        Ok(Some(words)) => line(&["canonical", "line"], words),
+        Ok(Some(written)) => {
+            assert!(is_in_order(&options.parse_in_order(words).unwrap(), &written));
+            line(&["canonical", "line"], written)
+        }
         Ok(None) => line(&["canonical", "none"], []),
         Err(fail) => line(&["canonical", "refused"], error_fields(&fail)),
     }
+}
+
+/// Whether a canonical line has these options, and then `--`.
+#[cfg(feature = "canonical")]
+fn is_in_order(given: &[(&str, Option<String>)], line: &[String]) -> bool {
+    let written = given.iter().map(|(name, value)| match value {
+        Some(value) => format!("--{name}={value}"),
+        None => format!("--{name}"),
+    });
+    written.eq(line[..given.len()].iter().cloned()) && line[given.len()] == "--"
 }
 
 /// The kind of an error, its name and its text.

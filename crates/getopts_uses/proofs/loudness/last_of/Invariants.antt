@@ -1,10 +1,8 @@
-use Rattle.std.proofs.Common.{◌≡◌, map, drop}
-use Rattle.std.specs.String.{string_bytes}
+use Rattle.std.proofs.Common.{◌≡◌, drop}
+use Rattle.getopts_uses.specs.Loudness.{after}
 use Rattle.getopts_uses.specs.declared.loudness.Loudness.TheVariants.{Normal}
-use Rattle.getopts_uses.proofs.LoudnessLemmas.{after_words}
 use Rattle.getopts_uses.proofs.loudness.last_of.Given as goal
 
--- after the words that are left it is what it is after the whole line
-abbrev pub invariant-loop-word : goal.invariant-loop-word
-invariant-loop-word l = after_words l.loudness (map string_bytes (drop l.word-index l.line))
-    ≡ after_words Normal (map string_bytes l.line)
+-- the result after the remaining options is the result after all of them
+abbrev pub invariant-loop-place : goal.invariant-loop-place
+invariant-loop-place l = after l.loudness (drop l.place-index l.places) ≡ after Normal l.places
