@@ -1,7 +1,6 @@
 """The C library: its functions on six targets, built by each C compiler on this machine, and its installation."""
 
 import functools
-import itertools
 import os
 import re
 import shlex
@@ -10,7 +9,6 @@ import shutil
 import pytest
 from conftest import LINES, ROOT, answer, need, fail_each_allocation, run, script
 from targets import OLD, cargo, cargo_for, copy_folders, need_std, runner
-from test_rows import all_rows
 
 C = ROOT / "bindings/c"
 WARNINGS = "-std=c11 -Wall -Wextra -Wpedantic -Wshadow -Wconversion -Wno-sign-conversion -Werror".split()
@@ -18,9 +16,6 @@ PLUS_WARNINGS = "-Wall -Wextra -Wpedantic -Werror".split()
 SANITIZERS = "-fsanitize=address,undefined -fno-sanitize-recover=all -g -O1".split()
 WRAPS = "-Wl,--wrap=malloc,--wrap=realloc,--wrap=free"
 HOST = "x86_64-unknown-linux-gnu"
-# The commands in rows that the C library supports.
-ASKED = set(b"""words ignoring_counts canonical option positions opt_present opt_count opt_str opt_default opt_strs opt_strs_pos
-    opt_positions opt_defined short usage""".split())
 # For each build: the compiler with its flags, the library's target (None: this machine, with its own cargo), and the
 # command that runs its programs (None: the target's).
 BUILDS = {
@@ -74,16 +69,6 @@ def build(request, tmp_path, library):
 
     built.name = request.param
     return built
-
-
-def test_rows(build, tmp_path):
-    """The stored rows, and those that test_rows.py derives from the rules."""
-    rows, said = tmp_path / "rows", tmp_path / "said"
-    rows.write_bytes(b"".join(row + b"\n" for row, _ in all_rows()))
-    run(*build(C / "tests/rows.c"), rows, said)
-    wanted = [line for row, answers in all_rows() if row.split(b"\t")[0] in ASKED for line in (row, *answers)]
-    pairs = itertools.zip_longest(said.read_bytes().split(b"\n"), [*wanted, b""])
-    assert next((pair for pair in pairs if pair[0] != pair[1]), None) is None
 
 
 def test_calls(build):
@@ -273,12 +258,17 @@ def test_program_size(prefix, tmp_path):
     assert 0.8 * most < grown <= most
 
 
-@pytest.mark.parametrize("compiler", ["clang", "musl-gcc"])
+@pytest.fixture(scope="module", params=["clang", "musl-gcc"])
+def installed(request, tmp_path_factory):
+    need(request.param)
+    to = tmp_path_factory.mktemp("installed")
+    run("sh", C / "install.sh", to, env={"CC": request.param})
+    return request.param, to
+
+
 @pytest.mark.parametrize("link", ["-static {0}/lib/libgetopts.a", "-L{0}/lib -Wl,-rpath,{0}/lib -lgetopts"])
-def test_install_with_compiler(compiler, link, show_c, tmp_path):
-    need(compiler)
-    to = tmp_path / "to"
-    run("sh", C / "install.sh", to, env={"CC": compiler})
+def test_install_with_compiler(link, installed, show_c, tmp_path):
+    compiler, to = installed
     run(compiler, "-isystem", to / "include", C / "show.c", *link.format(to).split(), "-o", tmp_path / "linked")
     assert answer(tmp_path / "linked", "-vv", "x") == answer(show_c, "-vv", "x")
 
@@ -313,12 +303,19 @@ def test_missing_tools(tmp_path):
     assert "cargo built no libgetopts.a. If cargo's configuration" in errors and not (tmp_path / "to").exists()
 
 
+@pytest.fixture
+def copies(library, tmp_path):
+    """A cargo that copies the library that is already built, for tests of where files are installed."""
+    text = f'#!/bin/sh\nmkdir -p "$CARGO_TARGET_DIR/release"\ncp "{library(None)}" "$CARGO_TARGET_DIR/release"\n'
+    return {"CARGO": str(script(tmp_path / "cargo", text))}
+
+
 @pytest.mark.parametrize("shell", ["dash", "busybox"])
 @pytest.mark.parametrize("relative", [False, True])
-def test_destdir_and_uninstall(shell, relative, tmp_path):
+def test_destdir_and_uninstall(shell, relative, copies, tmp_path):
     """With dash, and with nothing but busybox's shell and tools."""
     need(shell, "cargo", "cc")
-    env, words = {"DESTDIR": "stage" if relative else f"{tmp_path}/stage/"}, ["dash"]
+    env, words = {**copies, "DESTDIR": "stage" if relative else f"{tmp_path}/stage/"}, ["dash"]
     if shell == "busybox":
         tools, words = tmp_path / "tools", ["busybox", "sh"]
         tools.mkdir()
@@ -332,7 +329,7 @@ def test_destdir_and_uninstall(shell, relative, tmp_path):
     assert not any(path.is_file() for path in (tmp_path / "stage").rglob("*"))
 
 
-def test_uninstall_keeps_other_files(tmp_path):
+def test_uninstall_keeps_other_files(copies, tmp_path):
     """Other files stay, also the target of a link that is replaced; a folder in the place of a file is an error."""
     need("cargo", "cc")
     to, others = tmp_path / "to", ["share/doc/getopts/others", "lib/libgetopts.so.2.others", "others.h"]
@@ -342,13 +339,13 @@ def test_uninstall_keeps_other_files(tmp_path):
     (to / "include").mkdir()
     (to / "include/getopts.h").symlink_to(to / "others.h")
     (to / "lib/libgetopts.so.2.0").write_text("an old version")
-    run("sh", C / "install.sh", to)
+    run("sh", C / "install.sh", to, env=copies)
     assert (to / "include/getopts.h").read_bytes() == (C / "getopts.h").read_bytes()
     run("sh", C / "install.sh", "--uninstall", to)
     left = {str(path.relative_to(to)): path.read_text() for path in to.rglob("*") if path.is_file()}
     assert left == {other: "others'" for other in others}
     (to / "include/getopts.h").mkdir()
-    assert "include/getopts.h" in run("sh", C / "install.sh", to, status=1)[1]
+    assert "include/getopts.h" in run("sh", C / "install.sh", to, status=1, env=copies)[1]
 
 
 @pytest.mark.parametrize("sign", '"$#\\:\n')
