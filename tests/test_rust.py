@@ -91,20 +91,21 @@ def folder(tmp_path_factory):
     return copy_folders(tmp_path_factory.mktemp("rust"), "bindings/rust") / "bindings/rust"
 
 
-@pytest.mark.parametrize("features", [["--features", "proved"], ["--no-default-features", "--tests"],
-                                      ["--features", "bare", "--doc"]])
+@pytest.mark.parametrize("features", [["--features", "proved"], ["--no-default-features", "--features", "std", "--tests"],
+                                      ["--no-default-features", "--features", "unicode", "--doc"]])
 def test_crate(folder, features):
     cargo(folder, "test", *features)
 
 
-@pytest.mark.parametrize("features", [[], ["--features", "proved"], ["--no-default-features"], ["--features", "bare"]])
+@pytest.mark.parametrize("features", [[], ["--features", "proved"], ["--no-default-features", "--features", "std"],
+                                      ["--no-default-features"]])
 def test_no_warnings(folder, features):
     cargo(folder, "check", *features, env={"RUSTFLAGS": "-D warnings"})
 
 
 def test_lints(folder):
     cargo(folder, "clippy", "--all-targets", "--features", "proved", "--", "-D", "warnings")
-    cargo(folder, "clippy", "--features", "bare", "--", "-D", "warnings")
+    cargo(folder, "clippy", "--no-default-features", "--", "-D", "warnings")
 
 
 def test_documentation(folder):
@@ -230,7 +231,7 @@ def test_target(target, other_targets, tmp_path, request, ours, example):
         shutil.copy(Path(crate) / "tests/public.rs", twin / "tests")
     cargo_for(target, twin, "build", "--release", "--features", "canonical")
     cargo_for(target, twin, "test", "--release", "--features", "canonical", "--test", "*", "--", *left_out)
-    cargo_for(target, tmp_path / "crate", "build", "--features", "bare")
+    cargo_for(target, tmp_path / "crate", "build", "--no-default-features")
     by, built = runner(target, tmp_path), twin / "target" / target / "release"
     program = {path.stem: path for path in built.iterdir() if path.suffix in ("", ".exe", ".wasm") and path.is_file()}
     for rows in ROWS:

@@ -1,8 +1,8 @@
-//! The trait of Rattle's `std::error`; with the feature `bare` a placeholder that nothing uses.
+//! The trait of Rattle's `std::error`; without the feature `std`, a placeholder that nothing uses.
 
-#[cfg(not(feature = "bare"))]
+#[cfg(feature = "std")]
 pub use std::error::Error;
 
 /// Marks errors.
-#[cfg(feature = "bare")]
+#[cfg(not(feature = "std"))]
 pub trait Error {}

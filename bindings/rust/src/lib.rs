@@ -4,7 +4,7 @@
 //! A program declares options, parses its arguments, queries the result, and prints help:
 //!
 //! ```
-//! # #[cfg(not(feature = "bare"))] {
+//! # #[cfg(feature = "std")] {
 //! use getopts::Options;
 //!
 //! let mut options = Options::new();
@@ -24,11 +24,11 @@
 //! rejects it and `parse_os` accepts it; the iterator `std::env::args()` would panic.
 //!
 //! `README.md` says what differs from the original crate, what is proved and what it costs. The feature `proved` makes
-//! the proved source itself public, and `bare` leaves nothing else. Its methods take the allocator, and return an error
-//! if an allocation fails:
+//! the proved source itself public; without the feature `std` there is nothing else. Its methods take the allocator, and
+//! return an error if an allocation fails:
 //!
 //! ```
-//! # #[cfg(any(feature = "proved", feature = "bare"))] {
+//! # #[cfg(any(feature = "proved", not(feature = "std")))] {
 //! use getopts::alloc::Global;
 //! use getopts::proved::{Fail, Options};
 //!
@@ -41,27 +41,27 @@
 //! assert_eq!(output(&["-ofile"]).unwrap().unwrap(), "file");
 //! # }
 //! ```
-#![cfg_attr(feature = "bare", no_std)]
+#![cfg_attr(not(feature = "std"), no_std)]
 #![forbid(unsafe_code)]
 #![warn(missing_docs)]
 
 extern crate alloc as heap;
 
 mod convert;
-#[cfg(not(feature = "bare"))]
+#[cfg(feature = "std")]
 mod debug;
 mod error;
-#[cfg(not(feature = "bare"))]
+#[cfg(feature = "std")]
 mod fail;
-#[cfg(not(feature = "bare"))]
+#[cfg(feature = "std")]
 mod matches;
-#[cfg(not(feature = "bare"))]
+#[cfg(feature = "std")]
 mod options;
-#[cfg(not(feature = "bare"))]
+#[cfg(feature = "std")]
 mod os;
 mod width;
 
-/// Declares the modules that the features `proved` and `bare` make public.
+/// Declares the modules that are public with the feature `proved`, or without `std`.
 macro_rules! modules {
     ($seen:vis) => {
         $seen mod alloc;
@@ -74,22 +74,22 @@ macro_rules! modules {
         $seen mod bytes;
     };
 }
-#[cfg(any(feature = "proved", feature = "bare"))]
+#[cfg(any(feature = "proved", not(feature = "std")))]
 modules!(pub);
-#[cfg(not(any(feature = "proved", feature = "bare")))]
+#[cfg(all(feature = "std", not(feature = "proved")))]
 modules!(pub(crate));
 
-#[cfg(not(feature = "bare"))]
+#[cfg(feature = "std")]
 pub use fail::{Fail, Result};
-#[cfg(not(feature = "bare"))]
+#[cfg(feature = "std")]
 pub use matches::Matches;
-#[cfg(not(feature = "bare"))]
+#[cfg(feature = "std")]
 pub use options::Options;
-#[cfg(not(feature = "bare"))]
+#[cfg(feature = "std")]
 pub use os::OsMatches;
 pub use proved::{HasArg, Occur, ParsingStyle};
 
 /// Tests the examples in the README.
-#[cfg(all(doctest, not(feature = "bare")))]
+#[cfg(all(doctest, feature = "std"))]
 #[doc = include_str!("../README.md")]
 struct Readme;
