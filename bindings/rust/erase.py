@@ -29,13 +29,18 @@ accept, but with different meanings, as Rattle's guides list them. `tests/eraser
 
     a range without an end, which in Rust goes past the last number; `S { a, ..v[1] }`, for which Rust evaluates `v[1]`;
     sizes of types and capacities of lists; `as usize` on 32 bits; sorting by what isn't an order; items that are clones
-    and `write!` to a text, which can fail in Rattle; methods of Rust that allocate; types, imports and paths that mean
-    something else; a `drop` with side effects; traits and impl bounds that could change method resolution
+    and `write!` to a text, which can fail in Rattle; `lines`, which old versions of Rust split differently; types,
+    imports and paths that mean something else; a `drop` with side effects; traits and impl bounds that could change
+    method resolution
+
+It accepts any call of a name that is defined here. If the call means a method of Rust that allocates, rustc rejects it:
+erased source has to compile over `core` and the types in `tests/eraser/types`, which have no such methods.
 
 The rest of those lists can't occur here. Errors of `anyhow`, threads, channels, `once`, `empty` and bounds by `Index`
 need an import. Macros and `stringify!` aren't among the known calls, nor `try_from` among the names. No `drop` has side
 effects, so it doesn't matter when temporaries and parts of a pattern are dropped (the packages use edition 2021, Rattle
-follows 2024), nor whether a pattern of `self` drops it. Overflow that only happens on 32 bits is tested, not proved.
+follows 2024), nor whether a pattern of `self` drops it. What overflows only on 32 bits, or has another value there, such
+as `usize::MAX`, is tested, not proved.
 
 It renames by the tables below; no source has any of the new names. `same_tokens.py` checks the result, and shares
 neither code nor tables with this script.
@@ -78,7 +83,7 @@ CRATES = {
 }
 # Words that may not occur in a signature, body or type.
 STRANGE = set("""requires ensures ghost tactic Model Drop mod use fn impl trait struct enum union static extern
-    unsafe macro_rules async await dyn where crate""".split())
+    unsafe macro_rules async await dyn where crate size_of size_of_val align_of align_of_val""".split())
 ATTRIBUTES = {"inline", "cold", "must_use"}
 DERIVED = {"Clone", "Copy", "Debug", "PartialEq", "Eq", "Drop"}
 # Paths that may be imported: Rust's, or their replacements.
@@ -114,10 +119,6 @@ GIVEN = re.compile(r"try_\w+|of_capacity|copy_of|TryClone|trimmed_ascii")
 # Types of Rust, which sources may not define, because renaming would affect their functions.
 RUSTS = set("""bool char f32 f64 i8 i16 i32 i64 i128 isize str u8 u16 u32 u64 u128 usize String Vec Option Some None
     Ok Err Box Clone Copy Default Drop Eq Iterator IntoIterator Ord PartialEq PartialOrd ToString alloc core std""".split())
-# Methods of Rust that allocate. Sources may not define such methods, because a call could then mean Rust's.
-ASKING = set("""append collect concat extend insert insert_str into_boxed_slice into_boxed_str join repeat replace
-    resize_with shrink_to shrink_to_fit sort sort_by_cached_key sort_by_key splice split_off to_lowercase to_owned
-    to_string to_uppercase to_vec""".split())
 # What lists may be sorted by: these are orders, as the contract of sorting requires.
 ORDERS = ("|entry, other| entry.order(signatures, other))", "|letter, other| letter.short.cmp(&other.short))")
 
@@ -463,8 +464,10 @@ class Eraser:
             self.stop(at, "it loses bits on machines of 32 bits")
         if self.has(at, "crate::") and self.file.stem in ("lib", "main"):
             self.stop(at, "it would become the path of another module")
-        if self.has(at, ".sort_by(") and not any(self.has(at + 3, order) for order in ORDERS):
-            self.stop(at + 1, "Rust may panic if this isn't an order")
+        if text == "lines" and before == "." and self.file.stem != "wrap":
+            self.stop(at, "before 1.66, Rust strips a carriage return at the end of the text")
+        if text == "sort_by" and not any(self.has(at - 1, ".sort_by(" + order) for order in ORDERS) and before != "fn":
+            self.stop(at, "Rust may panic if this isn't an order")
 
     def dots(self):
         """Rejects ranges without an end that aren't an index, because in Rust they go past the last number, and `..` of a
@@ -552,8 +555,6 @@ def defined(eraser):
     for at in range(len(eraser.tokens)):
         if text(at - 1) == "fn" and "self" in [text(place) for place in range(at, eraser.close(eraser.next("(", at)))]:
             methods.add(text(at))
-            if text(at) in ASKING:
-                eraser.stop(at, "a type of Rust has a method of this name")
         if text(at - 1) in ("fn", "struct", "enum", "type", "const", "mod"):
             names.add(text(at))
         if text(at - 1) in ("let", "mut") or text(at + 1) == ":" and text(at + 2) != ":":

@@ -5,8 +5,8 @@
 
 FOLDER/X.rs has to have the tokens of SOURCE/X.rt in the same order, except for the renames below and for constructs
 without meaning at run time: each begins with a pattern in `WHOLE`, and extends to the end given there. Comments, white
-space, a comma before a closing bracket and the brackets around a match arm's single expression are ignored. Sources may
-not contain anything that Rattle and Rust interpret differently (`odd`).
+space, a comma before a closing bracket and the brackets around a match arm's single expression are ignored. `erase.py`
+rejects what Rattle and Rust interpret differently.
 """
 
 import re
@@ -36,25 +36,6 @@ HOST |= {"getopts ::": "crate :: getopts ::", "getopts_bytes ::": ":: getopts ::
 TOKEN = r"""//.*|b?r"[^"]*"|b?r#"[\s\S]*?"#|b?"(?:\\[\s\S]|[^"\\])*"|b?'(?:\\.[^']*|[^\\'])'|'\w+|\w+|::|\S"""
 
 
-# Words that Rust and Rattle interpret differently, or that no source needs.
-ODD = set("size_of size_of_val align_of align_of_val unsafe static extern macro_rules union trait dyn async".split())
-ODD |= {"of_capacity", "copy_of", "TryClone", "trimmed_ascii"}
-# Known attributes, known traits to derive, and known imports.
-DERIVED = r"derive \( ((Clone|Copy|Debug|PartialEq|Eq|Drop) (, )?)+\)"
-SIGNED = rf"# (! )?\[ (inline|cold|must_use|tactic|{DERIVED})"
-TAKEN = r"use (crate|super|unicode_width) ::|use std :: (alloc|cmp|convert|env|error|fmt|io|marker|process|str|vec) "
-# Functions of Rust, which no source defines.
-CALLED = set("""all alloc allocator any arg as_bytes as_slice as_str binary_search_by binary_search_by_key bytes
-    capacity chars checked_add clone cmp contains count dedup_by encode_utf8 ends_with enumerate
-    extend_from_slice first flush from from_be_bytes from_str from_u32 from_utf8 get into_iter is_ascii
-    is_ascii_alphanumeric is_ascii_digit is_empty is_some iter iter_mut kind len len_utf8 lines map_or max min
-    next new ok_or parse position push push_reserved push_str reserve reserve_exact resize rsplit_once saturating_add
-    saturating_mul saturating_sub size_hint sort_by split split_at split_at_mut split_once split_whitespace
-    starts_with stderr strip_prefix strip_suffix then_some trim_ascii truncate unwrap_or width with_capacity
-    write writer Err FnMut Ok Some format matches unreachable vec writeln inline derive cfg tactic if in let for
-    match pub return while""".split())
-
-
 def tokens(path):
     return [word for word in re.findall(TOKEN, path.read_text(encoding="utf-8")) if word[:2] != "//"]
 
@@ -67,70 +48,6 @@ def end_of(source, at, end):
         if depth == 0 and source[place] in end:
             return place + 1
     return len(source)
-
-
-# What they interpret differently: names of Rust, methods that allocate in Rust, numbers of 32 bits, `..` of a record
-# before more than names, functions called by type, bounds that may only hold in Rattle, renamed imports, and sorting by
-# what isn't an order.
-NAMES = "(bool|char|str|[iuf]\\d+|[iu]size|String|Vec|Option|Some|None|Ok|Err|Box|Clone|Copy|Default|Drop|Eq|Iterator"
-NAMES += "|IntoIterator|Ord|PartialEq|PartialOrd|ToString|alloc|core|std)"
-ASKING = "(append|collect|concat|extend|insert|insert_str|into_boxed_(slice|str)|join|repeat|replace|resize_with"
-ASKING += "|shrink_to|shrink_to_fit|sort|sort_by_(cached_)?key|splice|split_off|to_(lowercase|owned|string|uppercase|vec))"
-ORDERS = "[|] entry , other [|] entry . order \\( signatures , other \\) \\)"
-ORDERS += "|[|] letter , other [|] letter . short . cmp \\( & other . short \\) \\)"
-APART = rf"(struct|enum|type|trait|mod|const|fn) {NAMES} |fn {ASKING} (< [^(]* )?\( (& )?('\w+ )?(mut )?self "
-APART += r"|as [iu]size |[,{] \. \. (?!([*] )?\w+( \. \w+)* }|[)}\],] )|> :: |/ [*]|mod \w+ [{]"
-APART += rf"|impl < [^>]* : (?!Drop >)|use [^;]* as |\. sort_by \( (?!{ORDERS})"
-DROP = r"Drop for \w+ (< [^>]*> )?{ fn drop \( self \) { let \w+ { (\w+ : _ ,? ?)*} = self ; } }"
-# What the library doesn't call, because it couldn't report failed allocations.
-HOSTS = r"(resize|trim_ascii) \(|(format|writeln) !|write ! \( (?!f ,)"
-
-
-def has_no_end(words, at, before):
-    """Whether a range without an end, other than an index, is here: in Rust it goes past the last number."""
-    if words[at] == "[" and (not re.match(r"\w|[)\]?]", before) or before in ("in", "return", "else", "match")):
-        end = end_of(words, at, "]")
-        return words[end - 3 : end - 1] == [".", "."] and words[end - 4] not in "[,@"
-    return re.match(r"\. \. [)},;{]", " ".join(words[at : at + 3])) and before not in "([{,@|=>&."
-
-
-def odd(path, defined, methods, heads, library):
-    """What a source contains that Rattle and Rust may interpret differently, if anything."""
-    words, commented, at = [], set(), 0
-    for word in re.findall(TOKEN, path.read_text(encoding="utf-8")):
-        words += [word] if word[:2] != "//" else []
-        commented |= {len(words)} if word[:2] == "//" else set()
-    while at < len(words):
-        word, ahead, before = words[at], " ".join(words[at : at + 40]) + " ", words[at - 1] if at else ";"
-        behind = " ".join(words[max(0, at - 12) : at])
-        bound = before in "+:" and re.match("Drop [,>]", ahead) or re.match("Drop for", ahead)
-        called = re.match(r"[A-Za-z_]\w* (\(|! [^=]|:: <)", ahead) and before != "fn"
-        shown = behind.endswith("write ! (") or ahead.startswith("f : & mut fmt :: Formatter <")
-        if (
-            word in ODD or word.startswith("try_") or re.match(APART, ahead) or has_no_end(words, at, before)
-            or library and (re.match(HOSTS, ahead) or word == "f" and "write" in words and not shown)
-            or word == "capacity" and not behind.endswith(" self . records .")
-            or word == "std" and before != "use" and not ahead.startswith("std :: result :: Result <")
-            or path.stem in ("lib", "main") and re.match("crate ::", ahead)
-            or word == "#" and not re.match(SIGNED, ahead)
-            or word == "use" and not (re.match(TAKEN, ahead) or words[at + 1] in heads)
-            or word == "ghost" and before not in "; { } , ]"
-            or re.match("Drop for", ahead) and not re.match(DROP, " ".join(words[at : at + 200]))
-            or word == "Drop" and not bound and not re.search(r"derive \([\w ,]*$", behind)
-            or called and word not in CALLED and word not in (methods if before == "." else defined)
-        ):
-            return ahead
-        whole = next((end for start, end in WHOLE[:2] if re.match(start + r"(?!\w)", ahead)), "")
-        whole = "]" if re.match(r"# (! )?\[ tactic", ahead) else whole
-        end = end_of(words, at, whole) if whole else at + 1
-        logic = range(at + 1, end) if whole and whole != "]" else []
-        hidden = any(place in commented or words[place].lstrip("b")[:1] == "'" for place in logic)
-        if hidden or re.search("- -|[{] -|- }", " ".join(words[place] for place in logic)):
-            return ahead
-        at = end
-    if path.stem == "laws" and re.search(r"\) - >| (mut|impl|struct|enum|const|type) ", " ".join(words)):
-        return "laws that do something"
-    return None
 
 
 def differs(source, rust, names, imports):
@@ -171,19 +88,6 @@ def main(source, folder):
     paths = sorted(Path(folder).glob("*.rs"))
     there = {path.stem for path in Path(source).glob("*.rt")} - {"lib", "main", "laws"} | {"mod"}
     wrong = len(there ^ {path.stem for path in paths})
-    # A source may call functions, variants and closures that it or another crate here defines.
-    every = Path(source).resolve().parents[1].glob("*/src/*.rt")
-    text = " ".join(" ".join(tokens(path)) for path in every)
-    defined = set(re.findall(r"(?:fn|struct|type|const|let|let mut) (\w+)", text))
-    defined |= set(re.findall(r"(\w+) : [^:]", text))
-    methods = set(re.findall(r"fn (\w+) (?:< [^(]* )?\( (?:& )?(?:'\w+ )?(?:mut )?self", text))
-    heads = {"getopts", "getopts_bytes", *re.findall(r"mod (\w+) ;", text)}
-    for body in re.findall(r"enum \w+ (?:< .*? > )?{(.*?)}", text):
-        defined |= set(re.findall(r"[A-Z]\w*", body))
-    for path in sorted(Path(source).glob("*.rt")):
-        if what := odd(path, defined, methods, heads, library):
-            wrong += 1
-            print(f"{path}: '{what}' may have another meaning in Rust")
     for path in paths:
         of = path.with_suffix(".rt").name if path.stem != "mod" else "main.rt"
         of = Path(source) / of if (Path(source) / of).exists() else Path(source) / "lib.rt"
