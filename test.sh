@@ -7,10 +7,11 @@
 # tests of built programs run only if these exist, and there are fewer random cases; without rt, the tests that need it
 # are skipped. -k runs only the tests that match NAME, and accepts pytest's flags.
 set -uo pipefail
-cd "$(dirname "$0")" || exit
 start=$SECONDS quick=()
 [ "${1:-}" != --quick ] || { quick=(--quick); shift; }
 stop() { echo "test.sh: $1" >&2; exit 2; }
+[ ! -d "${1:-}" ] || set -- "$(cd "$1" && pwd)"
+cd "$(dirname "$0")" || exit
 command -v rt >/dev/null || [ ${#quick[@]} = 1 ] || [ "${1:-}" = -k ] ||
     stop "rt not found: put the toolchain's bin folder on the path, or run 'test.sh --quick', which doesn't need it"
 [ $# = 0 ] || [ "$1" = -k ] || [ -f "$1/Cargo.toml" ] ||

@@ -10,9 +10,8 @@ The peers' programs are built in OUT, a folder outside the repository. FOLDER co
 it, cargo downloads the crate. OURS may name a getopts_bench that is already built; otherwise `rt run` proves and builds
 one.
 
-WHAT is `instructions`, `requests` (allocations, with every reallocation counted as one) or `peak` (the most bytes
-allocated at once). The program's last argument is the number of iterations. The cost of B iterations minus that of A is
-divided by B - A, so that work before the iterations isn't counted.
+WHAT is `instructions` or `peak` (the most bytes allocated at once). The program's last argument is the number of
+iterations. The cost of B iterations minus that of A is divided by B - A, so that work before the iterations isn't counted.
 """
 
 import concurrent.futures
@@ -28,7 +27,6 @@ from pathlib import Path
 HERE = Path(__file__).resolve().parent
 CRATE = HERE.parent / "crates/getopts_bench"
 TOOLS = {"instructions": ("--tool=callgrind --callgrind-out-file=/dev/null", r"Collected : ([\d,]+)"),
-         "requests": ("--leak-check=no", r"total heap usage: ([\d,]+)"),
          "peak": ("--tool=dhat --dhat-out-file=/dev/null", r"At t-gmax: *([\d,]+)")}
 
 # The two numbers of iterations for a line, if they aren't 100 and 300. If nothing is allocated, the first iteration
@@ -216,7 +214,6 @@ def tables(out, getopts, asked):
     print("# " + ", ".join([*(" ".join(it) for it in versions), *said, "glibc " + platform.libc_ver()[1]]))
     for what, title, jobs, columns in (("instructions", "Instructions per iteration", JOBS, programs),
                                        ("instructions", "Instructions per iteration in C", {job: JOBS[job] for job in OF_C}, of_c),
-                                       ("requests", "Allocations per iteration", JOBS, programs),
                                        *((*table, programs) for table in MEMORY)):
         chosen = [job for job in jobs if not asked or job in asked]
         if chosen:

@@ -170,6 +170,10 @@ def kit():
 
 def tracked():
     """All files of the repository except those that git ignores."""
+    if not (ROOT / ".git").exists():
+        # An unpacked release contains only tracked files, until something is built.
+        names = [str(path.relative_to(ROOT)) for path in sorted(ROOT.rglob("*"))]
+        return [name for name in names if (ROOT / name).is_file() and not re.search(r"(^|/)(out|target|__pycache__)/", name)]
     names = run("git", "ls-files", "-co", "--exclude-standard", cwd=ROOT)[0].splitlines()
     return [name for name in names if (ROOT / name).is_file()]
 

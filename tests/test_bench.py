@@ -34,5 +34,5 @@ def test_bench_commands():
     need("valgrind", "getopt")
     stored = (ROOT / "crates/getopts_bench/data/none.rows").read_text(encoding="utf-8")
     assert run(ROOT / "bench/bench.py", "--rows", "none")[0] == bench_py.rows("none") == stored
-    assert int(run(ROOT / "bench/bench.py", "--count", "requests", "0", "1", "/bin/echo")[0]) >= 0
+    assert int(run(ROOT / "bench/bench.py", "--count", "peak", "0", "1", "/bin/echo")[0]) >= 0
     assert run(ROOT / "bench/bench.py", "--shell", "/bin/true")[0].count(": ") == 3

@@ -110,8 +110,6 @@ FIGURES = [
     ("README.md", r"`bash test.sh` .* \| ([^|]*) \| ([^|]*) \|", lambda: minutes("bash test.sh")),
     ("README.md", r"takes (\d+) % of the instructions of the crate .* and (\d+) %",
      lambda: [share("copied-small"), share("copied-long")]),
-    ("tests/differential/README.md", r"first ([\d,]+) of seed 1",
-     lambda: [f"{int(re.search(r'choose 1 (.*?) ', read('tests/differential/record.sh'))[1]):,}"]),
     *((f"bindings/{folder}/README.md", r"Rust ([\d.]+) or later",
        lambda folder=folder: re.findall(r'rust-version = "(.*)"', read(f"bindings/{folder}/Cargo.toml")))
       for folder in ("rust", "c", "shell")),

@@ -223,12 +223,15 @@ def test_scripts_on_page(program, one_shell, tmp_path, monkeypatch):
     assert "\n_getopts_shell_complete 'backup' '\n-i|--input FILE " in code
 
 
+# Each sentence of the page, with each shell that it is about.
+SENTENCES = [pytest.param(row, name, id=f"{row[0][0]}-{name}") for row in rows_in("tests/shell/sentences.rows")
+             for name in SHELLS if row[0][1] == "all" or name.split()[0] in row[0][1].split()]
+
+
 @HERE
-@pytest.mark.parametrize("row", rows_in("tests/shell/sentences.rows"), ids=lambda row: row[0][0])
+@pytest.mark.parametrize("row, one_shell", SENTENCES, indirect=["one_shell"])
 def test_sentence_on_page(program, one_shell, row):
-    (_, where, out), script = row
-    if where != "all" and one_shell[0] not in where.split():
-        pytest.skip(f"this sentence is about {where}")
+    (_, _, out), script = row
     assert subprocess.run([*one_shell, "-c", script], capture_output=True).stdout == out.encode()
 
 
