@@ -92,14 +92,15 @@ IMPORTS = set("""std::alloc std::cmp::Ordering std::convert::AsStr std::env std:
 # Functions, methods and macros of Rust, or their replacements.
 SAME = set("""all alloc allocator any arg as_bytes as_slice as_str binary_search_by binary_search_by_key
     capacity chars checked_add clone cmp contains count dedup_by encode_utf8 ends_with enumerate
-    extend_from_slice first flush format get into_iter is_ascii is_ascii_alphanumeric is_ascii_digit is_empty
+    extend_from_slice first flush format get into_iter is_ascii is_ascii_alphanumeric is_ascii_digit is_empty is_eq
     is_some iter iter_mut kind len len_utf8 lines map_or matches max min next ok_or parse position push push_reserved
     push_str reserve reserve_exact resize rsplit_once saturating_add saturating_mul saturating_sub size_hint
     sort_by split split_at split_at_mut split_once split_whitespace starts_with stderr strip_prefix strip_suffix
     then_some trim_ascii truncate unreachable unwrap_or vec width write writeln Err FnMut Ok Some bytes""".split())
 # Functions that are called by type, as in `u32::from(..)`.
 OF_TYPES = set("""Error::from String::new String::from_str String::with_capacity Vec::new Vec::with_capacity
-    ExitCode::from char::from_u32 io::writer str::from_utf8 u32::from u32::from_be_bytes""".split())
+    ExitCode::from char::from_u32 io::writer str::from_utf8 u32::from u32::from_be_bytes
+    u64::from_be_bytes""".split())
 
 TOKEN = re.compile(
     r"""(?P<lead>(?:\s+|//[^\n]*)*)

@@ -1,13 +1,10 @@
 //! Names of options: which pairs are valid, and the keys that names are looked up by.
 
-ghost use Rattle.std.specs.Prelude.{◌≡◌, ◌↔◌, ◌+◌, ◌*◌, ◌^◌, ◌<◌, ◌∷◌, [], IsTrue, length};
+ghost use Rattle.std.specs.Prelude.{◌≡◌, ◌↔◌, ◌+◌, ◌*◌, ◌^◌, ◌<◌, ◌∷◌, [], IsTrue, length, drop};
 ghost use Rattle.std.specs.Int.{from_be_bytes, w64};
 ghost use Rattle.getopts.specs.Names.{AreLawful};
-ghost use Rattle.getopts.specs.Held.Names.{key_of, key_bytes, short_code};
+ghost use Rattle.getopts.specs.Held.Names.{key_of, short_code};
 ghost use Rattle.getopts.specs.Held.Pieces.{IsOfBytes};
-
-/// Multiplying by this shifts a number by one byte.
-const ONE_BYTE: u64 = 1 << 8;
 
 /// Multiplying by this shifts a number by four bytes.
 const FOUR_BYTES: u64 = 1 << 32;
@@ -57,37 +54,36 @@ pub(crate) fn is_of_bytes(text: &str)
     ensures { IsOfBytes text.now }
 {}
 
-/// Packs seven bytes of a name into a key, and its length (8 if longer) into the lowest byte. Names
-/// under eight bytes are equal if their keys are. Many tables have names that begin alike, and some
-/// have names that end alike, so the bytes are from both ends.
+/// Packs the first seven bytes of a name into a key, and its length (8 if longer) into the lowest
+/// byte. So keys sort like the names' bytes, and names under eight bytes are equal if their keys
+/// are.
 #[inline]
-pub(crate) fn key_of(text: &str) -> u64
-    ensures { result ≡ key_of text.now }
+pub(crate) fn key_of(name: &[u8]) -> u64
+    ensures { result ≡ key_of name.now }
 {
-    let bytes = text.as_bytes();
-    seven_of(bytes) + bytes.len().min(8) as u64
-}
-
-/// Packs up to seven bytes of a name (the first three and last four if longer) into a `u64`,
-/// zero-padded; the low byte is zero.
-fn seven_of(bytes: &[u8]) -> u64
-    ensures worth { result ≡ from_be_bytes w64 (key_bytes bytes.now) }
-    ensures below { result + 8 < 2 ^ 64 }
-{
-    match bytes {
-        [a, b, c, .., d, e, f, g] => {
-            // Each half is a single read from memory.
-            let front = u32::from_be_bytes([*a, *b, *c, 0]) as u64;
-            let back = u32::from_be_bytes([*d, *e, *f, *g]) as u64;
-            front * FOUR_BYTES + back * ONE_BYTE
+    match name {
+        // These eight bytes are a single read from memory.
+        [a, b, c, d, e, f, g, h, ..] => {
+            u64::from_be_bytes([*a, *b, *c, *d, *e, *f, *g, *h]) - *h as u64 + 8
         }
-        bytes => up_to_six(bytes),
+        name => up_to_seven(name) + name.len() as u64,
     }
 }
 
-/// Packs up to six bytes in the same way.
-fn up_to_six(bytes: &[u8]) -> u64
-    requires { length bytes.now < 7 }
+/// The key of what follows the first seven bytes of a name.
+#[inline]
+pub(crate) fn rest_key(name: &[u8]) -> u64
+    ensures { result ≡ key_of (drop 7 name.now) }
+{
+    match name {
+        [_, _, _, _, _, _, _, rest @ ..] => key_of(rest),
+        _ => 0,
+    }
+}
+
+/// Packs up to seven bytes into a `u64`, zero-padded; the low byte is zero.
+fn up_to_seven(bytes: &[u8]) -> u64
+    requires { length bytes.now < 8 }
     ensures worth { result ≡ from_be_bytes w64 bytes.now }
     ensures below { result + 8 < 2 ^ 64 }
 {

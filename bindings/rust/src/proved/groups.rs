@@ -265,7 +265,7 @@ impl Signatures {
         }
         is_of_bytes(short);
         let names = push_two(&mut self.text, short, long);
-        let key = key_of(Names { short, long }.main());
+        let key = key_of(Names { short, long }.main().as_bytes());
         self.records.push_reserved(SignatureRecord {
             long: names.first,
             end: names.second,

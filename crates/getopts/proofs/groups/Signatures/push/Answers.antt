@@ -89,7 +89,7 @@ signature_is c = ap (λ (names : Text × Text). signature_with c.args.kinds name
 
 has_keys : (c : goal.After-push_reserved) → HasKeys (added c) (signature c).names
 has_keys c = record {
-  key = c.key_of-key.ensures ∙ ap key_of c.main.ensures;
+  key = c.key_of-key.ensures ∙ ap key_of (c.as_bytes.ensures.value ∙ c.main.ensures);
   short = c.short_byte.ensures;
   has_long = ap not c.is_empty-2.ensures;
 }
