@@ -1,5 +1,5 @@
-"""The built programs on rows of arguments, and under unusual conditions: arguments that aren't UTF-8, none at all, and
-long ones; output that accepts nothing, little, or fails midway; little memory and little stack.
+"""The built programs under unusual conditions: arguments that aren't UTF-8, none at all, and long ones; output that
+accepts nothing, little, or fails midway; little memory and little stack.
 
 Every run exits with the status that the README documents, is never killed by a signal that the system didn't send, and
 writes what the README says. The program for shell scripts is the static one in bindings/shell for this machine.
@@ -13,7 +13,7 @@ import signal
 import subprocess
 
 import pytest
-from conftest import MACHINE, ROOT, preload_library, program, rows_in
+from conftest import MACHINE, ROOT, preload_library, program
 
 SHOW = ROOT / "crates/getopts_show/out/getopts_show"
 BUILT = ROOT / "crates/getopts_shell/out/getopts_shell"
@@ -82,12 +82,6 @@ def output(given=(), free=()):
 
 
 V_X = output([("verbose", 0, None)], ["x"])
-
-
-@pytest.mark.parametrize("row", rows_in("tests/system/answers.rows"), ids=lambda row: " ".join(row[0]))
-def test_row(row):
-    (status, *words), text = row
-    check(words, run(words), int(status), text.encode())
 
 
 def test_many_words():

@@ -5,6 +5,8 @@ ghost use Rattle.std.specs.Prelude.{IfOk};
 ghost use Rattle.getopts_show.specs.Program.{IsStatus};
 
 mod show;
+#[cfg(test)]
+mod tests;
 mod words;
 
 use show::{NO_MEMORY, show};
