@@ -255,7 +255,7 @@ def parts(written):
 
 
 def rows_of(text):
-    """The rows of a text, each with the answers below it."""
+    """The rows of a text, each with the answers below it. `{Z}` is kept, because the rules here measure nothing."""
     rows = []
     for one in text.split(b"\n"):
         if one.startswith(b"> "):

@@ -4,7 +4,7 @@ use crate::form::Answer;
 use crate::line::Line;
 use crate::marks;
 use crate::session::Session;
-use crate::short::{put_at_length, put_written_out};
+use crate::short::{put_at_length, put_written_out, put_zero_width};
 use crate::stop::{Stop, UNKNOWN_WORD};
 use std::alloc::Global;
 
@@ -77,12 +77,20 @@ impl Comparison {
     pub fn compare_rows(&mut self, alloc: Global, text: &str) {
         match text.split_once(SHORT_CASE) {
             Some((rows, cases)) => {
-                self.compare_lines(alloc, rows);
+                self.compare_cases(alloc, rows);
                 self.compare_short_cases(alloc, cases);
             }
-            None => self.compare_lines(alloc, text),
+            None => self.compare_cases(alloc, text),
         }
         self.sum_up();
+    }
+
+    /// Compares cases, with a character that takes no columns in place of each `{Z}`.
+    fn compare_cases(&mut self, alloc: Global, cases: &str) {
+        let mut lines = Answer::new(alloc);
+        put_zero_width(cases, &mut lines);
+        self.told.stop_at(lines.stopped(), 0);
+        self.compare_lines(alloc, lines.text());
     }
 
     /// Compares cases in short form.

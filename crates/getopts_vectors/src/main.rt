@@ -14,6 +14,9 @@
 //! stand for a tab, a newline, a carriage return and a backslash. Empty lines and lines that begin
 //! with `#` are skipped.
 //!
+//! `{Z}` stands for the first character from U+0300 on that takes no columns and isn't white space,
+//! as measured by `unicode_width`. If there is none, cases with a `{Z}` are omitted.
+//!
 //! These lines have no answer, except that `case` is answered with the line itself:
 //!
 //! - `case NAME`: no groups, the style `floating`, the mode `ordinary`, no words, nothing kept
