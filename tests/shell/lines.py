@@ -136,7 +136,10 @@ def random_scripts(program, way, count):
                 wanted += [str(len(values)), *values]
             else:
                 script.append(f"printf '%s\\0' \"${{{name}+set}}\" \"${{{name}-}}\"")
-                wanted += ["set", str(len(values))] if kind == "no" else ["set", values[-1]] if values else ["", ""]
+                if kind == "no":
+                    wanted += ["set", str(len(values) or "")]
+                else:
+                    wanted += ["set", values[-1]] if values else ["", ""]
         cases.append(("\n".join(script), wanted))
     return cases, codes, env
 

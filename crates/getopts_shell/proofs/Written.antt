@@ -22,7 +22,7 @@ use Rattle.getopts_bytes.specs.Marks.{bytes_of}
 use Rattle.getopts_shell.specs.Program.{IsOneWord}
 use Rattle.getopts_shell.specs.Table.{Entry}
 use Rattle.getopts_shell.specs.Variables.{AreTextValues, CodeSetsVariables, found_in_bytes, Given}
-use Rattle.getopts_shell.specs.Variables.{given_alone, HaveOwnVariables, held_value}
+use Rattle.getopts_shell.specs.Variables.{count_text, given_alone, HaveOwnVariables, held_value}
 use Rattle.getopts_shell.specs.Completion.{holds_all}
 use Rattle.getopts_shell.specs.Variables.{HoldTexts, in_bytes, is_variable, is_variable_byte}
 use Rattle.getopts_shell.specs.Variables.{line_code, many, once, one, option_code, SetsVariables}
@@ -69,6 +69,15 @@ digits_ascii (suc k) n onto are =
 decimal_gives : (n : ℕ) → Gives (decimal n) (decimal n)
 unfolding digits
 decimal_gives n = ascii_gives (decimal n) (digits_ascii 64 n [] refl)
+
+-- so has a count
+count_gives : (count : ℕ) → Gives (count_text count) (count_text count)
+count_gives count = by_test (eqb count 0)
+  where
+    by_test : (test : Bool)
+        → Gives (cond test [] (decimal count)) (cond test [] (decimal count))
+    by_test true = ascii_gives [] refl
+    by_test false = decimal_gives count
 
 -- ---- values
 
@@ -135,7 +144,7 @@ value_gives : (name : Text) (arrays all : Bool) (kind : HasArg) (founds : List F
     → Gives (value_line name (held_value arrays kind all founds))
     (value_line name (held_value arrays kind all (map found_in_bytes founds)))
 value_gives name arrays all No founds named are =
-    rw (length-map founds found_in_bytes) (one_gives name _ _ named (decimal_gives (length founds)))
+    rw (length-map founds found_in_bytes) (one_gives name _ _ named (count_gives (length founds)))
 value_gives name arrays all Yes founds named are = argument_gives name arrays all founds named are
 value_gives name arrays all Maybe founds named are = argument_gives name arrays all founds named are
 

@@ -185,11 +185,14 @@ abbrev pub all_values : Bool → List Found → Value
 all_values arrays founds =
     if arrays then many (texts_found founds) else one (quoted_words (texts_found founds))
 
--- This is how often the option was given if it takes no argument, all values, or the last value if
--- there is one.
--- what a variable holds
+-- how often an option was given, as text: empty for 0
+abbrev pub count_text : ℕ → Text
+count_text count = if count == 0 then [] else decimal count
+
+-- what a variable holds: how often the option was given if it takes no argument, all values, or
+-- the last value if there is one
 abbrev pub held_value : Bool → HasArg → Bool → List Found → Option Value
-held_value arrays No all founds = Some (one (decimal (length founds)))
+held_value arrays No all founds = Some (one (count_text (length founds)))
 held_value arrays kind true founds = Some (all_values arrays founds)
 held_value arrays kind false founds = option_map one (last_or None (texts_found founds))
 

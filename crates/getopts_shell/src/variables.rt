@@ -1,7 +1,7 @@
 //! Options as variables of a script: the code that sets them, and why a table has none.
 
 ghost use Rattle.std.specs.Prelude.{◌≡◌, ◌++◌, [], length, map, IfOk, OnOk, false, not};
-ghost use Rattle.std.specs.Prelude.{slice_get, decimal, get_or, None, Some};
+ghost use Rattle.std.specs.Prelude.{slice_get, get_or, None, Some};
 ghost use Rattle.std.specs.Prelude.{MatchOption, codes, true, ⊤};
 ghost use Rattle.std.specs.Char.{is_ascii_digit};
 ghost use Rattle.std.specs.Option.{option_map, option_map_or};
@@ -14,8 +14,8 @@ ghost use Rattle.getopts_shell.specs.Held.{entries_of, entry_of_row};
 ghost use Rattle.getopts_shell.specs.Held.{variable_fault_told};
 ghost use Rattle.getopts_shell.specs.Quote.{quoted_words};
 ghost use Rattle.getopts_shell.specs.Variables.{AreTextValues, CodeSetsVariables, HoldTexts};
-ghost use Rattle.getopts_shell.specs.Variables.{all_values, found_alone, founds_of, given_alone};
-ghost use Rattle.getopts_shell.specs.Variables.{given_from, is_prefix};
+ghost use Rattle.getopts_shell.specs.Variables.{all_values, count_text, found_alone, founds_of};
+ghost use Rattle.getopts_shell.specs.Variables.{given_alone, given_from, is_prefix};
 ghost use Rattle.getopts_shell.specs.Variables.{is_variable, is_variable_byte, option_code};
 ghost use Rattle.getopts_shell.specs.Variables.{own_value, prefix_fault, texts_found};
 ghost use Rattle.getopts_shell.specs.Variables.{value_line, variable, variable_byte};
@@ -187,7 +187,8 @@ pub(crate) fn main_name<'t>(row: Row<'t>) -> &'t str
     }
 }
 
-/// Appends the command that sets a variable to how often an option was given.
+/// Appends the command that sets a variable to how often an option was given, or to the empty text
+/// if it was not, so that a shell can test it.
 fn push_count(
     alloc: Global,
     text: &mut String,
@@ -196,8 +197,11 @@ fn push_count(
     count: usize,
 ) -> Result<(), AllocError>
     ensures { OnOk result (string_bytes text.new ≡ string_bytes text.old
-        ++ value_line (variable prefix.now name.now) (Some (one (decimal count)))) }
+        ++ value_line (variable prefix.now name.now) (Some (one (count_text count)))) }
 {
+    if count == 0 {
+        return push_value(text, prefix, name, "");
+    }
     let count = format!(in alloc; "{count}")?;
     push_value(text, prefix, name, count.as_str())
 }

@@ -134,7 +134,8 @@ pub(crate) fn main_name<'t>(row: Row<'t>) -> &'t str {
     }
 }
 
-/// Appends the command that sets a variable to how often an option was given.
+/// Appends the command that sets a variable to how often an option was given, or to the empty text
+/// if it was not, so that a shell can test it.
 fn push_count(
     alloc: Global,
     text: &mut String,
@@ -142,6 +143,9 @@ fn push_count(
     name: &str,
     count: usize,
 ) -> Result<(), AllocError> {
+    if count == 0 {
+        return push_value(text, prefix, name, "");
+    }
     let count = text!(in alloc; "{count}")?;
     push_value(text, prefix, name, count.as_str())
 }
