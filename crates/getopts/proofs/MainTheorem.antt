@@ -7,3 +7,5 @@ pub mod Results
 pub mod Accepted
 pub mod BeforeFree
 pub mod UsageComputed
+pub mod CanonicalLines
+pub mod HelpText

@@ -42,3 +42,7 @@ pub mod Usage
 pub mod Turn
 -- what the code stores, and the values that it stands for
 pub mod Held
+-- Only callers' contracts cite this.
+
+-- what a command line asks for if a flag such as `help` stands alone
+pub mod Asked

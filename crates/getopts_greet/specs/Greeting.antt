@@ -1,17 +1,15 @@
 -- The greeter's options, and what a command line asks for.
-use Rattle.std.specs.Prelude.{◌≡◌, ⊤, if◌then◌else◌, ℕ, false, List, [], ◌∷◌, ◌++◌, codes}
+use Rattle.std.specs.Prelude.{◌≡◌, ⊤, ℕ, false, [], ◌∷◌, ◌++◌, codes}
 use Rattle.std.specs.Prelude.{Option, Some, None, Result, Ok, Err}
 use Rattle.std.specs.Option.{option_map}
-use Rattle.std.specs.Result.{result_map_both}
 use Rattle.std.specs.Str.Parse.{ParsesUnsigned}
 use Rattle.std.specs.String.{string_bytes}
 use Rattle.std.specs.declared.num.ParseIntError.{ParseIntError}
-use Rattle.getopts.specs.Accessors.{IsReadAs, first_value, found_of, is_present}
+use Rattle.getopts.specs.Accessors.{IsReadAs, first_value, found_of}
 use Rattle.getopts.specs.Fail.{Fault, fault_of}
 use Rattle.getopts.specs.Matches.{Matched}
 use Rattle.getopts.specs.Names.{Text}
 use Rattle.getopts.specs.Options.{Declared, group_of}
-use Rattle.getopts.specs.Results.{read_result, parse_result}
 use Rattle.getopts.specs.declared.fail.Fail.{Fail}
 use Rattle.getopts.specs.declared.fail.Fail.TheVariants as fail
 use Rattle.getopts.specs.declared.groups.HasArg.TheVariants.{No, Yes}
@@ -48,23 +46,20 @@ abbrev pub refusal_of : Fail → Refusal
 refusal_of fail.OutOfMemory = OutOfMemory
 refusal_of fail = Line fail
 
--- If it asks for help, an option may be missing or be given too often. The two results are those of
--- the command line without and with its counts checked.
--- a command line's error; or its matches, or none if it asks for help
-abbrev pub asked_of : Result Matched Fault → Result Matched Fault → Result (Option Matched) Fault
-asked_of (Err fault) line = Err fault
-asked_of (Ok read) line = if is_present read.groups (codes "help") then Ok None
-    else result_map_both Some (λ fault. fault) line
-
--- the same for words
-abbrev pub asked_result : List Text → Result (Option Matched) Fault
-asked_result words = asked_of (read_result greeter_options words) (parse_result greeter_options words)
-
 -- The matches give this name, and this number or none.
 pub record IsGreetingOf (matches : Matched) (greeting : Greeting) : Type 0 where
   pub name : first_value (found_of matches.groups (codes "name")) ≡ Some (string_bytes greeting.name)
   pub times : IsReadAs {E = ParseIntError} (ParsesUnsigned 32 10)
       (first_value (found_of matches.groups (codes "times"))) (Ok greeting.times)
+
+-- Out of memory says nothing about the matches.
+-- This is the greeting that matches ask for, or why there is none: a number that can't be read.
+abbrev pub IsGreetingBy : Matched → Result Greeting Refusal → Type 0
+IsGreetingBy matches (Err OutOfMemory) = ⊤
+IsGreetingBy matches (Err (Number error)) = IsReadAs {T = ℕ} (ParsesUnsigned 32 10)
+    (first_value (found_of matches.groups (codes "times"))) (Err error)
+IsGreetingBy matches (Err (Line fail)) = ⊥
+IsGreetingBy matches (Ok greeting) = IsGreetingOf matches greeting
 
 -- It asks for nothing if it has an error, or a number that can't be read. Out of memory says
 -- nothing about it.
@@ -74,6 +69,5 @@ IsAskedBy asked (Err OutOfMemory) = ⊤
 IsAskedBy asked (Err (Line fail)) = option_map Err (fault_of fail) ≡ Some asked
 IsAskedBy (Ok None) (Ok Help) = ⊤
 IsAskedBy (Ok (Some matches)) (Ok (Greet greeting)) = IsGreetingOf matches greeting
-IsAskedBy (Ok (Some matches)) (Err (Number error)) = IsReadAs {T = ℕ} (ParsesUnsigned 32 10)
-    (first_value (found_of matches.groups (codes "times"))) (Err error)
+IsAskedBy (Ok (Some matches)) (Err (Number error)) = IsGreetingBy matches (Err (Number error))
 IsAskedBy asked result = ⊥

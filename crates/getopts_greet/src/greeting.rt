@@ -1,12 +1,14 @@
 //! What a command line asks of the greeter.
 
-ghost use Rattle.std.specs.Prelude.{◌≡◌, map, IfOk, IfSome};
+ghost use Rattle.std.specs.Prelude.{◌≡◌, codes, map, IfOk, IfSome};
 ghost use Rattle.std.specs.Str.Parse.{ParsesUnsigned};
 ghost use Rattle.std.specs.String.{string_bytes};
 ghost use Rattle.getopts.specs.Accessors.{IsDefined, IsReadAs, first_value, found_of};
-ghost use Rattle.getopts.specs.Holds.{HoldDeclared};
+ghost use Rattle.getopts.specs.Asked.{asked_result};
 ghost use Rattle.getopts.specs.Gives.{GivesResult};
-ghost use Rattle.getopts_greet.specs.Greeting.{IsAskedBy, asked_result, greeter_help};
+ghost use Rattle.getopts.specs.Holds.{HoldDeclared};
+ghost use Rattle.getopts.specs.Options.{Declares};
+ghost use Rattle.getopts_greet.specs.Greeting.{IsAskedBy, IsGreetingBy, greeter_help};
 ghost use Rattle.getopts_greet.specs.Greeting.{greeter_options, refusal_of};
 ghost use Rattle.getopts_greet.specs.declared.greeting.Refusal.TheVariants.{Number, OutOfMemory};
 
@@ -89,25 +91,38 @@ pub fn help_text(alloc: Global) -> Result<String, AllocError>
 
 /// What a command line asks for. Errors in its words come first, then help, then what is missing.
 pub fn read<S: AsStr>(alloc: Global, words: &[S]) -> Result<Asked, Refusal>
-    ensures { IsAskedBy (asked_result (map S.text words.now)) result }
-{
-    let Some(matches) = matches_of(alloc, words)? else {
-        return Ok(Asked::Help);
-    };
-    Ok(Asked::Greet(Greeting {
-        name: matches.opt_str(alloc, "name")?.unwrap(),
-        times: number(&matches, "times")?,
-    }))
-}
-
-/// The matches of a command line, or none if it asks for help. A required option may then be
-/// missing.
-fn matches_of<S: AsStr>(alloc: Global, words: &[S]) -> Result<Option<Matches>, Fail>
-    ensures asked { GivesResult result (asked_result (map S.text words.now)) }
-    ensures declared { IfOk result (λ asked. IfSome asked (λ matches.
-        HoldDeclared greeter_options matches.groups)) }
+    ensures { IsAskedBy (asked_result greeter_options (codes "help") (map S.text words.now)) result }
 {
     let options = options(alloc)?;
+    let Some(matches) = matches_of(alloc, &options, words)? else {
+        return Ok(Asked::Help);
+    };
+    Ok(Asked::Greet(greeting_of(alloc, &matches)?))
+}
+
+/// The greeting that matches ask for.
+fn greeting_of(alloc: Global, matches: &Matches) -> Result<Greeting, Refusal>
+    requires { HoldDeclared greeter_options matches.now.groups }
+    ensures { IsGreetingBy matches.now result }
+{
+    Ok(Greeting {
+        name: matches.opt_str(alloc, "name")?.unwrap(),
+        times: number(matches, "times")?,
+    })
+}
+
+/// The matches of a command line, for any options with `help`, or none if it asks for help. A
+/// required option may then be missing.
+fn matches_of<S: AsStr>(
+    alloc: Global,
+    options: &Options,
+    words: &[S],
+) -> Result<Option<Matches>, Fail>
+    requires { Declares options.now (codes "help") }
+    ensures asked { GivesResult result (asked_result options.now (codes "help") (map S.text words.now)) }
+    ensures declared { IfOk result (λ asked. IfSome asked (λ matches.
+        HoldDeclared options.now matches.groups)) }
+{
     let read = options.parse_ignoring_counts(alloc, words)?;
     if read.opt_present("help") {
         return Ok(None);

@@ -1,17 +1,12 @@
 //! Greets by name: a program to copy.
 #![tactic(auto)]
 
+mod answer;
 mod greeting;
 
-use greeting::{Asked, Greeting, Refusal, help_text, read};
+use answer::{FAILED, answer};
 use std::process::ExitCode;
 use std::{env, io};
-
-/// The status if the words were rejected.
-const REFUSED: u8 = 2;
-
-/// The status if memory ran out, a word wasn't UTF-8, or a write failed.
-const FAILED: u8 = 3;
 
 fn main(rt: HostRuntime) -> ExitCode {
     ExitCode::from(run(&rt).unwrap_or(FAILED))
@@ -20,11 +15,7 @@ fn main(rt: HostRuntime) -> ExitCode {
 /// Parses the program's words, and does what they ask for.
 fn run(rt: &HostRuntime) -> io::Result<u8> {
     let words = words(rt)?;
-    match read(rt.alloc(), &words) {
-        Ok(Asked::Help) => help(rt),
-        Ok(Asked::Greet(greeting)) => greet(rt, &greeting),
-        Err(refusal) => refuse(rt, &refusal),
-    }
+    answer(rt.alloc(), &words, &mut io::writer(rt), &mut rt.stderr())
 }
 
 /// The system's words, without the first one, which is the program's name.
@@ -34,28 +25,4 @@ fn words(rt: &HostRuntime) -> io::Result<Vec<String>> {
         words.push(word)?;
     }
     Ok(words)
-}
-
-/// Prints the help.
-fn help(rt: &HostRuntime) -> io::Result<u8> {
-    rt.print(help_text(rt.alloc())?)?;
-    Ok(0)
-}
-
-/// Greets as often as requested.
-fn greet(rt: &HostRuntime, greeting: &Greeting) -> io::Result<u8> {
-    for _ in 0..greeting.times.unwrap_or(1) {
-        println!(rt; "hello {}", greeting.name)?;
-    }
-    Ok(0)
-}
-
-/// Prints why the words were rejected.
-fn refuse(rt: &HostRuntime, refusal: &Refusal) -> io::Result<u8> {
-    match refusal {
-        Refusal::OutOfMemory => return Ok(FAILED),
-        Refusal::Line(fail) => eprintln!(rt; "getopts_greet: {fail}")?,
-        Refusal::Number(error) => eprintln!(rt; "getopts_greet: --times: {error}")?,
-    }
-    Ok(REFUSED)
 }

@@ -1,12 +1,15 @@
--- Checked values: a number within bounds, and a choice.
-use Rattle.std.specs.Prelude.{◌≡◌, ◌≤◌, ⊤, ℕ, if◌then◌else◌, false, [], ◌∷◌, map, codes}
-use Rattle.std.specs.Prelude.{Option, Some, None, Result, Ok, Err}
-use Rattle.std.specs.Option.{option_map}
+-- Checked values: a number within bounds, a choice, and pairs.
+use Rattle.std.specs.Prelude.{◌≡◌, ◌≤◌, ◌==◌, ⊤, ℕ, if◌then◌else◌, nat_lt, false, List, [], ◌∷◌, map}
+use Rattle.std.specs.Prelude.{codes, length, Option, Some, None, Result, Ok, Err}
+use Rattle.std.specs.List.{after_first, before_first, position_or_len}
+use Rattle.std.specs.Option.{option_map, option_map_or}
 use Rattle.std.specs.Str.{bytes_eq}
 use Rattle.std.specs.Str.Parse.{ParsesUnsigned}
 use Rattle.std.specs.String.{string_bytes}
+use Rattle.std.specs.declared.alloc.Global.{Global}
 use Rattle.std.specs.declared.num.ParseIntError.{ParseIntError}
-use Rattle.getopts.specs.Accessors.{first_value, found_of}
+use Rattle.std.specs.declared.vec.Vec.{Vec}
+use Rattle.getopts.specs.Accessors.{first_value, found_of, values_of}
 use Rattle.getopts.specs.Fail.{Fault, fault_of}
 use Rattle.getopts.specs.Matches.{Matched}
 use Rattle.getopts.specs.Names.{Text}
@@ -14,10 +17,11 @@ use Rattle.getopts.specs.Options.{Declared, group_of}
 use Rattle.getopts.specs.declared.fail.Fail.{Fail}
 use Rattle.getopts.specs.declared.fail.Fail.TheVariants as fail
 use Rattle.getopts.specs.declared.groups.HasArg.TheVariants.{Yes}
-use Rattle.getopts.specs.declared.groups.Occur.TheVariants.{Optional}
+use Rattle.getopts.specs.declared.groups.Occur.TheVariants.{Optional, Multi}
 use Rattle.getopts.specs.declared.groups.ParsingStyle.TheVariants.{FloatingFrees}
 use Rattle.getopts_uses.specs.declared.checked.Color.{Color}
 use Rattle.getopts_uses.specs.declared.checked.Color.TheVariants.{Auto, Always, Never}
+use Rattle.getopts_uses.specs.declared.checked.Pair.{Pair}
 use Rattle.getopts_uses.specs.declared.checked.Refusal.{Refusal}
 use Rattle.getopts_uses.specs.declared.checked.Refusal.TheVariants as refusal
 use Rattle.getopts_uses.specs.declared.checked.Settings.{Settings}
@@ -28,6 +32,7 @@ checked_options = record {
   groups =
       group_of (codes "j") (codes "jobs") (codes "run so many jobs, from 1 to 64") (codes "NUMBER") Yes Optional
       ∷ group_of [] (codes "color") (codes "colour: auto, always or never") (codes "WHEN") Yes Optional
+      ∷ group_of (codes "D") (codes "set") (codes "set KEY to VALUE") (codes "KEY=VALUE") Yes Multi
       ∷ [];
   style = FloatingFrees;
   long_only = false;
@@ -66,6 +71,38 @@ IsColorBy option (Some word) (Err (refusal.Choice told given)) =
     (told.now ≡ option) × (string_bytes given ≡ word) × (color_named word ≡ None)
 IsColorBy option word result = ⊥
 
+-- the text before and after the first `=` of a text, if it has one; 61 is the byte `=`
+abbrev pub cut : Text → Option (Text × Text)
+cut text = if nat_lt (position_or_len (λ b. b == 61) text) (length text)
+    then Some (before_first (λ b. b == 61) text, after_first (λ b. b == 61) text) else None
+
+-- a key and its value, as texts
+abbrev pub pair_view : Pair → Text × Text
+pair_view pair = (string_bytes pair.key, string_bytes pair.value)
+
+-- The error holds the option and the text.
+-- This is the pair that a text is, or an error.
+abbrev pub IsPairBy : Text → Text → Result Pair Refusal → Type 0
+IsPairBy option text (Err refusal.OutOfMemory) = ⊤
+IsPairBy option text (Ok pair) = cut text ≡ Some (pair_view pair)
+IsPairBy option text (Err (refusal.Pair told given)) =
+    (told.now ≡ option) × (string_bytes given ≡ text) × (cut text ≡ None)
+IsPairBy option text result = ⊥
+
+-- the first of these texts that isn't a pair
+abbrev pub first_uncut : List Text → Option Text
+first_uncut [] = None
+first_uncut (text ∷ texts) = option_map_or (λ pair. first_uncut texts) (cut text) (Some text)
+
+-- The error holds the option and the first text that isn't a pair.
+-- These are the pairs that texts are, or an error.
+abbrev pub ArePairsBy : Text → List Text → Result (Vec Pair Global) Refusal → Type 0
+ArePairsBy option texts (Err refusal.OutOfMemory) = ⊤
+ArePairsBy option texts (Ok pairs) = map cut texts ≡ map (λ pair. Some (pair_view pair)) pairs.items
+ArePairsBy option texts (Err (refusal.Pair told given)) =
+    (told.now ≡ option) × (first_uncut texts ≡ Some (string_bytes given))
+ArePairsBy option texts result = ⊥
+
 -- an option's value
 abbrev pub value_of : Matched → Text → Option Text
 value_of matches name = first_value (found_of matches.groups name)
@@ -78,22 +115,29 @@ AreJobsOf matches jobs = IsNumberBy (codes "jobs") 1 64 1 (value_of matches (cod
 abbrev pub IsColorOf : Matched → Result Color Refusal → Type 0
 IsColorOf matches color = IsColorBy (codes "color") (value_of matches (codes "color")) color
 
+-- These are the pairs that matches set.
+abbrev pub AreSetsOf : Matched → Result (Vec Pair Global) Refusal → Type 0
+AreSetsOf matches sets = ArePairsBy (codes "set") (values_of (found_of matches.groups (codes "set"))) sets
+
 -- why a command line that the library rejects sets nothing; out of memory isn't its error
 abbrev pub refusal_of : Fail → Refusal
 refusal_of fail.OutOfMemory = refusal.OutOfMemory
 refusal_of fail = refusal.Line fail
 
--- It sets nothing if it has an error, if its number is out of bounds, or else if a word is no
--- choice.
+-- It sets nothing if it has an error; otherwise if its number is out of bounds, or else if a word
+-- is no choice, or else if a text isn't a pair.
 -- This is what a command line sets, or why it sets nothing.
 abbrev pub IsSettingsBy : Result Matched Fault → Result Settings Refusal → Type 0
 IsSettingsBy line (Err refusal.OutOfMemory) = ⊤
 IsSettingsBy line (Err (refusal.Line fail)) = option_map Err (fault_of fail) ≡ Some line
 IsSettingsBy (Ok matches) (Ok settings) =
     AreJobsOf matches (Ok settings.jobs) × IsColorOf matches (Ok settings.color)
-    × (map string_bytes settings.files.items ≡ matches.free)
+    × AreSetsOf matches (Ok settings.sets) × (map string_bytes settings.files.items ≡ matches.free)
 IsSettingsBy (Ok matches) (Err (refusal.Number told given low high)) =
     AreJobsOf matches (Err (refusal.Number told given low high))
 IsSettingsBy (Ok matches) (Err (refusal.Choice told given)) =
     ((jobs : ℕ) × AreJobsOf matches (Ok jobs)) × IsColorOf matches (Err (refusal.Choice told given))
+IsSettingsBy (Ok matches) (Err (refusal.Pair told given)) =
+    ((jobs : ℕ) × AreJobsOf matches (Ok jobs)) × ((color : Color) × IsColorOf matches (Ok color))
+    × AreSetsOf matches (Err (refusal.Pair told given))
 IsSettingsBy (Err fault) result = ⊥

@@ -1,13 +1,14 @@
 -- A program with subcommands: its options, those of `add`, and what a command line runs.
-use Rattle.std.specs.Prelude.{◌≡◌, ◌≢◌, ⊤, List, [], ◌∷◌, false, map, codes, Result, Ok, Err}
+use Rattle.std.specs.Prelude.{◌≡◌, ◌≢◌, ⊤, List, [], ◌∷◌, false, map, codes}
+use Rattle.std.specs.Prelude.{Option, Some, None, Result, Ok, Err}
 use Rattle.std.specs.Option.{option_map}
 use Rattle.std.specs.String.{string_bytes}
 use Rattle.getopts.specs.Accessors.{first_value, found_of, is_present}
+use Rattle.getopts.specs.Asked.{asked_result}
 use Rattle.getopts.specs.Fail.{Fault, Tells}
 use Rattle.getopts.specs.Matches.{Matched}
 use Rattle.getopts.specs.Names.{Text}
 use Rattle.getopts.specs.Options.{Declared, group_of}
-use Rattle.getopts.specs.Results.{parse_result}
 use Rattle.getopts.specs.declared.fail.Fail.{Fail}
 use Rattle.getopts.specs.declared.groups.HasArg.TheVariants.{No, Yes}
 use Rattle.getopts.specs.declared.groups.Occur.TheVariants.{Optional}
@@ -34,30 +35,42 @@ global_options = record {
 -- the options of `add`
 abbrev pub add_options : Declared
 add_options = record {
-  groups = group_of (codes "f") (codes "force") (codes "add ignored files too") [] No Optional ∷ [];
+  groups =
+      group_of (codes "f") (codes "force") (codes "add ignored files too") [] No Optional
+      ∷ group_of (codes "h") (codes "help") (codes "print this help") [] No Optional
+      ∷ [];
   style = FloatingFrees;
   long_only = false;
 }
 
--- This is what a command line of `add` asks for, or its error.
-abbrev pub IsAddBy : Result Matched Fault → Result Add Fail → Type 0
-IsAddBy line (Err fail) = Tells fail (λ fault. line ≡ Err fault)
-IsAddBy (Ok matches) (Ok add) = (add.force ≡ is_present matches.groups (codes "force"))
+-- the help of `add`, byte for byte
+abbrev pub add_help : Text
+add_help = codes "Usage: add [options] FILE..\n\nOptions:\n    -f, --force         add ignored files too\n    -h, --help          print this help\n"
+
+-- This is what a command line of `add` asks for, or none if that is help, or its error.
+abbrev pub IsAddBy : Result (Option Matched) Fault → Result (Option Add) Fail → Type 0
+IsAddBy asked (Err fail) = Tells fail (λ fault. asked ≡ Err fault)
+IsAddBy (Ok None) (Ok None) = ⊤
+IsAddBy (Ok (Some matches)) (Ok (Some add)) = (add.force ≡ is_present matches.groups (codes "force"))
     × (map string_bytes add.files.items ≡ matches.free)
-IsAddBy (Err fault) (Ok add) = ⊥
+IsAddBy asked result = ⊥
+
+-- what a subcommand's own words ask for, by its options
+abbrev pub asked_by : Declared → List Text → Result (Option Matched) Fault
+asked_by options words = asked_result options (codes "help") words
 
 -- There is none if its own words have an error, or its name is unknown.
 -- This is the subcommand of this name, with what its own words ask for, or why there is none.
 abbrev pub IsCommandBy : Text → List Text → Result Command Refusal → Type 0
 IsCommandBy name words (Err refusal.OutOfMemory) = ⊤
 IsCommandBy name words (Ok (command.Add add)) =
-    (name ≡ codes "add") × IsAddBy (parse_result add_options words) (Ok add)
+    (name ≡ codes "add") × IsAddBy (asked_by add_options words) (Ok add)
 IsCommandBy name words (Err (refusal.Add fail)) =
-    (name ≡ codes "add") × IsAddBy (parse_result add_options words) (Err fail)
+    (name ≡ codes "add") × IsAddBy (asked_by add_options words) (Err fail)
 IsCommandBy name words (Ok (command.Log log)) =
-    (name ≡ codes "log") × IsLogBy (parse_result log_options words) (Ok log)
+    (name ≡ codes "log") × IsLogBy (asked_by log_options words) (Ok log)
 IsCommandBy name words (Err (refusal.Log fail)) =
-    (name ≡ codes "log") × IsLogBy (parse_result log_options words) (Err fail)
+    (name ≡ codes "log") × IsLogBy (asked_by log_options words) (Err fail)
 IsCommandBy name words (Err (refusal.Unknown text)) =
     (string_bytes text ≡ name) × (name ≢ codes "add") × (name ≢ codes "log")
 IsCommandBy name words result = ⊥

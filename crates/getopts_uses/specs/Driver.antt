@@ -1,4 +1,4 @@
--- A compiler driver with thirty options: the options, and the job that a command line describes.
+-- A compiler driver with forty options: the options, and the job that a command line describes.
 use Rattle.std.specs.Prelude.{◌≡◌, ⊤, List, [], ◌∷◌, ◌++◌, true, map, codes, length}
 use Rattle.std.specs.Prelude.{Result, Ok, Err}
 use Rattle.std.specs.Option.{option_map}
@@ -10,9 +10,14 @@ use Rattle.getopts.specs.Options.{Declared, Group, group_of}
 use Rattle.getopts.specs.declared.groups.HasArg.TheVariants.{No, Yes, Maybe}
 use Rattle.getopts.specs.declared.groups.Occur.TheVariants.{Optional, Multi}
 use Rattle.getopts.specs.declared.groups.ParsingStyle.TheVariants.{FloatingFrees}
+use Rattle.getopts_uses.specs.declared.driver.Extras.{Extras}
 use Rattle.getopts_uses.specs.declared.driver.Job.{Job}
 use Rattle.getopts_uses.specs.declared.driver.Refusal.{Refusal}
 use Rattle.getopts_uses.specs.declared.driver.Refusal.TheVariants.{Line, NoInput, OutOfMemory}
+use Rattle.getopts_uses.specs.declared.driver.Search.{Search}
+use Rattle.getopts_uses.specs.declared.driver.Sources.{Sources}
+use Rattle.getopts_uses.specs.declared.driver.Stages.{Stages}
+use Rattle.getopts_uses.specs.declared.driver.Targets.{Targets}
 
 -- what it writes and searches
 abbrev pub search_groups : List Group
@@ -59,26 +64,91 @@ targets_groups =
     ∷ group_of (codes "V") (codes "version") (codes "print the version") [] No Optional
     ∷ []
 
+-- what else it does
+abbrev pub extras_groups : List Group
+extras_groups =
+    group_of (codes "M") (codes "depend") (codes "write what the inputs depend on") [] No Optional
+    ∷ group_of (codes "F") (codes "framework") (codes "link with a framework") (codes "NAME") Yes Multi
+    ∷ group_of (codes "s") (codes "strip") (codes "strip names") [] No Optional
+    ∷ group_of (codes "q") (codes "quiet") (codes "say nothing") [] No Optional
+    ∷ group_of (codes "j") (codes "jobs") (codes "run so many jobs") (codes "NUMBER") Yes Optional
+    ∷ group_of [] (codes "color") (codes "colour what is said") (codes "WHEN") Maybe Optional
+    ∷ group_of (codes "k") (codes "keep-going") (codes "go on after an error") [] No Optional
+    ∷ group_of (codes "P") (codes "no-lines") (codes "write no line marks") [] No Optional
+    ∷ group_of (codes "Z") (codes "unstable") (codes "turn on a feature") (codes "NAME") Yes Multi
+    ∷ group_of [] (codes "prefix-map") (codes "write NEW in the place of OLD") (codes "OLD=NEW") Yes Multi
+    ∷ []
+
 -- the driver's options
 abbrev pub driver_options : Declared
 driver_options = record {
-  groups = search_groups ++ (stages_groups ++ targets_groups);
+  groups = search_groups ++ (stages_groups ++ (targets_groups ++ extras_groups));
   style = FloatingFrees;
   long_only = true;
 }
 
+-- What is written, searched and linked is exactly what the matches say.
+pub record IsSearchOf (matches : Matched) (it : Search) : Type 0 where
+  pub output : option_map string_bytes it.output ≡ first_value (found_of matches.groups (codes "output"))
+  pub folders : map string_bytes it.folders.items ≡ values_of (found_of matches.groups (codes "include"))
+  pub library_folders : map string_bytes it.library_folders.items ≡ values_of (found_of matches.groups (codes "library-path"))
+  pub libraries : map string_bytes it.libraries.items ≡ values_of (found_of matches.groups (codes "library"))
+  pub debug : it.debug ≡ is_present matches.groups (codes "debug")
+  pub compile : it.compile ≡ is_present matches.groups (codes "compile")
+
+-- How the inputs are read is exactly what the matches say.
+pub record AreSourcesOf (matches : Matched) (it : Sources) : Type 0 where
+  pub macros : map string_bytes it.macros.items ≡ values_of (found_of matches.groups (codes "define"))
+  pub forgotten : map string_bytes it.forgotten.items ≡ values_of (found_of matches.groups (codes "undefine"))
+  pub warnings : map string_bytes it.warnings.items ≡ values_of (found_of matches.groups (codes "warn"))
+  pub level : option_map string_bytes it.level ≡ first_value_or (found_of matches.groups (codes "optimize")) (codes "1")
+
+-- How far the driver goes, and what it prints, is exactly what the matches say.
+pub record AreStagesOf (matches : Matched) (it : Stages) : Type 0 where
+  pub assemble : it.assemble ≡ is_present matches.groups (codes "assemble")
+  pub preprocess : it.preprocess ≡ is_present matches.groups (codes "preprocess")
+  pub verbose : it.verbose ≡ length (found_of matches.groups (codes "verbose"))
+  pub no_warnings : it.no_warnings ≡ is_present matches.groups (codes "no-warnings")
+  pub language : option_map string_bytes it.language ≡ first_value (found_of matches.groups (codes "language"))
+  pub standard : option_map string_bytes it.standard ≡ first_value (found_of matches.groups (codes "std"))
+  pub target : option_map string_bytes it.target ≡ first_value (found_of matches.groups (codes "target"))
+  pub root : option_map string_bytes it.root ≡ first_value (found_of matches.groups (codes "sysroot"))
+  pub fixed : it.fixed ≡ is_present matches.groups (codes "static")
+  pub shared : it.shared ≡ is_present matches.groups (codes "shared")
+
+-- What the driver compiles for is exactly what the matches say.
+pub record AreTargetsOf (matches : Matched) (it : Targets) : Type 0 where
+  pub pie : it.pie ≡ is_present matches.groups (codes "pie")
+  pub no_pie : it.no_pie ≡ is_present matches.groups (codes "no-pie")
+  pub threads : it.threads ≡ is_present matches.groups (codes "pthread")
+  pub pipes : it.pipes ≡ is_present matches.groups (codes "pipe")
+  pub kept : option_map string_bytes it.kept ≡ first_value_or (found_of matches.groups (codes "save-temps")) (codes "1")
+  pub emits : map string_bytes it.emits.items ≡ values_of (found_of matches.groups (codes "emit"))
+  pub processor : option_map string_bytes it.processor ≡ first_value (found_of matches.groups (codes "march"))
+  pub script : option_map string_bytes it.script ≡ first_value (found_of matches.groups (codes "script"))
+  pub help : it.help ≡ is_present matches.groups (codes "help")
+  pub version : it.version ≡ is_present matches.groups (codes "version")
+
+-- What else the driver does is exactly what the matches say.
+pub record AreExtrasOf (matches : Matched) (it : Extras) : Type 0 where
+  pub depends : it.depends ≡ is_present matches.groups (codes "depend")
+  pub frameworks : map string_bytes it.frameworks.items ≡ values_of (found_of matches.groups (codes "framework"))
+  pub strip : it.strip ≡ is_present matches.groups (codes "strip")
+  pub quiet : it.quiet ≡ is_present matches.groups (codes "quiet")
+  pub jobs : option_map string_bytes it.jobs ≡ first_value (found_of matches.groups (codes "jobs"))
+  pub color : option_map string_bytes it.color ≡ first_value_or (found_of matches.groups (codes "color")) (codes "1")
+  pub keep_going : it.keep_going ≡ is_present matches.groups (codes "keep-going")
+  pub no_lines : it.no_lines ≡ is_present matches.groups (codes "no-lines")
+  pub unstable : map string_bytes it.unstable.items ≡ values_of (found_of matches.groups (codes "unstable"))
+  pub renamed : map string_bytes it.renamed.items ≡ values_of (found_of matches.groups (codes "prefix-map"))
+
 -- The job is exactly what the matches say.
 pub record IsJobOf (matches : Matched) (job : Job) : Type 0 where
-  pub output : option_map string_bytes job.output
-      ≡ first_value (found_of matches.groups (codes "output"))
-  pub folders : map string_bytes job.folders.items ≡ values_of (found_of matches.groups (codes "include"))
-  pub libraries : map string_bytes job.libraries.items ≡ values_of (found_of matches.groups (codes "library"))
-  pub macros : map string_bytes job.macros.items ≡ values_of (found_of matches.groups (codes "define"))
-  pub emits : map string_bytes job.emits.items ≡ values_of (found_of matches.groups (codes "emit"))
-  pub level : option_map string_bytes job.level
-      ≡ first_value_or (found_of matches.groups (codes "optimize")) (codes "1")
-  pub verbose : job.verbose ≡ length (found_of matches.groups (codes "verbose"))
-  pub compile : job.compile ≡ is_present matches.groups (codes "compile")
+  pub search : IsSearchOf matches job.search
+  pub sources : AreSourcesOf matches job.sources
+  pub stages : AreStagesOf matches job.stages
+  pub targets : AreTargetsOf matches job.targets
+  pub extras : AreExtrasOf matches job.extras
   pub inputs : map string_bytes job.inputs.items ≡ matches.free
 
 -- This is the job for a result, or why there is none.

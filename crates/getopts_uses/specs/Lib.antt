@@ -1,6 +1,5 @@
 pub mod Checked
 pub mod Command
-pub mod Compile
 pub mod Driver
 pub mod Log
 pub mod Logged

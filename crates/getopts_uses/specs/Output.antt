@@ -1,11 +1,9 @@
 -- The output file that a command line names.
-use Rattle.std.specs.Prelude.{◌≡◌, Bool, false, List, [], ◌∷◌, codes, Option, Result, Ok, Err}
-use Rattle.std.specs.Prelude.{String, string_bytes, slice_get}
-use Rattle.std.specs.Option.{option_map, option_map_or}
-use Rattle.std.specs.Str.{bytes_eq}
+use Rattle.std.specs.Prelude.{◌≡◌, false, [], ◌∷◌, codes, Option, Result, Ok, Err, String, string_bytes}
+use Rattle.std.specs.Option.{option_map}
 use Rattle.getopts.specs.Accessors.{first_value, found_of}
 use Rattle.getopts.specs.Fail.{Fault, Tells}
-use Rattle.getopts.specs.Matches.{Found, Matched}
+use Rattle.getopts.specs.Matches.{Matched}
 use Rattle.getopts.specs.Options.{Declared, group_of}
 use Rattle.getopts.specs.declared.fail.Fail.{Fail}
 use Rattle.std.specs.declared.alloc.Global.{Global}
@@ -30,9 +28,3 @@ IsOutputBy line (Err fail) = Tells fail (λ fault. line ≡ Err fault)
 IsOutputBy (Ok matches) (Ok output) =
     option_map string_bytes output ≡ first_value (found_of matches.groups (codes "output"))
 IsOutputBy (Err fault) (Ok output) = ⊥
-
--- whether an output is standard output
-abbrev pub is_out : List Found → Bool
-is_out founds =
-    option_map_or (λ found. option_map_or (λ value. bytes_eq value (codes "-")) found.value false)
-    (slice_get founds 0) false

@@ -1,10 +1,11 @@
-//! The subcommand `add`, with a flag of its own.
+//! The subcommand `add`, with a flag and its own help.
 
-ghost use Rattle.std.specs.Prelude.{◌≡◌, map, IfOk};
+ghost use Rattle.std.specs.Prelude.{◌≡◌, codes, map, IfOk};
 ghost use Rattle.std.specs.String.{string_bytes};
-ghost use Rattle.getopts.specs.Results.{parse_result};
-ghost use Rattle.getopts_uses.specs.Command.{IsAddBy, add_options};
+ghost use Rattle.getopts.specs.Asked.{asked_result};
+ghost use Rattle.getopts_uses.specs.Command.{IsAddBy, add_help, add_options};
 
+use crate::asked::matches_of;
 use getopts::{Fail, Options};
 use std::alloc::{AllocError, Global};
 
@@ -20,17 +21,30 @@ fn options(alloc: Global) -> Result<Options, AllocError>
     ensures { IfOk result (λ options. options ≡ add_options) }
 {
     let mut options = Options::new(alloc);
-    options.optflag("f", "force", "add ignored files too")?;
+    options
+        .optflag("f", "force", "add ignored files too")?
+        .optflag("h", "help", "print this help")?;
     Ok(options)
 }
 
-/// What the words after `add` ask for.
-pub fn read_add(alloc: Global, words: &[String]) -> Result<Add, Fail>
-    ensures { IsAddBy (parse_result add_options (map string_bytes words.now)) result }
+/// The help of `add`.
+pub fn help_text(alloc: Global) -> Result<String, AllocError>
+    ensures { IfOk result (λ text. string_bytes text ≡ add_help) }
 {
-    let matches = options(alloc)?.parse_words(alloc, words)?;
-    Ok(Add {
+    let options = options(alloc)?;
+    options.usage(alloc, "Usage: add [options] FILE..")
+}
+
+/// What the words after `add` ask for, or none if they ask for help.
+pub fn read_add(alloc: Global, words: &[String]) -> Result<Option<Add>, Fail>
+    ensures { IsAddBy (asked_result add_options (codes "help") (map string_bytes words.now)) result }
+{
+    let options = options(alloc)?;
+    let Some(matches) = matches_of(alloc, &options, words)? else {
+        return Ok(None);
+    };
+    Ok(Some(Add {
         force: matches.opt_present("force"),
         files: matches.free,
-    })
+    }))
 }

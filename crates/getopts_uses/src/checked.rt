@@ -1,17 +1,18 @@
-//! Checked values: a number within bounds, and a choice, each with a default.
+//! Checked values: a number within bounds and a choice, each with a default, and pairs.
 
-ghost use Rattle.std.specs.Prelude.{◌≡◌, IfOk};
-ghost use Rattle.std.specs.Option.{option_copied};
+ghost use Rattle.std.specs.Prelude.{◌≡◌, ◌∷◌, ◌++◌, [], map, IfOk, OnOk};
+ghost use Rattle.std.specs.Option.{option_copied, option_map};
 ghost use Rattle.std.specs.Str.Parse.{ParsesUnsigned};
-ghost use Rattle.getopts.specs.Accessors.{IsDefined, first_value, found_of};
-ghost use Rattle.getopts.specs.Names.{texts};
+ghost use Rattle.std.specs.String.{string_bytes};
+ghost use Rattle.getopts.specs.Accessors.{IsDefined, first_value, found_of, values_of};
 ghost use Rattle.getopts.specs.Results.{parse_result};
 ghost use Rattle.getopts_uses.specs.Checked.{IsColorBy, IsNumberBy, IsSettingsBy, checked_options};
-ghost use Rattle.getopts_uses.specs.Checked.{color_named, refusal_of};
+ghost use Rattle.getopts_uses.specs.Checked.{ArePairsBy, IsPairBy, color_named, cut, refusal_of};
 ghost use Rattle.getopts_uses.specs.declared.checked.Refusal.TheVariants.{OutOfMemory};
 
 use getopts::{Fail, Matches, Options};
 use std::alloc::{AllocError, Global};
+use std::convert::AsStr;
 use std::num::ParseIntError;
 
 /// What a command line sets.
@@ -19,7 +20,15 @@ use std::num::ParseIntError;
 pub struct Settings {
     pub jobs: u32,
     pub color: Color,
+    pub sets: Vec<Pair>,
     pub files: Vec<String>,
+}
+
+/// A key and its value.
+#[derive(Debug, Drop)]
+pub struct Pair {
+    pub key: String,
+    pub value: String,
 }
 
 /// When to use colour.
@@ -43,6 +52,11 @@ pub enum Refusal {
     },
     /// The option's text isn't one of its words.
     Choice {
+        option: &'static str,
+        text: String,
+    },
+    /// The option's text isn't `KEY=VALUE`.
+    Pair {
         option: &'static str,
         text: String,
     },
@@ -75,18 +89,20 @@ fn options(alloc: Global) -> Result<Options, AllocError>
     let mut options = Options::new(alloc);
     options
         .optopt("j", "jobs", "run so many jobs, from 1 to 64", "NUMBER")?
-        .optopt("", "color", "colour: auto, always or never", "WHEN")?;
+        .optopt("", "color", "colour: auto, always or never", "WHEN")?
+        .optmulti("D", "set", "set KEY to VALUE", "KEY=VALUE")?;
     Ok(options)
 }
 
 /// What a command line sets.
-pub fn read_settings(alloc: Global, words: &[&str]) -> Result<Settings, Refusal>
-    ensures { IsSettingsBy (parse_result checked_options (texts words.now)) result }
+pub fn read_settings<S: AsStr>(alloc: Global, words: &[S]) -> Result<Settings, Refusal>
+    ensures { IsSettingsBy (parse_result checked_options (map S.text words.now)) result }
 {
     let matches = options(alloc)?.parse_words(alloc, words)?;
     Ok(Settings {
         jobs: number_of(alloc, &matches, "jobs", 1, 64, 1)?,
         color: color_of(alloc, &matches, "color")?,
+        sets: sets_of(alloc, &matches, "set")?,
         files: matches.free,
     })
 }
@@ -164,4 +180,56 @@ fn color_named(word: &str) -> Option<Color>
         "never" => Some(Color::Never),
         _ => None,
     }
+}
+
+/// An option's pairs, or an error with the first text that isn't a pair.
+fn sets_of(alloc: Global, matches: &Matches, option: &'static str) -> Result<Vec<Pair>, Refusal>
+    requires { IsDefined matches.now.groups option.now }
+    ensures { ArePairsBy option.now (values_of (found_of matches.now.groups option.now)) result }
+{
+    let texts = matches.opt_strs(alloc, option)?;
+    pairs_of(alloc, option, &texts)
+}
+
+/// The pairs that texts are, or an error with the first text that isn't a pair.
+fn pairs_of(alloc: Global, option: &'static str, texts: &[String]) -> Result<Vec<Pair>, Refusal>
+    ensures { ArePairsBy option.now (map string_bytes texts.now) result }
+{
+    let mut pairs = Vec::new(alloc);
+    for text in texts {
+        let pair = pair_of(alloc, option, text.as_str())?;
+        add_pair(&mut pairs, pair)?;
+    }
+    Ok(pairs)
+}
+
+/// Adds a pair. If memory runs out, `push` returns the pair in its error, for which `Refusal` has
+/// no `From`.
+fn add_pair(pairs: &mut Vec<Pair>, pair: Pair) -> Result<(), AllocError>
+    ensures { OnOk result (pairs.new.items ≡ pairs.old.items ++ pair ∷ []) }
+{
+    Ok(pairs.push(pair)?)
+}
+
+/// The pair that a text is.
+fn pair_of(alloc: Global, option: &'static str, text: &str) -> Result<Pair, Refusal>
+    ensures { IsPairBy option.now text.now result }
+{
+    match cut(text) {
+        Some((key, value)) => Ok(Pair {
+            key: String::from_str(alloc, key)?,
+            value: String::from_str(alloc, value)?,
+        }),
+        None => Err(Refusal::Pair {
+            option,
+            text: String::from_str(alloc, text)?,
+        }),
+    }
+}
+
+/// The text before and after the first `=`.
+fn cut(text: &str) -> Option<(&str, &str)>
+    ensures { option_map (λ pair. (pair.0.now, pair.1.now)) result ≡ cut text.now }
+{
+    text.split_once('=')
 }

@@ -1,29 +1,93 @@
-//! A compiler driver with thirty options, whose long names may follow a single dash.
+//! A compiler driver with forty options, whose long names may follow a single dash, and a job with
+//! all their values.
 
-ghost use Rattle.std.specs.Prelude.{◌≡◌, IfOk, OnOk};
+ghost use Rattle.std.specs.Prelude.{◌≡◌, map, IfOk, OnOk};
 ghost use Rattle.getopts.specs.Holds.{HoldDeclared};
-ghost use Rattle.getopts.specs.Names.{texts};
 ghost use Rattle.getopts.specs.Options.{with_groups};
 ghost use Rattle.getopts.specs.Results.{parse_result};
 ghost use Rattle.getopts_uses.specs.Driver.{IsJobBy, IsJobOf, driver_options};
-ghost use Rattle.getopts_uses.specs.Driver.{search_groups, stages_groups, targets_groups};
+ghost use Rattle.getopts_uses.specs.Driver.{IsSearchOf, AreSourcesOf, AreStagesOf, AreTargetsOf, AreExtrasOf};
+ghost use Rattle.getopts_uses.specs.Driver.{search_groups, stages_groups, targets_groups, extras_groups};
 ghost use Rattle.getopts_uses.specs.declared.driver.Refusal.TheVariants.{Line, NoInput, OutOfMemory};
 
 use getopts::{Fail, Matches, Options};
 use std::alloc::{AllocError, Global};
+use std::convert::AsStr;
 
-/// What the driver does.
+/// What the driver does. Each part has at most six values that own memory.
 #[derive(Debug, Drop)]
 pub struct Job {
+    pub search: Search,
+    pub sources: Sources,
+    pub stages: Stages,
+    pub targets: Targets,
+    pub extras: Extras,
+    pub inputs: Vec<String>,
+}
+
+/// What is written, searched and linked.
+#[derive(Debug, Drop)]
+pub struct Search {
     pub output: Option<String>,
     pub folders: Vec<String>,
+    pub library_folders: Vec<String>,
     pub libraries: Vec<String>,
-    pub macros: Vec<String>,
-    pub emits: Vec<String>,
-    pub level: Option<String>,
-    pub verbose: usize,
+    pub debug: bool,
     pub compile: bool,
-    pub inputs: Vec<String>,
+}
+
+/// How the inputs are read.
+#[derive(Debug, Drop)]
+pub struct Sources {
+    pub macros: Vec<String>,
+    pub forgotten: Vec<String>,
+    pub warnings: Vec<String>,
+    pub level: Option<String>,
+}
+
+/// How far the driver goes, and what it prints.
+#[derive(Debug, Drop)]
+pub struct Stages {
+    pub assemble: bool,
+    pub preprocess: bool,
+    pub verbose: usize,
+    pub no_warnings: bool,
+    pub language: Option<String>,
+    pub standard: Option<String>,
+    pub target: Option<String>,
+    pub root: Option<String>,
+    pub fixed: bool,
+    pub shared: bool,
+}
+
+/// What the driver compiles for.
+#[derive(Debug, Drop)]
+pub struct Targets {
+    pub pie: bool,
+    pub no_pie: bool,
+    pub threads: bool,
+    pub pipes: bool,
+    pub kept: Option<String>,
+    pub emits: Vec<String>,
+    pub processor: Option<String>,
+    pub script: Option<String>,
+    pub help: bool,
+    pub version: bool,
+}
+
+/// What else the driver does.
+#[derive(Debug, Drop)]
+pub struct Extras {
+    pub depends: bool,
+    pub frameworks: Vec<String>,
+    pub strip: bool,
+    pub quiet: bool,
+    pub jobs: Option<String>,
+    pub color: Option<String>,
+    pub keep_going: bool,
+    pub no_lines: bool,
+    pub unstable: Vec<String>,
+    pub renamed: Vec<String>,
 }
 
 /// Why it does nothing.
@@ -59,6 +123,7 @@ pub fn options(alloc: Global) -> Result<Options, AllocError>
     add_search(&mut options)?;
     add_stages(&mut options)?;
     add_targets(&mut options)?;
+    add_extras(&mut options)?;
     Ok(options)
 }
 
@@ -117,9 +182,27 @@ fn add_targets(options: &mut Options) -> Result<(), AllocError>
     Ok(())
 }
 
+/// Adds options for what else the driver does.
+fn add_extras(options: &mut Options) -> Result<(), AllocError>
+    ensures { OnOk result (options.new ≡ with_groups options.old extras_groups) }
+{
+    options
+        .optflag("M", "depend", "write what the inputs depend on")?
+        .optmulti("F", "framework", "link with a framework", "NAME")?
+        .optflag("s", "strip", "strip names")?
+        .optflag("q", "quiet", "say nothing")?
+        .optopt("j", "jobs", "run so many jobs", "NUMBER")?
+        .optflagopt("", "color", "colour what is said", "WHEN")?
+        .optflag("k", "keep-going", "go on after an error")?
+        .optflag("P", "no-lines", "write no line marks")?
+        .optmulti("Z", "unstable", "turn on a feature", "NAME")?
+        .optmulti("", "prefix-map", "write NEW in the place of OLD", "OLD=NEW")?;
+    Ok(())
+}
+
 /// The job that a command line describes.
-pub fn read_job(alloc: Global, words: &[&str]) -> Result<Job, Refusal>
-    ensures { IsJobBy (parse_result driver_options (texts words.now)) result }
+pub fn read_job<S: AsStr>(alloc: Global, words: &[S]) -> Result<Job, Refusal>
+    ensures { IsJobBy (parse_result driver_options (map S.text words.now)) result }
 {
     let matches = options(alloc)?.parse_words(alloc, words)?;
     if matches.free.is_empty() {
@@ -128,20 +211,102 @@ pub fn read_job(alloc: Global, words: &[&str]) -> Result<Job, Refusal>
     Ok(job_of(alloc, matches)?)
 }
 
-/// The job that matches ask for.
+/// The job that matches describe. Each helper borrows the matches, and returns a part.
 fn job_of(alloc: Global, matches: Matches) -> Result<Job, AllocError>
     requires { HoldDeclared driver_options matches.groups }
     ensures { IfOk result (IsJobOf matches) }
 {
     Ok(Job {
+        search: search_of(alloc, &matches)?,
+        sources: sources_of(alloc, &matches)?,
+        stages: stages_of(alloc, &matches)?,
+        targets: targets_of(alloc, &matches)?,
+        extras: extras_of(alloc, &matches)?,
+        inputs: matches.free,
+    })
+}
+
+/// What is written, searched and linked.
+fn search_of(alloc: Global, matches: &Matches) -> Result<Search, AllocError>
+    requires { HoldDeclared driver_options matches.now.groups }
+    ensures { IfOk result (IsSearchOf matches.now) }
+{
+    Ok(Search {
         output: matches.opt_str(alloc, "output")?,
         folders: matches.opt_strs(alloc, "include")?,
+        library_folders: matches.opt_strs(alloc, "library-path")?,
         libraries: matches.opt_strs(alloc, "library")?,
-        macros: matches.opt_strs(alloc, "define")?,
-        emits: matches.opt_strs(alloc, "emit")?,
-        level: matches.opt_default(alloc, "optimize", "1")?,
-        verbose: matches.opt_count("verbose"),
+        debug: matches.opt_present("debug"),
         compile: matches.opt_present("compile"),
-        inputs: matches.free,
+    })
+}
+
+/// How the inputs are read.
+fn sources_of(alloc: Global, matches: &Matches) -> Result<Sources, AllocError>
+    requires { HoldDeclared driver_options matches.now.groups }
+    ensures { IfOk result (AreSourcesOf matches.now) }
+{
+    Ok(Sources {
+        macros: matches.opt_strs(alloc, "define")?,
+        forgotten: matches.opt_strs(alloc, "undefine")?,
+        warnings: matches.opt_strs(alloc, "warn")?,
+        level: matches.opt_default(alloc, "optimize", "1")?,
+    })
+}
+
+/// How far the driver goes, and what it prints.
+fn stages_of(alloc: Global, matches: &Matches) -> Result<Stages, AllocError>
+    requires { HoldDeclared driver_options matches.now.groups }
+    ensures { IfOk result (AreStagesOf matches.now) }
+{
+    Ok(Stages {
+        assemble: matches.opt_present("assemble"),
+        preprocess: matches.opt_present("preprocess"),
+        verbose: matches.opt_count("verbose"),
+        no_warnings: matches.opt_present("no-warnings"),
+        language: matches.opt_str(alloc, "language")?,
+        standard: matches.opt_str(alloc, "std")?,
+        target: matches.opt_str(alloc, "target")?,
+        root: matches.opt_str(alloc, "sysroot")?,
+        fixed: matches.opt_present("static"),
+        shared: matches.opt_present("shared"),
+    })
+}
+
+/// What the driver compiles for.
+fn targets_of(alloc: Global, matches: &Matches) -> Result<Targets, AllocError>
+    requires { HoldDeclared driver_options matches.now.groups }
+    ensures { IfOk result (AreTargetsOf matches.now) }
+{
+    Ok(Targets {
+        pie: matches.opt_present("pie"),
+        no_pie: matches.opt_present("no-pie"),
+        threads: matches.opt_present("pthread"),
+        pipes: matches.opt_present("pipe"),
+        kept: matches.opt_default(alloc, "save-temps", "1")?,
+        emits: matches.opt_strs(alloc, "emit")?,
+        processor: matches.opt_str(alloc, "march")?,
+        script: matches.opt_str(alloc, "script")?,
+        help: matches.opt_present("help"),
+        version: matches.opt_present("version"),
+    })
+}
+
+/// What else the driver does.
+fn extras_of(alloc: Global, matches: &Matches) -> Result<Extras, AllocError>
+    requires { HoldDeclared driver_options matches.now.groups }
+    ensures { IfOk result (AreExtrasOf matches.now) }
+{
+    Ok(Extras {
+        depends: matches.opt_present("depend"),
+        frameworks: matches.opt_strs(alloc, "framework")?,
+        strip: matches.opt_present("strip"),
+        quiet: matches.opt_present("quiet"),
+        jobs: matches.opt_str(alloc, "jobs")?,
+        color: matches.opt_default(alloc, "color", "1")?,
+        keep_going: matches.opt_present("keep-going"),
+        no_lines: matches.opt_present("no-lines"),
+        unstable: matches.opt_strs(alloc, "unstable")?,
+        renamed: matches.opt_strs(alloc, "prefix-map")?,
     })
 }

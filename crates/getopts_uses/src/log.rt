@@ -1,55 +1,21 @@
-//! The subcommand `log`, whose options are in a table.
+//! The subcommand `log`, which needs a number unless its help is asked for.
 
-ghost use Rattle.std.specs.Prelude.{◌≡◌, ◌++◌, map, IfOk, OnOk};
+ghost use Rattle.std.specs.Prelude.{◌≡◌, codes, map, IfOk};
 ghost use Rattle.std.specs.String.{string_bytes};
-ghost use Rattle.getopts.specs.Results.{parse_result};
-ghost use Rattle.getopts_uses.specs.Log.{IsLogBy, group_of_row, log_options};
+ghost use Rattle.getopts.specs.Asked.{asked_result};
+ghost use Rattle.getopts.specs.Holds.{HoldDeclared};
+ghost use Rattle.getopts_uses.specs.Log.{IsLogBy, IsLogOf, log_help, log_options};
 
-use crate::row::Row;
-use getopts::{Fail, HasArg, Occur, Options};
+use crate::asked::matches_of;
+use getopts::{Fail, Matches, Options};
 use std::alloc::{AllocError, Global};
 
 /// Which entries to show.
 #[derive(Debug, Drop)]
 pub struct Log {
-    pub count: Option<String>,
+    pub count: String,
     pub texts: Vec<String>,
     pub files: Vec<String>,
-}
-
-/// The options of `log`, as a table.
-const LOG: [Row<'static>; 2] = [
-    Row {
-        short: "n",
-        long: "max-count",
-        desc: "show so many",
-        hint: "NUMBER",
-        hasarg: HasArg::Yes,
-        occur: Occur::Optional,
-    },
-    Row {
-        short: "",
-        long: "grep",
-        desc: "show those that have TEXT",
-        hint: "TEXT",
-        hasarg: HasArg::Yes,
-        occur: Occur::Multi,
-    },
-];
-
-/// Adds the options in a table. If the table is a literal, the checker computes what they are: that
-/// takes seconds for ten rows, and minutes for thirty.
-pub fn add_rows(options: &mut Options, rows: &[Row<'_>]) -> Result<(), AllocError>
-    ensures { OnOk result (options.new ≡ record options.old {
-      groups = options.old.groups ++ map group_of_row rows.now;
-    }) }
-{
-    for row in rows {
-        options.add_group(
-            row.short, row.long, row.desc, row.hint, row.hasarg, row.occur,
-        )?;
-    }
-    Ok(())
 }
 
 /// The options of `log`.
@@ -57,17 +23,39 @@ fn options(alloc: Global) -> Result<Options, AllocError>
     ensures { IfOk result (λ options. options ≡ log_options) }
 {
     let mut options = Options::new(alloc);
-    add_rows(&mut options, &LOG)?;
+    options
+        .reqopt("n", "max-count", "show so many", "NUMBER")?
+        .optmulti("", "grep", "show those that have TEXT", "TEXT")?
+        .optflag("h", "help", "print this help")?;
     Ok(options)
 }
 
-/// What the words after `log` ask for.
-pub fn read_log(alloc: Global, words: &[String]) -> Result<Log, Fail>
-    ensures { IsLogBy (parse_result log_options (map string_bytes words.now)) result }
+/// The help of `log`.
+pub fn help_text(alloc: Global) -> Result<String, AllocError>
+    ensures { IfOk result (λ text. string_bytes text ≡ log_help) }
 {
-    let matches = options(alloc)?.parse_words(alloc, words)?;
+    let options = options(alloc)?;
+    options.usage(alloc, "Usage: log -n NUMBER [options] FILE..")
+}
+
+/// What the words after `log` ask for, or none if they ask for help.
+pub fn read_log(alloc: Global, words: &[String]) -> Result<Option<Log>, Fail>
+    ensures { IsLogBy (asked_result log_options (codes "help") (map string_bytes words.now)) result }
+{
+    let options = options(alloc)?;
+    let Some(matches) = matches_of(alloc, &options, words)? else {
+        return Ok(None);
+    };
+    Ok(Some(log_of(alloc, matches)?))
+}
+
+/// What matches of `log` ask for.
+fn log_of(alloc: Global, matches: Matches) -> Result<Log, AllocError>
+    requires { HoldDeclared log_options matches.groups }
+    ensures { IfOk result (IsLogOf matches) }
+{
     Ok(Log {
-        count: matches.opt_str(alloc, "max-count")?,
+        count: matches.opt_str(alloc, "max-count")?.unwrap(),
         texts: matches.opt_strs(alloc, "grep")?,
         files: matches.free,
     })

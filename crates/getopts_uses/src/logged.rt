@@ -1,12 +1,11 @@
 //! A build tool that logs what it was asked for, as a command line that asks for the same when it
 //! is read again.
 
-ghost use Rattle.std.specs.Prelude.{◌≡◌, List, map, IfOk, IfSome};
-ghost use Rattle.std.specs.Option.{option_map};
+ghost use Rattle.std.specs.Prelude.{◌≡◌, List, Some, map, IfOk, Ok};
 ghost use Rattle.std.specs.String.{string_bytes};
 ghost use Rattle.getopts.specs.CanonAnswers.{IsWritten};
 ghost use Rattle.getopts.specs.Gives.{GivesAs};
-ghost use Rattle.getopts.specs.Names.{Text, texts};
+ghost use Rattle.getopts.specs.Names.{Text};
 ghost use Rattle.getopts.specs.Results.{canonical_result};
 ghost use Rattle.getopts_uses.specs.Logged.{build_options, said_of, said_result};
 
@@ -22,6 +21,13 @@ pub struct Build {
     pub verbose: usize,
     pub sets: Vec<String>,
     pub targets: Vec<String>,
+}
+
+/// A build, and the line for the log.
+#[derive(Debug, Drop)]
+pub struct Logged {
+    pub build: Build,
+    pub line: Vec<String>,
 }
 
 /// The tool's options.
@@ -51,22 +57,43 @@ pub fn read_build<S: AsStr>(alloc: Global, words: &[S]) -> Result<Build, Fail>
     })
 }
 
-/// A lemma for proofs: a canonical line says what the original words say.
+/// Lemmas for proofs: a canonical line says what the original words say, and is its own canonical
+/// line.
 fn lines_say_the_same()
-    ensures { (words line : List Text) → IsWritten build_options words line
+    ensures same { (words line : List Text) → IsWritten build_options words line
         → said_result line ≡ said_result words }
+    ensures again { (words line : List Text) → IsWritten build_options words line
+        → canonical_result build_options line ≡ Ok (Some line) }
 {
     declared_options_keep_laws();
 }
 
-/// The line for the log: the canonical line of the words. There is none only if they give an option
-/// whose main name contains `=`.
-pub fn log_line(alloc: Global, words: &[&str]) -> Result<Option<Vec<String>>, Fail>
-    ensures logged { GivesAs (option_map (λ line. map string_bytes line.items)) result
-        (λ it. canonical_result build_options (texts words.now) ≡ it) }
-    ensures same { IfOk result (λ line. IfSome line (λ line.
-        said_result (map string_bytes line.items) ≡ said_result (texts words.now))) }
+/// The line for the log: the canonical line of the words. There always is one, since no main name
+/// contains `=`.
+fn log_line<S: AsStr>(alloc: Global, words: &[S]) -> Result<Vec<String>, Fail>
+    ensures logged { GivesAs (λ line. Some (map string_bytes line.items)) result
+        (λ it. canonical_result build_options (map S.text words.now) ≡ it) }
+    ensures written { IfOk result (λ line. IsWritten build_options (map S.text words.now)
+        (map string_bytes line.items)) }
+{
+    let line = options(alloc)?.canonical_words(alloc, words)?;
+    Ok(line.unwrap())
+}
+
+/// What a command line asks for, and the line for the log. That line, read again, asks for the
+/// same, and is logged unchanged.
+pub fn read_and_log<S: AsStr>(alloc: Global, words: &[S]) -> Result<Logged, Fail>
+    ensures said { GivesAs (λ logged. said_of logged.build) result
+        (λ it. said_result (map S.text words.now) ≡ it) }
+    ensures logged { IfOk result (λ logged. canonical_result build_options (map S.text words.now)
+        ≡ Ok (Some (map string_bytes logged.line.items))) }
+    ensures replayed { IfOk result (λ logged.
+        said_result (map string_bytes logged.line.items) ≡ Ok (said_of logged.build)) }
+    ensures again { IfOk result (λ logged. canonical_result build_options
+        (map string_bytes logged.line.items) ≡ Ok (Some (map string_bytes logged.line.items))) }
 {
     lines_say_the_same();
-    options(alloc)?.canonical_words(alloc, words)
+    let build = read_build(alloc, words)?;
+    let line = log_line(alloc, words)?;
+    Ok(Logged { build, line })
 }

@@ -7,8 +7,8 @@
 #![tactic(auto)]
 
 mod add;
+mod asked;
 mod checked;
-mod compile;
 mod driver;
 mod flag;
 mod lists;
@@ -18,8 +18,6 @@ mod loudness;
 mod output;
 mod peek;
 mod plugin;
-mod required;
-mod row;
 mod rows;
 mod subcommand;
 mod wrapper;

@@ -1,13 +1,12 @@
-//! An optional argument, copied and borrowed.
+//! An optional argument.
 
-ghost use Rattle.std.specs.Prelude.{◌≡◌, IfOk, codes};
-ghost use Rattle.getopts.specs.Accessors.{found_of};
-ghost use Rattle.getopts.specs.Names.{texts};
+ghost use Rattle.std.specs.Prelude.{◌≡◌, map, IfOk};
 ghost use Rattle.getopts.specs.Results.{parse_result};
-ghost use Rattle.getopts_uses.specs.Output.{IsOutputBy, is_out, output_options};
+ghost use Rattle.getopts_uses.specs.Output.{IsOutputBy, output_options};
 
-use getopts::{Fail, Matches, Options};
+use getopts::{Fail, Options};
 use std::alloc::{AllocError, Global};
+use std::convert::AsStr;
 
 /// An output, and a flag.
 fn options(alloc: Global) -> Result<Options, AllocError>
@@ -21,22 +20,9 @@ fn options(alloc: Global) -> Result<Options, AllocError>
 }
 
 /// The output file that a command line names, if it names one.
-pub fn output_of(alloc: Global, words: &[&str]) -> Result<Option<String>, Fail>
-    ensures { IsOutputBy (parse_result output_options (texts words.now)) result }
+pub fn output_of<S: AsStr>(alloc: Global, words: &[S]) -> Result<Option<String>, Fail>
+    ensures { IsOutputBy (parse_result output_options (map S.text words.now)) result }
 {
     let matches = options(alloc)?.parse_words(alloc, words)?;
     Ok(matches.opt_str(alloc, "output")?)
-}
-
-/// Whether the output is standard output.
-pub fn writes_out(matches: &Matches) -> bool
-    ensures { result ≡ is_out (found_of matches.now.groups (codes "output")) }
-{
-    let Some(place) = matches.opt_place("output") else {
-        return false;
-    };
-    match matches.occurrences_at(place).get(0) {
-        Some((_, Some(output))) => output == "-",
-        _ => false,
-    }
 }

@@ -5,7 +5,6 @@ ghost use Rattle.std.specs.Prelude.{◌≡◌, ◌||◌, false, codes, map, stri
 ghost use Rattle.std.specs.Str.Parse.{ParsesUnsigned};
 ghost use Rattle.getopts.specs.Accessors.{IsDefined, IsReadAs, first_value, found_of};
 ghost use Rattle.getopts.specs.Holds.{HoldDeclared, HoldGiven};
-ghost use Rattle.getopts.specs.Names.{texts};
 ghost use Rattle.getopts.specs.Gives.{GivesResult};
 ghost use Rattle.getopts_uses.specs.declared.peek.Refusal.TheVariants.{Line, Number, OutOfMemory};
 ghost use Rattle.getopts_uses.specs.Peek.{IsAskedBy, asked_result};
@@ -13,6 +12,7 @@ ghost use Rattle.getopts_uses.specs.Peek.{gives, peek_help, peek_options};
 
 use getopts::{Fail, Matches, Options};
 use std::alloc::{AllocError, Global};
+use std::convert::AsStr;
 use std::num::ParseIntError;
 
 /// What a command line asks for.
@@ -82,8 +82,8 @@ pub fn options(alloc: Global) -> Result<Options, AllocError>
 
 /// What a command line asks for. Errors in its words come first, then help, then the version, then
 /// what is missing.
-pub fn read_request(alloc: Global, words: &[&str]) -> Result<Request, Refusal>
-    ensures { IsAskedBy (asked_result (texts words.now)) result }
+pub fn read_request<S: AsStr>(alloc: Global, words: &[S]) -> Result<Request, Refusal>
+    ensures { IsAskedBy (asked_result (map S.text words.now)) result }
 {
     let matches = asked(alloc, words)?;
     if matches.opt_present("help") {
@@ -113,8 +113,8 @@ fn lines_asked(alloc: Global, matches: Matches) -> Result<Request, Refusal>
 
 /// The matches of a command line. If it asks for help or the version, a required option may be
 /// missing.
-fn asked(alloc: Global, words: &[&str]) -> Result<Matches, Fail>
-    ensures asked { GivesResult result (asked_result (texts words.now)) }
+fn asked<S: AsStr>(alloc: Global, words: &[S]) -> Result<Matches, Fail>
+    ensures asked { GivesResult result (asked_result (map S.text words.now)) }
     ensures given { IfOk result (λ matches. HoldGiven peek_options matches.groups) }
     ensures declared { IfOk result (λ matches.
         gives matches (codes "help") ≡ false → gives matches (codes "version") ≡ false

@@ -1,19 +1,22 @@
 //! Options whose names are known only at run time, as with plugins.
 
-ghost use Rattle.std.specs.Prelude.{◌≡◌, [], true, false};
+ghost use Rattle.std.specs.Prelude.{◌≡◌, ◌↔◌, [], if◌then◌else◌, IfOk, IsTrue, OnErr};
+ghost use Rattle.getopts.specs.Names.{AreLawful};
 ghost use Rattle.getopts.specs.Options.{group_of, with_group};
 
 use getopts::{HasArg, Occur, Options, names_lawful};
+use std::alloc::AllocError;
 
-/// Adds a flag with this long name, and returns whether that worked. If the name isn't valid or an
-/// allocation fails, the options are unchanged.
-pub fn add_flag(options: &mut Options, name: &str, does: &str) -> bool
-    ensures added { result ≡ true → options.new ≡ with_group options.old
-        (group_of [] name.now does.now [] HasArg.No Occur.Optional) }
-    ensures unchanged { result ≡ false → options.new ≡ options.old }
+/// Adds a flag with this long name if the name is valid, and returns whether it was added.
+pub fn add_flag(options: &mut Options, name: &str, does: &str) -> Result<bool, AllocError>
+    ensures lawful { IfOk result (λ added. IsTrue added ↔ AreLawful [] name.now) }
+    ensures added { IfOk result (λ added. options.new ≡ (if added then with_group options.old
+        (group_of [] name.now does.now [] HasArg.No Occur.Optional) else options.old)) }
+    ensures unchanged { OnErr result (options.new ≡ options.old) }
 {
-    names_lawful("", name)
-        && options
-            .add_group("", name, does, "", HasArg::No, Occur::Optional)
-            .is_ok()
+    if !names_lawful("", name) {
+        return Ok(false);
+    }
+    options.add_group("", name, does, "", HasArg::No, Occur::Optional)?;
+    Ok(true)
 }

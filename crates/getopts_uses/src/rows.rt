@@ -7,15 +7,13 @@ mod values;
 mod wrapped;
 
 use crate::checked::read_settings;
-use crate::compile::read_job;
-use crate::driver;
-use crate::logged::{log_line, read_build};
+use crate::logged::{read_and_log, read_build};
 use crate::loudness::loudness_of;
 use crate::output::output_of;
 use crate::peek::{help_text, read_request};
-use crate::required::{input_of, input_options};
 use crate::subcommand::read_run;
 use crate::wrapper::handed_on;
+use crate::{add, driver, log};
 use std::alloc::{AllocError, Global};
 use std::fmt::Debug;
 
@@ -45,9 +43,8 @@ pub fn push_row(alloc: Global, text: &mut String, row: &str) -> Result<(), Alloc
 
 /// Appends what the log's line for these words asks for.
 fn push_replayed(alloc: Global, text: &mut String, words: &[&str]) -> Result<(), AllocError> {
-    match log_line(alloc, words) {
-        Ok(Some(line)) => push(text, read_build(alloc, &line)),
-        Ok(None) => writeln!(text, "no line"),
+    match read_and_log(alloc, words) {
+        Ok(logged) => push(text, read_build(alloc, &logged.line)),
         Err(fail) => writeln!(text, "{fail:?}"),
     }
 }
@@ -62,16 +59,16 @@ fn push_caller(
     match caller {
         "peek" => push(text, read_request(alloc, words)),
         "peek_help" => push(text, help_text(alloc)),
-        "logged" => push(text, log_line(alloc, words)),
+        "logged" => push(text, read_and_log(alloc, words)),
         "replayed" => push_replayed(alloc, text, words),
         "checked" => push(text, read_settings(alloc, words)),
         "loudness" => push(text, loudness_of(alloc, words)),
         "wrapper" => push(text, handed_on(alloc, words)),
-        "compile" => push(text, read_job(alloc, words)),
         "command" => push(text, read_run(alloc, words)),
+        "add_help" => push(text, add::help_text(alloc)),
+        "log_help" => push(text, log::help_text(alloc)),
         "output" => push(text, output_of(alloc, words)),
         "driver" => push(text, driver::read_job(alloc, words)),
-        "input" => push(text, input_of(alloc, &input_options(alloc)?, words)),
         "fault" => faults::push_faults(alloc, text, words),
         "unreadable" => values::push_unreadable(alloc, text, words),
         "closures" => closures::push_texts(alloc, text),

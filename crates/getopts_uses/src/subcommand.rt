@@ -5,7 +5,6 @@ ghost use Rattle.std.specs.Prelude.{◌≡◌, map, IfOk, Ok, OnOk};
 ghost use Rattle.std.specs.String.{string_bytes};
 ghost use Rattle.getopts.specs.Holds.{HoldGiven, StandBeforeFree};
 ghost use Rattle.getopts.specs.Matches.{Matched};
-ghost use Rattle.getopts.specs.Names.{texts};
 ghost use Rattle.getopts.specs.Results.{parse_result};
 ghost use Rattle.getopts_uses.specs.Command.{IsCommandBy, IsRunBy, IsRunOf, global_options};
 ghost use Rattle.getopts_uses.specs.declared.subcommand.Refusal.TheVariants.{Line, OutOfMemory};
@@ -14,6 +13,7 @@ use crate::add::{Add, read_add};
 use crate::log::{Log, read_log};
 use getopts::{Fail, Matches, Options, ParsingStyle};
 use std::alloc::{AllocError, Global};
+use std::convert::AsStr;
 
 /// What a command line runs.
 #[derive(Debug, Drop)]
@@ -23,11 +23,11 @@ pub struct Run {
     pub command: Command,
 }
 
-/// A subcommand, with what its own words ask for.
+/// A subcommand, with what its own words ask for, or none if that is its help.
 #[derive(Debug, Drop)]
 pub enum Command {
-    Add(Add),
-    Log(Log),
+    Add(Option<Add>),
+    Log(Option<Log>),
 }
 
 /// Why a command line runs nothing. Errors in a subcommand's words are distinguished from errors in
@@ -72,11 +72,11 @@ fn options(alloc: Global) -> Result<Options, AllocError>
 
 /// What a command line runs. The words before the subcommand give the same options, whatever
 /// follows them.
-pub fn read_run(alloc: Global, words: &[&str]) -> Result<Run, Refusal>
-    ensures run { IsRunBy (parse_result global_options (texts words.now)) result }
+pub fn read_run<S: AsStr>(alloc: Global, words: &[S]) -> Result<Run, Refusal>
+    ensures run { IsRunBy (parse_result global_options (map S.text words.now)) result }
     ensures before { OnOk result ((global : Matched)
-        × (parse_result global_options (texts words.now) ≡ Ok global)
-        × StandBeforeFree global_options (texts words.now) global) }
+        × (parse_result global_options (map S.text words.now) ≡ Ok global)
+        × StandBeforeFree global_options (map S.text words.now) global) }
 {
     let matches = options(alloc)?.parse_words(alloc, words)?;
     run_of(alloc, &matches)

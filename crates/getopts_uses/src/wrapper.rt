@@ -5,13 +5,13 @@ ghost use Rattle.std.specs.String.{string_bytes};
 ghost use Rattle.getopts.specs.Accessors.{is_present};
 ghost use Rattle.getopts.specs.Fail.{Tells};
 ghost use Rattle.getopts.specs.Matches.{Matched};
-ghost use Rattle.getopts.specs.Names.{texts};
 ghost use Rattle.getopts.specs.Parse.{IsRefused};
 ghost use Rattle.getopts.specs.Results.{parse_result};
 ghost use Rattle.getopts_uses.specs.Wrapper.{HandsOn, wrapper_options};
 
 use getopts::{Fail, Options};
 use std::alloc::{AllocError, Global};
+use std::convert::AsStr;
 
 /// The wrapper's own options.
 fn options(alloc: Global) -> Result<Options, AllocError>
@@ -33,10 +33,10 @@ fn matches_of_a_line()
 {}
 
 /// The words that a command line passes on: those after its `--`, unchanged.
-pub fn handed_on(alloc: Global, words: &[&str]) -> Result<Vec<String>, Fail>
+pub fn handed_on<S: AsStr>(alloc: Global, words: &[S]) -> Result<Vec<String>, Fail>
     ensures handed { IfOk result (λ handed.
-        HandsOn (texts words.now) (map string_bytes handed.items)) }
-    ensures refused { IfErr result (λ fail. Tells fail (IsRefused wrapper_options (texts words.now))) }
+        HandsOn (map S.text words.now) (map string_bytes handed.items)) }
+    ensures refused { IfErr result (λ fail. Tells fail (IsRefused wrapper_options (map S.text words.now))) }
 {
     let options = options(alloc)?;
     let mut matches = options.parse_words(alloc, words)?;

@@ -6,7 +6,6 @@ ghost use Rattle.getopts.specs.Options.{Declares};
 use super::push;
 use crate::flag::says_more;
 use crate::lists::{any_given, count_of, place_named};
-use crate::output::writes_out;
 use crate::plugin::add_flag;
 use getopts::{Matches, Options, ParsingStyle};
 use std::alloc::{AllocError, Global};
@@ -40,7 +39,7 @@ pub fn push_wrapped(
 /// Appends whether a flag of this name was added, and whether the options are unchanged.
 fn push_plugin(text: &mut String, options: &mut Options, name: &str) -> Result<(), AllocError> {
     let before = options.clone()?;
-    let added = add_flag(options, name, "run the plugin");
+    let added = add_flag(options, name, "run the plugin")?;
     let same = *options == before;
     writeln!(text, "added {added}, as before {same}")
 }
@@ -71,7 +70,7 @@ fn push_asked(
     caller: &str,
     names: &[&str],
 ) -> Result<(), AllocError> {
-    add_flag(options, "plugin", "run the plugin");
+    add_flag(options, "plugin", "run the plugin")?;
     match options.parse_words(alloc, &["--plugin", "-v", "-o", "-"]) {
         Ok(matches) => push_of_matches(text, &matches, caller, names),
         Err(fail) => writeln!(text, "{fail:?}"),
@@ -89,7 +88,6 @@ fn push_of_matches(
         ("place", [name]) => writeln!(text, "{:?}", place_named(matches, name)),
         ("count", [name]) => writeln!(text, "{:?}", count_of(matches, name)),
         ("any", names) => writeln!(text, "{:?}", any_given(matches, names)),
-        ("writes_out", []) => writeln!(text, "{}", writes_out(matches)),
         _ => writeln!(text, "no such caller"),
     }
 }

@@ -1,14 +1,13 @@
 -- A line that asks for neither gives what it is accepted with.
-use Rattle.std.proofs.Common.{◌≡◌, ◌||◌, false, refl, sym, ap, ◌∙◌, codes}
+use Rattle.std.proofs.Common.{◌≡◌, ◌||◌, false, refl, sym, ap, ◌∙◌, codes, map}
 use Rattle.std.proofs.Math.Bool.{or-false}
-use Rattle.getopts.specs.Names.{texts}
 use Rattle.getopts.specs.Results.{parse_result}
 use Rattle.getopts_uses.specs.Peek.{asked_result, gives, peek_options}
 use Rattle.getopts_uses.proofs.peek.asked.Goals as goal
 
 pub returns-clause-asked : goal.returns-clause-asked
-returns-clause-asked c =
-    let words = texts c.args.words.now in
+returns-clause-asked g c =
+    let words = map g.S.AsStr.text c.args.words.now in
     let matches = c.in_ok-matches.matches in
     let read = rw c.in_ok-options.ensures at c.in_ok-matches.ensures.result in
     let none : (gives matches (codes "help") || gives matches (codes "version")) ≡ false =

@@ -6,7 +6,7 @@ use Rattle.getopts.specs.Matches.{Matched}
 use Rattle.getopts_uses.proofs.wrapper.handed_on.Goals as goal
 
 pub returns-in-Some-clause-handed : goal.returns-in-Some-clause-handed
-returns-in-Some-clause-handed c =
+returns-in-Some-clause-handed g c =
     let free : map string_bytes c.matches.inside.free.items ≡ c.in_ok-matches.matches.free =
     ap (λ (m : Matched). m.free) c.matches.view_is in
     rw (c.in_ok-split_off-in-Some.ensures.tail, ← drop-map, free)
