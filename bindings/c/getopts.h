@@ -1,4 +1,5 @@
-/* Command-line options for C: formally verified parsing from a table of options, as with getopt_long.
+/* Parses command lines by a table of options, as getopt_long does. The parser is formally
+ * verified.
  *
  *     static const struct getopts_option table[] = {
  *         { "o", "output", "FILE", "write to FILE", GETOPTS_YES + GETOPTS_REQ },
@@ -13,21 +14,25 @@
  *     if (status != GETOPTS_OK) .. getopts_message(options) ..
  *     const char *output = getopts_value(options, "output", 0);
  *
- * No function keeps a pointer to its arguments. Texts and words end with a zero byte. Words may contain any other
- * bytes, and are returned unchanged, in values, free words, canonical lines and messages. The texts of a table and the
- * briefs must be UTF-8 below U+10FF80: the characters from there on represent bytes. There is no global state. Two
- * threads may use the same struct getopts at a time, unless one of them calls getopts_read or getopts_delete on it.
+ * No function keeps a pointer to its arguments. Words may contain any bytes, and are returned
+ * unchanged in values, free words, canonical lines and messages. The strings in a table, and those
+ * passed to the usage functions, must be UTF-8 below U+10FF80: the characters from there on
+ * represent the bytes of words that aren't UTF-8.
  *
- * `pkg-config --cflags --libs getopts` prints the flags for the shared library. With `getopts-static`, a program
- * contains the library and grows by 87 KB at most. PREFIX/share/doc/getopts/head.c is a complete program. */
+ * There is no global state. Threads may share a struct getopts as long as none of them calls
+ * getopts_read or getopts_delete on it.
+ *
+ * `pkg-config --cflags --libs getopts` prints the flags for the shared library, and
+ * `getopts-static` those for the static library, with which a program grows by 91 KB at most.
+ * PREFIX/share/doc/getopts/head.c is a complete program. */
 #ifndef GETOPTS_H
 #define GETOPTS_H
 
 #include <stdbool.h>
 #include <stddef.h>
 
-/* The version of this header. A program that is compiled with it works with this version of the library and with later
- * ones that have the same first number. */
+/* The version of this header. A program that is compiled with it can run with this version of the
+ * library, and with later versions that have the same first number. */
 #define GETOPTS_VERSION "2.2.0"
 
 /* The version of the Rust crate getopts that the library follows. */
@@ -37,10 +42,10 @@
 extern "C" {
 #endif
 
-/* What functions return as their status. */
+/* The status that getopts_read and getopts_canonical return. */
 enum {
     GETOPTS_OK,
-    GETOPTS_ARGUMENT_MISSING,    /* the words are invalid, as with the next four */
+    GETOPTS_ARGUMENT_MISSING,    /* this and the next four: the words are rejected */
     GETOPTS_UNRECOGNIZED_OPTION,
     GETOPTS_OPTION_MISSING,
     GETOPTS_OPTION_DUPLICATED,
@@ -49,35 +54,38 @@ enum {
     GETOPTS_BAD                  /* the table is invalid, or a word is NULL */
 };
 
-/* The kind of an option: whether it takes an argument, and how often it may occur. Add one of each; those that are 0
- * may be omitted, so 0 is a plain flag. Unlike with getopt_long, a short option with GETOPTS_MAYBE also takes the next
- * word, unless that begins with a dash and is longer: `-O f` gives O the argument f, but `--opt f` gives opt none. */
+/* The kind of an option: whether it takes an argument, plus how often it may be given. GETOPTS_NO
+ * and GETOPTS_OPTIONAL may be omitted: a kind of 0 is a plain flag. With GETOPTS_MAYBE, a short
+ * option also takes the next word, unless that begins with a dash (a lone `-` is taken): `-O f`
+ * gives O the argument f. With getopt_long, only `-Of` does. A long option takes an optional
+ * argument only after `=`. */
 enum getopts_kind {
     GETOPTS_NO = 0,       /* takes no argument */
     GETOPTS_YES = 1,      /* needs an argument, in the same word or the next */
     GETOPTS_MAYBE = 2,    /* may have an argument */
-    GETOPTS_OPTIONAL = 0, /* may occur once */
-    GETOPTS_REQ = 4,      /* has to occur exactly once */
-    GETOPTS_MULTI = 8,    /* may occur any number of times */
+    GETOPTS_OPTIONAL = 0, /* may be given once */
+    GETOPTS_REQ = 4,      /* must be given exactly once */
+    GETOPTS_MULTI = 8,    /* may be given any number of times */
     GETOPTS_KIND_MAX = 0x7fffffff /* not a kind: it gives the type four bytes */
 };
 
-/* A row of a table. "" and NULL both mean that a text is absent; a kind of 0 is a plain flag. In the last row of a
- * table both names are NULL. */
+/* A row of a table: an option. A string that is NULL or "" is absent. The table ends with a row
+ * whose names are both NULL. */
 struct getopts_option {
-    const char *short_name;  /* one byte */
+    const char *short_name;  /* one byte; one of the two names may be absent */
     const char *long_name;   /* more than one byte */
     const char *hint;        /* the argument's name in usage texts */
-    const char *description; /* the option's description in usage texts */
+    const char *description; /* the option's description in the help */
     enum getopts_kind kind;  /* such as GETOPTS_YES + GETOPTS_REQ */
 };
 
-/* How words are read: one of these, or several modes added. Modes and kinds use different bits; getopts_new rejects a mode
- * that is added to a kind, and a kind that is added to modes. With GETOPTS_LONG_ONLY, short options stand alone:
- * `-I dir` and `-I=dir` are accepted, but not `-Idir`, `-O2` and `-vv`, which getopt_long_only accepts. */
+/* How words are read. Modes can be added. A mode isn't a kind: getopts_new rejects a mode in a
+ * row's kind, and a kind among the modes. With GETOPTS_LONG_ONLY, short options can't be combined,
+ * and take arguments as long ones do: `-I dir` and `-I=dir` are accepted, but not `-Idir` and
+ * `-vv`, which getopt_long_only accepts. */
 enum getopts_modes {
     GETOPTS_ORDINARY = 0,    /* no mode */
-    GETOPTS_STOP = 16,       /* all words from the first free one on are free */
+    GETOPTS_STOP = 16,       /* the first free word ends the options */
     GETOPTS_LONG_ONLY = 32,  /* long names follow one dash or two */
     GETOPTS_KEEP_ORDER = 64, /* getopts_nth returns the options in order */
     GETOPTS_MODES_MAX = 0x7fffffff /* not a mode: it gives the type four bytes */
@@ -86,32 +94,37 @@ enum getopts_modes {
 /* Options, and what was read last. */
 struct getopts;
 
-/* Creates options from a table. Returns NULL if out of memory. A program may continue with NULL: for it, getopts_read
- * and getopts_canonical return GETOPTS_NO_MEMORY, getopts_message returns "Out of memory", the two usage functions
- * return NULL, and the others return what they do before anything is read. If the table is NULL, or one of its rows or
- * the modes are invalid, getopts_message says what is wrong, such as "table[2]: short name 'ab' has 2 bytes", and
- * getopts_read and getopts_canonical return GETOPTS_BAD. */
+/* Creates options from a table. Returns NULL if out of memory. A program may go on with NULL: then
+ * getopts_read and getopts_canonical return GETOPTS_NO_MEMORY, getopts_message returns "Out of
+ * memory", the two usage functions return NULL, and the others return what they do before anything
+ * is read.
+ *
+ * If the table is NULL, or a row or the modes are invalid, getopts_message says what is wrong,
+ * such as "table[2]: short name 'ab' has 2 bytes". Then getopts_read and getopts_canonical return
+ * GETOPTS_BAD, and the two usage functions return NULL. */
 struct getopts *getopts_new(const struct getopts_option *table, enum getopts_modes modes);
 
-/* Reads words, such as argc - 1 and argv + 1. Returns GETOPTS_OK, or why it fails:
+/* Reads `count` words, such as argc - 1 and argv + 1. Returns GETOPTS_OK, or why it fails:
  *
- * - GETOPTS_OPTION_MISSING, GETOPTS_OPTION_DUPLICATED: a required option is missing, or an option was given too
- *   often. The functions below return what was read, so that a program can look for its help option.
- * - GETOPTS_ARGUMENT_MISSING, GETOPTS_UNRECOGNIZED_OPTION, GETOPTS_UNEXPECTED_ARGUMENT: the words can't be read.
- *   The functions below return what they do before anything is read.
+ * - GETOPTS_OPTION_MISSING, GETOPTS_OPTION_DUPLICATED: a required option is missing, or an option
+ *   was given too often. The functions below return what was read, so that a program can look for
+ *   its help option; only getopts_nth doesn't.
+ * - GETOPTS_ARGUMENT_MISSING, GETOPTS_UNRECOGNIZED_OPTION, GETOPTS_UNEXPECTED_ARGUMENT: a word
+ *   can't be read. The functions below return what they do before anything is read.
  * - GETOPTS_NO_MEMORY: out of memory. What was read before is kept.
- * - GETOPTS_BAD: the table is invalid, or one of the `count` words is NULL. What was read before is kept. */
+ * - GETOPTS_BAD: the table is invalid, or a word is NULL. What was read before is kept. */
 int getopts_read(struct getopts *options, int count, char *const *words);
 
-/* Why the last getopts_read failed, such as "Unrecognized option: 'x'". Returns "" if it succeeded, or if nothing
- * was read and the table is valid. The text is valid until the next getopts_read. */
+/* Why the last getopts_read failed, such as "Unrecognized option: 'x'". Returns "" if it
+ * succeeded, or if nothing was read and the table is valid. The string is valid until the next
+ * getopts_read. */
 const char *getopts_message(const struct getopts *options);
 
-/* The next functions accept any name of an option, and nth counts from 0. If nothing was read, if the name is unknown
- * or NULL, or if nth is out of range, they return false, 0, -1 or NULL; only getopts_values returns an empty list, and
- * getopts_long_value returns true. */
+/* The next functions accept any name of an option, and nth counts from 0. If nothing was read, if
+ * the name is unknown or NULL, or if nth is out of range, they return false, 0, -1 or NULL; only
+ * getopts_values returns an empty list, and getopts_long_value returns true. */
 
-/* As nth: the option's last occurrence. */
+/* As nth: the last occurrence. */
 #define GETOPTS_LAST ((size_t)-1)
 
 /* Whether an option has this name. */
@@ -120,58 +133,68 @@ bool getopts_defined(const struct getopts *options, const char *name);
 /* How often the option was given. */
 size_t getopts_count(const struct getopts *options, const char *name);
 
-/* The index of the word that contains the option's nth occurrence. */
+/* The index of the word with the option's nth occurrence. The first word that was read has index
+ * 0. */
 int getopts_position(const struct getopts *options, const char *name, size_t nth);
 
-/* The value of the option's nth occurrence, or NULL if that has none. Valid until the next getopts_read. */
+/* The value of the option's nth occurrence, or NULL if it has none. Valid until the next
+ * getopts_read. */
 const char *getopts_value(const struct getopts *options, const char *name, size_t nth);
 
-/* The values of all occurrences of the option, as many as getopts_count returns, and then NULL. The value of an
- * occurrence without one is NULL too. Never returns NULL itself. Valid until the next getopts_read. */
+/* The values of the option's getopts_count occurrences, and then NULL. The value of an occurrence
+ * without one is NULL too. Never returns NULL itself. Valid until the next getopts_read. */
 const char *const *getopts_values(const struct getopts *options, const char *name);
 
-/* Returns the row in the table of the nth option among all that were given, in the order of the words. Stores its value
- * in *value, or NULL if it was given without one; `value` may be NULL. Returns -1 after the last option, if the last
- * getopts_read failed, and without GETOPTS_KEEP_ORDER. The value is valid until the next getopts_read. A loop over it is
- * like one over getopt_long, without free words:
+/* Returns the table row of the nth option among all that were given, in the order of the words;
+ * rows count from 0. Stores its value in *value, or NULL if it has none; `value` may be NULL.
+ * Returns -1 after the last option, without GETOPTS_KEEP_ORDER, and if the words last read were
+ * rejected. The value is valid until the next getopts_read. Call it in a loop, as you would call
+ * getopt_long:
  *
  *     for (size_t nth = 0; (row = getopts_nth(options, nth, &value)) >= 0; nth++)
  *         switch (row) ..
  *
- * PREFIX/share/doc/getopts/order.c is a whole program. */
+ * PREFIX/share/doc/getopts/order.c is a complete program. */
 int getopts_nth(const struct getopts *options, size_t nth, const char **value);
 
-/* Parses the value of the option's nth occurrence as a decimal number. If it is one that fits a long, stores it in
- * *value and returns true; otherwise stores nothing and returns false. If there is no value, stores nothing and returns
- * true, so that a default stays, even if no option has that name (see getopts_defined). */
+/* Parses the value of the option's nth occurrence as a decimal number. If it fits a long, stores
+ * it in *value and returns true; otherwise stores nothing and returns false. If there is no value,
+ * stores nothing and returns true, so that *value keeps its default, even if no option has that
+ * name (see getopts_defined). */
 bool getopts_long_value(const struct getopts *options, const char *name, size_t nth, long *value);
 
-/* The number of free words, which are the positional arguments. */
+/* The number of free words: the positional arguments. */
 int getopts_free_count(const struct getopts *options);
 
 /* The free words and then NULL, as in argv. Valid until the next getopts_read. */
 char *const *getopts_free_words(const struct getopts *options);
 
-/* The index among the free words of the first one after `--`; -1 if no word follows a `--` that ended the options. */
+/* The index among the free words of the first one after the `--` that ended the options; -1 if
+ * there is none. */
 int getopts_trailing_start(const struct getopts *options);
 
-/* The help: the brief, and each option with its description. The caller frees it with free(). Returns NULL if out
- * of memory, if the table is invalid, or if the brief is NULL or isn't UTF-8 below U+10FF80. */
+/* The help: the brief, then each option with its description. The caller frees it with free().
+ * Returns NULL if out of memory, if the table is invalid, or if the brief is NULL or isn't UTF-8
+ * below U+10FF80. */
 char *getopts_usage(const struct getopts *options, const char *brief);
 
-/* All options in one line; otherwise like getopts_usage. */
+/* A line with the program's name and all options, such as "Usage: head [-n COUNT] [-h]"; otherwise
+ * like getopts_usage. */
 char *getopts_short_usage(const struct getopts *options, const char *program);
 
-/* Rewrites words with main names (the long name if there is one, else the short one): `--main` or `--main=value` for
- * each option, in the order in which they were given, then `--`, then the free words. Returns what getopts_read would,
- * and doesn't change what that read last. Stores a list like argv in *line, which the caller frees with one free(). It
- * is NULL if the status isn't GETOPTS_OK, or if the words can't be written so because a main name contains `=`. */
+/* Rewrites words with main names: `--main` or `--main=value` for each option, in order, then `--`,
+ * then the free words. An option's main name is its long name or, if it has none, its short name.
+ * Returns what getopts_read would, and doesn't change what that read last.
+ *
+ * Stores a list like argv in *line, which the caller frees with one free(). *line is NULL if the
+ * status isn't GETOPTS_OK. It may be NULL with GETOPTS_OK too: words that give an option whose main
+ * name contains `=` have no such line. */
 int getopts_canonical(const struct getopts *options, int count, char *const *words, char ***line);
 
-/* Frees options. NULL is allowed. */
+/* Frees options, with the values and lists that they returned. NULL is allowed. */
 void getopts_delete(struct getopts *options);
 
-/* The version of the library that the program uses, such as "2.2.0". It isn't below GETOPTS_VERSION. */
+/* The version of the library that the program runs with, such as "2.2.0". */
 const char *getopts_version(void);
 
 #ifdef __cplusplus

@@ -7,7 +7,8 @@
 #include <stdlib.h>
 #include <string.h>
 
-#define LEN_38 "12345678901234567890123456789012345678"
+#define LEN_37 "1234567890123456789012345678901234567"
+#define LEN_38 LEN_37 "8"
 #define KINDS ": combine one of GETOPTS_NO, YES and MAYBE with one of GETOPTS_OPTIONAL, REQ and MULTI"
 
 _Static_assert(sizeof(enum getopts_kind) == 4 && sizeof(enum getopts_modes) == 4, "as the library expects");
@@ -28,6 +29,7 @@ static void wrong_rows_are_reported(void) {
         const char *message;
     } rows[] = {
         { { "ab", NULL, NULL, NULL, GETOPTS_NO }, "table[1]: short name 'ab' has 2 bytes" },
+        { { "ab", NULL, NULL, "\xff", GETOPTS_NO }, "table[1]: short name 'ab' has 2 bytes" },
         { { "a", "b", NULL, NULL, GETOPTS_NO }, "table[1]: long name 'b' has 1 byte" },
         { { "", "", NULL, NULL, GETOPTS_NO }, "table[1]: both names are empty" },
         { { "", NULL, NULL, NULL, GETOPTS_NO }, "table[1]: both names are empty" },
@@ -43,6 +45,7 @@ static void wrong_rows_are_reported(void) {
         { { LEN_38 "\u65e5", NULL, NULL, NULL, GETOPTS_NO }, "table[1]: short name '" LEN_38 "' has 41 bytes" },
         { { LEN_38 "x\u65e5", NULL, NULL, NULL, GETOPTS_NO }, "table[1]: short name '" LEN_38 "x' has 42 bytes" },
         { { LEN_38 "\U0001f600", NULL, NULL, NULL, GETOPTS_NO }, "table[1]: short name '" LEN_38 "' has 42 bytes" },
+        { { LEN_37 "\U0001f600", NULL, NULL, NULL, GETOPTS_NO }, "table[1]: short name '" LEN_37 "' has 41 bytes" },
         { { LEN_38 "xxyy", NULL, NULL, NULL, GETOPTS_NO }, "table[1]: short name '" LEN_38 "xx' has 42 bytes" },
         { { "\xc3\xa9", NULL, NULL, NULL, GETOPTS_NO }, "table[1]: short name '\u00e9' has 2 bytes" },
         { { "\xff", NULL, NULL, NULL, GETOPTS_NO }, "table[1]: the short name isn't UTF-8 below U+10FF80" },
@@ -54,6 +57,7 @@ static void wrong_rows_are_reported(void) {
         { { "a", "\xf4\x8f\xbd\xbf", "\u00e9", NULL, GETOPTS_YES }, "" },
         { { "a", "\u00e9", "\u00e9", "\u00e9", GETOPTS_MAYBE + GETOPTS_MULTI }, "" },
         { { "a", NULL, NULL, NULL, (enum getopts_kind)0 }, "" },
+        { { NULL, "ab", NULL, NULL, GETOPTS_NO }, "" },
     };
     for (size_t nth = 0; nth < sizeof rows / sizeof *rows; nth++) {
         const struct getopts_option table[] = {
@@ -176,14 +180,23 @@ static void wrong_counts_keep_results(void) {
     getopts_delete(options);
 }
 
-/* The stored texts take exactly the bytes of the words and the message. */
+/* The stored texts take exactly the bytes of the words and the message. The library allocates a list for more than 16
+ * words. */
 static void texts_stay_valid(void) {
-    char *words[] = { "first", "second", "third", NULL };
+    enum { MOST = 18 };
+    char texts[MOST][8], *words[MOST];
+    for (size_t nth = 0; nth < MOST; nth++) {
+        snprintf(texts[nth], sizeof texts[nth], "word%zu", nth);
+        words[nth] = texts[nth];
+    }
     struct getopts *options = getopts_new(required, GETOPTS_ORDINARY);
-    expect(getopts_read(options, 3, words) == GETOPTS_OPTION_MISSING && getopts_free_count(options) == 3, "free words");
-    for (size_t nth = 0; nth < 3; nth++)
-        expect(strcmp(getopts_free_words(options)[nth], words[nth]) == 0, "each of them");
-    expect(strcmp(getopts_message(options), "Required option 'output' missing") == 0, "the message before them");
+    for (int count = 0; count <= MOST; count++) {
+        expect(getopts_read(options, count, words) == GETOPTS_OPTION_MISSING, "words");
+        expect(getopts_free_count(options) == count, "as many free words");
+        for (int nth = 0; nth < count; nth++)
+            expect(strcmp(getopts_free_words(options)[nth], words[nth]) == 0, "each of them");
+        expect(strcmp(getopts_message(options), "Required option 'output' missing") == 0, "the message before them");
+    }
     getopts_delete(options);
 }
 
@@ -224,7 +237,7 @@ static void bytes_are_preserved(void) {
     static const char *const words[] = {
         "\xff.txt", "caf\xe9", "a\x80", "\xe2\x82", "\xe2\x82\xc3\xa9", "\xf0\x90\x8d", "\xc0\x80", "\xed\xa0\x80",
         "\xf4\x90\x80\x80", "\xf4\x8f\xbe\x80", "\xf4\x8f\xbf\xbf", "\xf4\x8f\xbd\xbf", "\xc2\x80\xc2\x9f", "\u65e5\xff\u672c",
-        "-\xff", "=\xff=",
+        "-\xff", "=\xff=", "\xff, then ASCII bytes",
     };
     struct getopts *options = getopts_new(required, GETOPTS_ORDINARY);
     for (size_t nth = 0; nth < sizeof words / sizeof *words; nth++) {
@@ -328,34 +341,62 @@ static void modes_and_kinds_have_effects(void) {
     }
 }
 
-/* Options in order, with their rows and values. There are none without the mode, or after a failed reading. */
+static const struct getopts_option ordered[] = {
+    { "v", NULL, NULL, NULL, GETOPTS_MULTI }, { "L", NULL, NULL, NULL, GETOPTS_YES + GETOPTS_MULTI },
+    { "p", "p=x", NULL, NULL, GETOPTS_MAYBE }, { NULL, NULL, NULL, NULL, GETOPTS_NO },
+};
+
+/* Options in order, with their rows and values. There are none before a reading, and without the mode. */
 static void options_are_in_order(void) {
-    static const struct getopts_option table[] = {
-        { "v", NULL, NULL, NULL, GETOPTS_MULTI }, { "L", NULL, NULL, NULL, GETOPTS_YES + GETOPTS_MULTI },
-        { NULL, "p=x", NULL, NULL, GETOPTS_MAYBE }, { NULL, NULL, NULL, NULL, GETOPTS_NO },
-    };
     static const struct {
         int row;
         const char *value;
-    } wanted[] = { { 0, NULL }, { 1, "a" }, { 1, "\xff" }, { 0, NULL }, { -1, NULL } };
-    char *words[] = { "-vLa", "x", "-L\xff", "-v", "--", "-v", NULL }, *failing[] = { "-v", "-L", NULL };
-    struct getopts *options = getopts_new(table, GETOPTS_KEEP_ORDER), *other = getopts_new(table, GETOPTS_ORDINARY);
+    } wanted[] = { { 0, NULL }, { 1, "a" }, { 1, "\xff" }, { 0, NULL }, { 2, NULL }, { -1, NULL } };
+    char *words[] = { "-vLa", "x", "-L\xff", "-v", "-p", "--", "-v", NULL };
+    struct getopts *options = getopts_new(ordered, GETOPTS_KEEP_ORDER), *other = getopts_new(ordered, GETOPTS_ORDINARY);
     const char *value = "";
     expect(getopts_nth(options, 0, &value) == -1 && value == NULL, "nothing was read");
-    expect(getopts_read(options, 6, words) == GETOPTS_OK && getopts_read(other, 6, words) == GETOPTS_OK, "the words");
+    expect(getopts_read(options, 7, words) == GETOPTS_OK && getopts_read(other, 7, words) == GETOPTS_OK, "the words");
     for (size_t nth = 0; nth < sizeof wanted / sizeof *wanted; nth++) {
         expect(getopts_nth(options, nth, &value) == wanted[nth].row, "its row");
         expect(value == wanted[nth].value || strcmp(value, wanted[nth].value) == 0, "its value");
     }
-    expect(getopts_nth(options, GETOPTS_LAST, NULL) == 0 && getopts_nth(other, 0, NULL) == -1, "the last, and the mode");
-    expect(getopts_read(options, 2, failing) == GETOPTS_ARGUMENT_MISSING && getopts_nth(options, 0, NULL) == -1, "a failure");
+    expect(value == NULL && strcmp(getopts_value(options, "L", 1), "\xff") == 0, "a value of the second row");
+    expect(getopts_nth(options, GETOPTS_LAST, NULL) == 2 && getopts_nth(other, 0, NULL) == -1, "the last, and the mode");
     expect(getopts_nth(NULL, 0, &value) == -1 && value == NULL, "no options");
     getopts_delete(options);
     getopts_delete(other);
 }
 
+/* No options are in order after words that were rejected; after any other failure, those read before. */
+static void order_after_failures(void) {
+    char *words[] = { "-La", "-v", NULL }, *missing[] = { "-v", "-L", NULL }, *twice[] = { "-p", "-p", NULL };
+    struct getopts *options = getopts_new(ordered, GETOPTS_KEEP_ORDER);
+    const char *value = "";
+    expect(getopts_read(options, 2, words) == GETOPTS_OK && getopts_nth(options, 1, NULL) == 0, "two options");
+    expect(getopts_read(options, 3, words) == GETOPTS_BAD && getopts_nth(options, 0, &value) == 1, "a NULL word");
+    expect(strcmp(value, "a") == 0 && getopts_nth(options, 2, NULL) == -1, "the options before it");
+    expect(getopts_read(options, 2, missing) == GETOPTS_ARGUMENT_MISSING && getopts_nth(options, 0, NULL) == -1, "no value");
+    expect(getopts_read(options, 2, twice) == GETOPTS_OPTION_DUPLICATED && getopts_count(options, "p") == 2
+        && getopts_nth(options, 0, NULL) == -1, "an option given too often");
+    getopts_delete(options);
+}
+
+/* Words with an option whose main name contains `=` have no canonical line. */
+static void missing_canonical_line(void) {
+    char *words[] = { "-v", "-p", NULL }, **line = words;
+    struct getopts *options = getopts_new(ordered, GETOPTS_ORDINARY);
+    expect(getopts_canonical(options, 2, words, &line) == GETOPTS_OK && line == NULL, "no line");
+    expect(getopts_canonical(options, 1, words, &line) == GETOPTS_OK && strcmp(line[0], "--v") == 0
+        && strcmp(line[1], "--") == 0 && line[2] == NULL, "the line without this option");
+    free(line);
+    getopts_delete(options);
+}
+
 int main(void) {
     options_are_in_order();
+    order_after_failures();
+    missing_canonical_line();
     texts_match_rust();
     modes_and_kinds_have_effects();
     wrong_rows_are_reported();

@@ -1,4 +1,4 @@
-/* Tests the promises of getopts.h on random tables, half of them invalid, and random words. Usage: random COUNT
+/* Tests the promises of getopts.h on random tables and words, valid and invalid. Usage: random COUNT
  *
  * With REFUSES, it makes each allocation of each call fail in turn, once alone and once with all later ones. Link it
  * with --wrap for malloc, realloc and free. */
@@ -118,15 +118,15 @@ void __wrap_free(void *block);
 
 /* Which allocation fails (0: none), and if all later ones fail (on). Counts: allocations, failures, blocks in use. */
 static struct {
-    size_t at, requests, refused, blocks, runs;
+    size_t at, requests, failures, blocks, runs;
     bool on;
 } heap;
 
 static bool fails(void) {
     heap.requests++;
-    bool refused = heap.at > 0 && (heap.requests == heap.at || (heap.on && heap.requests > heap.at));
-    heap.refused += refused;
-    return refused;
+    bool now = heap.at > 0 && (heap.requests == heap.at || (heap.on && heap.requests > heap.at));
+    heap.failures += now;
+    return now;
 }
 
 void *__wrap_malloc(size_t size) {
@@ -196,14 +196,14 @@ static int call(int which, struct getopts *options, const struct getopts_option 
 static void check_failures(struct getopts *options, const struct getopts_option *table, size_t count, char **words) {
     for (int which = 0; which < 5; which++)
         for (int on = 0; on < 2; on++)
-            for (size_t at = 1; at == 1 || heap.refused > 0; at++, heap.runs += heap.refused > 0) {
+            for (size_t at = 1; at == 1 || heap.failures > 0; at++, heap.runs += heap.failures > 0) {
                 getopts_read(options, (int)count / 2, words);
                 size_t blocks = heap.blocks;
                 uint64_t before = hash_of(options, table);
-                heap.at = at, heap.on = on == 1, heap.requests = heap.refused = 0;
+                heap.at = at, heap.on = on == 1, heap.requests = heap.failures = 0;
                 int status = call(which, options, table, count, words);
                 heap.at = 0;
-                if (heap.refused == 0)
+                if (heap.failures == 0)
                     continue;
                 expect(status == GETOPTS_NO_MEMORY && heap.blocks == blocks, "reported, and nothing leaked");
                 expect(hash_of(options, table) == before, "earlier results stay");
