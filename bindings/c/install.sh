@@ -114,7 +114,7 @@ built=$room/target/${target:+$target/}release/libgetopts.a
 [ -f "$built" ] || fail "cargo built no libgetopts.a${target:+ for $target}. If cargo's configuration sets another
 target, set CARGO_BUILD_TARGET to it, and CC to its C compiler"
 
-# put FILE PLACE [MODE]: replaces a link at PLACE, not the file that the link points to.
+# put FILE PLACE [MODE]: copies FILE to PLACE. A link at PLACE is replaced, but not the file that it points to.
 put() {
     mkdir -p "$(dirname "$to/$2")"
     rm -f "$to/$2"

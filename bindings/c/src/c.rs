@@ -1,11 +1,11 @@
-//! The boundary to C: its heap, texts, tables and words, and the functions of `getopts.h`. The comment above each
-//! `unsafe` block names the requirement of that header that justifies it.
+//! The boundary to C: its heap, texts, tables and words, and the functions of `getopts.h`. The
+//! comment above each `unsafe` block names the requirement of that header that justifies it.
 #![allow(unsafe_code)]
 #![deny(unsafe_op_in_unsafe_fn)]
 
 use crate::options::{Getopts, OUT_OF_MEMORY};
 use crate::reading::Reading;
-use crate::{NO_MEMORY, OK, Refused, Status};
+use crate::{Error, NO_MEMORY, OK, Status};
 use core::alloc::{GlobalAlloc, Layout};
 use core::ffi::{c_int, c_long, c_uint};
 use core::mem::{ManuallyDrop, size_of};
@@ -24,7 +24,7 @@ extern "C" {
     fn abort() -> !;
 }
 
-/// The C heap. Its blocks are aligned for everything that this crate stores: numbers and pointers.
+/// The C heap. Its blocks are aligned for all that this crate stores: numbers and pointers.
 struct Heap;
 
 #[global_allocator]
@@ -52,7 +52,8 @@ fn panic(_: &core::panic::PanicInfo<'_>) -> ! {
     unsafe { abort() }
 }
 
-/// Whether all bytes are ASCII. Tests eight or four at a time; the last ones may overlap those before.
+/// Whether all bytes are ASCII. Tests eight or four at a time; the last group may overlap the one
+/// before.
 #[inline]
 fn is_ascii(bytes: &[u8]) -> bool {
     const HIGH: u64 = 0x8080_8080_8080_8080;
@@ -80,7 +81,8 @@ pub fn text(bytes: &[u8]) -> Option<&str> {
 /// The bytes of a C string, if it isn't NULL.
 #[inline]
 unsafe fn bytes<'c>(text: Text) -> Option<&'c [u8]> {
-    // SAFETY: strings end with a zero byte, and don't change during the call that they are passed to.
+    // SAFETY: strings end with a zero byte, and don't change during the call that they are passed
+    // to.
     (!text.is_null()).then(|| unsafe { slice::from_raw_parts(text, strlen(text)) })
 }
 
@@ -105,8 +107,8 @@ impl Iterator for Rows {
     type Item = Row<'static>;
     #[inline]
     fn next(&mut self) -> Option<Row<'static>> {
-        // SAFETY: rows are read up to the last one, whose names are NULL. `'static` is only a name: `Getopts::new`
-        // doesn't keep them.
+        // SAFETY: rows are read up to the last one, whose names are NULL. Nothing outlives the
+        // call, although the lifetime is `'static`: `Getopts::new` copies the strings.
         unsafe {
             let RowOfC { texts, kind } = *self.0;
             if texts[0].is_null() && texts[1].is_null() {
@@ -125,7 +127,7 @@ pub struct Words<'c>(&'c [Text]);
 
 impl<'c> Words<'c> {
     #[inline]
-    unsafe fn of(count: c_int, words: *const Text) -> Result<Words<'c>, Refused> {
+    unsafe fn of(count: c_int, words: *const Text) -> Result<Words<'c>, Error> {
         let count = usize::try_from(count).unwrap_or(0);
         if count == 0 {
             return Ok(Words(&[]));
@@ -133,7 +135,7 @@ impl<'c> Words<'c> {
         // SAFETY: there are `count` words, or an earlier one is NULL.
         unsafe {
             if words.is_null() || (0..count).any(|nth| (*words.add(nth)).is_null()) {
-                return Err(Refused::NullWord);
+                return Err(Error::NullWord);
             }
             Ok(Words(slice::from_raw_parts(words, count)))
         }
@@ -153,13 +155,15 @@ impl<'c> Words<'c> {
 }
 
 /// A text as a block that C frees.
-fn given_away(text: Option<String>) -> *mut u8 {
+fn owned_by_c(text: Option<String>) -> *mut u8 {
     text.map_or(ptr::null_mut(), |text| ManuallyDrop::new(text).as_mut_ptr())
 }
 
-/// Texts, each followed by a zero byte, as a block that C frees: a pointer to each, NULL, and the texts.
+/// Texts, each followed by a zero byte, as a block that C frees: a pointer to each text, NULL, and
+/// the texts.
 fn line_of(texts: &[u8], count: usize) -> *mut *mut u8 {
-    // SAFETY: the block is large enough for the pointers and the texts, and there are `count` zero bytes.
+    // SAFETY: the block is large enough for the pointers and the texts, and there are `count` zero
+    // bytes.
     unsafe {
         let line = malloc((count + 1) * size_of::<Text>() + texts.len()).cast::<*mut u8>();
         if !line.is_null() {
@@ -205,8 +209,8 @@ unsafe extern "C" fn getopts_delete(options: *mut Getopts) {
     }
 }
 
-// The functions below require options that `getopts_new` returned and that haven't been deleted, or NULL, and strings
-// that end with a zero byte.
+// The functions below require options that `getopts_new` returned and that haven't been deleted, or
+// NULL, and strings that end with a zero byte.
 
 #[no_mangle]
 unsafe extern "C" fn getopts_read(
@@ -217,7 +221,8 @@ unsafe extern "C" fn getopts_read(
     if options.is_null() {
         return NO_MEMORY;
     }
-    // SAFETY: as above. The words may be those of the previous reading: they aren't used once it is replaced.
+    // SAFETY: as above. The words may belong to the previous reading: nothing uses them after it is
+    // replaced.
     unsafe {
         let read = (*options).read(Words::of(count, words));
         if (*options).keeps_order {
@@ -240,7 +245,7 @@ unsafe extern "C" fn getopts_canonical(
     match options.canonical(unsafe { Words::of(count, words) }) {
         Ok(Some((texts, count))) => *line = line_of(&texts, count),
         Ok(None) => return OK,
-        Err(refused) => return refused.status(),
+        Err(error) => return error.status(),
     }
     if line.is_null() { NO_MEMORY } else { OK }
 }
@@ -262,7 +267,7 @@ fn reading(options: Option<&Getopts>) -> &Reading {
 
 #[no_mangle]
 unsafe extern "C" fn getopts_defined(options: Option<&Getopts>, name: Text) -> bool {
-    // SAFETY: as above, and below.
+    // SAFETY: as above; so are the next ones.
     reading(options).is_defined(unsafe { bytes(name) })
 }
 
@@ -336,12 +341,12 @@ extern "C" fn getopts_trailing_start(options: Option<&Getopts>) -> c_int {
 
 #[no_mangle]
 unsafe extern "C" fn getopts_usage(options: Option<&Getopts>, brief: Text) -> *mut u8 {
-    given_away(options.and_then(|options| options.usage(unsafe { bytes(brief) }, true)))
+    owned_by_c(options.and_then(|options| options.usage(unsafe { bytes(brief) }, true)))
 }
 
 #[no_mangle]
 unsafe extern "C" fn getopts_short_usage(options: Option<&Getopts>, program: Text) -> *mut u8 {
-    given_away(options.and_then(|options| options.usage(unsafe { bytes(program) }, false)))
+    owned_by_c(options.and_then(|options| options.usage(unsafe { bytes(program) }, false)))
 }
 
 #[no_mangle]

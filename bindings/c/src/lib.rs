@@ -1,9 +1,10 @@
-//! Command-line options for C: the functions of `getopts.h`, which call the proved library with its contracts erased.
+//! Command-line options for C: the functions of `getopts.h`, which call the proved library with its
+//! contracts erased.
 //!
 //! Failed allocations are reported, and nothing panics. All unsafe code is in `c`.
 #![no_std]
 #![deny(unsafe_code)]
-// Features that Debian's rustc 1.63 needs; tests use it for other targets.
+// Debian's rustc 1.63, with which tests build for other targets, needs these features.
 #![cfg_attr(old_rustc, feature(default_alloc_error_handler, core_ffi_c, let_else))]
 
 mod c;
@@ -22,7 +23,7 @@ pub const NO_MEMORY: Status = 6;
 pub const BAD: Status = 7;
 
 /// Why words are rejected.
-pub enum Refused {
+pub enum Error {
     /// The table is invalid.
     Table,
     /// A word is NULL.
@@ -30,31 +31,31 @@ pub enum Refused {
     Fail(Fail),
 }
 
-impl Refused {
+impl Error {
     pub fn status(&self) -> Status {
         match self {
-            Refused::Fail(Fail::ArgumentMissing(_)) => 1,
-            Refused::Fail(Fail::UnrecognizedOption(_)) => 2,
-            Refused::Fail(Fail::OptionMissing(_)) => 3,
-            Refused::Fail(Fail::OptionDuplicated(_)) => 4,
-            Refused::Fail(Fail::UnexpectedArgument(_)) => 5,
-            Refused::Fail(Fail::OutOfMemory) => NO_MEMORY,
-            Refused::Table | Refused::NullWord => BAD,
+            Error::Fail(Fail::ArgumentMissing(_)) => 1,
+            Error::Fail(Fail::UnrecognizedOption(_)) => 2,
+            Error::Fail(Fail::OptionMissing(_)) => 3,
+            Error::Fail(Fail::OptionDuplicated(_)) => 4,
+            Error::Fail(Fail::UnexpectedArgument(_)) => 5,
+            Error::Fail(Fail::OutOfMemory) => NO_MEMORY,
+            Error::Table | Error::NullWord => BAD,
         }
     }
 }
 
-impl From<Fail> for Refused {
-    fn from(fail: Fail) -> Refused {
-        Refused::Fail(fail)
+impl From<Fail> for Error {
+    fn from(fail: Fail) -> Error {
+        Error::Fail(fail)
     }
 }
 
-impl From<AllocError> for Refused {
-    fn from(_: AllocError) -> Refused {
-        Refused::Fail(Fail::OutOfMemory)
+impl From<AllocError> for Error {
+    fn from(_: AllocError) -> Error {
+        Error::Fail(Fail::OutOfMemory)
     }
 }
 
 /// A result, unless an allocation failed.
-pub type Granted<T> = Result<T, AllocError>;
+pub type AllocResult<T> = Result<T, AllocError>;

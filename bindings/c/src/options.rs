@@ -3,7 +3,7 @@
 use crate::c::{Row, Text, Words, text};
 use crate::reading::{Reading, nth_of};
 use crate::words::Texts;
-use crate::{Granted, OK, Refused, Status, table};
+use crate::{AllocResult, Error, OK, Status, table};
 use library::alloc::Global;
 use library::bytes::push_bytes;
 use library::fallible::{String, TryList, TryText, Vec};
@@ -16,11 +16,13 @@ pub struct Getopts {
     groups: usize,
     /// Whether a reading keeps the order of options.
     pub keeps_order: bool,
-    /// For each option that was given, in order: its row, and where its value is in the lists of the reading.
+    /// The options that were given, in order: the row of each, and the index of its value in the
+    /// lists of the reading. Empty if the order isn't kept.
     order: Vec<(usize, usize)>,
     /// What is wrong with the table, if anything.
     wrong: Option<Vec<u8>>,
-    /// What `getopts_message` returns: a constant below, what is wrong with the table, or the reading's message.
+    /// What `getopts_message` returns: a constant below, what is wrong with the table, or the
+    /// reading's message.
     pub message: Text,
     pub reading: Reading,
 }
@@ -31,7 +33,10 @@ pub const OUT_OF_MEMORY: &str = "Out of memory\0";
 
 impl Getopts {
     #[inline]
-    pub fn new<'c>(rows: Option<impl Iterator<Item = Row<'c>>>, modes: u32) -> Granted<Getopts> {
+    pub fn new<'c>(
+        rows: Option<impl Iterator<Item = Row<'c>>>,
+        modes: u32,
+    ) -> AllocResult<Getopts> {
         let mut options = Options::new(Global);
         let (groups, wrong) = table::declare(&mut options, rows, modes)?;
         let message = wrong.as_ref().map_or(NOTHING.as_ptr(), |wrong| wrong.as_ptr());
@@ -42,65 +47,63 @@ impl Getopts {
 
     /// The words as texts, if the table is valid.
     #[inline]
-    fn texts<'c>(&self, words: Result<Words<'c>, Refused>) -> Result<Texts<'c>, Refused> {
+    fn texts<'c>(&self, words: Result<Words<'c>, Error>) -> Result<Texts<'c>, Error> {
         match self.wrong {
-            Some(_) => Err(Refused::Table),
+            Some(_) => Err(Error::Table),
             None => Ok(Texts::of(words?)),
         }
     }
 
     /// Stores what was read, and returns its status.
-    pub fn keep(&mut self, read: Result<(Reading, Status), Refused>) -> Status {
-        let refused = match read {
+    pub fn keep(&mut self, read: Result<(Reading, Status), Error>) -> Status {
+        let error = match read {
             Ok((reading, status)) => {
                 self.message = if status == OK { NOTHING.as_ptr() } else { reading.message() };
                 self.reading = reading;
                 return status;
             }
-            Err(refused) => refused,
+            Err(error) => error,
         };
-        self.message = match (&refused, &self.wrong) {
-            (Refused::Table, Some(wrong)) => wrong.as_ptr(),
-            (Refused::Fail(_), _) => OUT_OF_MEMORY.as_ptr(),
+        self.message = match (&error, &self.wrong) {
+            (Error::Table, Some(wrong)) => wrong.as_ptr(),
+            (Error::Fail(_), _) => OUT_OF_MEMORY.as_ptr(),
             _ => NULL_WORD.as_ptr(),
         };
-        refused.status()
+        error.status()
     }
 
-    /// Reads words. Returns what they give, and the status of their error. If an option only occurs too often or is
-    /// missing, what was read is returned as well.
+    /// Reads words. Returns what they give, and the status: nothing if a word can't be read. If an
+    /// option is missing or was given too often, only the status and the message say so.
     #[inline]
-    pub fn read(&self, words: Result<Words<'_>, Refused>) -> Result<(Reading, Status), Refused> {
+    pub fn read(&self, words: Result<Words<'_>, Error>) -> Result<(Reading, Status), Error> {
         let (mut texts, options) = (self.texts(words)?, &self.options);
-        let refused = match texts.ask(|words| options.parse_words(Global, words)) {
+        let error = match texts.ask(|words| options.parse_words(Global, words)) {
             Ok(matches) => {
                 return Ok((Reading::of(Some(matches), None, self.groups, &texts)?, OK));
             }
-            Err(refused) => refused,
+            Err(error) => error,
         };
-        let (status, fault) = (
-            refused.status(),
-            match refused {
-                Refused::Fail(fault) if !matches!(fault, Fail::OutOfMemory) => fault,
-                _ => return Err(refused),
-            },
-        );
-        let matches = match fault {
+        let status = error.status();
+        let fail = match error {
+            Error::Fail(fail) if !matches!(fail, Fail::OutOfMemory) => fail,
+            _ => return Err(error),
+        };
+        let matches = match fail {
             Fail::OptionMissing(_) | Fail::OptionDuplicated(_) => {
                 Some(texts.ask(|words| options.parse_ignoring_counts(Global, words))?)
             }
             _ => None,
         };
-        let reading = Reading::of(matches, Some(&fault), self.groups, &texts)?;
+        let reading = Reading::of(matches, Some(&fail), self.groups, &texts)?;
         Ok((reading, status))
     }
 
-    /// Keeps the result of a parse, as `keep` does, and the order of the options.
+    /// Stores what was read, as `keep` does, with the order of the options.
     #[cold]
     pub fn keep_in_order(
         &mut self,
-        read: Result<(Reading, Status), Refused>,
-        words: Result<Words<'_>, Refused>,
+        read: Result<(Reading, Status), Error>,
+        words: Result<Words<'_>, Error>,
     ) -> Status {
         let order = match &read {
             Ok((reading, OK)) => self.order_of(reading, words),
@@ -111,15 +114,16 @@ impl Getopts {
                 self.order = order;
                 self.keep(Ok(read))
             }
-            (Err(refused), _) | (_, Err(refused)) => self.keep(Err(refused)),
+            (Err(error), _) | (_, Err(error)) => self.keep(Err(error)),
         }
     }
 
+    /// The options that words give, in order, as stored in `order`.
     fn order_of(
         &self,
         reading: &Reading,
-        words: Result<Words<'_>, Refused>,
-    ) -> Result<Vec<(usize, usize)>, Refused> {
+        words: Result<Words<'_>, Error>,
+    ) -> Result<Vec<(usize, usize)>, Error> {
         let mut texts = self.texts(words)?;
         let rows = texts.ask(|words| self.options.parse_in_order(Global, words))?;
         Ok(reading.in_order(&rows)?)
@@ -134,8 +138,8 @@ impl Getopts {
     /// The canonical line, with a zero byte after each word, and the number of words.
     pub fn canonical(
         &self,
-        words: Result<Words<'_>, Refused>,
-    ) -> Result<Option<(Vec<u8>, usize)>, Refused> {
+        words: Result<Words<'_>, Error>,
+    ) -> Result<Option<(Vec<u8>, usize)>, Error> {
         let mut texts = self.texts(words)?;
         let Some(line) = texts.ask(|words| self.options.canonical_words(Global, words))? else {
             return Ok(None);

@@ -1,6 +1,6 @@
 //! The result of reading words, in the form that C gets.
 
-use crate::Granted;
+use crate::AllocResult;
 use crate::c::{Text, text};
 use crate::words::Texts;
 use core::mem::take;
@@ -15,10 +15,10 @@ pub struct Reading {
     matches: Option<Matches>,
     /// The message, if there is one, the values and the free words, each followed by a zero byte.
     texts: Vec<u8>,
-    /// The values of each option's occurrences (NULL if there is none), then NULL; after all options the free words,
-    /// then NULL.
+    /// For each option, the values of its occurrences and then NULL; an occurrence without a value
+    /// is NULL too. After all options the free words, then NULL.
     lists: Vec<Text>,
-    /// Where in `lists` the values of each option begin, and then the free words.
+    /// The index in `lists` at which the values of each option begin, and then the free words.
     starts: Vec<usize>,
 }
 
@@ -33,15 +33,15 @@ impl Reading {
     /// The result of reading words with this number of options, and the message of an error.
     pub fn of(
         matches: Option<Matches>,
-        fault: Option<&Fail>,
+        fail: Option<&Fail>,
         groups: usize,
         of: &Texts<'_>,
-    ) -> Granted<Reading> {
+    ) -> AllocResult<Reading> {
         let mut reading = Reading::nothing();
-        let parts = fault.map_or([""; 3], parts_of);
+        let parts = fail.map_or([""; 3], parts_of);
         let message = parts.map(str::len).iter().sum::<usize>() + 1;
         reading.texts.try_grow_exact(of.bytes.saturating_add(message))?;
-        if fault.is_some() {
+        if fail.is_some() {
             parts.iter().try_for_each(|part| push_bytes(&mut reading.texts, part))?;
             reading.texts.try_push(0)?;
         }
@@ -60,8 +60,9 @@ impl Reading {
         Ok(reading)
     }
 
-    /// For each option in order, given their rows: its row, and where its value is in the lists.
-    pub fn in_order(&self, rows: &[usize]) -> Granted<Vec<(usize, usize)>> {
+    /// Given the rows of all options in order: the row of each, and the index of its value in the
+    /// lists.
+    pub fn in_order(&self, rows: &[usize]) -> AllocResult<Vec<(usize, usize)>> {
         let (mut next, mut order) =
             (self.starts.try_clone()?, Vec::of_capacity(Global, rows.len())?);
         for row in rows {
@@ -71,17 +72,19 @@ impl Reading {
         Ok(order)
     }
 
+    /// The text at an index of the lists.
     pub fn text_at(&self, place: usize) -> Text {
         self.lists[place]
     }
 
-    /// Adds a list of texts. Its space was reserved: each word gives at most one text, which is no longer than the word.
+    /// Adds a list of texts. The space was reserved: each word gives at most one text, which is no
+    /// longer than the word.
     #[inline]
     fn push_list<'m>(
         &mut self,
         texts: impl Iterator<Item = Option<&'m str>>,
         marked: bool,
-    ) -> Granted<()> {
+    ) -> AllocResult<()> {
         self.starts.push(self.lists.len());
         for text in texts {
             let mut pointer = null();
@@ -135,7 +138,7 @@ impl Reading {
         found.copied().unwrap_or(null())
     }
 
-    /// The list at an index: that of an option or, after those, that of the free words.
+    /// The list at an index: an option's values or, after all options, the free words.
     fn list(&self, place: Option<usize>) -> *const Text {
         match place.and_then(|place| self.starts.get(place)) {
             Some(start) => self.lists[*start..].as_ptr(),
@@ -161,7 +164,7 @@ impl Reading {
     }
 }
 
-/// The index of the requested occurrence, out of `count`: `nth`, or the last for `GETOPTS_LAST`.
+/// The index of the requested occurrence, out of `count`: `nth`, or for `GETOPTS_LAST` the last.
 pub fn nth_of(nth: usize, count: usize) -> Option<usize> {
     let last = count.checked_sub(1)?;
     match nth {
@@ -171,8 +174,8 @@ pub fn nth_of(nth: usize, count: usize) -> Option<usize> {
 }
 
 /// The parts of a message: before the name, the name, and after it.
-fn parts_of(fault: &Fail) -> [&str; 3] {
-    match fault {
+fn parts_of(fail: &Fail) -> [&str; 3] {
+    match fail {
         Fail::ArgumentMissing(name) => ["Argument to option '", name, "' missing"],
         Fail::UnrecognizedOption(name) => ["Unrecognized option: '", name, "'"],
         Fail::OptionMissing(name) => ["Required option '", name, "' missing"],

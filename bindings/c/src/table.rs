@@ -1,6 +1,6 @@
 //! Tables of options: declares their rows, or says what is wrong with them.
 
-use crate::Granted;
+use crate::AllocResult;
 use crate::c::{Row, text};
 use library::alloc::{AllocError, Global};
 use library::fallible::{TryCopies, TryList, Vec};
@@ -24,8 +24,8 @@ pub fn declare<'c>(
     options: &mut Options,
     rows: Option<impl Iterator<Item = Row<'c>>>,
     modes: u32,
-) -> Granted<(usize, Wrong)> {
-    let Some(rows) = rows else { return Ok((0, said(&[b"the table is NULL"])?)) };
+) -> AllocResult<(usize, Wrong)> {
+    let Some(rows) = rows else { return Ok((0, message_of(&[b"the table is NULL"])?)) };
     let mut groups = 0;
     for row in rows {
         if let wrong @ Some(_) = declare_row(options, groups, &row)? {
@@ -34,7 +34,7 @@ pub fn declare<'c>(
         groups += 1;
     }
     if modes & !(STOP | LONG_ONLY | KEEP_ORDER) != 0 {
-        return Ok((0, said(&[b"invalid modes: ", &digits(modes as usize)?])?));
+        return Ok((0, message_of(&[b"invalid modes: ", &digits(modes as usize)?])?));
     }
     if modes & STOP != 0 {
         options.parsing_style(ParsingStyle::StopAtFirstFree);
@@ -51,11 +51,11 @@ fn kind_of(kind: u32) -> Option<(HasArg, Occur)> {
 }
 
 #[inline]
-fn declare_row(options: &mut Options, place: usize, row: &Row<'_>) -> Granted<Wrong> {
+fn declare_row(options: &mut Options, place: usize, row: &Row<'_>) -> AllocResult<Wrong> {
     let [short, long, ..] = row.texts;
-    let lawful = short.len() <= 1 && long.len() != 1 && short.len() + long.len() > 0;
+    let valid = short.len() <= 1 && long.len() != 1 && short.len() + long.len() > 0;
     match (row.texts.map(text), kind_of(row.kind)) {
-        ([Some(short), Some(long), Some(hint), Some(desc)], Some((hasarg, occur))) if lawful => {
+        ([Some(short), Some(long), Some(hint), Some(desc)], Some((hasarg, occur))) if valid => {
             options.add_group(short, long, desc, hint, hasarg, occur).map(|()| None)
         }
         _ => wrong_row(place, row),
@@ -68,11 +68,11 @@ const KINDS: &[u8] =
 
 /// What is wrong with a row: the first mistake, in the order of the cases below.
 #[cold]
-fn wrong_row(place: usize, row: &Row<'_>) -> Granted<Wrong> {
+fn wrong_row(place: usize, row: &Row<'_>) -> AllocResult<Wrong> {
     let ([short, long, ..], bad) =
         (row.texts, row.texts.iter().position(|bytes| text(bytes).is_none()));
     let (kind, len) = (digits(row.kind as usize)?, digits(short.len())?);
-    let says: [&[u8]; 4] = match bad {
+    let parts: [&[u8]; 4] = match bad {
         _ if short.len() > 1 => [b"short name '", shown(short), b"' has ", &len],
         _ if long.len() == 1 => [b"long name '", long, b"' has 1 byte", b""],
         _ if short.len() + long.len() == 0 => [b"both names are empty", b"", b"", b""],
@@ -80,7 +80,7 @@ fn wrong_row(place: usize, row: &Row<'_>) -> Granted<Wrong> {
         nth => [b"the ", TEXTS[nth.unwrap_or(0)].as_bytes(), b" isn't UTF-8 below U+10FF80", b""],
     };
     let (place, end): (_, &[u8]) = (digits(place)?, if short.len() > 1 { b" bytes" } else { b"" });
-    said(&[b"table[", &place, b"]: ", says[0], says[1], says[2], says[3], end])
+    message_of(&[b"table[", &place, b"]: ", parts[0], parts[1], parts[2], parts[3], end])
 }
 
 /// The part of a name that a message shows: all, or its first bytes up to the end of a character.
@@ -95,7 +95,7 @@ fn shown(name: &[u8]) -> &[u8] {
 }
 
 /// The message that consists of these parts.
-fn said(parts: &[&[u8]]) -> Granted<Wrong> {
+fn message_of(parts: &[&[u8]]) -> AllocResult<Wrong> {
     let mut message = Vec::empty(Global);
     for part in parts {
         message.try_extend_from_slice(part)?;

@@ -1,6 +1,6 @@
 //! Words of C as texts: those that aren't valid text are encoded by marks.
 
-use crate::Refused;
+use crate::Error;
 use crate::c::{Words, text};
 use library::alloc::Global;
 use library::bytes::push_text;
@@ -27,7 +27,7 @@ impl<'c> Texts<'c> {
 
     /// Calls a function with the words as texts.
     #[inline]
-    pub fn ask<T>(&mut self, call: impl FnOnce(&[&str]) -> Result<T, Fail>) -> Result<T, Refused> {
+    pub fn ask<T>(&mut self, call: impl FnOnce(&[&str]) -> Result<T, Fail>) -> Result<T, Error> {
         let (mut few, mut many) = ([""; FEW], None);
         let texts = match self.words.len() {
             len @ 0..=FEW => &mut few[..len],
@@ -55,7 +55,7 @@ fn put_marked<'m>(
     texts: &mut [&'m str],
     words: Words<'_>,
     marks: &'m mut String,
-) -> Result<(), Refused> {
+) -> Result<(), Error> {
     let mut starts = Vec::filled(Global, 0, texts.len())?;
     for (start, word) in starts.iter_mut().zip(words.iter()) {
         *start = marks.len();
