@@ -50,7 +50,7 @@ MEMORY = [("peak", "Peak bytes while reading 100,000 words, besides the words an
            {"held-small": ("held", "small", 10, 110), "held-long": ("held", "long", 10, 110),
             "held-described": ("held", "described", 10, 110)})]
 # The jobs in C, and the peers whose iterations consume their words, which are therefore copied before.
-OF_C = ["small", "typical", "long", "none"]
+OF_C = ["small", "read-small", "typical", "long", "none"]
 TAKING = ["lexopt", "pico-args", "clap"]
 
 

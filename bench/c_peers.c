@@ -1,11 +1,11 @@
-/* Runs the job `whole` of getopts_bench in C, with bindings/c and two parsers of glibc, and prints the same sum.
+/* Runs two jobs of getopts_bench in C, with bindings/c and two parsers of glibc, and prints the same sum.
  *
- * usage: c_peers PEER whole ROWS TIMES
+ * usage: c_peers PEER whole|read ROWS TIMES
  *
  * PEER is `getopts`, `getopt_long` or `argp`. Tables and words are prepared before the first iteration. With
- * bindings/c, an iteration creates the options, parses the words, and takes each count and value. The other two return
- * one option after the other, and an iteration takes each value as it comes; they reorder the words, so each iteration
- * gets a copy of the pointers to them. */
+ * bindings/c, an iteration creates the options (`read`: all share those created before), parses the words, and takes
+ * each count and value. The other two have no options to create. They return one option after the other, and an
+ * iteration takes each value as it comes; they reorder the words, so each iteration gets a copy of the pointers. */
 #define _GNU_SOURCE
 #include <argp.h>
 #include <getopt.h>
@@ -22,6 +22,7 @@ static struct argp_option argp_options[MOST + 1];
 static char short_options[2 * MOST + 1];
 static char **words, **moved;
 static int options, count;
+static struct getopts *shared; /* the options of all iterations, if they share them */
 
 /* Adds an option to each table. */
 static void declare(int takes, const char *short_name, const char *long_name) {
@@ -62,7 +63,7 @@ static size_t length(const char *value) {
 }
 
 static size_t getopts_iteration(void) {
-    struct getopts *given = getopts_new(table, GETOPTS_ORDINARY);
+    struct getopts *given = shared ? shared : getopts_new(table, GETOPTS_ORDINARY);
     if (getopts_read(given, count - 1, words + 1) != GETOPTS_OK)
         exit(2);
     size_t sum = 0;
@@ -74,7 +75,8 @@ static size_t getopts_iteration(void) {
     }
     for (char *const *word = getopts_free_words(given); *word; word++)
         sum += strlen(*word);
-    getopts_delete(given);
+    if (!shared)
+        getopts_delete(given);
     return sum;
 }
 
@@ -109,8 +111,10 @@ static size_t argp_iteration(void) {
 }
 
 int main(int argc, char **argv) {
-    if (argc != 5 || strcmp(argv[2], "whole") != 0 || !read_rows(argv[3]))
+    bool reads = argc == 5 && strcmp(argv[2], "read") == 0;
+    if (argc != 5 || (!reads && strcmp(argv[2], "whole") != 0) || !read_rows(argv[3]))
         return 2;
+    shared = reads ? getopts_new(table, GETOPTS_ORDINARY) : NULL;
     size_t (*iteration)(void) = strcmp(argv[1], "getopts") == 0 ? getopts_iteration : getopt_long_iteration;
     size_t sum = 0;
     if (strcmp(argv[1], "argp") == 0)

@@ -114,9 +114,10 @@ FIGURES = [
        lambda folder=folder: re.findall(r'rust-version = "(.*)"', read(f"bindings/{folder}/Cargo.toml")))
       for folder in ("rust", "c", "shell")),
     ("bindings/c/README.md", r"grows by (\d+) KB", lambda: re.findall(r"grows by (\d+) KB", read("bindings/c/getopts.h"))),
-    *(("bindings/c/README.md", rf"{words} ([\d,]+)\s+against\s+(?:our )?([\d,]+)",
-       lambda job=job: [f"{int(cell(f'{INSTRUCTIONS} in C', job, column)):,}" for column in ("getopt_long", "bindings/c")])
-      for job, words in {"small": "command lines:", "typical": r"words,\s+and", "long": "takes more,"}.items()),
+    *(("bindings/c/README.md", rf"\| {line} \| ([\d,]+) \| ([\d,]+) \| ([\d,]+) \|", lambda job=job: [
+        f"{int(cell(f'{INSTRUCTIONS} in C', job, column)):,}" for column in ("bindings/c", "getopt_long", "argp")])
+      for job, line in {"small": "5 options, 3 words", "read-small": "the same, .*", "typical": "20 options, .*",
+                        "long": "5 options, 1,000 words"}.items()),
     ("bench/README.md", r"peak is ([\d.]+) MB in this library,\s+([\d.]+) MB in\s+the Rust crate and ([\d.]+) MB",
      lambda: [megabytes("this library"), megabytes("Rust crate"), megabytes("bindings/rust")]),
     *(("README.md", rf"`{line}`: ([\d,]+) options, ([\d,]+) ", lambda line=line: [f"{len(part):,}" for part in bench_py.parts(line)])
