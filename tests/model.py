@@ -1,10 +1,10 @@
-"""An independent implementation of docs/GRAMMAR.md: a search for readings and faults as defined there, and the answers
-to rows that follow from them."""
+"""A second implementation of docs/GRAMMAR.md: it searches for readings and scan errors as they are defined there, and
+answers test cases from what it finds."""
 
 import re
 
 ESCAPES = {b"\\": b"\\\\", b"\t": b"\\t", b"\n": b"\\n", b"\r": b"\\r"}
-KINDS = {  # the kinds of argument and of occurrence, for each declaring call
+KINDS = {  # for each call that adds an option: whether it takes an argument, and how often it may occur
     "optflag": ("no", "optional"), "optflagmulti": ("no", "multi"), "optflagopt": ("maybe", "optional"),
     "optmulti": ("yes", "multi"), "optopt": ("yes", "optional"), "reqopt": ("yes", "req"),
 }
@@ -23,7 +23,7 @@ class Group:
 
 
 class Options:
-    """Groups, a style and a mode: how they read a line."""
+    """Groups, a style and a mode, and how words are read with them."""
 
     def __init__(self, groups=(), stops=False, long_only=False):
         self.groups, self.stops, self.long_only = [*groups], stops, long_only
@@ -39,7 +39,7 @@ class Options:
         return None if place is None else self.groups[place].kind
 
     def long_forms(self, word):
-        """If a word has a long form in this mode: its name, and the attached argument or None."""
+        """The name and the attached argument (or None) of a word that is a long option in this mode."""
         dashes = re.match(rb"(?s)--(?=.)|-(?=[^-])", word)
         if dashes and (dashes[0] == b"--" or self.long_only):
             name, equals, value = word[dashes.end():].partition(b"=")
@@ -50,7 +50,7 @@ class Options:
         return word[1:] if re.match(b"-[^-]", word) and not self.long_only else b""
 
     def items(self, word, after):
-        """The lawful items that begin with this word: what each mentions, its number of words, whether it is bare."""
+        """The valid items that begin with this word: what each mentions, its number of words, whether it is bare."""
         if not is_dashed(word) and not self.stops:
             yield [], 1, False
         for name, value in self.long_forms(word):
@@ -98,8 +98,8 @@ class Options:
         assert len(found[0]) < 2, words
         return found[0]
 
-    def faults(self, words):
-        """The scan faults of the words. The words before one have a whole reading."""
+    def scan_errors(self, words):
+        """The scan errors of the words. The words before a scan error have a whole reading."""
         for at, word in enumerate(words):
             if not self.readings(words[:at], whole=True):
                 continue
@@ -122,12 +122,12 @@ class Options:
                     yield "ArgumentMissing", letter
 
     def parse(self, words, with_counts=True):
-        """Occurrences, free words and trailing start; or a fault and its name."""
+        """Occurrences, free words and trailing start; or an error and its name."""
         readings = self.readings(words)
         if not readings:
-            faults = list(self.faults(words))
-            assert len(faults) == 1, (words, faults)
-            return faults[0]
+            errors = list(self.scan_errors(words))
+            assert len(errors) == 1, (words, errors)
+            return errors[0]
         if not with_counts:
             return readings[0]
         counts = [sum(place == mine for place, _, _ in readings[0][0]) for mine in range(len(self.groups))]
@@ -268,8 +268,9 @@ def rows_of(text):
 
 
 def answer_rows(rows):
-    """Answers rows. Returns the rows and further ones (the canonical line and the order of all words, the positions of all
-    names), the number of stored answer lines that were checked, and the rows whose stored answers are wrong."""
+    """Answers rows. Returns the rows with further ones (for all words, their canonical line and their options in order;
+    for all names, their positions), the number of stored answers that were checked, and the rows whose stored answers
+    are wrong."""
     session, beyond, given, differ, case = Session(), [], 0, [], b""
     for one, answers in rows:
         word, fields = parts(one)
