@@ -3,9 +3,9 @@
 # usage: build.sh PACKAGE OUT [GETOPTS]
 #   PACKAGE   tests/differential/twin or bench/peers
 #   OUT       the folder to build in; later builds reuse what is there
-#   GETOPTS   a folder with the crate; without it cargo takes 0.2.24 from the public registry
+#   GETOPTS   a folder with the crate; without it, cargo downloads 0.2.24
 #
-# With GETOPTS, Debian's packages replace the public registry if they include all dependencies. CARGO_FLAGS are passed
+# With GETOPTS, Debian's packages replace the public registry if they include all dependencies. CARGO_FLAGS is passed
 # to cargo.
 set -euo pipefail
 if [ $# -lt 2 ] || [ $# -gt 3 ]; then

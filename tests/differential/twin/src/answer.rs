@@ -132,11 +132,14 @@ fn canonical(options: &Options, words: &[String]) -> String {
             line(&["canonical", "line"], written)
         }
         Ok(None) => line(&["canonical", "none"], []),
-        Err(fail) => line(&["canonical", "refused"], error_fields(&fail)),
+        Err(fail) => {
+            assert_eq!(options.parse_in_order(words), Err(fail.clone()));
+            line(&["canonical", "refused"], error_fields(&fail))
+        }
     }
 }
 
-/// Whether a canonical line has these options, and then `--`.
+/// Whether a canonical line consists of these options, then `--`.
 #[cfg(feature = "canonical")]
 fn is_in_order(given: &[(&str, Option<String>)], line: &[String]) -> bool {
     let written = given.iter().map(|(name, value)| match value {
