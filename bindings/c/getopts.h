@@ -1,4 +1,4 @@
-/* Parses command lines by a table of options, as getopt_long does. The parser is formally
+/* Parses command lines according to a table of options, like getopt_long. The parser is formally
  * verified.
  *
  *     static const struct getopts_option table[] = {
@@ -14,16 +14,16 @@
  *     if (status != GETOPTS_OK) .. getopts_message(options) ..
  *     const char *output = getopts_value(options, "output", 0);
  *
- * No function keeps a pointer to its arguments. Words may contain any bytes, and are returned
- * unchanged in values, free words, canonical lines and messages. The strings in a table, and those
- * passed to the usage functions, must be UTF-8 below U+10FF80: the characters from there on
- * represent the bytes of words that aren't UTF-8.
+ * No function keeps a pointer to its arguments. Words are the strings of argv. They may contain
+ * any bytes, and are returned unchanged. The strings in a table, and those passed to the usage
+ * functions, must be UTF-8 with all characters below U+10FF80: the others represent the bytes of
+ * words that aren't UTF-8.
  *
  * There is no global state. Threads may share a struct getopts as long as none of them calls
  * getopts_read or getopts_delete on it.
  *
- * `pkg-config --cflags --libs getopts` prints the flags for the shared library, and
- * `getopts-static` those for the static library, with which a program grows by 91 KB at most.
+ * `pkg-config --cflags --libs getopts` prints the flags for the shared library. For the static
+ * library, write `getopts-static`; a program then grows by 91 KB at most.
  * PREFIX/share/doc/getopts/head.c is a complete program. */
 #ifndef GETOPTS_H
 #define GETOPTS_H
@@ -31,18 +31,18 @@
 #include <stdbool.h>
 #include <stddef.h>
 
-/* The version of this header. A program that is compiled with it can run with this version of the
- * library, and with later versions that have the same first number. */
+/* The version of this header. A program compiled with it can run with this version of the library,
+ * and with later versions that have the same major number. */
 #define GETOPTS_VERSION "2.2.0"
 
-/* The version of the Rust crate getopts that the library follows. */
+/* The version of the Rust crate getopts whose rules the library follows. */
 #define GETOPTS_CRATE_VERSION "0.2.24"
 
 #ifdef __cplusplus
 extern "C" {
 #endif
 
-/* The status that getopts_read and getopts_canonical return. */
+/* Return values of getopts_read and getopts_canonical. */
 enum {
     GETOPTS_OK,
     GETOPTS_ARGUMENT_MISSING,    /* this and the next four: the words are rejected */
@@ -56,8 +56,8 @@ enum {
 
 /* The kind of an option: whether it takes an argument, plus how often it may be given. GETOPTS_NO
  * and GETOPTS_OPTIONAL may be omitted: a kind of 0 is a plain flag. With GETOPTS_MAYBE, a short
- * option also takes the next word, unless that begins with a dash (a lone `-` is taken): `-O f`
- * gives O the argument f. With getopt_long, only `-Of` does. A long option takes an optional
+ * option also takes the next word if that is `-` or doesn't begin with a dash: `-O f` gives O the
+ * argument f. With getopt_long, only `-Of` does. A long option takes an optional
  * argument only after `=`. */
 enum getopts_kind {
     GETOPTS_NO = 0,       /* takes no argument */
@@ -66,11 +66,11 @@ enum getopts_kind {
     GETOPTS_OPTIONAL = 0, /* may be given once */
     GETOPTS_REQ = 4,      /* must be given exactly once */
     GETOPTS_MULTI = 8,    /* may be given any number of times */
-    GETOPTS_KIND_MAX = 0x7fffffff /* not a kind: it gives the type four bytes */
+    GETOPTS_KIND_MAX = 0x7fffffff /* not a kind: makes the enum four bytes wide */
 };
 
-/* A row of a table: an option. A string that is NULL or "" is absent. The table ends with a row
- * whose names are both NULL. */
+/* A row of a table, which declares an option. NULL and "" both mean that a string is absent. The
+ * table ends with a row whose names are both NULL. */
 struct getopts_option {
     const char *short_name;  /* one byte; one of the two names may be absent */
     const char *long_name;   /* more than one byte */
@@ -79,38 +79,38 @@ struct getopts_option {
     enum getopts_kind kind;  /* such as GETOPTS_YES + GETOPTS_REQ */
 };
 
-/* How words are read. Modes can be added. A mode isn't a kind: getopts_new rejects a mode in a
- * row's kind, and a kind among the modes. With GETOPTS_LONG_ONLY, short options can't be combined,
- * and take arguments as long ones do: `-I dir` and `-I=dir` are accepted, but not `-Idir` and
- * `-vv`, which getopt_long_only accepts. */
+/* How words are read. Modes can be added. getopts_new rejects a mode used as a kind, and a kind
+ * used as a mode. With GETOPTS_LONG_ONLY, short options can't be combined, and take arguments as
+ * long options do: write `-I dir` or `-I=dir`, and `-v -v`. `-Idir` and `-vv`, which
+ * getopt_long_only accepts, are rejected. */
 enum getopts_modes {
     GETOPTS_ORDINARY = 0,    /* no mode */
     GETOPTS_STOP = 16,       /* the first free word ends the options */
-    GETOPTS_LONG_ONLY = 32,  /* long names follow one dash or two */
-    GETOPTS_KEEP_ORDER = 64, /* getopts_nth returns the options in order */
-    GETOPTS_MODES_MAX = 0x7fffffff /* not a mode: it gives the type four bytes */
+    GETOPTS_LONG_ONLY = 32,  /* long options begin with one dash or two */
+    GETOPTS_KEEP_ORDER = 64, /* getopts_nth returns options in the order given */
+    GETOPTS_MODES_MAX = 0x7fffffff /* not a mode: makes the enum four bytes wide */
 };
 
-/* Options, and what was read last. */
+/* The options of a table, and what getopts_read read last. */
 struct getopts;
 
-/* Creates options from a table. Returns NULL if out of memory. A program may go on with NULL: then
- * getopts_read and getopts_canonical return GETOPTS_NO_MEMORY, getopts_message returns "Out of
- * memory", the two usage functions return NULL, and the others return what they do before anything
- * is read.
+/* Creates options from a table. Returns NULL if out of memory. All functions accept NULL
+ * options: getopts_read and getopts_canonical return GETOPTS_NO_MEMORY, getopts_message returns
+ * "Out of memory", the two usage functions return NULL, and the others behave as if nothing had
+ * been read.
  *
  * If the table is NULL, or a row or the modes are invalid, getopts_message says what is wrong,
  * such as "table[2]: short name 'ab' has 2 bytes". Then getopts_read and getopts_canonical return
  * GETOPTS_BAD, and the two usage functions return NULL. */
 struct getopts *getopts_new(const struct getopts_option *table, enum getopts_modes modes);
 
-/* Reads `count` words, such as argc - 1 and argv + 1. Returns GETOPTS_OK, or why it fails:
+/* Reads `count` words, such as argc - 1 and argv + 1. Returns GETOPTS_OK or an error:
  *
  * - GETOPTS_OPTION_MISSING, GETOPTS_OPTION_DUPLICATED: a required option is missing, or an option
- *   was given too often. The functions below return what was read, so that a program can look for
- *   its help option; only getopts_nth doesn't.
+ *   was given too often. Except for getopts_nth, the functions below return what was read, so that
+ *   a program can look for its help option.
  * - GETOPTS_ARGUMENT_MISSING, GETOPTS_UNRECOGNIZED_OPTION, GETOPTS_UNEXPECTED_ARGUMENT: a word
- *   can't be read. The functions below return what they do before anything is read.
+ *   is invalid. The functions below behave as if nothing had been read.
  * - GETOPTS_NO_MEMORY: out of memory. What was read before is kept.
  * - GETOPTS_BAD: the table is invalid, or a word is NULL. What was read before is kept. */
 int getopts_read(struct getopts *options, int count, char *const *words);
@@ -120,11 +120,11 @@ int getopts_read(struct getopts *options, int count, char *const *words);
  * getopts_read. */
 const char *getopts_message(const struct getopts *options);
 
-/* The next functions accept any name of an option, and nth counts from 0. If nothing was read, if
- * the name is unknown or NULL, or if nth is out of range, they return false, 0, -1 or NULL; only
- * getopts_values returns an empty list, and getopts_long_value returns true. */
+/* In the next functions, `name` is the short or long name of an option, and nth counts from 0. If
+ * nothing was read, if the name is unknown or NULL, or if nth is out of range, getopts_values
+ * returns an empty list, getopts_long_value true, and the others false, 0, -1 or NULL. */
 
-/* As nth: the last occurrence. */
+/* Pass this as nth for the last occurrence. */
 #define GETOPTS_LAST ((size_t)-1)
 
 /* Whether an option has this name. */
@@ -133,23 +133,21 @@ bool getopts_defined(const struct getopts *options, const char *name);
 /* How often the option was given. */
 size_t getopts_count(const struct getopts *options, const char *name);
 
-/* The index of the word with the option's nth occurrence. The first word that was read has index
- * 0. */
+/* The index of the word with the option's nth occurrence, from 0 for the first word read. */
 int getopts_position(const struct getopts *options, const char *name, size_t nth);
 
 /* The value of the option's nth occurrence, or NULL if it has none. Valid until the next
  * getopts_read. */
 const char *getopts_value(const struct getopts *options, const char *name, size_t nth);
 
-/* The values of the option's getopts_count occurrences, and then NULL. The value of an occurrence
- * without one is NULL too. Never returns NULL itself. Valid until the next getopts_read. */
+/* The values of the option's getopts_count occurrences, followed by NULL. An occurrence without a
+ * value is a NULL in the list. The list is never NULL. Valid until the next getopts_read. */
 const char *const *getopts_values(const struct getopts *options, const char *name);
 
-/* Returns the table row of the nth option among all that were given, in the order of the words;
- * rows count from 0. Stores its value in *value, or NULL if it has none; `value` may be NULL.
- * Returns -1 after the last option, without GETOPTS_KEEP_ORDER, and if the words last read were
- * rejected. The value is valid until the next getopts_read. Call it in a loop, as you would call
- * getopt_long:
+/* Returns the table row, counted from 0, of the nth option in the words. Stores the option's value
+ * in *value, or NULL if it has none; `value` may be NULL. Returns -1 after the last option, if the
+ * mode GETOPTS_KEEP_ORDER isn't set, or if the words last read were rejected. The value is valid
+ * until the next getopts_read. Call it in a loop, as you would call getopt_long:
  *
  *     for (size_t nth = 0; (row = getopts_nth(options, nth, &value)) >= 0; nth++)
  *         switch (row) ..
@@ -157,24 +155,24 @@ const char *const *getopts_values(const struct getopts *options, const char *nam
  * PREFIX/share/doc/getopts/order.c is a complete program. */
 int getopts_nth(const struct getopts *options, size_t nth, const char **value);
 
-/* Parses the value of the option's nth occurrence as a decimal number. If it fits a long, stores
- * it in *value and returns true; otherwise stores nothing and returns false. If there is no value,
- * stores nothing and returns true, so that *value keeps its default, even if no option has that
- * name (see getopts_defined). */
+/* Parses the value of the option's nth occurrence as a decimal number. If it fits in a long,
+ * stores it in *value and returns true; otherwise stores nothing and returns false. If there is no
+ * value, or no option of that name (see getopts_defined), leaves the default in *value and returns
+ * true. */
 bool getopts_long_value(const struct getopts *options, const char *name, size_t nth, long *value);
 
-/* The number of free words: the positional arguments. */
+/* The number of free words, which are the positional arguments. */
 int getopts_free_count(const struct getopts *options);
 
 /* The free words and then NULL, as in argv. Valid until the next getopts_read. */
 char *const *getopts_free_words(const struct getopts *options);
 
-/* The index among the free words of the first one after the `--` that ended the options; -1 if
- * there is none. */
+/* The index, in the free words, of the first word after the `--` that ended the options; -1 if
+ * there is no such word. */
 int getopts_trailing_start(const struct getopts *options);
 
-/* The help: the brief, then each option with its description. The caller frees it with free().
- * Returns NULL if out of memory, if the table is invalid, or if the brief is NULL or isn't UTF-8
+/* The help text: `brief`, then each option with its description. The caller frees it with free().
+ * Returns NULL if out of memory, if the table is invalid, or if `brief` is NULL or isn't UTF-8
  * below U+10FF80. */
 char *getopts_usage(const struct getopts *options, const char *brief);
 
@@ -182,16 +180,16 @@ char *getopts_usage(const struct getopts *options, const char *brief);
  * like getopts_usage. */
 char *getopts_short_usage(const struct getopts *options, const char *program);
 
-/* Rewrites words with main names: `--main` or `--main=value` for each option, in order, then `--`,
- * then the free words. An option's main name is its long name or, if it has none, its short name.
- * Returns what getopts_read would, and doesn't change what that read last.
+/* Rewrites words in a canonical form: `--main` or `--main=value` for each option, in order, then
+ * `--`, then the free words. An option's main name is its long name or, if it has none, its short
+ * name. Returns what getopts_read would return, but keeps what was read before.
  *
- * Stores a list like argv in *line, which the caller frees with one free(). *line is NULL if the
- * status isn't GETOPTS_OK. It may be NULL with GETOPTS_OK too: words that give an option whose main
- * name contains `=` have no such line. */
+ * Stores the result in *line: a list like argv, which the caller frees with one free(). Stores NULL
+ * if the status isn't GETOPTS_OK. Also stores NULL, with GETOPTS_OK, if the words give an option
+ * whose main name contains `=`. */
 int getopts_canonical(const struct getopts *options, int count, char *const *words, char ***line);
 
-/* Frees options, with the values and lists that they returned. NULL is allowed. */
+/* Frees options, and all results that are valid until the next getopts_read. NULL is allowed. */
 void getopts_delete(struct getopts *options);
 
 /* The version of the library that the program runs with, such as "2.2.0". */
@@ -200,7 +198,7 @@ const char *getopts_version(void);
 #ifdef __cplusplus
 }
 
-/* Kinds and modes can be added or combined with `|` in C++ too. */
+/* `+` and `|` combine kinds and modes in C++, as they do in C. */
 constexpr getopts_kind operator+(getopts_kind one, getopts_kind other) {
     return static_cast<getopts_kind>(static_cast<int>(one) + static_cast<int>(other));
 }

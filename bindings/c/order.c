@@ -1,5 +1,5 @@
 /* Handles options in the order in which they were given, as a loop over getopt_long does: an example of getopts.h. The
- * last of -q and -v wins, even in one word, and -I and -X are printed in order. */
+ * last of -q and -v wins, as in -qv, and -I and -X are printed in order. */
 #include <getopts.h>
 #include <stdio.h>
 
