@@ -2,7 +2,7 @@
 and well-formed scripts, Rust and manual pages.
 
 Every figure of ten or more on a page is counted, measured or recorded (FIGURES). --fix updates the figures,
-CONTRACTS.md and the table of wrong bodies in PROOFS.
+CONTRACTS.md and the table of mutants in PROOFS.
 """
 
 import functools
@@ -104,7 +104,7 @@ HELD = "Bytes that matches take"
 PEAK = "Peak bytes while reading 100,000 words, besides the words and the options"
 # Figures outside the tables of jobs: the page, a pattern whose groups are the figures, and the expected values.
 FIGURES = [
-    ("README.md", r"\| ([\d,]+) named wrong bodies", lambda: [str(len(edits))]),
+    ("README.md", r"\| ([\d,]+) mutants, written by hand", lambda: [str(len(edits))]),
     ("README.md", r"toolchain \(([\w-]+), logic `(\w+)`", toolchain),
     ("README.md", r"`\(cd crates/getopts && rt lib\)` .* \| ([^|]*) \| ([^|]*) \|", lambda: minutes("rt lib")),
     ("README.md", r"`bash test.sh` .* \| ([^|]*) \| ([^|]*) \|", lambda: minutes("bash test.sh")),
@@ -138,7 +138,7 @@ FIGURES = [
 NO_FIGURES = re.compile(r"""
     \bU\+\w+ | \b0\.2\.24\b | \d{4}-\d\d-\d\d | Apache-2\.0 | x86-64(-v2)?
     | 1,000\ words | 100,000\ words | 20\ options | 10\ words
-    | (32|64)\ bits | 54\ columns | 24\ (spaces|columns) | stop\ at\ 255 | 24\ bytes | 4\.2\ or\ later | before\ 4\.4 | C\+\+11 | Debian\ 12 | 80\ words | 200,000\ cases
+    | (32|64)(\ bits|-bit) | 54\ columns | 24\ (spaces|columns) | stop\ at\ 255 | 24\ bytes | 4\.2\ or\ later | before\ 4\.4 | C\+\+11 | Debian\ 12 | 80\ words | 200,000\ cases
 """, re.X)
 
 def table_figures(page):
@@ -341,9 +341,9 @@ def test_definitions_are_in_the_grammar(crate):
     assert_none(missing)
 
 
-def test_wrong_bodies(request):
-    """PROOFS lists every public edit, by crate."""
-    crates, page, head = {}, "docs/PROOFS.md", "| crate | wrong bodies |\n|---|---|\n"
+def test_mutants(request):
+    """PROOFS lists every mutant except private ones, by crate."""
+    crates, page, head = {}, "docs/PROOFS.md", "| crate | mutants |\n|---|---|\n"
     for name in sorted(edits):
         crates.setdefault(name.split("/")[2], []).append(f"`{os.path.basename(name)[:-5]}`")
     rows = [f"| `{crate}` | {', '.join(bodies)} |\n" for crate, bodies in sorted(crates.items())]
