@@ -24,8 +24,8 @@ use crate::options::Options;
 /// The main theorem.
 ///
 /// Unless an allocation fails, `parse` accepts words if and only if they have a reading that keeps
-/// the counts. That reading is the only one, and the matches hold it. Other words are rejected with
-/// their first error.
+/// the counts. That reading is the only one, and the matches are exactly what it says. Other words
+/// are rejected with their first error.
 ///
 /// If no main name in use contains `=`, two accepted command lines have equal canonical lines if
 /// and only if they give the same occurrences and free words, even in different styles and modes. A
@@ -35,8 +35,8 @@ use crate::options::Options;
 /// values; their positions may differ. This is a lemma for proofs, which does nothing.
 pub fn one_reading_one_canonical_line(options: &Options)
     // Words have at most one reading, in each style and each mode. They are accepted if and only if
-    // it exists and keeps the counts, and otherwise rejected with the first error. Exactly one of
-    // three cases holds; functions such as `parse_result` compute which.
+    // it exists and keeps the counts, and otherwise rejected with the first error. Functions such
+    // as `parse_result` compute the result.
     ensures one_reading { OneReading options.now }
     ensures one_reading_in_each { (style : ParsingStyle) (long_only : Bool)
         → OneReading (with_setting options.now style long_only) }
@@ -58,11 +58,10 @@ pub fn one_reading_one_canonical_line(options: &Options)
     ensures line_laws { KeepsLineLaws options.now }
     ensures read_again { LinesReadAgain options.now }
 
-    // Other spellings of a command line, command lines one after the other, and where free words
-    // and occurrences are.
+    // Laws about other spellings of a command line, joined command lines, free words and positions.
     ensures reading_laws { KeepsReadingLaws (grammar_of options.now) }
 
-    // Each option that a command line mentions is what its main name resolves to.
+    // The main name of each option in a command line resolves to that option.
     ensures sound { (words : List Text) (content : Content)
         → Says options.now words content → IsSound options.now.groups content }
 {
@@ -97,7 +96,7 @@ pub fn names_resolve(options: &Options)
     let _groups = options.groups();
 }
 
-/// The three facts of `names_resolve`, about the names that matches hold. This is a lemma for
+/// The three facts of `names_resolve`, about the names in the matches. This is a lemma for
 /// proofs, which does nothing.
 pub fn held_names_resolve(matches: &Matches)
     ensures main_name { MainNameResolves (held_names matches.now.groups) }

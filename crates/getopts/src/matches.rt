@@ -29,7 +29,7 @@ pub(crate) struct ReadLine {
 /// The result of parsing a command line: its options by name, and its free words.
 ///
 /// After `let matches = options.parse_words(alloc, &["-v", "a"])?`, `matches.opt_present("v")` is
-/// true and `matches.free` holds `a`.
+/// true and `matches.free` is `["a"]`.
 #[derive(Debug, Drop)]
 pub struct Matches {
     /// The free words, in command-line order. You may change them: accessors ignore this field,
@@ -113,8 +113,8 @@ impl PartialEq for Matches {
 
     ghost laws = { Prim.search (comparing, rules) depth 14 };
 
-    /// Whether both hold the same: the names and kinds of the groups, each group's positions and
-    /// values, the free words and the trailing start.
+    /// Whether both have the same names and kinds of groups, the same positions and values of each
+    /// group, the same free words and the same trailing start.
     ///
     /// Hints and descriptions don't count, nor does the order of different options within a
     /// cluster: the matches of `-ab` and `-ba` are equal. Allocates nothing, and visits the

@@ -32,10 +32,10 @@ impl Options {
 
     /// Parses a command line, given without the program's own name.
     ///
-    /// Returns what the words give, or their first error. It is about the first word that can't be
-    /// read or, if all can be read, about the first option, in order of declaration, that is
-    /// missing or was given too often. Returns `Fail::OutOfMemory` instead if an allocation fails.
-    /// The options aren't changed.
+    /// Returns the matches of the words, or their first error: the first word that can't be read
+    /// or, if all can be read, the first option, in order of declaration, that is missing or was
+    /// given too often. Returns `Fail::OutOfMemory` instead if an allocation fails. The options
+    /// aren't changed.
     ///
     /// With an option `o`/`output` that needs an argument, `["-ofile", "x"]`, `["-o", "file", "x"]`
     /// and `["--output=file", "x"]` all give `output` the value `file`, and the free word `x`.
@@ -47,7 +47,7 @@ impl Options {
         ensures refused { IfErr result (λ fail. Tells fail
             (IsRefused self.now (map S.text words.now))) }
 
-        // The matches hold each declared option, with occurrences that fit its declaration.
+        // The matches have each declared option, with occurrences that fit its declaration.
         ensures declared { IfOk result (λ matches. HoldDeclared self.now matches.groups) }
         ensures positions_below { IfOk result (λ matches.
             HavePositionsBelow (length words.now) matches.groups) }
@@ -56,8 +56,8 @@ impl Options {
         ensures trailing { IfOk result (λ matches. IfSome matches.trailing_start
             (EndsInTrailing (map S.text words.now) matches)) }
 
-        // For these options: other spellings of a command line, command lines one after the other,
-        // and where free words and occurrences are.
+        // Laws about other spellings of a command line, joined command lines, free words and
+        // positions.
         ensures laws { OnOk result (KeepsReadingLaws (grammar_of self.now)) }
     {
         let accepted = self.accepted_line(alloc, words)?;

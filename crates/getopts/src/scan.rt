@@ -18,9 +18,8 @@ use crate::table::Table;
 use std::alloc::{AllocError, Global};
 use std::convert::AsStr;
 
-/// The most capacity that is requested at first for words and for what they give: an iterator may
-/// yield fewer words than it promises. If there are more words, they are counted before the first
-/// is read.
+/// The most capacity that is first requested for words and for their results, since an iterator may
+/// yield fewer words than it promises. For more words, the dashed ones are counted first.
 pub(crate) const FIRST_ROOM: usize = 32;
 
 /// A lemma: a `&str` is a text.
@@ -59,7 +58,7 @@ impl Line {
         })
     }
 
-    /// Makes room for what many words give. What few words give fits already.
+    /// Makes room for the results of many words. The results of few words fit already.
     #[inline(always)]
     fn reserve<S: AsStr>(&mut self, words: &[S], stops: bool) -> Result<(), AllocError>
         requires { IsEmptyLine self.old }
@@ -180,8 +179,8 @@ fn is_dashed(word: &str) -> bool
     }
 }
 
-/// How many words are dashed, up to where all words are free. This only determines how much to
-/// reserve: a wrong number would only waste memory.
+/// How many words are dashed, up to where all words are free. It only determines how much to
+/// reserve, so a wrong number would cost only memory or time.
 fn dashed_words<S: AsStr>(words: &[S], stops: bool) -> usize {
     let mut dashed: usize = 0;
     'words: for word in words {
@@ -284,8 +283,7 @@ impl<'o> Scanner<'o> {
         Ok(used)
     }
 
-    /// The option that a byte in a cluster names. Only names of one byte resolve there, and a byte
-    /// that isn't ASCII is no text.
+    /// The option that a byte in a cluster names. A byte that isn't ASCII is never a name.
     #[inline(always)]
     fn option_at(&self, byte: u8) -> Option<Named>
         requires { IsLawfulScanner self.now }
@@ -344,7 +342,7 @@ impl<'o> Scanner<'o> {
         Ok(0)
     }
 
-    /// How a word is read: in long-only mode, one dash is as good as two.
+    /// How a word is read. In long-only mode, a long item may begin with one dash.
     fn shape<'w>(&self, word: &'w str) -> Shape<'w>
         ensures { HasShape (scanner_grammar self.now) word.now result }
     {

@@ -28,8 +28,8 @@ const OPTION_ROOM: usize = 16;
 /// The rows of a usage text, one for each option group, in order of declaration.
 ///
 /// `Options::usage_with_format` passes them to its closure. They have all been built by then, so
-/// `next` allocates nothing. A row doesn't end with a line end, but contains one before each row of
-/// the description that begins a new line.
+/// `next` allocates nothing. A row doesn't end with a line end. It contains one after a head of 24
+/// columns or more, and one between the lines of the description.
 ///
 /// In the Rust crate the closure gets a `&mut dyn Iterator`, which builds each row on demand.
 #[derive(Debug, Drop)]

@@ -39,8 +39,7 @@ impl Matches {
         self.held.occurrences_at(place)
     }
 
-    /// A lemma for proofs, which compiles to nothing: the groups that matches hold have valid
-    /// names.
+    /// A lemma for proofs, which compiles to nothing: the groups in the matches have valid names.
     pub(crate) fn are_held_lawfully(&self) {
         self.held.are_lawful();
     }
@@ -96,9 +95,9 @@ impl Matches {
     /// Returns the position and value of each of an option's occurrences that has a value, in
     /// command-line order.
     ///
-    /// Positions are as in `opt_positions`: where the option is, even if its argument is a separate
-    /// word. Values are as in `opt_strs`. The result is empty if the option wasn't given. Requires
-    /// a defined name (see `opt_defined`). Fails only if an allocation fails.
+    /// Positions are as in `opt_positions`: the option's, even if its argument is a separate word.
+    /// Values are as in `opt_strs`. The result is empty if the option wasn't given. Requires a
+    /// defined name (see `opt_defined`). Fails only if an allocation fails.
     pub fn opt_strs_pos(
         &self,
         alloc: Global,
@@ -110,8 +109,8 @@ impl Matches {
     /// Returns the value of an option's first occurrence.
     ///
     /// After `-ofile` the value of `o` is `file`. Returns `None` if the option wasn't given or if
-    /// its first occurrence has no value, even if a later one does (see `opt_strs`). A required
-    /// option with a mandatory argument always has a value. Requires a defined name (see
+    /// its first occurrence has no value, even if a later one does (see `opt_strs`). After `parse`,
+    /// a required option with a mandatory argument has a value. Requires a defined name (see
     /// `opt_defined`). Fails only if an allocation fails.
     pub fn opt_str(&self, alloc: Global, name: &str) -> Result<Option<String>, AllocError> {
         copied(alloc, self.held.occurrences_of(name).first_value())
@@ -157,7 +156,7 @@ impl Matches {
         }
     }
 
-    /// Returns the index among the free words at which the words after `--` begin.
+    /// Returns the index, among the free words, of the first word after `--`.
     ///
     /// After `a -- b` it is `Some(1)`. Returns `None` if no word follows a `--` that ends the
     /// options. The index is that of the parsed command line: later changes to `free` don't affect
@@ -168,7 +167,7 @@ impl Matches {
 
     /// Whether any of the named options was given.
     ///
-    /// Accepts any names; undefined ones count as not given.
+    /// Accepts any names; undefined names count as not given.
     pub fn opts_present(&self, names: &[String]) -> bool {
         names.iter().any(|name| self.has(name.as_str()))
     }

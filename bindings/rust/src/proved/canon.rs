@@ -87,12 +87,12 @@ impl Options {
     /// `--`, then the free words. Here `main` is the option's long name or, if it has none, its
     /// short name. With the options `v`/`verbose` and `o`/`output`, the latter with an argument,
     /// `["-vofile", "x"]` and `["x", "--verbose", "--output", "file"]` both give
-    /// `["--verbose", "--output=file", "--", "x"]`, and an empty command line gives `["--"]`.
-    /// Positions aren't kept, nor where free words occurred among options.
+    /// `["--verbose", "--output=file", "--", "x"]`, and an empty command line gives `["--"]`. The
+    /// line keeps neither positions nor the order between options and free words.
     ///
     /// Returns `None` if the command line gives an option whose main name contains `=`: `--p=x`
-    /// can't stand for an option called `p=x`, since it means the option `p` with the argument `x`.
-    /// Such an option does no harm as long as it isn't given.
+    /// means the option `p` with the argument `x`, so it can't name an option called `p=x`. Such an
+    /// option does no harm as long as it isn't given.
     ///
     /// Fails exactly as `parse` does, or with `Fail::OutOfMemory` if an allocation fails. As in
     /// `parse`, the iterator has to end, all items are taken before anything but
@@ -107,16 +107,16 @@ impl Options {
         self.canonical_words(alloc, &words)
     }
 
-    /// Parses words as `parse_words` does, and returns the options that they give, in order, across
-    /// all options.
+    /// Parses a command line like `parse_words`, but returns its options in order, across all
+    /// options.
     ///
     /// Use it if the order of different options matters, for example if the last of `-q` and `-v`
-    /// wins. (Options in one word, such as `-vq`, have the same position.) Each option is returned
-    /// as its place, which counts from 0 in the order of definition, as in `opt_place`. With the
+    /// wins. (Positions don't help: options in one word, such as `-vq`, share a position.) Each
+    /// option is returned as its index in the order of declaration, as from `opt_place`. With the
     /// options `q` and `v`, `["-vq", "x", "-v"]` gives 1, 0 and 1. Free words aren't in the list.
-    /// The value of an option's nth occurrence in the list is the nth of `occurrences_at` its place.
+    /// If an index occurs for the nth time, its value is the nth of `occurrences_at` that index.
     ///
-    /// Errors: see `parse_words`. The Rust crate has no such function.
+    /// Fails exactly as `parse_words` does. The Rust crate has no such method.
     pub fn parse_in_order<S: AsStr>(&self, alloc: Global, words: &[S]) -> Result<Vec<usize>, Fail> {
         let accepted = self.accepted_line(alloc, words)?;
         Ok(option_places(alloc, &accepted.line.found)?)

@@ -12,22 +12,22 @@ use core::fmt;
 /// `ArgumentMissing`, `UnrecognizedOption` and `UnexpectedArgument` report the first word that
 /// can't be read, with the name as typed. Only if every word can be read are occurrences counted:
 /// `OptionMissing` and `OptionDuplicated` report the first option, in order of declaration, that is
-/// missing or was given too often. They hold its main name, which is the long name or, if there is
-/// none, the short name.
+/// missing or was given too often. They contain its main name, which is the long name or, if there
+/// is none, the short name.
 ///
-/// The printed texts are those of the Rust crate. The `?` operator turns an `AllocError` into
+/// Errors are printed as in the Rust crate. The `?` operator turns an `AllocError` into
 /// `OutOfMemory`.
 #[derive(Debug)]
 pub enum Fail {
-    /// The command line ends where the option needs an argument. Holds the name as typed.
+    /// The command line ends before the option's argument. Contains the name as typed.
     ArgumentMissing(String),
-    /// No option has this name. Holds the name as typed or, in a cluster, the character.
+    /// No option has this name. Contains the name as typed or, in a cluster, the character.
     UnrecognizedOption(String),
-    /// A required option is missing. Holds its main name.
+    /// A required option is missing. Contains its main name.
     OptionMissing(String),
-    /// An option that may occur once occurs again. Holds its main name.
+    /// An option that may occur once occurs again. Contains its main name.
     OptionDuplicated(String),
-    /// An argument is attached to an option that takes none. Holds the name as typed.
+    /// An argument is attached to an option that takes none. Contains the name as typed.
     UnexpectedArgument(String),
     /// An allocation failed. The Rust crate aborts the process instead, and has no such variant.
     OutOfMemory,

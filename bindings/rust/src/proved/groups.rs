@@ -84,8 +84,8 @@ pub(crate) struct Ends {
 }
 
 /// A stored group: where its long name begins and ends in the text of all names, what to look its
-/// names up by, and its kinds. It has 32 bytes, so that the first list of `FIRST_GROUPS` fits
-/// malloc's cache.
+/// names up by, and its kinds. It has 32 bytes, so that the first list, of `FIRST_GROUPS` records,
+/// fits in malloc's cache.
 #[derive(Debug, Clone, Copy)]
 pub(crate) struct SignatureRecord {
     pub long: usize,

@@ -16,10 +16,10 @@ use crate::convert::AsStr;
 impl Options {
     /// Parses a command line, given without the program's own name.
     ///
-    /// Returns what the words give, or their first error. It is about the first word that can't be
-    /// read or, if all can be read, about the first option, in order of declaration, that is
-    /// missing or was given too often. Returns `Fail::OutOfMemory` instead if an allocation fails.
-    /// The options aren't changed.
+    /// Returns the matches of the words, or their first error: the first word that can't be read
+    /// or, if all can be read, the first option, in order of declaration, that is missing or was
+    /// given too often. Returns `Fail::OutOfMemory` instead if an allocation fails. The options
+    /// aren't changed.
     ///
     /// With an option `o`/`output` that needs an argument, `["-ofile", "x"]`, `["-o", "file", "x"]`
     /// and `["--output=file", "x"]` all give `output` the value `file`, and the free word `x`.

@@ -11,9 +11,8 @@ use super::table::Table;
 use crate::alloc::{AllocError, Global};
 use crate::convert::AsStr;
 
-/// The most capacity that is requested at first for words and for what they give: an iterator may
-/// yield fewer words than it promises. If there are more words, they are counted before the first
-/// is read.
+/// The most capacity that is first requested for words and for their results, since an iterator may
+/// yield fewer words than it promises. For more words, the dashed ones are counted first.
 pub(crate) const FIRST_ROOM: usize = 32;
 
 /// A lemma: a `&str` is a text.
@@ -43,7 +42,7 @@ impl Line {
         })
     }
 
-    /// Makes room for what many words give. What few words give fits already.
+    /// Makes room for the results of many words. The results of few words fit already.
     #[inline(always)]
     fn try_grow<S: AsStr>(&mut self, words: &[S], stops: bool) -> Result<(), AllocError> {
         if words.len() <= FIRST_ROOM {
@@ -144,8 +143,8 @@ fn is_dashed(word: &str) -> bool {
     }
 }
 
-/// How many words are dashed, up to where all words are free. This only determines how much to
-/// reserve: a wrong number would only waste memory.
+/// How many words are dashed, up to where all words are free. It only determines how much to
+/// reserve, so a wrong number would cost only memory or time.
 fn dashed_words<S: AsStr>(words: &[S], stops: bool) -> usize {
     let mut dashed: usize = 0;
     'words: for word in words {
@@ -223,8 +222,7 @@ impl<'o> Scanner<'o> {
         Ok(used)
     }
 
-    /// The option that a byte in a cluster names. Only names of one byte resolve there, and a byte
-    /// that isn't ASCII is no text.
+    /// The option that a byte in a cluster names. A byte that isn't ASCII is never a name.
     #[inline(always)]
     fn option_at(&self, byte: u8) -> Option<Named> {
         if !byte.is_ascii() {
@@ -267,7 +265,7 @@ impl<'o> Scanner<'o> {
         Ok(0)
     }
 
-    /// How a word is read: in long-only mode, one dash is as good as two.
+    /// How a word is read. In long-only mode, a long item may begin with one dash.
     fn shape<'w>(&self, word: &'w str) -> Shape<'w> {
         let text = match after_dash(word) {
             Some(text) => text,
