@@ -1,4 +1,4 @@
--- What the accessors of matches return, by the groups that matches hold.
+-- What the accessors of matches return, in terms of the groups in the matches.
 use Rattle.std.specs.Prelude.{◌≡◌, ℕ, Bool, List, [], ◌∷◌, map, length, nat_lt, IsSome, Option}
 use Rattle.std.specs.Prelude.{Some, None, MatchOption, IsSomeAnd, Result, Ok, slice_get, unwrap_or}
 use Rattle.std.specs.Result.{result_transpose}
@@ -27,7 +27,7 @@ IsDefined groups name = IsSome (place_of groups name)
 abbrev pub AreDefined : List MatchedGroup → List Text → Type 0
 AreDefined groups names = AllByRecursion (IsDefined groups) names
 
--- Each group that matches hold has valid names.
+-- Each group in the matches has valid names.
 abbrev pub AreHeldLawfully : List MatchedGroup → Type 0
 AreHeldLawfully groups = AllByRecursion (λ group. IsLawfullyNamed group.signature.names) groups
 

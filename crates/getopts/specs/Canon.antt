@@ -1,5 +1,5 @@
 -- Canonical lines: what a command line says, rewritten with main names alone; the laws of such
--- lines, and when there is none.
+-- lines, and when there is no such line.
 use Rattle.std.specs.Prelude.{◌≡◌, ◌≢◌, ◌↔◌, ℕ, Bool, false, List, [], ◌∷◌, ◌++◌, map, Option}
 use Rattle.std.specs.Prelude.{Some, None, slice_get}
 use Rattle.std.specs.List.{AllByRecursion, Contains}
@@ -37,7 +37,7 @@ abbrev pub IsPlain : List Group → Content → Type 0
 IsPlain groups content =
     AllByRecursion (λ m. holds_equals (main_at groups m.group) ≡ false) content.mentions
 
--- The content is sound: each mentioned group is what its own main name resolves to.
+-- The content is sound: the main name of each mentioned group resolves to that group.
 abbrev pub IsSound : List Group → Content → Type 0
 IsSound groups content =
     AllByRecursion (λ m. resolution (names_of groups) (main_at groups m.group) ≡ Some m.group)
@@ -118,7 +118,7 @@ pub record HasCanonicalLine (options : Declared) (content : Content) : Type 0 wh
       ↔ (other ≡ content)
 
 -- This is true in both styles and both modes.
--- The mention's canonical word is the first word of no valid item with just that mention.
+-- No valid item with just this mention begins with the mention's canonical word.
 abbrev pub HasNoItem : Declared → Mention → Type 0
 HasNoItem options m = (style : ParsingStyle) (long_only : Bool) (item : Item)
     → IsLawfulItem (grammar_of (with_setting options style long_only)) item

@@ -25,19 +25,19 @@ pub record IsUnwritable (options : Declared) (words : List Text) : Type 0 where
   pub not_plain : ¬ (IsPlain options.groups content)
   pub unwritable : HasUnwritable options content
 
--- This is what `parse` answers to these words, memory aside.
+-- This is the result of `parse` for these words, unless it is out of memory.
 abbrev pub IsParseAnswer : Declared → List Text → Result Matched Fault → Type 0
 IsParseAnswer options words answer =
     MatchResult answer (IsAccepted options words) (IsRefused options words)
 
--- This is what `canonical` answers to these words, memory aside.
+-- This is the result of `canonical` for these words, unless it is out of memory.
 abbrev pub IsCanonicalAnswer : Declared → List Text → Result (Option (List Text)) Fault → Type 0
 IsCanonicalAnswer options words answer =
     MatchResult answer
     (λ written. MatchOption written (IsUnwritable options words) (IsWritten options words))
     (IsRefused options words)
 
--- Each line that `canonical` returns obeys the laws for the content that it is made of.
+-- Each line that `canonical` returns obeys the laws of its content's canonical line.
 abbrev pub KeepsLineLaws : Declared → Type 0
 KeepsLineLaws options = (words line : List Text) → (written : IsWritten options words line)
     → HasCanonicalLine options written.content

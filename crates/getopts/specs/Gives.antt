@@ -1,4 +1,4 @@
--- What the results as functions have to be, and what calls return by them.
+-- What the functions of `Results` have to compute, and what calls return.
 use Rattle.std.specs.Prelude.{◌≡◌, List, Result, Ok, Err, MatchResult}
 use Rattle.getopts.specs.Only.{IsTheOnly}
 use Rattle.getopts.specs.Names.{Text}
@@ -23,7 +23,7 @@ abbrev pub IsLineOf : Declared → List Text → Result Reading Fault → Type 0
 IsLineOf options words answer =
     MatchResult answer (λ reading. IsCountKeeping options reading words) (IsRefused options words)
 
--- This is what `parse_ignoring_counts` answers to these words, memory aside.
+-- This is the result of `parse_ignoring_counts` for these words, unless it is out of memory.
 abbrev pub IsReadAnswer : Declared → List Text → Result Matched Fault → Type 0
 IsReadAnswer options words answer =
     MatchResult answer (HasReading options words) (HasNoReading options words)
@@ -36,7 +36,7 @@ pub record HasResults (options : Declared) (words : List Text) : Type 0 where
   pub read : IsTheOnly (IsReadAnswer options words) (read_result options words)
   pub canonical : IsTheOnly (IsCanonicalAnswer options words) (canonical_result options words)
 
--- What is seen of the call's answer meets `Is`, unless it is out of memory.
+-- The call's answer, as `see` shows it, meets `Is`, unless it is out of memory.
 abbrev pub GivesAs : {A X : Type 0} → (A → X) → Result A Fail → (Result X Fault → Type 0) → Type 0
 GivesAs see answer Is =
     MatchResult answer (λ value. Is (Ok (see value))) (λ fail. Tells fail (λ fault. Is (Err fault)))

@@ -1,4 +1,4 @@
--- What the code stores, and the values that it stands for.
+-- What the code stores, and the values that it represents.
 
 -- lists and texts cut into pieces
 pub mod Pieces

@@ -15,7 +15,7 @@ use Rattle.getopts.specs.declared.groups.HasArg.TheVariants.{Yes}
 use Rattle.getopts.specs.declared.groups.Occur.TheVariants.{Req}
 use Rattle.getopts.specs.declared.groups.ParsingStyle.TheVariants.{StopAtFirstFree}
 
--- Matches hold the groups of the options, with the same names and kinds.
+-- The groups in the matches have the names and kinds of the options' groups, in the same order.
 abbrev pub AreGroupsOf : Declared → List MatchedGroup → Type 0
 AreGroupsOf options groups = map (λ group. group.signature) groups ≡ signatures_of options.groups
 
@@ -27,7 +27,7 @@ HaveValuesByKind groups =
 
 -- The groups are those of the options, with positions in order and values that fit their kinds. An
 -- option that needs an argument and was given has a value.
--- Matches hold what is declared: each declared name is defined.
+-- The matches fit the options: each declared name is defined.
 pub record HoldGiven (options : Declared) (groups : List MatchedGroup) : Type 0 where
   pub same_groups : AreGroupsOf options groups
   pub positions_in_order : HavePositionsInOrder groups

@@ -1,4 +1,5 @@
--- What a caller must believe, in reading order.
+-- What a caller must believe, in reading order. In each comment the last line says what the
+-- definition is, as `rt lemma` prints it; the lines before it say more.
 
 -- one value, and no other
 pub mod Only
@@ -26,7 +27,7 @@ pub mod CanonAnswers
 pub mod Results
 -- what accepted matches say about declared names
 pub mod Holds
--- what those functions compute, and what calls return by them
+-- what those functions have to compute, and what calls return
 pub mod Gives
 -- the main theorem
 pub mod Theorem
@@ -40,7 +41,7 @@ pub mod Usage
 
 -- what the first word of a command line gives, with the words after it
 pub mod Turn
--- what the code stores, and the values that it stands for
+-- what the code stores, and the values that it represents
 pub mod Held
 -- Only callers' contracts cite this.
 

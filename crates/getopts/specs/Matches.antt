@@ -1,4 +1,4 @@
--- What the matches of a reading hold, and whether counts are kept.
+-- What is in the matches of a reading, and whether counts are kept.
 use Rattle.std.specs.Prelude.{◌≡◌, ◌==◌, if◌then◌else◌, ℕ, ◌+◌, ◌≤◌, ⊤, List, [], ◌∷◌, ◌++◌, length}
 use Rattle.std.specs.Prelude.{map, Option}
 use Rattle.std.specs.List.{AllByRecursion, filter}
@@ -14,12 +14,12 @@ pub record Found : Type 0 where
   pub position : ℕ
   pub value : Option Text
 
--- a group as matches hold it, with its occurrences in command-line order
+-- a group in matches, with its occurrences in command-line order
 pub record MatchedGroup : Type 0 where
   pub signature : Signature
   pub found : List Found
 
--- what matches hold: groups, free words, and where the words after a stop begin among those
+-- matches: groups, free words, and where the words after a stop begin among the free words
 pub record Matched : Type 0 where
   pub groups : List MatchedGroup
   pub free : List Text
@@ -66,7 +66,7 @@ KeepsCounts groups = AllByRecursion KeepsCount groups
 abbrev pub count_fault : Text → ℕ → Fault
 count_fault main count = if count == 0 then option_missing main else option_duplicated main
 
--- It is about the first group, in order of declaration, that breaks its count.
+-- It reports the first group, in order of declaration, that breaks its count.
 -- This is the count error of the groups.
 pub record IsCountFault (groups : List MatchedGroup) (fault : Fault) : Type 0 where
   pub before : List MatchedGroup

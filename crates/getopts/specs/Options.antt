@@ -1,4 +1,4 @@
--- What options hold: groups in order of declaration, a parsing style and a mode.
+-- What options are: groups in order of declaration, a parsing style and a mode.
 use Rattle.std.specs.Prelude.{ℕ, Bool, List, [], ◌∷◌, ◌++◌, Option, IsSome, map, slice_get}
 use Rattle.std.specs.List.{AllByRecursion}
 use Rattle.std.specs.Option.{option_and_then, option_map}
@@ -64,8 +64,8 @@ names_of groups = map (λ group. group.signature.names) groups
 abbrev pub signatures_of : List Group → List Signature
 signatures_of groups = map (λ group. group.signature) groups
 
--- It takes from options the place and the kind of argument of the group that a name resolves to,
--- the style and the mode.
+-- It consists of the style, the mode and, for the group that a name resolves to, its place and its
+-- kind of argument.
 -- what parsing uses of options
 pub record Grammar : Type 0 where
   pub place : Text → Option ℕ

@@ -1,4 +1,4 @@
--- The results of `parse`: for any words, exactly one of three cases holds.
+-- The results of `parse`: for any words, exactly one of three cases applies.
 use Rattle.std.specs.Prelude.{◌≡◌, ◌⊎◌, List}
 use Rattle.getopts.specs.Only.{IsTheOnly}
 use Rattle.getopts.specs.Names.{Text}
@@ -42,9 +42,8 @@ pub record HasNoReading (options : Declared) (words : List Text) (fault : Fault)
 abbrev pub IsRefused : Declared → List Text → Fault → Type 0
 IsRefused options words fault = HasNoReading options words fault ⊎ BreaksCounts options words fault
 
--- They are about other spellings of a command line, command lines one after the other, and where
--- free words and occurrences are.
--- The laws of readings hold for this grammar.
+-- They are about other spellings of a command line, joined command lines, free words and positions.
+-- This grammar obeys the laws of readings.
 pub record KeepsReadingLaws (grammar : Grammar) : Type 0 where
   pub long_argument : LongAttachedOrSeparate grammar
   pub short_argument : ShortAttachedOrSeparate grammar

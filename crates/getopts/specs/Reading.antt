@@ -221,8 +221,7 @@ pub record Reading : Type 0 where
   pub items : List Item
   pub tail : Tail
 
--- Its items and its tail are valid and spell the words, and each bare cluster is followed as it may
--- be.
+-- Its items and its tail are valid and spell the words, and each bare cluster is well followed.
 -- This is a reading of the words.
 pub record IsReading (grammar : Grammar) (reading : Reading) (words : List Text) : Type 0 where
   pub spells : spelled_all reading.items (tail_words reading.tail) ≡ words

@@ -58,7 +58,7 @@ Respells grammar item others Alike = (front back : List Item) (tail : Tail) (wor
     → ReadsAlike grammar (Alike (word_count front))
     (reading_of front (item ∷ []) back tail) (reading_of front others back tail)
 
--- Positions of later items are one higher with the longer one.
+-- Positions of later items are one higher with the longer item.
 -- Either item may replace the other.
 pub record AreOneWordApart (grammar : Grammar) (shorter longer : Item) : Type 0 where
   pub to_longer : Respells grammar shorter (longer ∷ []) AreHigherAfter
@@ -66,7 +66,7 @@ pub record AreOneWordApart (grammar : Grammar) (shorter longer : Item) : Type 0 
       (λ position old new. AreHigherAfter position new old)
 
 -- `--name=argument` and `--name`, `argument` read alike if the name's kind is `Yes`, except that
--- positions of later items are one higher with the latter.
+-- positions of later items are one higher in the second form.
 -- A long option's argument may be attached or separate.
 pub record LongAttachedOrSeparate (grammar : Grammar) : Type 0 where
   pub either : (dashes : Dashes) (name argument : Text)
@@ -75,8 +75,8 @@ pub record LongAttachedOrSeparate (grammar : Grammar) : Type 0 where
       (long dashes name (attached argument)) (long dashes name (separate argument))
 
 -- `-xargument` and `-x`, `argument` read alike, also after flags, if the kind of `x` is `Yes`,
--- except that positions of later items are one higher with the latter. An empty argument can't be
--- attached.
+-- except that positions of later items are one higher in the second form. An empty argument can't
+-- be attached.
 -- A short option's argument may be attached or separate.
 pub record ShortAttachedOrSeparate (grammar : Grammar) : Type 0 where
   pub either : (bytes : List ℕ) (option : ℕ) (argument : Text)
@@ -85,7 +85,7 @@ pub record ShortAttachedOrSeparate (grammar : Grammar) : Type 0 where
       → AreOneWordApart grammar (cluster bytes (ends_in option (attached argument)))
       (cluster bytes (ends_in option (separate argument)))
 
--- `-xs` and `-x`, `-s` read alike except for positions, if `x` is a flag and `s` isn't empty and
+-- `-xs` and `-x`, `-s` read alike except for positions, if `x` is a flag, and `s` isn't empty and
 -- doesn't begin with `-`.
 -- A cluster may be split after a flag.
 pub record ClusterSplits (grammar : Grammar) : Type 0 where
@@ -118,9 +118,9 @@ pub record HasContentOfBoth (grammar : Grammar) (first second whole : Reading) :
   pub mentions : mentions_of grammar whole ≡ mentions_of grammar first ++ mentions_of grammar second
   pub free : free_words whole ≡ free_words first ++ free_words second
 
--- Take a command line that is read to its end by items of which the last isn't a bare cluster, and
--- another that has a reading. The two readings joined are a reading of the two lines joined, and
--- any reading of these has the content of both.
+-- Take a command line that is read to its end by items, the last of which isn't a bare cluster, and
+-- another that has a reading. Joined, the two readings are a reading of the joined lines, and any
+-- reading of the joined lines has the content of both.
 -- Command lines compose, in both styles.
 pub record LinesCompose (grammar : Grammar) : Type 0 where
   pub of_both : (first second : Reading) (words more : List Text)
@@ -145,7 +145,7 @@ pub record TrailingStartIsAfterStop (grammar : Grammar) : Type 0 where
       → trailing_start reading ≡ Some start
       → IsAfterStop reading start
 
--- The texts are words from the list, in the same order; others may be left out.
+-- The texts are words from the list, in the same order; words may be left out.
 abbrev pub IsSubsequence : List Text → List Text → Type 0
 IsSubsequence texts words = (kept : List Bool)
     × (texts ≡ map (λ pair. pair.1) (filter (λ pair. pair.0) (zip kept words)))
@@ -156,7 +156,7 @@ pub record FreeWordsAreSubsequence (grammar : Grammar) : Type 0 where
       → IsReading grammar reading words
       → IsSubsequence (free_words reading) words
 
--- In each group that matches hold, the positions never decrease.
+-- In each group in the matches, the positions never decrease.
 abbrev pub HavePositionsInOrder : List MatchedGroup → Type 0
 HavePositionsInOrder groups =
     AllByRecursion (λ group. IsNonDecreasingBy (λ found. found.position) group.found) groups
@@ -182,7 +182,7 @@ pub record PositionsAreWords (grammar : Grammar) : Type 0 where
       → Contains (occurrences_of grammar reading) occurrence
       → StandsInItem grammar reading words occurrence
 
--- Each position that matches hold is below this number of words.
+-- Each position in the matches is below this number of words.
 abbrev pub HavePositionsBelow : ℕ → List MatchedGroup → Type 0
 HavePositionsBelow count groups =
     AllByRecursion (λ group. AllByRecursion (λ found. found.position < count) group.found) groups

@@ -1,4 +1,4 @@
--- The main theorem: what `parse` answers to which words, and when two canonical lines are equal.
+-- The main theorem: the result of `parse` for any words, and when two canonical lines are equal.
 use Rattle.std.specs.Prelude.{◌≡◌, ◌↔◌, ◌⊎◌, Bool, List}
 use Rattle.getopts.specs.Accessors.{found_of, each_value}
 use Rattle.getopts.specs.Only.{AtMostOne}
@@ -42,13 +42,13 @@ abbrev pub HaveResults : Declared → Type 0
 HaveResults options = (words : List Text) → AreTexts words → HasResults options words
 
 -- Each occurrence of each name has the same value, or none in both; the free words are the same.
--- Two matches hold the same; positions and the trailing start may differ.
+-- Two matches have the same values and free words; positions and the trailing start may differ.
 pub record HoldSame (matches other : Matched) : Type 0 where
   pub values : (name : Text)
       → each_value (found_of other.groups name) ≡ each_value (found_of matches.groups name)
   pub free : other.free ≡ matches.free
 
--- Words with the content of accepted words are accepted, with matches that hold the same.
+-- Words with the content of accepted words are accepted, with the same values and free words.
 abbrev pub OneContentHoldsSame : Declared → Type 0
 OneContentHoldsSame options = (words others : List Text) (reading other : Reading)
     (matches : Matched)
@@ -58,14 +58,14 @@ OneContentHoldsSame options = (words others : List Text) (reading other : Readin
     → IsAccepted options others (matches_of options other)
     × HoldSame matches (matches_of options other)
 
--- The line is accepted, with matches that hold the same as these.
+-- The line is accepted, with the values and free words of these matches.
 pub record ReadAgain (options : Declared) (line : List Text) (matches : Matched) : Type 0 where
   pub again : Matched
   pub accepted : IsAccepted options line again
   pub same : HoldSame matches again
 
 -- This is true in any style and mode.
--- A canonical line, read again, gives matches that hold the same as those of the words.
+-- A canonical line, read again, gives the same values and free words as the original words.
 abbrev pub LinesReadAgain : Declared → Type 0
 LinesReadAgain options = (words line : List Text) (matches : Matched) → IsWritten options words line
     → HasReading options words matches → (style : ParsingStyle) (long_only : Bool)

@@ -1,5 +1,5 @@
 -- What the first word of a command line gives, with the words after it. Clauses of `scan` say that
--- the code finds this, and lemmas on readings that it agrees with `Reading`.
+-- the code finds this, and lemmas show that it agrees with `Reading`.
 use Rattle.std.specs.Prelude.{◌≡◌, ◌≢◌, ◌==◌, ℕ, List, [], ◌∷◌, ◌++◌, length, map, Option}
 use Rattle.std.specs.Prelude.{Some, None, Result, Ok, Err, if◌then◌else◌, false, encode_utf8}
 use Rattle.std.specs.Option.{option_map_or}

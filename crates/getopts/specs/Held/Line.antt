@@ -18,7 +18,7 @@ use Rattle.getopts.specs.declared.scan.Shape.TheVariants as shape
 abbrev pub scanner_grammar : Scanner → Grammar
 scanner_grammar scanner = grammar_of scanner.options.now
 
--- The scanner's options may be declared, and its table is the one of their names.
+-- The scanner's options may be declared, and its table is the table of their names.
 pub record IsLawfulScanner (scanner : Scanner) : Type 0 where
   pub declared : MayBeDeclared scanner.options.now.groups
   pub table : IsTableOf (names_of scanner.options.now.groups) scanner.table.now
@@ -36,7 +36,7 @@ HasShape grammar word (shape.Long text) =
     (dashes : Dashes) × IsInLongForm grammar dashes word text.now
 HasShape grammar word (shape.Cluster text) = IsShortForm grammar word text.now
 
--- The words have a reading, and the line holds what it gives.
+-- The words have a reading, and the line is what it gives.
 pub record ReadsLine (grammar : Grammar) (words : List Text) (line : Line) : Type 0 where
   pub reading : Reading
   pub reads : IsReading grammar reading words

@@ -16,13 +16,13 @@ pub record IsOfSignatures (signatures : List Signature) (read : ReadLine) : Type
   pub table : IsTableOf (names_in signatures) read.table
   pub index : read.index ≡ index_of (length signatures) read.line.found
 
--- The words were read to this line, by options that may be declared.
+-- The words were read as this line, by options that may be declared.
 pub record IsReadLine (options : Declared) (words : List Text) (read : ReadLine) : Type 0 where
   pub declared : MayBeDeclared options.groups
   pub of_groups : IsOfSignatures (signatures_of options.groups) read
   pub reads : ReadsLine (grammar_of options) words read.line
 
--- The words were read to this line, and it keeps the counts.
+-- The words were read as this line, and it keeps the counts.
 pub record IsAcceptedLine (options : Declared) (words : List Text) (read : ReadLine) : Type 0 where
   pub is_read : IsReadLine options words read
   pub keeps : KeepsCounts (matched 0 (signatures_of options.groups) read.line.found)
