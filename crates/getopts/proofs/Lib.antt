@@ -10,7 +10,7 @@ pub mod Scanner
 pub mod Lookup
 -- what data structures hold, and how it is seen
 pub mod Held
--- from a reading or a fault to the result of `parse`
+-- from a reading or an error to the result of `parse`
 pub mod Parsing
 -- canonical lines, and the result of `canonical`
 pub mod Canonical

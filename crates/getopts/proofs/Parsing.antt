@@ -1,4 +1,4 @@
--- From a reading or a fault to the result of `parse`.
+-- From a reading or an error to the result of `parse`.
 pub mod Only
 pub mod Faults
 pub mod Counts

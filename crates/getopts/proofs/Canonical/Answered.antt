@@ -196,7 +196,7 @@ first_broken (first ∷ before) (second ∷ others) group other after more same
     let later : before ++ group ∷ after ≡ others ++ other ∷ more = cc in
     first_broken before others group other after more later kept.1 broken kept_other.1 broken_other
 
--- groups have one count fault
+-- groups have one count error
 only_count_fault : (groups : List MatchedGroup) (fault other : Fault) → IsCountFault groups fault
     → IsCountFault groups other → fault ≡ other
 only_count_fault groups fault other is is_other =

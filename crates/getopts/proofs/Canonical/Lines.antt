@@ -42,11 +42,11 @@ use Rattle.getopts.proofs.Reading.Turns.{IsNamed}
 abbrev HasPlainMain : List Group → ℕ → Type 0
 HasPlainMain groups place = holds_equals (main_at groups place) ≡ false
 
--- the group at this place is what its own main name resolves to
+-- the main name of the group at this place resolves to that group
 abbrev pub AnswersMain : List Group → ℕ → Type 0
 AnswersMain groups place = resolution (names_of groups) (main_at groups place) ≡ Some place
 
--- the group that a name resolves to is what its own main name resolves to
+-- the main name of the group that a name resolves to, resolves to that group
 pub AnswersMain-resolution : (groups : List Group) (name : Text) (place : ℕ)
     → resolution (names_of groups) name ≡ Some place → AnswersMain groups place
 AnswersMain-resolution groups name place resolves =
@@ -86,7 +86,7 @@ FitsGroup-within groups m fits = there groups m.group fits.0 fits.1 where
 abbrev pub IsFitting : List Group → Content → Type 0
 IsFitting groups content = AllByRecursion (FitsGroup groups) content.mentions
 
--- a mention as a lawful item may have it
+-- a mention as a valid item may have it
 record IsGood (groups : List Group) (m : Mention) : Type 0 where
   own : AnswersMain groups m.group
   fits : FitsGroup groups m
@@ -108,7 +108,7 @@ IsGood-mention options name kind value signature fits =
             fits = (kind, there, fits);
           })
 
--- a lawful argument gives a value that the kind may have
+-- a valid argument gives a value that the kind may have
 FitsKind-long : (kind : HasArg) (argument : Argument) → FitsLong kind argument
     → FitsKind kind (value_of argument)
 FitsKind-long No none fits = fits
@@ -131,7 +131,7 @@ FitsKind-end Maybe none fits = fits
 FitsKind-end Maybe (attached value) fits = tt
 FitsKind-end Maybe (separate word) fits = tt
 
--- the mentions of flags, of a lawful item and of lawful items
+-- the mentions of flags, of a valid item and of valid items
 IsGood-flags : (options : Declared) (names : List ℕ)
     → AllByRecursion (IsFlag (grammar_of options)) names
     → AllByRecursion (IsGood options.groups)
@@ -224,7 +224,7 @@ spelled_all-canonical groups (m ∷ ms) more = rw (
   spelled_all-canonical groups ms more,
 ) refl
 
--- a canonical item is lawful, if the main name contains no `=`
+-- a canonical item is valid, if the main name contains no `=`
 IsLawfulItem-canonical : (options : Declared) (m : Mention) → IsGood options.groups m
     → HasPlainMain options.groups m.group
     → IsLawfulItem (grammar_of options) (canonical_item options.groups m)
@@ -529,7 +529,7 @@ no_name-equals name main (separate word) cut_once holds same =
     true≢false (sym (holds_equals-append main (equals_sign ∷ word) holds)
     ∙ ap holds_equals (sym same ∙ append-nil name) ∙ cut_once)
 
--- if the main name contains `=`, no lawful item with this one mention spells the canonical word
+-- if the main name contains `=`, no valid item with this one mention spells the canonical word
 pub HasNoItem-equals : (options : Declared) (m : Mention)
     → holds_equals (main_at options.groups m.group) ≡ true → HasNoItem options m
 HasNoItem-equals options m holds style long_only (free word) lawful just same = absurd cc

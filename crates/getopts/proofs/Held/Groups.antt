@@ -61,14 +61,14 @@ names_at-signature (first ∷ signatures) zero signature is =
 names_at-signature (first ∷ signatures) (suc place) signature is =
     names_at-signature signatures place signature is
 
--- if groups are lawfully named, the names at a place are lawful
+-- if groups have valid names, the names at a place are valid
 pub fits_at : (groups : List Names) → AllByRecursion IsLawfullyNamed groups → (i : ℕ)
     → i < length groups → IsLawfullyNamed (names_at groups i)
 fits_at [] lawful i within = absurd (omega (arith, within))
 fits_at (first ∷ groups) lawful zero within = lawful.0
 fits_at (first ∷ groups) lawful (suc i) within = fits_at groups lawful.1 i (omega (arith, within))
 
--- names of lawful signatures are lawful
+-- names of valid signatures are valid
 pub lawful_names : (signatures : List Signature) → AreLawfulSignatures signatures
     → AllByRecursion IsLawfullyNamed (names_in signatures)
 lawful_names signatures lawful = AllByRecursion-map IsLawfullyNamed (λ (s : Signature). s.names)
@@ -208,7 +208,7 @@ main_at-names [] place = refl
 main_at-names (group ∷ groups) zero = refl
 main_at-names (group ∷ groups) (suc place) = main_at-names groups place
 
--- groups with lawful signatures may be declared
+-- groups with valid signatures may be declared
 pub MayBeDeclared-lawful : (groups : List Group) → AreLawfulSignatures (signatures_of groups)
     → MayBeDeclared groups
 MayBeDeclared-lawful groups lawful = record {

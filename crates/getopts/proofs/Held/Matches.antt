@@ -1,4 +1,4 @@
--- What matches hold, in terms of the code's groups and list.
+-- What is in matches, in terms of the code's groups and list.
 use Rattle.std.proofs.Common.{◌≡◌, ℕ, suc, zero, ◌+◌, ◌<◌, ◌≤◌, true, false, List, [], ◌∷◌, map}
 use Rattle.std.proofs.Common.{length, Option, Some, None, unwrap_or, slice_get, refl, ap, sym, ◌∙◌}
 use Rattle.std.proofs.Common.{subst, inl, inr, arith, zero-add}
@@ -26,7 +26,7 @@ use Rattle.getopts.proofs.Parsing.Counts.{length-matched}
 use Rattle.getopts.proofs.Held.Index.{filter_map-places_of, places_of-within}
 use Rattle.getopts.proofs.Held.Index.{slice_get-places_by_group, length-places_by_group}
 
--- the names of the groups that matches hold
+-- the names of the groups in the matches
 names-matched : (first : ℕ) (signatures : List Signature) (occurrences : List Occurrence)
     → map (λ (group : MatchedGroup). group.signature.names) (matched first signatures occurrences)
     ≡ map (λ (signature : Signature). signature.names) signatures
@@ -35,7 +35,7 @@ names-matched first (signature ∷ signatures) occurrences =
     ap (λ (more : List Names). signature.names ∷ more)
     (names-matched (first + 1) signatures occurrences)
 
--- the signatures of the groups that matches hold
+-- the signatures of the groups in the matches
 pub signatures-matched : (first : ℕ) (signatures : List Signature) (occurrences : List Occurrence)
     → map (λ (group : MatchedGroup). group.signature) (matched first signatures occurrences)
     ≡ signatures
@@ -55,7 +55,7 @@ found-matched first (signature ∷ signatures) occurrences (suc i) within =
     found-matched (first + 1) signatures occurrences i (omega arith)
     ∙ ap (λ (n : ℕ). found_at n occurrences) (omega arith)
 
--- lawfully named groups are held as such
+-- if groups have valid names, so do the groups in the matches
 pub AreHeldLawfully-matched : (first : ℕ) (signatures : List Signature)
     (occurrences : List Occurrence)
     → AllByRecursion (λ signature. IsLawfullyNamed signature.names) signatures
@@ -64,7 +64,7 @@ AreHeldLawfully-matched first [] occurrences lawful = tt
 AreHeldLawfully-matched first (signature ∷ signatures) occurrences lawful =
     (lawful.0, AreHeldLawfully-matched (first + 1) signatures occurrences lawful.1)
 
--- a name resolves among the groups that matches hold as among their names
+-- a name resolves among the groups in the matches as among their names
 pub place_of-matched : (signatures : List Signature) (occurrences : List Occurrence) (name : Text)
     → resolution (names_in signatures) name ≡ place_of (matched 0 signatures occurrences) name
 place_of-matched signatures occurrences name = ap (λ (names : List Names). resolution names name)
@@ -138,7 +138,7 @@ texts_of_pairs (found ∷ founds) = of_value found.value (texts_of_pairs founds)
   of_value None same = same
   of_value (Some text) same = ap (λ (more : List Text). text ∷ more) same
 
--- the same for pairs as the code holds them
+-- the same for pairs as the code stores them
 pub texts_of_held_pairs : (pairs : List (ℕ × String Global)) (founds : List Found)
     → map pair_view pairs ≡ pairs_of founds
     → map (λ (pair : ℕ × String Global). string_bytes pair.1) pairs ≡ values_of founds

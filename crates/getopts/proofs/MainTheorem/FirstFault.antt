@@ -1,4 +1,4 @@
--- The fault of the first group that breaks its count, computed.
+-- The error of the first group that breaks its count, computed.
 use Rattle.std.proofs.Common.{◌≡◌, ℕ, Bool, true, false, List, [], ◌∷◌, length, arith}
 use Rattle.std.proofs.Common.{Option, Some, None, MatchOption, refl, ap, subst}
 use Rattle.std.specs.Prelude.{if◌then◌else◌}
@@ -23,7 +23,7 @@ fits_count-false Req count breaks = λ fits. grind (arith, nat_tests)
 fits_count-false Optional count breaks = λ fits. grind (arith, nat_tests)
 fits_count-false Multi count breaks = cc
 
--- the groups keep their counts, or this is their fault
+-- the groups keep their counts, or this is their error
 abbrev pub HaveFault : List MatchedGroup → Option Fault → Type 0
 HaveFault groups fault = MatchOption fault (KeepsCounts groups) (IsCountFault groups)
 
@@ -60,14 +60,14 @@ HaveFault-first group groups others false breaks = record {
   fault_is = refl;
 }
 
--- the computed fault is the groups' fault
+-- the computed error is the groups' error
 pub first_count_fault-is : (groups : List MatchedGroup)
     → HaveFault groups (first_count_fault groups)
 first_count_fault-is [] = tt
 first_count_fault-is (group ∷ groups) = HaveFault-first group groups (first_count_fault-is groups)
     (fits_count group.signature.occurrence (length group.found)) refl
 
--- groups that keep their counts have no fault
+-- groups that keep their counts have no error
 pub no_fault : (groups : List MatchedGroup) → KeepsCounts groups → (fault : Option Fault)
     → HaveFault groups fault → fault ≡ None
 no_fault groups kept None has = refl

@@ -1,4 +1,4 @@
--- Literal names: a test whether they are lawful, and texts.
+-- Literal names: a test whether they are valid, and texts.
 use Rattle.std.proofs.Common.{◌≡◌, ◌==◌, ◌≤◌, ◌+◌, zero, suc, Bool, true, false, ◌&&◌, not}
 use Rattle.std.proofs.Common.{nat_lt, List, [], ◌∷◌, length, arith}
 use Rattle.std.specs.List.{list_all}
@@ -15,7 +15,7 @@ is_plain_short [] = true
 is_plain_short (byte ∷ []) = nat_lt byte 128
 is_plain_short (byte ∷ other ∷ more) = false
 
--- whether names are lawful and the short one is ASCII
+-- whether names are valid and the short one is ASCII
 abbrev pub are_plain_names : Names → Bool
 are_plain_names names =
     is_plain_short names.short && (not (length names.long == 1) && nat_lt 0

@@ -57,7 +57,7 @@ module _ (options : Declared) (declared : MayBeDeclared options.groups) (words :
         unwritable = HasUnwritable-content options content not_plain;
       }
 
-  -- the result of the line, by the fault of its counts
+  -- the result of the line, by the error of its counts
   counted : (reading : Reading) → IsReading (grammar_of options) reading words
       → (fault : Option Fault)
       → HaveFault (matches_of options reading).groups fault
@@ -169,7 +169,7 @@ module _ (options : Declared) (declared : MayBeDeclared options.groups) (words :
             (canonical_result options words) is line.2);
       }
 
--- A call that returns what is accepted, or the fault for which words are rejected, is right.
+-- A call that returns what is accepted, or the error for which words are rejected, is right.
 pub GivesResult-parse : (options : Declared) (words : List Text) → HasResults options words
     → (answer : Result Matched Fail) → IfOk answer (IsAccepted options words)
     → IfErr answer (λ fail. Tells fail (IsRefused options words))

@@ -1,4 +1,4 @@
--- The main theorem, for options that are lawfully named, with texts.
+-- The main theorem, for options whose names are valid texts.
 use Rattle.std.proofs.Common.{◌⊎◌, List, refl, sym, subst, inl, inr}
 use Rattle.getopts.specs.Names.{Text, AreTexts}
 use Rattle.getopts.specs.Options.{Declared, MayBeDeclared, grammar_of}
@@ -56,7 +56,7 @@ module _ (options : Declared) (declared : MayBeDeclared options.groups) where
     λ has. subst (IsAccepted options words) (sym has.2) (accepted words has.0 has.1),
   )
 
-  -- the first fault
+  -- the first error
   abbrev IsFirstFault : List Text → Fault → Type 0
   IsFirstFault words fault = IsScanFault (grammar_of options) words fault
       ⊎ ((reading : Reading) × IsReading (grammar_of options) reading words

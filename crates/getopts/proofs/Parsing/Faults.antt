@@ -9,7 +9,7 @@ told_of : (told : Option Fault) (fault : Fault) (Q : Fault → Type 0)
 told_of None fault Q tells holds = tt
 told_of (Some f) fault Q tells holds = subst Q (sym tells) holds
 
--- an error with this fault has a fault with the properties of this fault
+-- a `Fail` with this error has an error with the properties of this error
 pub Tells-one : (fail : Fail) (fault : Fault) (Q : Fault → Type 0) → Tells fail (λ f. f ≡ fault)
     → Q fault → Tells fail Q
 Tells-one fail fault Q tells holds = told_of (fault_of fail) fault Q tells holds
@@ -19,7 +19,7 @@ weaker_of : (told : Option Fault) (P Q : Fault → Type 0) → MatchOption told 
 weaker_of None P Q tells holds = tt
 weaker_of (Some f) P Q tells holds = holds f tells
 
--- the fault of an error has all properties that follow from its properties
+-- the error of a `Fail` has all properties that follow from its properties
 pub Tells-weaker : (fail : Fail) (P Q : Fault → Type 0) → Tells fail P
     → ((fault : Fault) → P fault → Q fault) → Tells fail Q
 Tells-weaker fail P Q tells holds = weaker_of (fault_of fail) P Q tells holds

@@ -1,4 +1,4 @@
--- What accepted matches hold about the declared names.
+-- What accepted matches say about the declared names.
 use Rattle.std.proofs.Common.{◌≡◌, ◌==◌, ◌<◌, ◌+◌, ℕ, zero, suc, Bool, true, false, cond, List, []}
 use Rattle.std.proofs.Common.{◌∷◌, drop, length, map, slice_get, Option, Some, None, IfSome, IsSome}
 use Rattle.std.proofs.Common.{refl, ap, sym, subst, ◌∙◌, arith, add-zero, zero-add}
@@ -213,7 +213,7 @@ module _ (options : Declared) (words : List Text) (matches : Matched)
       ≡ matched 0 (signatures_of options.groups) (occurrences_of (grammar_of options) has.reading)
   groups_are = ap (λ (m : Matched). m.groups) has.matches_are
 
-  -- matches hold the groups of the options
+  -- the matches have the groups of the options
   AreGroupsOf-read : AreGroupsOf options matches.groups
   AreGroupsOf-read = ap (map (λ (group : MatchedGroup). group.signature)) groups_are
       ∙ signatures-matched 0 (signatures_of options.groups)

@@ -1,4 +1,4 @@
--- What lawfully named options find in words is what `parse` returns.
+-- What options with valid names find in words is what `parse` returns.
 use Rattle.std.proofs.Common.{◌≡◌, ℕ, List, length, Option, ap, sym, subst}
 use Rattle.getopts.specs.Only.{IsTheOnly}
 use Rattle.getopts.specs.Names.{Text, AreTexts}
@@ -32,7 +32,7 @@ module _ (options : Declared) (declared : MayBeDeclared options.groups) where
         (λ other other_reads. only_reading (grammar_of options) named_here words other reading
         other_reads reads)
 
-    -- a scan fault leaves no reading and no other fault
+    -- a scan error leaves no reading and no other error
     pub HasNoReading-fault : AreTexts words → (fault : Fault)
         → IsScanFault (grammar_of options) words fault → HasNoReading options words fault
     HasNoReading-fault texts fault fault_is = record {

@@ -47,13 +47,13 @@ is_dashed-long : (grammar : Grammar) (dashes : Dashes) (name text : Text)
 is_dashed-long grammar one name text before ordinary = cc (before.0, ordinary)
 is_dashed-long grammar two name text before ordinary = refl
 
--- the word of a lawful cluster is dashed
+-- the word of a valid cluster is dashed
 is_dashed-cluster : (grammar : Grammar) (names : List ℕ) (end : End)
     → IsLawfulCluster grammar names end → is_dashed (dash ∷ (names ++ end_text end)) ≡ true
 is_dashed-cluster grammar names end lawful =
     short_dashed grammar _ _ (lawful_short grammar names end lawful)
 
--- When new items may replace old ones before these words: they are lawful and well
+-- When new items may replace old ones before these words: they are valid and well
 -- followed if the old ones are, and begin with a dashed word in ordinary mode.
 record FitInPlace (grammar : Grammar) (old new : List Item) (more : List Text) : Type 0 where
   lawful : AllByRecursion (IsLawfulItem grammar) old → AllByRecursion (IsLawfulItem grammar) new
@@ -194,7 +194,7 @@ module _ (grammar : Grammar) (item longer : Item)
       (free_items-append (item ∷ []) back ∙ ap (λ frees. frees ++ free_items back) (sym same_free)
       ∙ sym (free_items-append (longer ∷ []) back)) reads
 
--- a lawful long item fits in place of one with the same name
+-- a valid long item fits in place of one with the same name
 FitInPlace-long : (grammar : Grammar) (dashes other : Dashes) (name : Text)
     (argument new_argument : Argument) (back : List Item) (more : List Text)
     → (IsLawfulLong grammar dashes name argument → IsLawfulLong grammar other name new_argument)
@@ -206,7 +206,7 @@ FitInPlace-long grammar dashes other name argument new_argument back more lawful
   followed = λ each. (λ bare. cc bare, each.1);
 }
 
--- a lawful long item of kind Yes stays lawful with another argument that Yes may have
+-- a valid long item of kind Yes stays valid with another argument that Yes may have
 IsLawfulLong-yes : (grammar : Grammar) (dashes : Dashes) (name : Text)
     (argument new_argument : Argument) → grammar.kind name ≡ Some Yes → FitsLong Yes new_argument
     → IsLawfulLong grammar dashes name argument → IsLawfulLong grammar dashes name new_argument
@@ -312,7 +312,7 @@ is_bare-rest flag names flags bare = bare
 is_bare-rest flag names (ends_in option none) bare = bare
 is_bare-rest flag names (ends_in option argument) bare = bare
 
--- the rest of a cluster ends lawfully, if it isn't empty
+-- the rest of a cluster has a valid end, if it isn't empty
 IsLawfulEnd-rest : (grammar : Grammar) (flag : ℕ) (names : List ℕ) (end : End)
     → names ++ end_text end ≢ [] → IsLawfulEnd grammar (flag ∷ names) end
     → IsLawfulEnd grammar names end

@@ -1,4 +1,4 @@
--- Whole lines: `read` gives the one reading of a line, or its one fault.
+-- Whole lines: `read` gives the only reading of a line, or its only error.
 use Rattle.std.proofs.Common.{◌≡◌, List, [], ◌∷◌, ◌++◌, drop, Result, Ok, Err, refl, sym, ap}
 use Rattle.std.proofs.Common.{◌∙◌, subst, append_assoc, append-nil}
 use Rattle.std.specs.List.{AllByRecursion}
@@ -39,7 +39,7 @@ module _ (grammar : Grammar) (word : Text) (more : List Text) where
   read_tail tail e =
       ap (λ (t : Turn). after_turn t (read_both grammar more).0 (read_both grammar more).1) e
 
-  -- a fault
+  -- an error
   pub read_error : (fault : Fault) → turn grammar word more ≡ faults fault
       → read grammar (word ∷ more) ≡ Err fault
   unfolding read
@@ -70,7 +70,7 @@ pub with_items-append : (items others : List Item) (outcome : Result Reading Fau
 with_items-append items others (Ok reading) = rw append_assoc refl
 with_items-append items others (Err fault) = refl
 
--- lawful items go in front of the outcome of the words after them
+-- valid items go in front of the outcome of the words after them
 pub items_read : (grammar : Grammar) → IsNamed grammar → (items : List Item) (more : List Text)
     → AllByRecursion (IsLawfulItem grammar) items → AreWellFollowed items more
     → read grammar (spelled_all items more) ≡ with_items items (read grammar more)
@@ -81,7 +81,7 @@ items_read grammar named (item ∷ items) more lawful followed =
     ∙ ap (with_items (item ∷ [])) (items_read grammar named items more lawful.1 followed.1)
     ∙ sym (with_items-append (item ∷ []) items (read grammar more))
 
--- a lawful tail
+-- a valid tail
 tail_read : (grammar : Grammar) (tail : Tail) → IsLawfulTail grammar tail
     → read grammar (tail_words tail) ≡ Ok (record { items = []; tail = tail })
 tail_read grammar line_end lawful = read_nil grammar
@@ -145,7 +145,7 @@ followed-append (item ∷ items) more followed dashed = (
   followed-append items more followed.1 dashed,
 )
 
--- if a line has a fault, `read` returns it
+-- if a line has an error, `read` returns it
 pub fault_read : (grammar : Grammar) → IsNamed grammar → (words : List Text) (fault : Fault)
     → AreTexts words → IsScanFault grammar words fault → read grammar words ≡ Err fault
 fault_read grammar named words fault texts is =
@@ -163,7 +163,7 @@ fault_read grammar named words fault texts is =
     ∙ ap (with_items is.items) (read_error grammar is.word is.after fault
     (fault_turn grammar named is.word is.after fault utf8.0 is.fault_at))
 
--- The laws of a line: at most one reading, at most one fault, and never both.
+-- The laws of a line: at most one reading, at most one error, and never both.
 module _ (grammar : Grammar) (named : IsNamed grammar) (words : List Text) where
   -- two readings of a line are equal
   pub only_reading : (r s : Reading) → IsReading grammar r words → IsReading grammar s words → r ≡ s
@@ -172,7 +172,7 @@ module _ (grammar : Grammar) (named : IsNamed grammar) (words : List Text) where
       let read_s = reading_read grammar named s words second in
       cc
 
-  -- two faults of a line are equal
+  -- two errors of a line are equal
   pub only_fault : (f g : Fault) → AreTexts words → IsScanFault grammar words f
       → IsScanFault grammar words g → f ≡ g
   only_fault f g texts first second =
@@ -180,7 +180,7 @@ module _ (grammar : Grammar) (named : IsNamed grammar) (words : List Text) where
       let read_g = fault_read grammar named words g texts second in
       cc
 
-  -- a line with a fault has no reading
+  -- a line with an error has no reading
   pub no_reading : (f : Fault) (r : Reading) → AreTexts words → IsScanFault grammar words f
       → IsReading grammar r words → ⊥
   no_reading f r texts fault reading =
@@ -188,7 +188,7 @@ module _ (grammar : Grammar) (named : IsNamed grammar) (words : List Text) where
       let read_r = reading_read grammar named r words reading in
       cc
 
--- The line has the reading or fault of its outcome.
+-- The line has the reading or error of its outcome.
 abbrev pub IsSoundOutcome : Grammar → List Text → Result Reading Fault → Type 0
 IsSoundOutcome grammar words (Ok reading) = IsReading grammar reading words
 IsSoundOutcome grammar words (Err fault) = IsScanFault grammar words fault
@@ -204,7 +204,7 @@ reading_step grammar words item others reading begins is = record {
   followed = (λ bare. subst EndsOrIsDashed (sym is.spells) (begins.followed bare), is.followed);
 }
 
--- a fault of the words after an item is a fault of the line
+-- an error of the words after an item is an error of the line
 fault_step : (grammar : Grammar) (words : List Text) (item : Item) (others : List Text)
     (fault : Fault) → BeginsWith grammar words item others → IsScanFault grammar others fault
     → IsScanFault grammar words fault
@@ -245,7 +245,7 @@ tail_sound : (grammar : Grammar) (words : List Text) (tail : Tail) → IsLawfulT
 tail_sound grammar words tail lawful spells =
     record { spells = spells; items = tt; tail = lawful; followed = tt }
 
--- a line whose first word has a fault
+-- a line whose first word has an error
 fault_here : (grammar : Grammar) (word : Text) (more : List Text) (fault : Fault)
     → IsFaultAt grammar word more fault → IsScanFault grammar (word ∷ more) fault
 fault_here grammar word more fault at = record {

@@ -41,7 +41,7 @@ pub record BeginsWith (grammar : Grammar) (words : List Text) (item : Item) (mor
   pub lawful : IsLawfulItem grammar item
   pub followed : is_bare item ≡ true → EndsOrIsDashed more
 
--- A turn is right about a line that begins with this word: its tail, its item or its fault.
+-- A turn is right about a line that begins with this word: its tail, its item or its error.
 abbrev pub IsSoundTurn : Grammar → Text → List Text → Turn → Type 0
 IsSoundTurn grammar word more (ends tail) = IsLawfulTail grammar tail
     × (tail_words tail ≡ word ∷ more)
@@ -442,14 +442,14 @@ end_chosen Maybe name none [] fits followed = refl
 end_chosen Maybe name none (next ∷ others) fits followed = rw (followed refl) refl
 end_chosen Maybe name (separate next) more fits followed = rw fits refl
 
--- a cluster with a lawful end isn't empty after its dash
+-- a cluster with a valid end isn't empty after its dash
 filled_from_lawful : (grammar : Grammar) (names : List ℕ) (end : End)
     → IsLawfulEnd grammar names end → names ++ end_text end ≢ []
 filled_from_lawful grammar names flags last nil = last (sym (append-nil names) ∙ nil)
 filled_from_lawful grammar names (ends_in option argument) last nil =
     filled-append names option (unwrap_or (attached_argument argument) []) nil
 
--- a lawful cluster's word is in short form
+-- a valid cluster's word is in short form
 pub lawful_short : (grammar : Grammar) (names : List ℕ) (end : End)
     → IsLawfulCluster grammar names end
     → IsShortForm grammar (dash ∷ (names ++ end_text end)) (names ++ end_text end)
@@ -468,7 +468,7 @@ pub byte_turn-end : (kind : HasArg) (bytes : List ℕ) (byte : ℕ) (text : Text
 byte_turn-end No bytes byte text more after other = absurd (other refl)
 byte_turn-end kind bytes byte text more after other = refl
 
--- the words that a lawful item spells
+-- the words that a valid item spells
 pub spelled_turn : (grammar : Grammar) → IsNamed grammar → (item : Item) (more : List Text)
     → IsLawfulItem grammar item → (is_bare item ≡ true → EndsOrIsDashed more)
     → TakesItem grammar (spelled item more) item more
@@ -581,7 +581,7 @@ first_byte byte text ascii utf8 =
     let whole : encode_utf8 byte ++ text ≡ byte ∷ text = ap (λ (t : Text). t ++ text) encoded in
     ap first_char (sym whole) ∙ first_char-append byte text (subst IsUtf8 (sym whole) utf8) ∙ encoded
 
--- a word with a fault
+-- a word with an error
 pub fault_turn : (grammar : Grammar) → IsNamed grammar
     → (word : Text) (more : List Text) (fault : Fault) → IsUtf8 word
     → IsFaultAt grammar word more fault → turn grammar word more ≡ faults fault
@@ -605,7 +605,7 @@ fault_turn grammar named word more fault utf8 (short_unfinished option has kind 
     rw ended (short_turn_byte grammar word has.bytes option [] [] (Some Yes)
     (short_of grammar word _ has (filled-append has.bytes option [])) has.each kind)
 
--- a word with a fault is dashed
+-- a word with an error is dashed
 pub fault_dashed : (grammar : Grammar) (word : Text) (more : List Text) (fault : Fault)
     → IsFaultAt grammar word more fault → is_dashed word ≡ true
 fault_dashed grammar word more fault (unknown_name name argument form unknown) =

@@ -40,7 +40,7 @@ module _ (grammar : Grammar) (dashes : Dashes) (text name : Text) (argument : Op
   long_turn-named kind kind_is = ap (λ (t : Text). long_turn grammar dashes t after) text_is
       ∙ long_turn_cut grammar dashes name argument after kind cut_once kind_is
 
-  -- an error with its fault
+  -- a `Fail` with its error
   pub Tells-long : (kind : Option HasArg) → grammar.kind name ≡ kind
       → (fail : Fail) (fault : Fault)
       → named_turn kind dashes name argument after ≡ faults fault → Tells fail (λ f. f ≡ fault)

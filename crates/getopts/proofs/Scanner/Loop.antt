@@ -213,7 +213,7 @@ module _ {grammar : Grammar} (named : IsNamed grammar) {X : Type 0} (text : X �
         (ap (λ (w : Text). turn grammar w (map text (drop (at + 1) words))) stops
         ∙ turn_stop grammar (map text (drop (at + 1) words)))
 
-    -- an error with the fault of the word there
+    -- a `Fail` with the error of the word there
     pub Tells-word : (said : Turn) (fail : Fail)
         → turn grammar (text d) (map text (drop (at + 1) words)) ≡ said
         → Tells fail (λ fault. said ≡ faults fault)

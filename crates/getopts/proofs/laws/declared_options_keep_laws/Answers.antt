@@ -1,4 +1,4 @@
--- Declared options are lawfully named, with texts, so the laws hold.
+-- Declared options have valid names, which are texts, so the laws hold.
 use Rattle.getopts.proofs.MainTheorem.Callers.{OneContentHoldsSame_lem}
 use Rattle.getopts.proofs.Parsing.Parsed.{keeps_laws}
 use Rattle.getopts.proofs.MainTheorem.Theorem.{AcceptedExactlyWhen-options}

@@ -1,4 +1,4 @@
--- Words determine their reading, counts and faults.
+-- Words determine their reading, counts and errors.
 use Rattle.getopts.proofs.Canonical.Answered.{only_parse_answer, only_canonical_answer}
 use Rattle.getopts.proofs.laws.equal_input_equal_answers.Goals as goal
 

@@ -1,4 +1,4 @@
--- The facts about resolution, for the groups that matches hold.
+-- The facts about resolution, for the groups in the matches.
 use Rattle.getopts.specs.Accessors.{held_names}
 use Rattle.getopts.specs.Names.{IsLawfullyNamed}
 use Rattle.getopts.proofs.Lists.{AllByRecursion-map}

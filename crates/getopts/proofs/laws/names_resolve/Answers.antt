@@ -1,4 +1,4 @@
--- The facts about resolution, for lawfully named groups.
+-- The facts about resolution, for groups with valid names.
 use Rattle.getopts.specs.Names.{IsLawfullyNamed}
 use Rattle.getopts.proofs.Lists.{AllByRecursion-map}
 use Rattle.getopts.proofs.Lookup.Names.{resolution-main_name, OneByteIsShort-lawful, resolution-nil}

@@ -1,4 +1,4 @@
--- The invariant of options makes their names lawful, so the laws hold.
+-- The invariant of options makes their names valid, so the laws hold.
 use Rattle.getopts.specs.Canon.{with_setting}
 use Rattle.getopts.proofs.MainTheorem.Callers.{OneContentHoldsSame_lem, LinesReadAgain_lem}
 use Rattle.getopts.proofs.MainTheorem.Results.{HasResults-declared}

@@ -1,4 +1,4 @@
--- A record has the keys and the kinds of its group, which is lawful.
+-- A record has the keys and the kinds of its group, which is valid.
 use Rattle.std.proofs.Common.{arith, sym, ap}
 use Rattle.std.specs.Option.{option_map}
 use Rattle.std.proofs.lemmas.List.{length-map}

@@ -1,4 +1,4 @@
--- They are equal if there are as many, and those at each place are equal.
+-- They are equal if their lengths and the elements at each place are.
 use Rattle.std.proofs.Common.{sym, ◌∙◌, ◌≡◌, ◌-◌, true, cond, map, List, [], ◌∷◌, ◌==◌, ap}
 use Rattle.std.specs.Cmp.Lexicographic.{pointwise}
 use Rattle.getopts.specs.Names.{Text}

@@ -1,4 +1,4 @@
--- The signatures are lawful.
+-- The signatures are valid.
 use Rattle.std.proofs.Common.{subst}
 use Rattle.getopts.specs.Held.Groups.{AreLawfulSignatures}
 use Rattle.getopts.proofs.Held.Groups.{signatures_held, MayBeDeclared-lawful}

@@ -1,4 +1,4 @@
--- They are equal if there are as many, and those at each place are equal.
+-- They are equal if their lengths and the elements at each place are.
 use Rattle.std.proofs.Common.{sym, ◌∙◌}
 use Rattle.std.proofs.lemmas.Bool.{not-true, not-false}
 use Rattle.std.specs.Option.{option_eq}

@@ -1,4 +1,4 @@
--- There are as many, and those so far are equal.
+-- Both have the same length, and the elements so far are equal.
 use Rattle.std.proofs.Common.{◌≡◌, true, length, take}
 use Rattle.std.specs.Cmp.Lexicographic.{pointwise}
 use Rattle.getopts.specs.Same.{same_group}

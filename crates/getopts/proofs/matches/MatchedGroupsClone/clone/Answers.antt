@@ -1,4 +1,4 @@
--- The copies equal what is held.
+-- The copies equal the stored values.
 use Rattle.std.proofs.Common.{◌≡◌, ◌∙◌, length, sym}
 use Rattle.getopts.specs.Matches.{matched}
 use Rattle.getopts.specs.Held.Index.{index_of}

@@ -1,4 +1,4 @@
--- The copies equal what is held.
+-- The copies equal the stored values.
 use Rattle.std.proofs.Common.{◌≡◌, ◌∙◌}
 use Rattle.std.specs.String.{string_bytes}
 use Rattle.getopts.proofs.Lists.{map-alike}

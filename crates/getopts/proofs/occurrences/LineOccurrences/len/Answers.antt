@@ -1,4 +1,4 @@
--- The count is that of the occurrences that are held.
+-- The count is the number of stored occurrences.
 use Rattle.std.proofs.Common.{arith}
 use Rattle.std.proofs.lemmas.List.{length-map}
 use Rattle.std.specs.String.{string_bytes}

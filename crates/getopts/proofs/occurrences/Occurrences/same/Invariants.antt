@@ -1,4 +1,4 @@
--- There are as many occurrences, and those so far are equal.
+-- Both have the same number of occurrences, and those so far are equal.
 use Rattle.std.proofs.Common.{◌≡◌, true, length, take}
 use Rattle.std.specs.Cmp.Lexicographic.{pointwise}
 use Rattle.getopts.specs.Same.{same_found}

@@ -1,4 +1,4 @@
--- A fault of the words or counts is the line's first fault.
+-- An error of the words or counts is the line's first error.
 use Rattle.std.proofs.Common.{inl, inr, map}
 use Rattle.std.specs.String.{string_bytes}
 use Rattle.std.proofs.lemmas.Result.{err_from_is_err_and}

@@ -1,4 +1,4 @@
--- The line that was read, and its scan fault, belong to the declared options.
+-- The line that was read, and its scan error, belong to the declared options.
 use Rattle.std.proofs.lemmas.Result.{err_from_is_err_and}
 use Rattle.getopts.proofs.MainTheorem.Results.{HasResults-declared}
 use Rattle.getopts.proofs.Parsing.Faults.{Tells-weaker}

@@ -1,4 +1,4 @@
--- Each name of a cluster is a flag, ends it, or is a fault.
+-- Each name of a cluster is a flag, ends it, or is an error.
 use Rattle.std.proofs.Common.{◌+◌, take, slice_index, sym, ◌∙◌, ap, arith, None, Some, rules}
 use Rattle.std.specs.Option.{option_copied}
 use Rattle.std.specs.Str.{IsCharBoundary}

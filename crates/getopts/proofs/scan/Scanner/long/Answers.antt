@@ -1,4 +1,4 @@
--- Each name of a known kind begins an item with its argument, or is a fault.
+-- Each name of a known kind begins an item with its argument, or is an error.
 use Rattle.std.proofs.Common.{map, Some, None, refl, rules}
 use Rattle.std.specs.Option.{option_copied}
 use Rattle.getopts.specs.Fail.{argument_missing, unrecognized_option, unexpected_argument}

@@ -1,4 +1,4 @@
--- Each iteration reads one more item, and each exit has a reading or a fault.
+-- Each iteration reads one more item, and each exit has a reading or an error.
 use Rattle.std.proofs.Common.{refl, map, ◌≡◌, ◌+◌, drop, length, sym, ap, ◌∙◌, arith, rules}
 use Rattle.std.specs.String.{string_bytes}
 use Rattle.std.proofs.lemmas.List.{drop-map, append-nil, drop_all, length-map}
