@@ -1,8 +1,8 @@
 """The pages: their names, quotes and figures match the sources, the proofs and the records. Also: no circular imports,
 and well-formed scripts, Rust and manual pages.
 
-Every figure of ten or more on a page is counted, measured or recorded (FIGURES). --fix updates the figures,
-CONTRACTS.md and the table of mutants in PROOFS.
+Every figure of ten or more on a page is counted, measured or recorded (FIGURES). --fix updates the figures and
+CONTRACTS.md.
 """
 
 import functools
@@ -28,7 +28,7 @@ pages = {name: read(name) for name in tracked if name.endswith(".md")}
 sources = {name: read(name) for name in tracked if re.match(r"crates/\w*/src/.*\.rt$", name)}
 modules = sources | {name: read(name) for name in tracked if re.match(r"bindings/.*\.rs$", name)}
 CALLING, CONTRACTS = (next(name for name in pages if name.endswith(end)) for end in ("CALLING.md", "CONTRACTS.md"))
-edits = {name: read(name) for name in tracked if name.endswith(".edit") and "/private/" not in name}
+edits = [name for name in tracked if name.endswith(".edit") and "/private/" not in name]
 OUTDATED = "out of date: run 'bash test.sh -k pages --fix'"
 
 
@@ -339,17 +339,6 @@ def test_definitions_are_in_the_grammar(crate):
                 passed_over |= name.endswith("/Results.antt") and it in tools and not it.endswith("_result")
                 missing += [] if passed_over or it in named else [f"{it} of {name}"]
     assert_none(missing)
-
-
-def test_mutants(request):
-    """PROOFS lists every mutant except private ones, by crate."""
-    crates, page, head = {}, "docs/PROOFS.md", "| crate | mutants |\n|---|---|\n"
-    for name in sorted(edits):
-        crates.setdefault(name.split("/")[2], []).append(f"`{os.path.basename(name)[:-5]}`")
-    rows = [f"| `{crate}` | {', '.join(bodies)} |\n" for crate, bodies in sorted(crates.items())]
-    wanted = re.sub(rf"(?<={re.escape(head)})(\|.*\n)*", "".join(rows), pages[page], count=1)
-    fix_page(page, wanted, request)
-    assert pages[page] == wanted, OUTDATED
 
 
 # Names of the toolchain, of Rust and of Debian's packages.
