@@ -17,12 +17,15 @@ ghost use Rattle.getopts.specs.Same.{same_found};
 use std::alloc::{AllocError, Global};
 use std::marker::Model;
 
-/// Where a text is in a longer one.
+/// Where a text is in a longer one. If it ends before it starts, there is no text.
 #[derive(Clone, Copy, Debug)]
 pub(crate) struct Span {
     pub start: usize,
     pub end: usize,
 }
+
+/// The place of no text.
+const NO_TEXT: Span = Span { start: 1, end: 0 };
 
 /// A stored occurrence of an option: the place of its group, the index of its item's first word,
 /// and where its value is in the text of all values, if it has one.
@@ -30,7 +33,7 @@ pub(crate) struct Span {
 pub(crate) struct OccurrenceRecord {
     pub group: usize,
     pub position: usize,
-    pub value: Option<Span>,
+    pub value: Span,
 }
 
 /// An occurrence of an option, borrowed: the place of its group, the index of its item's first
@@ -128,12 +131,14 @@ impl LineOccurrences {
             (record { group = result.group; value = option_copied result.value })) }
     {
         let held = self.records[place];
+        let Span { start, end } = held.value;
         Occurrence {
             group: held.group,
             position: held.position,
-            value: match held.value {
-                Some(span) => Some(&self.values[span.start..span.end]),
-                None => None,
+            value: if start <= end {
+                Some(&self.values[start..end])
+            } else {
+                None
             },
         }
     }
@@ -152,8 +157,8 @@ impl LineOccurrences {
         self.records.reserve(1)?;
         let room = self.records.capacity();
         let value = match value {
-            Some(text) => Some(push_value(&mut self.values, text, room)?),
-            None => None,
+            Some(text) => push_value(&mut self.values, text, room)?,
+            None => NO_TEXT,
         };
         self.records.push_reserved(OccurrenceRecord {
             group,

@@ -5,12 +5,15 @@ use crate::fallible::*;
 
 use crate::alloc::{AllocError, Global};
 
-/// Where a text is in a longer one.
+/// Where a text is in a longer one. If it ends before it starts, there is no text.
 #[derive(Clone, Copy, Debug)]
 pub(crate) struct Span {
     pub start: usize,
     pub end: usize,
 }
+
+/// The place of no text.
+const NO_TEXT: Span = Span { start: 1, end: 0 };
 
 /// A stored occurrence of an option: the place of its group, the index of its item's first word,
 /// and where its value is in the text of all values, if it has one.
@@ -18,7 +21,7 @@ pub(crate) struct Span {
 pub(crate) struct OccurrenceRecord {
     pub group: usize,
     pub position: usize,
-    pub value: Option<Span>,
+    pub value: Span,
 }
 
 /// An occurrence of an option, borrowed: the place of its group, the index of its item's first
@@ -79,12 +82,14 @@ impl LineOccurrences {
     #[inline(always)]
     pub(crate) fn at(&self, place: usize) -> Occurrence<'_> {
         let held = self.records[place];
+        let Span { start, end } = held.value;
         Occurrence {
             group: held.group,
             position: held.position,
-            value: match held.value {
-                Some(span) => Some(&self.values[span.start..span.end]),
-                None => None,
+            value: if start <= end {
+                Some(&self.values[start..end])
+            } else {
+                None
             },
         }
     }
@@ -100,8 +105,8 @@ impl LineOccurrences {
         self.records.try_grow(1)?;
         let room = self.records.capacity();
         let value = match value {
-            Some(text) => Some(push_value(&mut self.values, text, room)?),
-            None => None,
+            Some(text) => push_value(&mut self.values, text, room)?,
+            None => NO_TEXT,
         };
         self.records.push_reserved(OccurrenceRecord {
             group,

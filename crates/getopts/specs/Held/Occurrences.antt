@@ -1,7 +1,7 @@
 -- The occurrences of a command line, and those of one group, as they are stored.
-use Rattle.std.specs.Prelude.{◌≡◌, ◌<◌, ◌≤◌, ℕ, List, length, map, slice_get, MatchOption, ⊤}
+use Rattle.std.specs.Prelude.{◌≡◌, ◌<◌, ◌≤◌, if◌then◌else◌, nat_le, ℕ, List, length, map, slice_get}
+use Rattle.std.specs.Prelude.{Option, Some, None}
 use Rattle.std.specs.List.{AllByRecursion, filter_map}
-use Rattle.std.specs.Option.{option_map}
 use Rattle.std.specs.Str.{IsCharBoundary}
 use Rattle.std.specs.String.{string_bytes}
 use Rattle.getopts.specs.Names.{Text}
@@ -12,27 +12,25 @@ use Rattle.getopts.specs.declared.occurrences.Span.{Span}
 use Rattle.getopts.specs.declared.occurrences.OccurrenceRecord.{OccurrenceRecord}
 use Rattle.getopts.specs.declared.occurrences.LineOccurrences.TheInside.{Inside}
 
--- the text at this place
-abbrev pub text_at : Text → Span → Text
-text_at text span = between text span.start span.end
+-- the text at this place, or none if the place ends before it starts
+abbrev pub text_at : Text → Span → Option Text
+text_at text span =
+    if nat_le span.start span.end then Some (between text span.start span.end) else None
 
--- The places are in order, and between characters.
-pub record IsSpanOf (text : Text) (span : Span) : Type 0 where
-  pub start : IsCharBoundary text span.start
-  pub end : (span.start ≤ span.end) × IsCharBoundary text span.end
+-- If there is a text at this place, it is between characters.
+abbrev pub IsSpanOf : Text → Span → Type 0
+IsSpanOf text span = span.start ≤ span.end
+    → IsCharBoundary text span.start × IsCharBoundary text span.end
 
 -- This text is at this place.
 pub record StandsAt (text : Text) (span : Span) (part : Text) : Type 0 where
   pub span_of : IsSpanOf text span
-  pub is : text_at text span ≡ part
+  pub is : text_at text span ≡ Some part
 
 -- the occurrence of a record, by the text of all values
 abbrev pub occurrence_in : Text → OccurrenceRecord → Occurrence
 occurrence_in values held = record {
-  mention = record {
-    group = held.group;
-    value = option_map (text_at values) held.value;
-  };
+  mention = record { group = held.group; value = text_at values held.value };
   position = held.position;
 }
 
@@ -40,14 +38,10 @@ occurrence_in values held = record {
 abbrev pub found_view : Inside → List Occurrence
 found_view inside = map (occurrence_in (string_bytes inside.values)) inside.records.items
 
--- The value of the record, if it has one, is among all values.
-abbrev pub HasItsValue : Text → OccurrenceRecord → Type 0
-HasItsValue values held = MatchOption held.value ⊤ (IsSpanOf values)
-
 -- The value of each record, if it has one, is among all values.
 abbrev pub HaveTheirValues : Inside → Type 0
 HaveTheirValues inside =
-    AllByRecursion (HasItsValue (string_bytes inside.values)) inside.records.items
+    AllByRecursion (λ held. IsSpanOf (string_bytes inside.values) held.value) inside.records.items
 
 -- the occurrences at these places
 abbrev pub founds_at : List Occurrence → List ℕ → List Found

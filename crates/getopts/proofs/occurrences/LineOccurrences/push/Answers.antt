@@ -1,24 +1,24 @@
 -- The occurrence comes last, and its value is at the end of the common text.
-use Rattle.std.proofs.Common.{◌≡◌, ◌++◌, ◌∷◌, [], map, Option, Some, None, append-nil, ap, ◌∙◌}
+use Rattle.std.proofs.Common.{◌≡◌, ◌++◌, ◌∷◌, [], map, append-nil, ap, ◌∙◌, arith}
 use Rattle.std.proofs.lemmas.Str.{IsUtf8-nil}
 use Rattle.std.specs.List.{AllByRecursion}
-use Rattle.std.specs.Option.{option_copied, option_map}
+use Rattle.std.specs.Option.{option_copied}
 use Rattle.std.specs.String.{string_bytes}
-use Rattle.getopts.specs.Names.{Text}
 use Rattle.getopts.specs.Reading.{at_position}
-use Rattle.getopts.specs.Held.Occurrences.{HasItsValue, occurrence_in, text_at}
+use Rattle.getopts.specs.Held.Occurrences.{IsSpanOf, occurrence_in, text_at}
 use Rattle.getopts.specs.declared.occurrences.Span.{Span}
 use Rattle.getopts.specs.declared.occurrences.OccurrenceRecord.{OccurrenceRecord}
 use Rattle.getopts.proofs.Held.Line.{occurrences-push}
 use Rattle.getopts.proofs.occurrences.LineOccurrences.push.Goals as goal
 use Rattle.getopts.proofs.occurrences.LineOccurrences.push.Goals.{
-  in-Some+in_ok-push_value-in-Some,
+  in-Some+in_ok-value-in-Some,
   in-None,
 }
 
 pushed : (c : goal.After-push_reserved)
     → let values = string_bytes c.match-value.self-inside.values in
-    let records = c.push_reserved.new.self.items in AllByRecursion (HasItsValue values) records
+    let records = c.push_reserved.new.self.items in
+    AllByRecursion (λ held. IsSpanOf values held.value) records
     × (map (occurrence_in values) records
     ≡ map (occurrence_in (string_bytes c.self.inside.values)) c.self.inside.records.items
     ++ at_position c.args.position (record {
@@ -26,15 +26,15 @@ pushed : (c : goal.After-push_reserved)
       value = option_copied c.args.value;
     }) ∷ [])
 pushed c =
-    let added : Option Span → OccurrenceRecord = λ value. record {
+    let added : Span → OccurrenceRecord = λ value. record {
       group = c.args.group;
       position = c.args.position;
       value = value;
     } in
     let old = string_bytes c.self.inside.values in
     elim c.match-value.branch [
-      | in-Some+in_ok-push_value-in-Some w ↦
-          let ok = w.in_ok-push_value-in-Some.ensures.ok in
+      | in-Some+in_ok-value-in-Some w ↦
+          let ok = w.in_ok-value-in-Some.ensures.ok in
           let both = occurrences-push old w.in-Some.text.now w.push_value.ensures.utf8
           c.self.inside.records.items c.self.invariant (added c.match-value.value)
           (rw (w.value-is, ← ok.0) ok.1.span_of) in
@@ -45,8 +45,7 @@ pushed c =
             c.in_ok-reserve.ensures.items,
           )
           (let grown = rw (← ok.0) at both in
-          let value = ap (option_map (text_at (string_bytes w.push_value.new.values))) w.value-is
-          ∙ ap (λ (t : Text). Some t) ok.1.is in (
+          let value = ap (text_at (string_bytes w.push_value.new.values)) w.value-is ∙ ok.1.is in (
             grown.0,
             grown.1
                 ∙ (λ i. map (occurrence_in old) c.self.inside.records.items ++ at_position
@@ -61,7 +60,7 @@ pushed c =
             c.in_ok-reserve.ensures.items,
           )
           (rw append-nil at (occurrences-push old [] IsUtf8-nil c.self.inside.records.items
-          c.self.invariant (added None) tt))
+          c.self.invariant (added (record { start = 1; end = 0 })) (λ ordered. absurd (omega (arith, ordered)))))
     ]
 
 pub invariant_of-self-2 : goal.invariant_of-self-2
