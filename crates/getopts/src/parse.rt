@@ -141,7 +141,8 @@ impl Options {
             options: self,
             table: &table,
         };
-        let line = scanner.scan(alloc, words)?;
+        let mut line = scanner.scan(alloc, words)?;
+        line.shrink(words.len());
         let index = Index::of(alloc, signatures.len(), &line.found)?;
         Ok(ReadLine { table, line, index })
     }
