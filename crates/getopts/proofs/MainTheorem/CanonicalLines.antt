@@ -1,6 +1,7 @@
--- Lemmas for callers of `canonical`: there is a canonical line, and it is its own canonical line.
+-- Lemmas for callers of `canonical`: its errors are those of `parse`, there is a canonical line, and
+-- it is its own canonical line.
 use Rattle.std.proofs.Common.{◌≡◌, ℕ, zero, suc, Bool, true, false, not, List, [], ◌∷◌}
-use Rattle.std.proofs.Common.{Option, Some, None, Result, Ok, refl, ap, sym, subst, ◌∙◌}
+use Rattle.std.proofs.Common.{Option, Some, None, Result, Ok, Err, ◌↔◌, refl, ap, sym, subst, ◌∙◌}
 use Rattle.std.specs.Prelude.{IfNone, IsSome}
 use Rattle.std.specs.List.{AllByRecursion, list_all}
 use Rattle.std.proofs.lemmas.Bool.{and_parts}
@@ -12,12 +13,25 @@ use Rattle.getopts.specs.Names.{Text, main_name}
 use Rattle.getopts.specs.Options.{Declared, Group, MayBeDeclared, grammar_of}
 use Rattle.getopts.specs.Parse.{Reads}
 use Rattle.getopts.specs.Reading.{Mention, Reading, holds_equals}
-use Rattle.getopts.specs.Results.{canonical_result, line_result, made_of, read}
+use Rattle.getopts.specs.Results.{canonical_result, line_result, made_of, parse_result, read}
 use Rattle.getopts.specs.Results.{first_count_fault, unless_fault, with_counts_kept, written_line}
 use Rattle.getopts.specs.declared.groups.ParsingStyle.{ParsingStyle}
 use Rattle.getopts.proofs.MainTheorem.FirstFault.{first_count_fault-is, no_fault}
 use Rattle.getopts.proofs.Parsing.Parsed.{named_here}
 use Rattle.getopts.proofs.Reading.Readings.{reading_read}
+
+-- ---- errors
+
+same_error : {X Y : Type 0} (make : Reading → X) (other : Reading → Y) (line : Result Reading Fault)
+    (fault : Fault) → made_of make line ≡ Err fault → made_of other line ≡ Err fault
+same_error make other (Ok reading) fault is = cc
+same_error make other (Err first) fault is = cc
+
+-- `canonical` rejects the words that `parse` rejects, with the same error.
+pub canonical_errors : (options : Declared) (words : List Text) (fault : Fault)
+    → (canonical_result options words ≡ Err fault) ↔ (parse_result options words ≡ Err fault)
+canonical_errors options words fault =
+    (same_error _ _ (line_result options words) fault, same_error _ _ (line_result options words) fault)
 
 -- ---- there is a line
 
