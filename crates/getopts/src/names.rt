@@ -1,6 +1,6 @@
 //! Names of options: which pairs are valid, and the keys that names are looked up by.
 
-ghost use Rattle.std.specs.Prelude.{◌≡◌, ◌↔◌, ◌+◌, ◌*◌, ◌^◌, ◌<◌, ◌∷◌, [], IsTrue, length, drop};
+ghost use Rattle.std.specs.Prelude.{◌≡◌, ◌↔◌, ◌+◌, ◌*◌, ◌^◌, ◌<◌, IsTrue, length, drop};
 ghost use Rattle.std.specs.Int.{from_be_bytes, w64};
 ghost use Rattle.getopts.specs.Names.{AreLawful};
 ghost use Rattle.getopts.specs.Held.Names.{key_of, short_code};

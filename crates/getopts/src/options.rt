@@ -1,16 +1,14 @@
 //! Options: the groups that a caller declares, a parsing style and a mode.
 
-ghost use Rattle.std.specs.Prelude.{◌≡◌, ◌↔◌, [], false, length, map, slice_get, unwrap_or, IfOk};
+ghost use Rattle.std.specs.Prelude.{◌≡◌, ◌↔◌, [], false, IfOk};
 ghost use Rattle.std.specs.Prelude.{IsTrue, OnOk, OnErr};
-ghost use Rattle.std.specs.Option.{option_map, option_map_or};
-ghost use Rattle.std.specs.Cmp.Lexicographic.{pointwise};
 ghost use Rattle.std.specs.Cmp.Rules.{comparing};
 ghost use Rattle.std.proofs.Common.{rules};
 ghost use Rattle.getopts.specs.Names.{AreLawful};
 ghost use Rattle.getopts.specs.Options.{group_of, with_group, signatures_of, MayBeDeclared};
 
 use crate::groups::{HasArg, Kinds, Occur, ParsingStyle, Signatures};
-use crate::help::{Group, Groups};
+use crate::help::Groups;
 use std::alloc::{AllocError, Global};
 use std::marker::Model;
 

@@ -1,12 +1,12 @@
 //! Reading words as items, from the first to the last.
 
-ghost use Rattle.std.specs.Prelude.{◌≡◌, ◌≢◌, ◌<◌, ◌∷◌, ◌++◌, [], length, MatchOption, OnSome};
-ghost use Rattle.std.specs.Prelude.{Some, None, Err, false, IfOk, IfErr, slice_index, OnOk, map};
+ghost use Rattle.std.specs.Prelude.{◌≡◌, ◌≢◌, ◌<◌, ◌∷◌, ◌++◌, [], MatchOption, OnSome};
+ghost use Rattle.std.specs.Prelude.{Some, None, Err, false, IfOk, IfErr, OnOk, map};
 ghost use Rattle.std.specs.String.{string_bytes};
 ghost use Rattle.std.specs.Option.{option_copied};
 ghost use Rattle.getopts.specs.Reading.{Dashes, IsScanFault, dash, holds_equals, is_dashed};
 ghost use Rattle.getopts.specs.Fail.{Tells};
-ghost use Rattle.std.specs.Str.{IsCharBoundary, IsUtf8};
+ghost use Rattle.std.specs.Str.{IsUtf8};
 ghost use Rattle.getopts.specs.Names.{AreTexts, Text};
 ghost use Rattle.getopts.specs.Turn.{with_equals, first_char, chosen_end, Chooses};
 

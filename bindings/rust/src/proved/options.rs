@@ -4,7 +4,7 @@
 use crate::fallible::*;
 
 use super::groups::{HasArg, Kinds, Occur, ParsingStyle, Signatures};
-use super::help::{Group, Groups};
+use super::help::Groups;
 use crate::alloc::{AllocError, Global};
 
 /// The options of a program: option groups, a parsing style and a mode. Methods such as `optflag`

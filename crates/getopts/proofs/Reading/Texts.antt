@@ -12,7 +12,7 @@ use Rattle.std.specs.Str.{IsUtf8, chars}
 use Rattle.std.proofs.lemmas.Str.{IsUtf8-past_char, encode_ascii, chars_past_char, chars-encodes}
 use Rattle.std.proofs.lemmas.Str.{char_from_byte, byte_from_char, length-encode}
 use Rattle.std.proofs.lemmas.Bool.Decides.{nat_tests}
-use lib.Utf8.{scalars, encodes, encode, scalar as scalar_test}
+use lib.Utf8.{scalars, encodes, scalar as scalar_test}
 
 -- a text in long form is its name, followed by `=` and its argument if it has one
 pub cut_at_equals-joined : (text : Text)
