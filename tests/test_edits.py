@@ -39,7 +39,7 @@ class Edit:
         self.host = GUESTS.get(self.crate, self.crate)
         text, self.pairs = path.read_text(encoding="utf-8") + "\n", []
         self.function = re.search("^fn: (.*)", text, re.M)[1].replace(self.crate, self.host, 1)
-        file = "src/" + ("/".join(re.findall(r"(?<=::)[a-z]\w*(?=::)", self.function)) or "main") + ".rt"
+        file = "src/" + ("/".join(re.findall(r"(?<=::)[a-z]\w*(?=::)", self.function)) or "lib") + ".rt"
         for it in re.finditer(r"^(?:file: (.*)|((?:old:.*\n)+)((?:new:.*\n)+)((?:right:.*\n)*))", text, re.M):
             file, lines = it[1] or file, zip(("old", "new", "right"), it.groups()[1:])
             texts = {kind: re.sub(r"^\w+: ?", "", block[:-1], flags=re.M) for kind, block in lines if block}
