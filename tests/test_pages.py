@@ -402,6 +402,12 @@ def test_layout():
     assert status == 0, f"'rt fmt' in the crate:\n{said.decode()}"
 
 
+def test_width_of_comments():
+    """Comments have at most 100 columns. Formatters leave them as they are."""
+    assert_none(f"{name}:{at}: {len(line)} columns" for name in tracked if re.search(r"\.(rt|antt|rs|c|h)$", name)
+                for at, line in enumerate(read(name).split("\n"), 1) if re.match(r" *(//|--)", line) and len(line) > 100)
+
+
 def test_shell_scripts():
     need("shellcheck")
     run("shellcheck", *(name for name in tracked if name.endswith(".sh")), cwd=ROOT)

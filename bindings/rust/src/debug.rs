@@ -57,7 +57,8 @@ impl Debug for Group<'_> {
     }
 }
 
-/// An option in matches: named by its long name, with the short name as an alias, or else by its short name.
+/// An option in matches: named by its long name, with the short name as an alias, or else by its
+/// short name.
 pub struct Opt<'a>(pub Group<'a>);
 
 impl Debug for Opt<'_> {

@@ -8,10 +8,10 @@ use std::fmt;
 
 /// Why a command line was rejected.
 ///
-/// `ArgumentMissing`, `UnrecognizedOption` and `UnexpectedArgument` report the first word that can't be
-/// read, with the option's name as typed. If all words can be read, `OptionMissing` and
-/// `OptionDuplicated` report the first option, in order of declaration, that occurs the wrong number of
-/// times, with its main name.
+/// `ArgumentMissing`, `UnrecognizedOption` and `UnexpectedArgument` report the first word that
+/// can't be read, with the option's name as typed. If all words can be read, `OptionMissing` and
+/// `OptionDuplicated` report the first option, in order of declaration, that occurs the wrong
+/// number of times, with its main name.
 #[derive(Clone, Debug, PartialEq, Eq)]
 pub enum Fail {
     /// The option needs an argument, but the command line ends.

@@ -1,5 +1,5 @@
-//! A formally verified command-line option parser, with the types and methods of the crate `getopts`
-//! 0.2.24.
+//! A formally verified command-line option parser, with the types and methods of the crate
+//! `getopts` 0.2.24.
 //!
 //! A program declares options, parses its arguments, queries the result, and prints help:
 //!
@@ -20,12 +20,13 @@
 //! # }
 //! ```
 //!
-//! A program's own arguments are `std::env::args_os().skip(1)`, without the program's name. If one isn't UTF-8, `parse`
-//! rejects it and `parse_os` accepts it; the iterator `std::env::args()` would panic.
+//! A program's own arguments are `std::env::args_os().skip(1)`, without the program's name. If one
+//! isn't UTF-8, `parse` rejects it and `parse_os` accepts it; the iterator `std::env::args()` would
+//! panic.
 //!
-//! `README.md` says what differs from the original crate, what is proved and what it costs. The feature `proved` makes
-//! the proved source itself public; without the feature `std` there is nothing else. Its methods take the allocator, and
-//! return an error if an allocation fails:
+//! `README.md` says what differs from the original crate, what is proved and what it costs. The
+//! feature `proved` makes the proved source itself public; without the feature `std` there is
+//! nothing else. Its methods take the allocator, and return an error if an allocation fails:
 //!
 //! ```
 //! # #[cfg(any(feature = "proved", not(feature = "std")))] {

@@ -101,7 +101,8 @@ impl Matches {
         self.given(name).first_value()
     }
 
-    /// Borrows the values of an option's occurrences, in command-line order. The crate getopts has no such method.
+    /// Borrows the values of an option's occurrences, in command-line order. The crate getopts has
+    /// no such method.
     ///
     /// ```
     /// let mut options = getopts::Options::new();
@@ -117,8 +118,8 @@ impl Matches {
         self.occurrences(name).filter_map(|(_, value)| value)
     }
 
-    /// Borrows the positions and values of an option's occurrences, in command-line order. The crate getopts has no
-    /// such method.
+    /// Borrows the positions and values of an option's occurrences, in command-line order. The
+    /// crate getopts has no such method.
     ///
     /// ```
     /// let mut options = getopts::Options::new();
@@ -219,7 +220,8 @@ impl Matches {
         names.into_iter().any(|name| self.opt_present(name.as_ref()))
     }
 
-    /// The value of the first named option that has one in its first occurrence. Stops at that option.
+    /// The value of the first named option that has one in its first occurrence. Stops at that
+    /// option.
     ///
     /// ```
     /// let mut options = getopts::Options::new();
@@ -234,7 +236,8 @@ impl Matches {
         names.iter().find_map(|name| self.opt_str(name))
     }
 
-    /// The value of the first named option that has one in its first occurrence. Stops at that option.
+    /// The value of the first named option that has one in its first occurrence. Stops at that
+    /// option.
     ///
     /// ```
     /// let mut options = getopts::Options::new();
@@ -338,7 +341,7 @@ impl Matches {
         self.value(name).map(str::parse).transpose()
     }
 
-    /// Parses the value of an option's first occurrence as a `T`, or returns `def` if there is none.
+    /// Parses the value of an option's first occurrence as a `T`. Returns `def` if there is none.
     ///
     /// ```
     /// let mut options = getopts::Options::new();
@@ -356,7 +359,8 @@ impl Matches {
         self.value(name).map_or(Ok(def), str::parse)
     }
 
-    /// The index in `free` of the first word after `--`, or `None` if no word follows a `--` that ends the options.
+    /// The index in `free` of the first word after `--`, or `None` if no word follows a `--` that
+    /// ends the options.
     ///
     /// ```
     /// let options = getopts::Options::new();

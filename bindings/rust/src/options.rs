@@ -12,8 +12,8 @@ use std::fmt;
 #[derive(PartialEq, Eq)]
 pub struct Options {
     proved: proved::Options,
-    /// The options with two empty names, which the proved library doesn't allow: each with its index among all options,
-    /// its hint and description, and its kinds.
+    /// The options with two empty names, which the proved library doesn't allow: each with its
+    /// index among all options, its hint and description, and its kinds.
     nameless: Vec<(usize, [String; 2], HasArg, Occur)>,
 }
 
@@ -50,7 +50,8 @@ const SMALL: usize = 64;
 /// The largest initial capacity of a list: an iterator may give fewer items than it promises.
 const FIRST_ROOM: usize = 1024;
 
-/// Calls `ask` with the words as texts. If a word isn't text, calls `otherwise` with it and all words.
+/// Calls `ask` with the words as texts. If a word isn't text, calls `otherwise` with it and all
+/// words.
 #[inline]
 pub(crate) fn read_words<A: AsRef<OsStr>, T>(
     words: impl Iterator<Item = A>,
@@ -150,8 +151,8 @@ impl Options {
         self
     }
 
-    /// Turns long-only mode on or off. In this mode a long name may follow one dash or two, and short options stand
-    /// alone: `-vv` and `-ofile` aren't accepted.
+    /// Turns long-only mode on or off. In this mode a long name may follow one dash or two, and
+    /// short options stand alone: `-vv` and `-ofile` aren't accepted.
     ///
     /// ```
     /// let mut options = getopts::Options::new();
@@ -313,8 +314,8 @@ impl Options {
     /// assert_eq!(fail.to_string(), "Argument to option 'output' missing");
     /// ```
     ///
-    /// A program's own arguments are `std::env::args_os().skip(1)`; `std::env::args()` panics if one isn't UTF-8. All
-    /// items are taken before the first is read.
+    /// A program's own arguments are `std::env::args_os().skip(1)`; `std::env::args()` panics if
+    /// one isn't UTF-8. All items are taken before the first is read.
     ///
     /// # Errors
     /// If the command line is rejected; see [`Fail`].
@@ -329,8 +330,9 @@ impl Options {
         Ok(Matches::of(matches))
     }
 
-    /// Parses a command line like `parse`, but doesn't check how often options occur: a required option may be missing,
-    /// and an option that may occur once may occur several times. The crate getopts has no such method.
+    /// Parses a command line like `parse`, but doesn't check how often options occur: a required
+    /// option may be missing, and an option that may occur once may occur several times. The crate
+    /// getopts has no such method.
     ///
     /// Use it to print help even if a required option is missing:
     ///
@@ -355,10 +357,12 @@ impl Options {
         Ok(Matches::of(matches))
     }
 
-    /// Parses words like `parse`, and returns the options that they give, in order, across all options: the main name of
-    /// each (the long name, or the short one if there is no long one) and its value. The crate getopts has no such method.
+    /// Parses words like `parse`, and returns the options that they give, in order, across all
+    /// options: the main name of each (the long name, or the short one if there is no long one) and
+    /// its value. The crate getopts has no such method.
     ///
-    /// Use it if the order of different options matters. Options in one word, such as `-vq`, have the same position.
+    /// Use it if the order of different options matters. Options in one word, such as `-vq`, have
+    /// the same position.
     ///
     /// ```
     /// let mut options = getopts::Options::new();
@@ -408,11 +412,12 @@ impl Options {
         )
     }
 
-    /// Rewrites an accepted command line with main names (the long name if there is one): `--main` or
-    /// `--main=value` for each option in command-line order, then `--`, then the positional arguments.
+    /// Rewrites an accepted command line with main names (the long name if there is one): `--main`
+    /// or `--main=value` for each option in command-line order, then `--`, then the positional
+    /// arguments.
     ///
-    /// Returns `None` if the main name of a given option contains `=`. The crate getopts has no such
-    /// method.
+    /// Returns `None` if the main name of a given option contains `=`. The crate getopts has no
+    /// such method.
     ///
     /// ```
     /// let mut options = getopts::Options::new();
@@ -465,7 +470,8 @@ impl Options {
         granted(self.named().usage(Global, brief))
     }
 
-    /// Passes the rows of the usage text to a closure, and returns its result. All rows are created before it runs.
+    /// Passes the rows of the usage text to a closure, and returns its result. All rows are created
+    /// before it runs.
     ///
     /// ```
     /// let mut options = getopts::Options::new();
@@ -485,7 +491,7 @@ impl Options {
     }
 }
 
-// The proved methods for borrowed texts, compiled here once instead of in each program that calls them.
+// The proved methods for borrowed texts, compiled here once, not in each program that calls them.
 
 pub(crate) fn parse_texts(options: &proved::Options, words: &[&str]) -> proved::Result {
     options.parse_words(Global, words)

@@ -23,14 +23,14 @@ pub struct OsMatches {
 }
 
 impl Options {
-    /// Parses a command line like `parse`, but also accepts arguments that aren't UTF-8. Values and positional
-    /// arguments are returned as they were given. The crate getopts has no such method.
+    /// Parses a command line like `parse`, but also accepts arguments that aren't UTF-8. Values and
+    /// positional arguments are returned as they were given. The crate getopts has no such method.
     ///
-    /// Arguments may be any bytes on Unix, and may contain lone surrogates on Windows; elsewhere they are text. Names
-    /// in errors are text, with U+FFFD in place of what isn't.
+    /// Arguments may be any bytes on Unix, and may contain lone surrogates on Windows; elsewhere
+    /// they are text. Names in errors are text, with U+FFFD in place of what isn't.
     ///
-    /// The characters from U+10FF80 on, the last ones for private use, represent bytes here, so only `parse` finds an
-    /// option whose name contains one.
+    /// The characters from U+10FF80 on, the last ones for private use, represent bytes here, so
+    /// only `parse` finds an option whose name contains one.
     ///
     /// ```
     /// use std::ffi::OsString;
@@ -56,7 +56,8 @@ impl Options {
         self.read_os(args, parse_texts)
     }
 
-    /// Parses a command line like `parse_os`, but like `parse_ignoring_counts` doesn't check how often options occur.
+    /// Parses a command line like `parse_os`, but like `parse_ignoring_counts` doesn't check how
+    /// often options occur.
     ///
     /// ```
     /// let mut options = getopts::Options::new();
@@ -216,7 +217,8 @@ impl OsMatches {
         })
     }
 
-    /// The value of an option's first occurrence, or `def` if that has none. `None` if the option wasn't given.
+    /// The value of an option's first occurrence, or `def` if that has none. `None` if the option
+    /// wasn't given.
     ///
     /// ```
     /// let mut options = getopts::Options::new();
@@ -248,7 +250,8 @@ impl OsMatches {
         self.value(name).map(read).transpose()
     }
 
-    /// The index in `free` of the first word after `--`, or `None` if no word follows a `--` that ends the options.
+    /// The index in `free` of the first word after `--`, or `None` if no word follows a `--` that
+    /// ends the options.
     ///
     /// ```
     /// let options = getopts::Options::new();
@@ -318,7 +321,7 @@ fn word_of(bytes: Vec<u8>) -> OsString {
     std::os::unix::ffi::OsStringExt::from_vec(bytes)
 }
 
-/// The bytes of a word. A lone surrogate is encoded as three bytes (WTF-8), which aren't valid UTF-8.
+/// The bytes of a word. A lone surrogate becomes three bytes (WTF-8), which aren't valid UTF-8.
 #[cfg(windows)]
 fn bytes_of(word: &OsStr) -> Result<Cow<'_, [u8]>, Fail> {
     let mut bytes = Vec::new();
@@ -383,7 +386,8 @@ mod tests {
             b"gr\xC3\xBCn \xE2\x82\xAC\xF0\x90\x8D\x88",
             "grün €\u{10348}",
         ),
-        // the first and last character of each length, the ones next to the surrogates, and the last before the marks
+        // the first and last character of each length, the ones next to the surrogates, and the
+        // last before the marks
         (
             b"\x7F\xC2\x80\xDF\xBF\xE0\xA0\x80\xED\x9F\xBF\xEE\x80\x80\xEF\xBF\xBF\xF0\x90\x80\x80\xF4\x8F\xBD\xBF",
             "\u{7F}\u{80}\u{7FF}\u{800}\u{D7FF}\u{E000}\u{FFFF}\u{10000}\u{10FF7F}",

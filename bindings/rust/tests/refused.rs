@@ -1,4 +1,5 @@
-//! If an allocation fails, the calls of `fallible` and `proved` report it, and leave what they borrowed unchanged.
+//! If an allocation fails, the calls of `fallible` and `proved` report it, and leave what they
+//! borrowed unchanged.
 
 use getopts::alloc::{AllocError, AllocFailed, Global};
 use getopts::fallible::*;
@@ -58,9 +59,9 @@ unsafe impl GlobalAlloc for Failing {
     }
 }
 
-/// Makes each allocation of a call fail in turn, alone and with all later ones. The call gets a new value each time,
-/// and has to fail exactly if an allocation failed; `seen` checks the value afterwards. Returns the number of
-/// allocations.
+/// Makes each allocation of a call fail in turn, alone and with all later ones. The call gets a new
+/// value each time, and has to fail exactly if an allocation failed; `seen` checks the value
+/// afterwards. Returns the number of allocations.
 fn fail_each<V, T, E>(
     made: impl Fn() -> V,
     call: impl Fn(&mut V) -> Result<T, E>,

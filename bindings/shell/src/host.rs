@@ -72,7 +72,7 @@ fn bytes_of(word: OsString) -> Vec<u8> {
     std::os::unix::ffi::OsStringExt::into_vec(word)
 }
 
-/// The bytes of an argument. A lone surrogate is encoded as three bytes (WTF-8), which aren't valid UTF-8.
+/// The bytes of an argument. A lone surrogate becomes three bytes (WTF-8), not valid UTF-8.
 #[cfg(windows)]
 fn bytes_of(word: OsString) -> Vec<u8> {
     let mut bytes = Vec::new();

@@ -1,9 +1,9 @@
 //! Runs jobs on `getopts` for a number of iterations, and prints sums of their results, so that the
 //! work of an iteration can be counted and the sums compared with those of other libraries.
 //!
-//! The arguments are JOB ROWS TIMES, as in `whole small.rows 3`, or several such triples; each sum is
-//! printed on a line. Each line of the file ROWS is an option or a word, with fields separated by
-//! tabs:
+//! The arguments are JOB ROWS TIMES, as in `whole small.rows 3`, or several such triples; each sum
+//! is printed on a line. Each line of the file ROWS is an option or a word, with fields separated
+//! by tabs:
 //!
 //! - `optflagmulti SHORT LONG DESC`, `optmulti SHORT LONG DESC HINT`, also `optflagopt`
 //! - `words COUNT`, before the words: their number

@@ -1,4 +1,5 @@
-//! Re-exports `proved-getopts` under the name and version of the crate `getopts`, which it replaces.
+//! Re-exports `proved-getopts` under the name and version of the crate `getopts`, which it
+//! replaces.
 #![no_std]
 
 pub use ::getopts::*;

@@ -1,5 +1,5 @@
--- Lemmas for callers of `canonical`: its errors are those of `parse`, there is a canonical line, and
--- it is its own canonical line.
+-- Lemmas for callers of `canonical`: its errors are those of `parse`, there is a canonical line,
+-- and it is its own canonical line.
 use Rattle.std.proofs.Common.{◌≡◌, ℕ, zero, suc, Bool, true, false, not, List, [], ◌∷◌}
 use Rattle.std.proofs.Common.{Option, Some, None, Result, Ok, Err, ◌↔◌, refl, ap, sym, subst, ◌∙◌}
 use Rattle.std.specs.Prelude.{IfNone, IsSome}

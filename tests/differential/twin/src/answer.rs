@@ -229,8 +229,8 @@ fn pairs(matches: &Matches, name: &str) -> Vec<String> {
     fields.collect()
 }
 
-/// Answers a question about several names. Calls that panic on an undefined name are made only if all names are
-/// defined.
+/// Answers a question about several names. Calls that panic on an undefined name are made only if
+/// all names are defined.
 fn any(matches: &Matches, names: &[String]) -> String {
     let head = &["any", &matches.opts_present(names).to_string()];
     if !names.iter().all(|name| matches.opt_defined(name)) {
@@ -255,7 +255,8 @@ pub const ADDING: [fn(&mut Options, &str, &str); 7] = [
     |options, short, long| _ = options.reqopt(short, long, "", ""),
 ];
 
-/// Whether the Rust crate accepts these names: no panic in adding them and parsing. All methods have to agree.
+/// Whether the Rust crate accepts these names: no panic in adding them and parsing. All methods
+/// have to agree.
 fn names_lawful(short: &str, long: &str) -> bool {
     let taken = ADDING.map(|add| {
         let names = (short.to_string(), long.to_string());

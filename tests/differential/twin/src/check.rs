@@ -1,6 +1,6 @@
-//! Checks rows with stored answers, as in `crates/getopts_vectors` and from the tests of C: the lines of an answer
-//! follow its question and begin with `> `; a line `| TEXT` appends TEXT and a newline to the line above. `{Z}` is
-//! U+0300 here: a combining mark, which takes no columns.
+//! Checks rows with stored answers, as in `crates/getopts_vectors`: the lines of an answer follow
+//! its question and begin with `> `; a line `| TEXT` appends TEXT and a newline to the line above.
+//! `{Z}` is U+0300 here: a combining mark, which takes no columns.
 
 use crate::answer::Session;
 use crate::form::Line;
@@ -24,8 +24,8 @@ fn answer_beside(lines: &mut Peekable<Lines>) -> String {
     answer
 }
 
-/// Prints each difference and the number of equal answers, and returns whether there are some and none differ. Skips
-/// lines that begin with one of these words.
+/// Prints each difference and the number of equal answers, and returns whether there are some and
+/// none differ. Skips lines that begin with one of these words.
 pub fn check(rows: &str, words: &[String]) -> bool {
     let rows = rows.replace("{Z}", "\u{300}");
     let mut lines = rows.lines().peekable();

@@ -1,4 +1,5 @@
-//! Runs the Rust crate `getopts` on rows of `crates/getopts_vectors`: generates cases from a seed, and answers them.
+//! Runs the Rust crate `getopts` on rows of `crates/getopts_vectors`: generates cases from a seed,
+//! and answers them.
 
 mod answer;
 mod check;

@@ -109,11 +109,11 @@ impl Declared {
         options
     }
 
-    /// Whether no word of a line is the separate argument of an option, so that counting items and counting words
-    /// give the same positions. Lines that can't be parsed have no positions.
+    /// Whether no word of a line is the separate argument of an option, so that counting items and
+    /// counting words give the same positions. Lines that can't be parsed have no positions.
     ///
-    /// The flag `PROBE` is added where the line's options end: its position is the number of words before it exactly
-    /// if each of these words is an item.
+    /// The flag `PROBE` is added where the line's options end: its position is the number of words
+    /// before it exactly if each of these words is an item.
     pub fn counts_words(&self, words: &[String]) -> bool {
         let options = self.probed();
         let probe = format!("--{PROBE}");

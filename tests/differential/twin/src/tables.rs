@@ -1,5 +1,5 @@
-//! The options of two real programs: Rust's test harness, and rustdoc. Names, kinds and hints are original; the
-//! descriptions are our own.
+//! The options of two real programs: Rust's test harness, and rustdoc. Names, kinds and hints are
+//! original; the descriptions are our own.
 
 use crate::form::Line;
 use crate::options::Group;
