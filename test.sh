@@ -4,8 +4,8 @@
 #        test.sh [--quick] -k NAME [FLAG ..]
 #
 # CRATE is a folder with the Rust crate getopts 0.2.24, to compare with. --quick proves nothing: programs run unproved,
-# tests of built programs run only if these exist, and there are fewer random cases; without rt, the tests that need it
-# are skipped. -k runs only the tests that match NAME, and accepts pytest's flags.
+# tests of built programs run only if these exist, other targets are left out, and there are fewer random cases. Without
+# rt, --quick leaves out the tests that need it. -k runs only the tests that match NAME, and accepts pytest's flags.
 set -uo pipefail
 start=$SECONDS quick=()
 [ "${1:-}" != --quick ] || { quick=(--quick); shift; }
@@ -19,16 +19,17 @@ command -v rt >/dev/null || [ ${#quick[@]} = 1 ] || [ "${1:-}" = -k ] ||
 
 # pytest: from a Python that has it, from Debian's packages, or from the public registry.
 packages=(python3-pytest python3-pytest-xdist python3-pytest-timeout) own=tests/out/venv
-by_apt() { apt-get install -y "${packages[@]}" || { apt-get update && apt-get install -y "${packages[@]}"; }; }
-by_pip() { python3 -m venv $own && $own/bin/pip install --quiet pytest pytest-xdist pytest-timeout; }
-for get in true by_apt by_pip; do
-    [ $get = true ] || echo "test.sh: pytest not found: trying $get"
+apt_get() { apt-get install -y "${packages[@]}" || { apt-get update && apt-get install -y "${packages[@]}"; }; }
+pip() { python3 -m venv $own && $own/bin/pip install --quiet pytest pytest-xdist pytest-timeout; }
+for get in true apt_get pip; do
+    [ $get = true ] || echo "test.sh: pytest not found: trying to install it with ${get/_/-}"
     $get >/dev/null 2>&1
     for python in python3 /usr/bin/python3 $own/bin/python none; do
         "$python" -c 'import pytest, pytest_timeout, xdist' 2>/dev/null && break 2
     done
 done
 [ "$python" != none ] || stop "neither apt-get nor pip could install pytest; these packages are needed: ${packages[*]}"
+command -v rt >/dev/null || echo "test.sh: rt not found: tests that need it are left out"
 [ "${1:-}" != -k ] || exec "$python" -m pytest tests "${quick[@]}" "$@"
 
 # Tests that don't depend on the proofs, and tests of built programs, which wait for them, run in separate workers.
@@ -63,7 +64,6 @@ if grep -q '^SKIPPED' "$room"/said.*; then
         grep -vxFf - <(printf '%s\n' "${all[@]}") | tr '\n' ' ')
     [ -z "$lacking" ] || echo "most of the skipped tests would run after: apt-get install $lacking"
 fi
-command -v rt >/dev/null || echo "rt not found: the tests that need it were skipped (see the lines 'SKIPPED')."
 [ ${#quick[@]} = 0 ] || echo "Nothing was proved: 'bash test.sh' proves everything."
 [ -z "$failed" ] || { echo "failed: ${failed#; }"; exit 1; }
 times >"$room/times"

@@ -27,24 +27,33 @@ LINES = ["--output=x.txt --verbose in.txt", "-vvLd -La -Lb -c auto -o x.txt f --
 
 def pytest_addoption(parser):
     parser.addoption("--quick", action="store_true", help="fewer random cases, no other targets, no proofs")
-    parser.addoption("--many", action="store_true", help="ten times as many random cases")
+    parser.addoption("--many", action="store_true", help="ten times as many random cases, and more mutants")
     parser.addoption("--fix", action="store_true", help="update figures, tables and contracts on the pages")
     parser.addoption("--getopts", help="a folder with the Rust crate getopts 0.2.24")
 
 
-def pytest_collection_modifyitems(items):
+# Programs built by `rt ci`, and other fixtures that need the toolchain.
+PROGRAMS = {"show", "shell", "vectors", "bench", "built"}
+BY_RT = PROGRAMS | {"failing_malloc", "preload", "verdicts"}
+
+
+def pytest_collection_modifyitems(config, items):
+    """Marks tests by the programs that they use, and deselects those that this run leaves out."""
     # Edits take longest, and only wait for libraries.
     items.sort(key=lambda item: not item.name.startswith("test_edit["))
     for item in items:
-        if {"show", "shell", "vectors", "bench", "built"} & set(item.fixturenames):
-            item.add_marker(pytest.mark.built)
-
-
-@pytest.fixture(scope="session")
-def other_targets(request):
-    """Skips tests for other targets with --quick."""
-    if request.config.getoption("--quick"):
-        pytest.skip("--quick: other targets aren't tested")
+        names, built = set(item.fixturenames), item.get_closest_marker("built") is not None
+        marks = {"built": built or PROGRAMS & names, "rt": built or BY_RT & names}
+        for mark in (mark for mark, has in marks.items() if has):
+            item.add_marker(mark)
+        # These wait for proofs.
+        if "verdicts" in names or "CI_LOG" in os.environ and item.get_closest_marker("built"):
+            item.add_marker(pytest.mark.timeout(7200))
+    quick, many = config.getoption("--quick"), config.getoption("--many")
+    absent = {"full": quick, "quick": not quick, "many": not many, "rt": not shutil.which("rt")}
+    out = {item for item in items if any(absent.get(mark.name) for mark in item.iter_markers())}
+    config.hook.pytest_deselected(items=list(out))
+    items[:] = [item for item in items if item not in out]
 
 
 @pytest.fixture(scope="session")
@@ -140,8 +149,8 @@ def checked_in():
 
 
 def rows_in(file):
-    """The test cases of a file: the tab-separated fields of each row, and the text below it, each line after '> '. A
-    row 'text' defines what {NAME} stands for in later rows: the text below it, or a string repeated so many times."""
+    """The test cases of a file: the tab-separated fields of each row, and the text below it, whose lines begin with
+    '> '. A row 'text' defines {NAME} for later rows: as the text below it, or as a string and how often to repeat it."""
     rows, texts = [], {}
 
     def whole(text):

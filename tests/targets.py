@@ -1,7 +1,7 @@
 """The targets on which the Rust crate and the C library are tested, with Debian's rustc 1.63.
 
-Debian can't install libstd-rust-dev and libstd-rust-1.63 for arm64 and i386 beside those of this machine. Unpack them
-(dpkg --add-architecture, apt-get download, dpkg -x) and put usr/lib/rustlib/TARGET beside the folders there."""
+Debian can't install libstd-rust-dev and libstd-rust-1.63 for arm64 and i386 next to those of this machine. Unpack them
+(dpkg --add-architecture, apt-get download, dpkg -x), and copy their usr/lib/rustlib/TARGET to /usr/lib/rustlib."""
 
 import os
 import shutil

@@ -51,13 +51,17 @@ def library(tmp_path_factory):
 pytestmark = pytest.mark.xdist_group("C")
 
 
-@pytest.fixture(params=[pytest.param(name, marks=pytest.mark.xdist_group(f"C for {target}") if target else ())
-                        for name, (_, target, _) in BUILDS.items()])
+def builds(*names):
+    """Parameters for the fixture `build`. --quick tests four builds."""
+    groups = {name: [pytest.mark.xdist_group(f"C for {target}")] if target else [] for name, (_, target, _) in BUILDS.items()}
+    full = {name: [] if name in ("gcc", "clang", "clang-san", "short-enums") else [pytest.mark.full] for name in names}
+    return [pytest.param(name, marks=groups[name] + full[name]) for name in names]
+
+
+@pytest.fixture(params=builds(*BUILDS))
 def build(request, tmp_path, library):
     """Builds a program with one of the compilers, and returns the command that runs it."""
     compiler, target, by = BUILDS[request.param]
-    if target:
-        request.getfixturevalue("other_targets")
     need(compiler[0], *(by or [])[:1])
     by = runner(target, tmp_path) if by is None else by
     archive = library(target)
@@ -75,9 +79,10 @@ def test_calls(build):
     run(*build(C / "tests/layer.c"))
 
 
+# The linkers for wasm and Windows can't wrap malloc, and valgrind takes too long.
+@pytest.mark.parametrize("build", builds("gcc", "clang", "gcc-san", "clang-san", "short-enums", "musl", "old", "aarch64", "i686"),
+                         indirect=True)
 def test_calls_when_allocations_fail(build):
-    if build.name in ("wasm", "windows", "valgrind"):
-        pytest.skip("its linker can't wrap malloc, or it is too slow")
     run(*build(C / "tests/random.c", "-DREFUSES", WRAPS), 4_000)
 
 
@@ -86,9 +91,8 @@ def test_random_tables_and_words(build, cases):
     run(*build(C / "tests/random.c"), max(4_000, cases(40_000 if build.name in ("gcc", "clang-san") else 4_000)))
 
 
+@pytest.mark.parametrize("build", builds("gcc", "clang", "musl"), indirect=True)
 def test_threads(build):
-    if build.name not in ("gcc", "clang", "musl"):
-        pytest.skip("threads are tested only on this machine")
     run(*build(C / "tests/threads.c", "-pthread"))
 
 
@@ -258,7 +262,7 @@ def test_program_size(prefix, tmp_path):
     assert 0.8 * most < grown <= most
 
 
-@pytest.fixture(scope="module", params=["clang", "musl-gcc"])
+@pytest.fixture(scope="module", params=["clang", pytest.param("musl-gcc", marks=pytest.mark.full)])
 def installed(request, tmp_path_factory):
     need(request.param)
     to = tmp_path_factory.mktemp("installed")
@@ -273,6 +277,7 @@ def test_install_with_compiler(link, installed, show_c, tmp_path):
     assert answer(tmp_path / "linked", "-vv", "x") == answer(show_c, "-vv", "x")
 
 
+@pytest.mark.full
 def test_install_for_other_target(show_c, tmp_path):
     """Installs with Debian's cargo and rustc, with the flags that these old versions need."""
     target, compiler = "aarch64-unknown-linux-gnu", "aarch64-linux-gnu-gcc"

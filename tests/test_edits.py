@@ -177,8 +177,7 @@ def verdicts(request, tmp_path_factory):
         if host not in found:
             found[host] = {}
             items = [item for item in request.session.items if item.name.startswith("test_edit[")]
-            asked = [edit for edit in (item.callspec.params["edit"] for item in items)
-                     if edit.host == host and is_tried(edit, request.config)]
+            asked = [edit for edit in (item.callspec.params["edit"] for item in items) if edit.host == host]
             found[host] = try_edits(asked, tmp_path_factory.mktemp(host))
         return found[host]
 
@@ -210,20 +209,15 @@ def try_edits(edits, room):
     return {edit: verdict(said, function) for edit, function in functions.items()}
 
 
-def is_tried(edit, config):
-    return not config.getoption("--quick") and ("private" not in edit.path.parts or config.getoption("--many"))
-
-
 def marks(edit):
     """One worker tries all edits of a crate; edits of callers wait for their libraries to be proved."""
-    group = pytest.mark.xdist_group(f"edits of {edit.host}")
-    return [group] if edit.crate in LIBRARIES else [group, pytest.mark.built]
+    more = [pytest.mark.many] if "private" in edit.path.parts else []
+    more += [] if edit.crate in LIBRARIES else [pytest.mark.built]
+    return [pytest.mark.full, pytest.mark.xdist_group(f"edits of {edit.host}"), *more]
 
 
 @pytest.mark.parametrize("edit", [pytest.param(edit, id=f"{edit.crate}-{edit.name}", marks=marks(edit)) for edit in ALL])
-def test_edit(edit, verdicts, request):
-    if not is_tried(edit, request.config):
-        pytest.skip("--quick tries no edits, and only --many those in private/")
+def test_edit(edit, verdicts):
     wanted = "proved" if edit.variant == "right" else "rejected"
     assert verdicts(edit.host).get(edit, "an earlier check failed") == wanted
 

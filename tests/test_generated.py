@@ -6,15 +6,15 @@ from conftest import ROOT, need, run
 BUILD = "bindings/build.py"
 
 
+@pytest.mark.rt
 def test_binaries_match_source():
-    need("rt")
     run(ROOT / BUILD, "--check", "shell")
 
 
+@pytest.mark.rt
 @pytest.mark.parametrize("file", ["crates/getopts/src/scan.rt", "bindings/shell/start.c",
                                   "bindings/shell/x86_64/getopts_shell"])
 def test_change_is_found(file, copy):
-    need("rt")
     with open(copy / file, "ab") as changed:
         changed.write(b"\n")
     assert file in run(copy / BUILD, "--check", "shell", status=1)[1]

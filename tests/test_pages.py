@@ -396,6 +396,7 @@ def test_no_circular_imports(crate):
 
 # ---- form
 
+@pytest.mark.rt
 def test_layout():
     files = [name for name in tracked if name.endswith((".rt", ".antt"))]
     said, status = answer(kit() / "bin/rattle", "fmt", "--check", *files, cwd=ROOT)

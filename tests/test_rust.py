@@ -243,8 +243,9 @@ def test_difference_is_found(twin, crate):
 
 # ---- other targets
 
+@pytest.mark.full
 @pytest.mark.parametrize("target", TARGETS)
-def test_target(target, other_targets, tmp_path, request, ours, example):
+def test_target(target, tmp_path, request, ours, example):
     """With Debian's rustc 1.63: getopts' public tests, the rows, the example, arguments of any bytes, and no `std`."""
     twin = twin_over(tmp_path, RUST)
     for file, to in (("examples/show.rs", "src/bin"), ("tests/os.rs", "tests")):

@@ -26,10 +26,12 @@ TABLE = next(fields[3] for fields, _ in ROWS if fields[1:3] == ["-u", "backup"])
 # The programs, by the names of their fixtures. One worker builds everything that cargo builds.
 PROVED = pytest.param("shell", id="proved", marks=pytest.mark.built)
 BY_CARGO = pytest.param("by_cargo", marks=pytest.mark.xdist_group("getopts_shell by cargo"))
-BY_WINE = pytest.param("by_wine", marks=pytest.mark.xdist_group("getopts_shell by wine"))
+BY_WINE = pytest.param("by_wine", marks=[pytest.mark.xdist_group("getopts_shell by wine"), pytest.mark.full])
 HERE = pytest.mark.parametrize("program", [PROVED, "checked_in", BY_CARGO], indirect=True)
 EACH = pytest.mark.parametrize("program", [PROVED, "checked_in", BY_CARGO, "by_qemu", BY_WINE], indirect=True)
 OTHERS = pytest.mark.parametrize("program", [BY_CARGO, "by_qemu", BY_WINE], indirect=True)
+# The rows with arguments that are too long for Windows.
+LONG = [at for at, (fields, _) in enumerate(ROWS) if sum(map(len, fields)) > 10_000]
 
 
 @pytest.fixture(scope="session")
@@ -52,7 +54,7 @@ def by_cargo(tmp_path_factory):
 
 
 @pytest.fixture(scope="session")
-def by_wine(tmp_path_factory, other_targets):
+def by_wine(tmp_path_factory):
     room, target = tmp_path_factory.mktemp("wine"), "x86_64-pc-windows-gnu"
     folder = copy_folders(room, "bindings/rust", "bindings/shell") / "bindings/shell"
     # This old cargo can't read today's lock files, and its rustc needs a flag for newer features in the source.
@@ -102,12 +104,16 @@ def one_shell(request):
 # ---- output
 
 @EACH
-@pytest.mark.parametrize("row", ROWS, ids=[str(at) for at in range(len(ROWS))])
-def test_row(program, row):
-    (status, *words), text = row
-    if "wine" in program.parent.name and sum(map(len, words)) > 10_000:
-        pytest.skip("arguments too long for Windows")
+@pytest.mark.parametrize("at", [at for at in range(len(ROWS)) if at not in LONG])
+def test_row(program, at):
+    (status, *words), text = ROWS[at]
     assert run(program, *words, status=int(status)) == ((text, "") if status == "0" else ("", text))
+
+
+@pytest.mark.parametrize("program", [PROVED, "checked_in", BY_CARGO, "by_qemu"], indirect=True)
+@pytest.mark.parametrize("at", LONG)
+def test_long_row(program, at):
+    test_row(program, at)
 
 
 @OTHERS
@@ -165,7 +171,7 @@ def read_by_getopt(options, words):
 def test_matches_getopt(program):
     need("getopt")
     if answer("getopt", "--test")[1] != 4:
-        pytest.skip("this getopt isn't from util-linux")
+        pytest.skip("needs getopt from util-linux")
     rng, asked = random.Random(44), 0
     while asked < 500:
         options, words, given, _ = lines.case_of(rng, alone=0)
@@ -191,11 +197,13 @@ def random_scripts(program, way, count):
     return lines.random_scripts(program, way, count)
 
 
+WAYS = [(way, name) for name in SHELLS for way in ("words", "variables", "arrays")
+        if way != "arrays" or name.split()[0] in lines.WITH_ARRAYS]
+
+
 @HERE
-@pytest.mark.parametrize("way", ["words", "variables", "arrays"])
+@pytest.mark.parametrize("way, one_shell", WAYS, indirect=["one_shell"])
 def test_random_lines(program, one_shell, tmp_path, cases, way):
-    if way == "arrays" and one_shell[0] not in lines.WITH_ARRAYS:
-        pytest.skip(f"{one_shell[0]} has no arrays")
     count = cases(500, 40) if program.parent.name == "bin-shell" else cases(100, 50)
     lines.run_in_shell(one_shell, tmp_path, *random_scripts(program, way, count))
 
@@ -262,14 +270,13 @@ def run_limited(program, room, *words, **env):
 # Settings that a script may have before it reads its options, and the shells that fork endlessly from these alone.
 SETTINGS = {"set -eu": [], "set -fx": [], "set -v": [], "IFS=-_o2": [], "PS4='$(date)'; set -x": ["yash"],
             "trap 'date >/dev/null' CHLD": ["dash", "mksh", "yash", "busybox"]}
+SET = [(setting, name) for setting, forking in SETTINGS.items() for name in SHELLS if name.split()[0] not in forking]
 
 
 @HERE
-@pytest.mark.parametrize("setting", SETTINGS)
+@pytest.mark.parametrize("setting, one_shell", SET, indirect=["one_shell"])
 def test_setting(program, one_shell, open_room, setting):
     """A script reads the same options after such a setting, with few processes."""
-    if one_shell[0] in SETTINGS[setting]:
-        pytest.skip(f"{one_shell[0]} forks endlessly from this setting alone")
     (open_room / "script").write_text(f"""{setting}
 code=$(getopts_shell --variables o_ n "[-v]  say more
 [-L DIR]..  a folder" -v -L 1 -L '2 3' "a b") || exit

@@ -3,19 +3,13 @@
 import subprocess
 
 import pytest
-from conftest import ROOT, VECTORS, need, run
+from conftest import ROOT, VECTORS, run
 from test_rows import all_rows, written
 
 CRATES = sorted(path.parent.name for path in (ROOT / "crates").glob("*/src"))
 # The rows of getopts_vectors take longer unproved: test_rows runs the short ones.
 PROGRAMS = [crate for crate in CRATES if (ROOT / f"crates/{crate}/stdout").exists() and crate != "getopts_vectors"]
-
-
-@pytest.fixture
-def unproved(request):
-    if not request.config.getoption("--quick"):
-        pytest.skip("runs only with --quick; 'rt ci' runs the proved program")
-    need("rt")
+pytestmark = [pytest.mark.quick, pytest.mark.rt]
 
 
 def rt_try(crate, *words, status=0):
@@ -24,7 +18,7 @@ def rt_try(crate, *words, status=0):
 
 
 @pytest.mark.parametrize("crate", PROGRAMS)
-def test_program(crate, unproved):
+def test_program(crate):
     """The program's output matches the stored one."""
     folder = ROOT / "crates" / crate
     words = (folder / "args").read_text().splitlines() if (folder / "args").exists() else []
@@ -33,11 +27,11 @@ def test_program(crate, unproved):
     assert rt_try(crate, "--", *words, status=status)[0] == (folder / "stdout").read_text()
 
 
-def test_writers_of_getopts_show(unproved):
+def test_writers_of_getopts_show():
     assert "test result: ok." in rt_try("getopts_show", "--test")[0]
 
 
-def test_rows(tmp_path, unproved):
+def test_rows(tmp_path):
     """All rows except the large ones, which would take minutes unproved."""
     (tmp_path / "beyond.rows").write_bytes(written(all_rows()))
     said, _ = rt_try("getopts_vectors", "--", tmp_path / "beyond.rows", VECTORS / "data/refused.rows")
