@@ -10,7 +10,8 @@ function.
 In a copy of the repository, each edited function is added beside the original, under its own name and with a copy of
 the proof files, so that one check of the crate tries all selected edits. A trait method can't be copied: it is edited
 in place. Half the time to check a small program goes into reading the library, so the modules of two programs are added
-to a third. The edits in private/ change bodies about which no public clause says anything; --many tries them too.
+to a third. The edits in private/ change bodies about which no public clause says anything; --many tries them too. It
+also copies each function unchanged: unless the prover proves that copy, rejecting the edited ones shows nothing.
 """
 
 import itertools
@@ -30,15 +31,21 @@ UNOFFERED = "use Rattle.std.proofs.Common.{◌≡◌, refl, true, false}\nunoffe
 OWN_ERROR = "error: `unoffered`: "
 
 
+def reader(folder):
+    return lambda file: (folder / file).read_text(encoding="utf-8")
+
+
 class Edit:
-    """An edit, with its wrong or its right replacements."""
+    """An edit, with one of its texts as the replacement: the wrong ('new'), the right, or the unchanged ('old')."""
 
     def __init__(self, path, variant):
-        self.path, self.variant, self.name = path, variant, path.stem + (":right" if variant == "right" else "")
+        self.path, self.variant, self.name = path, variant, path.stem + ("" if variant == "new" else f":{variant}")
         self.crate = path.relative_to(ROOT / "tests/must-fail").parts[0]
         self.host = GUESTS.get(self.crate, self.crate)
         text, self.pairs = path.read_text(encoding="utf-8") + "\n", []
         self.function = re.search("^fn: (.*)", text, re.M)[1].replace(self.crate, self.host, 1)
+        self.parts = self.function.split("::")[1:]
+        self.owner = self.parts[-2] if len(self.parts) > 1 and self.parts[-2][0].isupper() else None
         file = "src/" + ("/".join(re.findall(r"(?<=::)[a-z]\w*(?=::)", self.function)) or "lib") + ".rt"
         for it in re.finditer(r"^(?:file: (.*)|((?:old:.*\n)+)((?:new:.*\n)+)((?:right:.*\n)*))", text, re.M):
             file, lines = it[1] or file, zip(("old", "new", "right"), it.groups()[1:])
@@ -48,18 +55,32 @@ class Edit:
     def texts(self, kind):
         return "\n".join(texts.get(kind, "") for _, texts in self.pairs)
 
-    def applied(self, folder):
-        """The edited files of the crate."""
+    def applied(self, read):
+        """The edited files of the crate; `read` returns the text of a file."""
         files = {}
         for file, texts in self.pairs:
-            text = files.get(file) or (folder / file).read_text(encoding="utf-8")
+            text = files.get(file) or read(file)
             assert text.count(texts["old"]) == 1, f"{file} should contain this exactly once: {texts['old']}"
             files[file] = text.replace(texts["old"], texts.get(self.variant, texts["new"]))
         return files
 
+    def file_of(self, files):
+        """The edited file that has the function, or None if it is a trait's method, which can't be copied."""
+        return next((file for file, text in files.items() if span(text, self.parts[-1], self.owner)), None)
 
-ALL = [Edit(path, variant) for path in sorted((ROOT / "tests/must-fail").rglob("*.edit")) for variant in ("new", "right")
-       if variant == "new" or "\nright:" in path.read_text(encoding="utf-8")]
+
+def all_edits():
+    """Each edit, also with its right replacements, and each function that is copied once unchanged."""
+    functions = set()
+    for path in sorted((ROOT / "tests/must-fail").rglob("*.edit")):
+        yield Edit(path, "new")
+        if "\nright:" in path.read_text(encoding="utf-8"):
+            yield Edit(path, "right")
+        same = Edit(path, "old")
+        files = {file: reader(ROOT / "crates" / same.crate)(file) for file, _ in same.pairs}
+        if same.function not in functions and same.file_of(files):
+            functions.add(same.function)
+            yield same
 
 
 def named(functions, text):
@@ -81,21 +102,20 @@ class Copies:
     """Adds the edits of a crate to its folder, as copies of their functions."""
 
     def __init__(self, folder):
-        self.folder, self.files, self.count = folder, {}, 0
+        self.folder, self.read, self.files, self.count = folder, reader(folder), {}, 0
 
     def text(self, file):
-        return self.files.setdefault(file, (self.folder / file).read_text(encoding="utf-8"))
+        return self.files.setdefault(file, self.read(file))
 
     def add(self, edit):
         """Adds a copy of the edited function, or edits it in place if it can't be copied. Returns its name."""
-        path = edit.function.split("::")[1:]
-        owner = path[-2] if len(path) > 1 and path[-2][0].isupper() else None
-        files = edit.applied(self.folder)
-        file = next((file for file in files if span(files[file], path[-1], owner)), None)
+        path, owner, files = edit.parts, edit.owner, edit.applied(self.read)
+        file = edit.file_of(files)
         if not file:
-            return self.put_in_place(edit)
+            self.files.update(edit.applied(self.text))
+            return edit.function
         self.count += 1
-        there = set(re.findall(r"\bfn (\w+)", (self.folder / file).read_text(encoding="utf-8")))
+        there = set(re.findall(r"\bfn (\w+)", self.read(file)))
         helpers = [name for name in dict.fromkeys(re.findall(r"\bfn (\w+)", files[file])) if name not in there]
         names = {name: f"{name}_edit{self.count}" for name in helpers}
         start, end = span(files[file], path[-1], owner)
@@ -106,19 +126,13 @@ class Copies:
         end = span(self.text(file), path[-1], owner)[1]
         self.files[file] = "".join([self.files[file][:end], "\n", body, self.files[file][end:], *added])
         for other, text in files.items():
-            for line in set(re.findall("^ghost use .*", text, re.M)) - set((self.folder / other).read_text().split("\n")):
+            for line in set(re.findall("^ghost use .*", text, re.M)) - set(self.read(other).split("\n")):
                 module = re.escape(line.partition("{")[0])
                 self.files[other] = re.sub(rf"^{module}\{{.*", line, self.text(other), flags=re.M)
             for name in re.findall(r"^pub\(crate\) fn (\w+)", text, re.M):
                 self.files[other] = re.sub(rf"^fn {name}\b", f"pub(crate) fn {name}", self.text(other), flags=re.M)
         self.copy_proofs(path, new, edit.variant)
         return "::".join([edit.host, *path[:-1], new])
-
-    def put_in_place(self, edit):
-        for file, texts in edit.pairs:
-            assert self.text(file).count(texts["old"]) == 1, f"another edit changed this in {file}: {texts['old']}"
-            self.files[file] = self.text(file).replace(texts["old"], texts.get(edit.variant, texts["new"]))
-        return edit.function
 
     def copy_proofs(self, path, new, variant):
         """Copies a function's proof files. If a wrong body has none, adds one with an error: without it rattle would
@@ -209,16 +223,19 @@ def try_edits(edits, room):
     return {edit: verdict(said, function) for edit, function in functions.items()}
 
 
+ALL = list(all_edits())
+
+
 def marks(edit):
     """One worker tries all edits of a crate; edits of callers wait for their libraries to be proved."""
-    more = [pytest.mark.many] if "private" in edit.path.parts else []
+    more = [pytest.mark.many] if edit.variant == "old" or "private" in edit.path.parts else []
     more += [] if edit.crate in LIBRARIES else [pytest.mark.built]
     return [pytest.mark.full, pytest.mark.xdist_group(f"edits of {edit.host}"), *more]
 
 
 @pytest.mark.parametrize("edit", [pytest.param(edit, id=f"{edit.crate}-{edit.name}", marks=marks(edit)) for edit in ALL])
 def test_edit(edit, verdicts):
-    wanted = "proved" if edit.variant == "right" else "rejected"
+    wanted = "rejected" if edit.variant == "new" else "proved"
     assert verdicts(edit.host).get(edit, "an earlier check failed") == wanted
 
 
@@ -226,7 +243,7 @@ def test_edit(edit, verdicts):
                                   for edit in ALL if edit.variant == "new"])
 def test_edit_is_well_formed(edit):
     """Each old text occurs where the edit says; functions it adds have an `ensures`, and the edit a right text."""
-    edit.applied(ROOT / "crates" / edit.crate)
+    edit.applied(reader(ROOT / "crates" / edit.crate))
     functions = dict(re.findall(r"\bfn (\w+)(.*?)(?=\bfn \w|\Z)", edit.texts("new"), re.S))
     for name in functions.keys() - set(re.findall(r"\bfn (\w+)", edit.texts("old"))):
         assert re.search(r"\bensures\b", functions[name]), f"it adds {name} without an ensures"
