@@ -4,8 +4,9 @@
 usage: bindings/build.py [--check] [shell | rust]..
 
 The program is proved with the libraries that `rt ci`, or `rt lib` in their folders, left, and built for every processor
-from one proof. proved.sha256 records the checksums of the binaries and of their sources, and the toolchain; what hasn't
-changed since isn't rebuilt. With --check, nothing is proved or built: the status is 1 if anything is out of date.
+from one proof. proved.sha256 records the toolchain and the checksums of the binaries and their sources, without
+comments; what hasn't changed since isn't rebuilt. With --check, nothing is proved or built, and the status is 1 if
+anything is out of date.
 """
 
 import hashlib
@@ -20,6 +21,8 @@ from pathlib import Path
 ROOT = Path(__file__).resolve().parents[1]
 FOLDER, CRATE = ROOT / "bindings/shell", "getopts_shell"
 PROCESSORS = ["x86_64", "aarch64"]
+# Comments, which don't change the binaries.
+COMMENTS = {".rt": rb"(?m)^ *//.*\n", ".c": rb"(?s)/\*.*?\*/", ".h": rb"(?s)/\*.*?\*/"}
 
 
 def stop(why):
@@ -68,16 +71,16 @@ def link(processor, to, *words):
 
 
 def sum_of(file):
-    """The checksum of a file. In Rattle sources it leaves out comment lines, which don't change the binary."""
-    text = file.read_bytes() if file.exists() else None
-    if file.suffix == ".rt" and text is not None:
-        text = re.sub(rb"^ *//.*\n", b"", text, flags=re.M)
-    return "-" if text is None else hashlib.sha256(text).hexdigest()
+    """The checksum of a file without its comments."""
+    if not file.exists():
+        return "-"
+    text, comments = file.read_bytes(), COMMENTS.get(file.suffix)
+    return hashlib.sha256(re.sub(comments, b"", text) if comments else text).hexdigest()
 
 
 def sums():
     """The lines that proved.sha256 should have now: the toolchain, the binaries and their sources."""
-    files = [*(FOLDER / processor / CRATE for processor in PROCESSORS), FOLDER / "start.c"]
+    files = [*(FOLDER / processor / CRATE for processor in PROCESSORS), FOLDER / "start.c", FOLDER / "start.h"]
     crates = dict.fromkeys([CRATE, *(more for one in libraries(CRATE) for more in (one, *libraries(one)))])
     for crate in crates:
         files += sorted((ROOT / f"crates/{crate}/src").rglob("*.rt"))

@@ -199,12 +199,6 @@ def copy_tree(to, *libraries):
     return to
 
 
-@pytest.fixture
-def copy(tmp_path):
-    """A copy of the repository, without anything built."""
-    return copy_tree(tmp_path / "copy")
-
-
 def preload_library(source, room):
     """A library for LD_PRELOAD, built by the toolchain's compiler and linker."""
     tools, flags = kit() / "toolchain/bin", "-O2 -Wall -Wextra -Werror -ffreestanding -nostdinc -fPIC -c".split()

@@ -1,7 +1,7 @@
 """Checked-in generated files are up to date, by checksums of the files, their sources and the toolchain."""
 
 import pytest
-from conftest import ROOT, need, run
+from conftest import ROOT, answer, copy_tree, need, run
 
 BUILD = "bindings/build.py"
 
@@ -12,12 +12,16 @@ def test_binaries_match_source():
 
 
 @pytest.mark.rt
-@pytest.mark.parametrize("file", ["crates/getopts/src/scan.rt", "bindings/shell/start.c",
-                                  "bindings/shell/x86_64/getopts_shell"])
-def test_change_is_found(file, copy):
-    with open(copy / file, "ab") as changed:
-        changed.write(b"\n")
-    assert file in run(copy / BUILD, "--check", "shell", status=1)[1]
+@pytest.mark.parametrize("file, text, found", [
+    ("crates/getopts/src/scan.rt", "\n", True), ("crates/getopts/src/scan.rt", "    // A comment.\n", False),
+    ("bindings/shell/start.c", ";", True), ("bindings/shell/start.h", ";", True), ("bindings/shell/start.c", "/* A */", False),
+    ("bindings/shell/x86_64/getopts_shell", "\n", True)])
+def test_change_is_found(file, text, found, tmp_path):
+    """Only comments may change without a new build."""
+    copy = copy_tree(tmp_path / "copy")
+    with open(copy / file, "a", encoding="utf-8") as changed:
+        changed.write(text)
+    assert (file in answer(copy / BUILD, "--check", "shell")[0].decode()) == found
 
 
 def test_erased_rust_matches_source():
