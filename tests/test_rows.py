@@ -1,10 +1,9 @@
-"""The library's answers to rows, compared with stored answers, with model.py, and with the Rust crate."""
+"""The library's answers to rows, compared with stored answers and with model.py."""
 
 import functools
-import subprocess
 
 import pytest
-from conftest import ROOT, ROWS, VECTORS, need, run
+from conftest import ROWS, VECTORS, run
 from model import answer_rows, rows_of
 
 # Invalid rows, and their errors.
@@ -64,14 +63,3 @@ def test_row_before_first_case(compare):
 
 def test_missing_file(vectors):
     assert run(vectors, "/nowhere.rows", status=2)[1] == "getopts_vectors: a file can't be read\n"
-
-
-def test_cases_match_rust_crate(vectors, crate, cases, tmp_path):
-    """The Rust crate gives the recorded answers to the recorded rows, and the library's answers to random cases."""
-    need("cargo", "cc")
-    run("bash", ROOT / "tests/differential/build.sh", ROOT / "tests/differential/twin", tmp_path, crate)
-    twin = tmp_path / "target/release/twin"
-    assert ", 0 differ" in run(twin, "check", VECTORS / "data/recorded.rows")[0]
-    made = subprocess.run([twin, "generate", "5", str(cases(20_000))], capture_output=True, check=True).stdout
-    (tmp_path / "random.rows").write_bytes(subprocess.run([twin, "answer"], input=made, capture_output=True, check=True).stdout)
-    assert run(vectors, "random.rows", cwd=tmp_path)[0].endswith(" 0 differ\n")

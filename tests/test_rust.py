@@ -10,7 +10,7 @@ import sys
 from pathlib import Path
 
 import pytest
-from conftest import LINES, ROOT, ROWS, answer, need, run
+from conftest import LINES, ROOT, ROWS, VECTORS, answer, need, run
 from targets import REGISTRY, TARGETS, UNWINDS, cargo, cargo_for, commit_repository, copy_folders, offline, runner
 
 RUST = ROOT / "bindings/rust"
@@ -220,10 +220,25 @@ def test_rows(ours, rows):
     assert ", 0 differ" in run(ours, "check", rows)[0]
 
 
+def test_recorded_answers(twin, crate):
+    """The Rust crate gives the answers that were recorded from it."""
+    assert ", 0 differ" in run(twin(crate), "check", VECTORS / "data/recorded.rows")[0]
+
+
+def random_rows(twin, generator, seed, count):
+    """This many cases of a seed, with a twin's answers."""
+    return run(twin, "answer", input=os.fsencode(run(generator, "generate", seed, count)[0]))[0]
+
+
+def test_library(vectors, twin, crate, cases, tmp_path):
+    """The proved library gives the Rust crate's answers to random cases."""
+    (tmp_path / "random.rows").write_bytes(os.fsencode(random_rows(twin(crate), twin(crate), 5, cases(20_000))))
+    assert run(vectors, "random.rows", cwd=tmp_path)[0].endswith(" 0 differ\n")
+
+
 def differing(ours, theirs, seed, count):
     """The first of this many cases of a seed to which the two twins give different answers."""
-    cases = run(theirs, "generate", seed, count)[0]
-    answers = (run(twin, "answer", input=os.fsencode(cases))[0].split("\ncase\t") for twin in (ours, theirs))
+    answers = (random_rows(twin, theirs, seed, count).split("\ncase\t") for twin in (ours, theirs))
     return next((pair for pair in itertools.zip_longest(*answers) if pair[0] != pair[1]), None)
 
 
