@@ -210,19 +210,19 @@ def preload_library(source, room):
 @pytest.fixture(scope="session")
 def failing_malloc(tmp_path_factory):
     """A library for LD_PRELOAD that makes allocations fail."""
-    return preload_library(ROOT / "tests/memory/refuse.c", tmp_path_factory.mktemp("refuse"))
+    return preload_library(ROOT / "tests/memory/failing_malloc.c", tmp_path_factory.mktemp("malloc"))
 
 
-def fail_each_allocation(preload, words, refusal=(b"", 3), like=None, marks=False):
+def fail_each_allocation(preload, words, failure=(b"", 3), like=None, marks=False):
     """Makes each allocation fail in turn, once alone and once with all later ones, and returns how many failed. A run
-    with a failure has to end with `refusal`, its output and status; a run without one as the command `like`, or else
+    with a failure has to end with `failure`, its output and status; a run without one as the command `like`, or else
     as usual. With marks, only allocations between the program's marks are counted."""
     def outcome(at, on):
-        env = {**os.environ, "REFUSE_AT": str(at), "REFUSE_ON": str(on), "REFUSE_MARKS": str(int(marks))}
+        env = {**os.environ, "FAIL_AT": str(at), "FAIL_ON": str(on), "FAIL_MARKS": str(int(marks))}
         env.update({"LD_PRELOAD": str(preload)} if preload else {})
         done = subprocess.run([str(word) for word in words], capture_output=True, env=env)
         # A program killed by a signal doesn't report its failures.
-        said = re.search(rb"^refused (\d+) marks (\d+)\n\Z", done.stderr, re.M)
+        said = re.search(rb"^failed (\d+) marks (\d+)\n\Z", done.stderr, re.M)
         return (done.stdout, done.returncode), *((int(said[1]), int(said[2])) if said else (1, None))
 
     ever, _, marked = outcome(0, 0)
@@ -233,12 +233,12 @@ def fail_each_allocation(preload, words, refusal=(b"", 3), like=None, marks=Fals
     count = 0
     for on in (0, 1):
         for at in range(1, 10_001):
-            ended, refused, met = outcome(at, on)
+            ended, failed, met = outcome(at, on)
             assert met == marked or (met is None and ended[1] < 0), f"allocation {at}: {met} of {marked} marks: {ended}"
-            if refused == 0:
+            if failed == 0:
                 assert ended == ever
                 break
-            assert ended == refusal, f"allocation {at}, with all later ones: {on}"
+            assert ended == failure, f"allocation {at}, with all later ones: {on}"
             count += 1
         else:
             pytest.fail("more than 10,000 allocations")

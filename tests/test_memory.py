@@ -44,9 +44,9 @@ def static(shell, tmp_path_factory):
         pytest.skip("'rt ci' kept the proof of getopts_shell but not its object")
     room = tmp_path_factory.mktemp("static")
     flags = "-O2 -Wall -Wextra -Werror -ffreestanding -nostdinc --target=x86_64-linux-musl -fno-pic -DSTATIC -c".split()
-    run(kit() / "toolchain/bin/clang", *flags, ROOT / "tests/memory/refuse.c", "-o", room / "refuse.o")
+    run(kit() / "toolchain/bin/clang", *flags, ROOT / "tests/memory/failing_malloc.c", "-o", room / "malloc.o")
     run(ROOT / "bindings/build.py", "--link", "x86_64", room / "static", "--wrap=rattle_alloc", "--wrap=rattle_realloc",
-        room / "refuse.o", object_file)
+        room / "malloc.o", object_file)
     return room / "static"
 
 

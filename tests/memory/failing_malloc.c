@@ -1,8 +1,8 @@
 /* Makes allocations fail. It is loaded before the C library, by LD_PRELOAD; with STATIC, it is linked into a static
  * program before the heap of bindings/shell/start.c, by --wrap.
  *
- * It counts all allocations of the program; with REFUSE_MARKS=1, only those between a request for BEFORE bytes and one
- * for AFTER bytes. The allocation with the number REFUSE_AT fails; with REFUSE_ON=1, all later ones fail too. When the
+ * It counts all allocations of the program; with FAIL_MARKS=1, only those between a request for BEFORE bytes and one
+ * for AFTER bytes. The allocation with the number FAIL_AT fails; with FAIL_ON=1, all later ones fail too. When the
  * program ends, a line on standard error says how many allocations failed, and how many marks there were. */
 
 typedef unsigned long size;
@@ -17,7 +17,7 @@ char *getenv(const char *name);
 long write(int file, const void *bytes, size count);
 
 static int counting, marked, keeps_on;
-static size at, requests, refused, marks;
+static size at, requests, failed, marks;
 
 static size number_in(const char *name) {
     const char *text = getenv(name);
@@ -29,9 +29,9 @@ static size number_in(const char *name) {
 
 /* Earlier allocations aren't counted. */
 __attribute__((constructor)) static void begin(void) {
-    at = number_in("REFUSE_AT");
-    keeps_on = number_in("REFUSE_ON") == 1;
-    marked = number_in("REFUSE_MARKS") == 1;
+    at = number_in("FAIL_AT");
+    keeps_on = number_in("FAIL_ON") == 1;
+    marked = number_in("FAIL_MARKS") == 1;
     counting = !marked;
 }
 
@@ -46,7 +46,7 @@ static int fails(size bytes) {
     requests++;
     if (requests != at && !(keeps_on && at && requests > at))
         return 0;
-    refused++;
+    failed++;
     return 1;
 }
 
@@ -121,7 +121,7 @@ static void say(const char *name, size number) {
 }
 
 __attribute__((destructor)) static void end(void) {
-    say("refused ", refused);
+    say("failed ", failed);
     say(" marks ", marks);
     write(2, "\n", 1);
 }
