@@ -62,39 +62,55 @@ def reader(tmp_path):
 PLANTS = sorted(path.stem for path in (ROOT / "tests/eraser").glob("*.plant"))
 
 
-def compile_over_types(erased, tmp_path):
-    """Compiles erased files over `core` and the types of tests/eraser/types. Returns rustc's messages."""
-    need("rustc")
+def compile_over_types(tmp_path, proved=ERASED["getopts"], program=ERASED["getopts_shell"]):
+    """Compiles the erased crates over `core` and the types of tests/eraser/types. Returns rustc's messages."""
+    need("rustc", "rustfmt")
     folder = shutil.copytree(ROOT / "tests/eraser/types", tmp_path / "types")
-    text = (folder / "lib.rs").read_text().replace("ALLOC", str(RUST / "src/alloc.rs"))
-    (folder / "lib.rs").write_text(text.replace("ERASED", str(erased / "mod.rs")))
-    return subprocess.run(["rustc", "--edition=2021", "--crate-type=lib", "--emit=metadata", "-o", tmp_path / "rmeta",
-                           folder / "lib.rs"], capture_output=True, text=True).stderr
+    files = {"ALLOC": RUST / "src/alloc.rs", "PROVED": proved / "mod.rs", "BYTES": ERASED["getopts_bytes"] / "mod.rs",
+             "PROGRAM": program / "mod.rs"}
+    for crate in ("getopts", "program"):
+        file = folder / f"{crate}.rs"
+        file.write_text(re.sub('"([A-Z]+)"', lambda name: f'"{files[name[1]]}"', file.read_text()))
+        words = ["--edition=2021", "--crate-type=lib", "--emit=metadata", f"--extern=getopts={folder}/libgetopts.rmeta"]
+        said = subprocess.run(["rustc", *words, f"--out-dir={folder}", file], capture_output=True, text=True).stderr
+        if said:
+            return said
+    return ""
 
 
-@pytest.mark.parametrize("erased", ["proved", "bytes"])
-def test_erased_source_compiles_over_types(erased, tmp_path):
-    assert compile_over_types(RUST / "src" / erased, tmp_path) == ""
+def test_erased_sources_compile_over_types(tmp_path):
+    assert compile_over_types(tmp_path) == ""
+    program = shutil.copytree(ERASED["getopts_shell"], tmp_path / "program")
+    edited(program / "words.rs", "Vec::empty(rt.alloc());", "Vec::empty(rt.alloc()); BYTES.to_string();")
+    assert "no method named `to_string`" in compile_over_types(tmp_path / "edited", program=program)
+
+
+def planted(plant):
+    """The text of a planted source, and the error that its last line expects."""
+    text = (ROOT / f"tests/eraser/{plant}.plant").read_text()
+    return text, text.splitlines()[-1].removeprefix("// ")
 
 
 @pytest.mark.parametrize("plant", [plant for plant in PLANTS if plant.endswith("by_type")])
-def test_types_reject_planted_calls(plant, reader, tmp_path):
-    """The source calls a method of Rust that allocates, by a name that it also defines: the types reject the call."""
-    eraser, source = reader
-    (source / "lib.rt").write_text((ROOT / f"tests/eraser/{plant}.plant").read_text())
+def test_types_reject_planted_sources(plant, reader, tmp_path):
+    """Source that would allocate in Rust without reporting a failure, by a name that it also defines."""
+    need("rustc", "rustfmt")
+    (eraser, source), (text, error) = reader, planted(plant)
+    (source / "lib.rt").write_text(text)
     run(sys.executable, eraser)
-    assert re.search(r"error\[E0(599|277)\]", compile_over_types(tmp_path / "bindings/rust/src/proved", tmp_path))
+    said = compile_over_types(tmp_path, tmp_path / "bindings/rust/src/proved")
+    assert all(word in said for word in error.split(" ", 1)) and len(re.findall("^error", said, re.M)) == 2
 
 
 @pytest.mark.parametrize("plant", [plant for plant in PLANTS if not plant.endswith("by_type")])
-def test_planted_sources_are_rejected(plant, reader):
-    """Source that has another meaning once erased, or once did: the eraser rejects it."""
-    eraser, source = reader
-    text = (ROOT / f"tests/eraser/{plant}.plant").read_text()
+def test_eraser_rejects_planted_sources(plant, reader):
+    """Source that could mean something else once erased."""
+    (eraser, source), (text, error) = reader, planted(plant)
     file = next((name for name in ("laws", "lib") if plant.endswith(name)), "names")
     (source / "lib.rt").write_text(f"mod {file};\n")
     (source / f"{file}.rt").write_text(text)
-    assert f"erase.py: crates/getopts/src/{file}.rt:" in run(sys.executable, eraser, status=1)[1]
+    said = run(sys.executable, eraser, status=1)[1]
+    assert re.search(rf"erase.py: crates/getopts/src/{file}.rt:\d+: {re.escape(error.removeprefix('error: '))}\n", said)
 
 
 @pytest.mark.parametrize("file, right, wrong, why", [

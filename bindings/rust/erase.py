@@ -28,19 +28,20 @@ and IMPORTS; each is trusted to do in Rust what its contract in Rattle says. It 
 accept, but with different meanings, as Rattle's guides list them. `tests/eraser` has an example of each:
 
     a range without an end, which in Rust goes past the last number; `S { a, ..v[1] }`, for which Rust evaluates `v[1]`;
-    sizes of types and capacities of lists; `as usize` on 32 bits; sorting by what isn't an order; items that are clones
-    and `write!` to a text, which can fail in Rattle; `lines`, which old versions of Rust split differently; types,
-    imports and paths that mean something else; a `drop` with side effects; traits and impl bounds that could change
-    method resolution
+    sizes of types and capacities of lists; casts to `usize`, which lose bits on 32 bits; sorting by no order;
+    `lines`, which old versions of Rust split differently; fields whose names would change, since `{:?}` prints them;
+    types, imports and paths that mean something else; a `drop` with side effects; traits and impl bounds that could
+    change method resolution; comments and texts that could end a contract in one language only
 
-It accepts any call of a name that is defined here. If the call means a method of Rust that allocates, rustc rejects it:
-erased source has to compile over `core` and the types in `tests/eraser/types`, which have no such methods.
+It accepts any call of a name that is defined here. If the call means a function of Rust that allocates, rustc rejects
+it: erased source has to compile over `core` and the types in `tests/eraser/types`, which have no such functions. Rustc
+also rejects items that are clones, and `write!` to a text, which can fail in Rattle.
 
 The rest of those lists can't occur here. Errors of `anyhow`, threads, channels, `once`, `empty` and bounds by `Index`
-need an import. Macros and `stringify!` aren't among the known calls, nor `try_from` among the names. No `drop` has side
+need an import. `stringify!` isn't among the known calls, nor `try_from` among the names. No `drop` has side
 effects, so it doesn't matter when temporaries and parts of a pattern are dropped (the packages use edition 2021, Rattle
-follows 2024), nor whether a pattern of `self` drops it. What overflows only on 32 bits, or has another value there, such
-as `usize::MAX`, is tested, not proved.
+follows 2024), nor whether a pattern of `self` drops it. What overflows only on 32 bits, or has another value there, as
+`usize::MAX` has, is tested, not proved.
 
 It renames by the tables below; no source has any of the new names. `same_tokens.py` checks the result, and shares
 neither code nor tables with this script.
@@ -122,6 +123,8 @@ GIVEN = re.compile(r"try_\w+|of_capacity|copy_of|TryClone|trimmed_ascii")
 # Types of Rust, which sources may not define, because renaming would affect their functions.
 RUSTS = set("""bool char f32 f64 i8 i16 i32 i64 i128 isize str u8 u16 u32 u64 u128 usize String Vec Option Some None
     Ok Err Box Clone Copy Default Drop Eq Iterator IntoIterator Ord PartialEq PartialOrd ToString alloc core std""".split())
+# What values may be cast to. Sizes would lose bits on 32 bits; `_` and other names may mean them.
+CASTS = {"char", "u8", "u16", "u32", "u64", "u128", "i8", "i16", "i32", "i64", "i128", "f32", "f64"}
 # What lists may be sorted by: these are orders, as the contract of sorting requires.
 ORDERS = ("|entry, other| entry.order(signatures, other))", "|letter, other| letter.short.cmp(&other.short))")
 
@@ -287,6 +290,7 @@ class Eraser:
         """`ghost use .. ;`"""
         self.expect("ghost use")
         self.at = self.after(self.at)
+        self.no_comments(start, self.at)
         self.erase(start)
 
     def item(self, start):
@@ -376,16 +380,20 @@ class Eraser:
         self.past("}")
 
     def logic(self):
-        """`{ .. }` of the logic, without anything that could hide a bracket."""
+        """`{ .. }` of the logic."""
         if not self.has(self.at, "{"):
             self.stop(self.at, "expected '{'")
-        end = self.close(self.at)
-        for at in range(self.at + 1, end):
+        start, self.at = self.at, self.close(self.at)
+        self.no_comments(start, self.at)
+
+    def no_comments(self, start, end):
+        """Rejects whatever could hide the end of a construct of the logic."""
+        for at in range(start + 1, end):
             token, after = self.tokens[at], self.tokens[at + 1]
             comment = token.text + after.text in ("--", "{-", "-}", "/*") and not after.lead
-            if comment or "//" in token.lead or token.text.lstrip("b")[:1] == "'":
-                self.stop(at, "clauses may not contain comments or character literals")
-        self.at = end
+            quoted = token.text.lstrip("b")[:1] == "'" or '"' in token.text[1:-1]
+            if comment or "//" in token.lead or quoted:
+                self.stop(at, "the logic may not contain comments, characters, or quotes in texts")
 
     def imported(self):
         """`use .. ;`, from this crate, another crate of this repository, or a path in IMPORTS."""
@@ -462,19 +470,18 @@ class Eraser:
         if text in RUSTS and before in ("struct", "enum", "type", "trait", "mod", "const", "fn"):
             self.stop(at, "Rust has a type of this name")
         if text == "capacity" and not self.has(at - 4, "self.records.capacity()"):
-            self.stop(at, "it is another number in Rust: the one allowed use only decides how much to reserve")
-        if self.has(at, "as usize") or self.has(at, "as isize"):
-            self.stop(at, "it loses bits on machines of 32 bits")
+            self.stop(at, "another number in Rust; it may only decide how much to reserve")
         if self.has(at, "crate::") and self.file.stem in ("lib", "main"):
             self.stop(at, "it would become the path of another module")
         if text == "lines" and before == "." and self.file.stem != "wrap":
             self.stop(at, "before 1.66, Rust strips a carriage return at the end of the text")
-        if text == "sort_by" and not any(self.has(at - 1, ".sort_by(" + order) for order in ORDERS) and before != "fn":
+        ordered = any(self.has(at - 1, ".sort_by(" + order) for order in ORDERS)
+        if re.fullmatch(r"sort(_unstable)?_by|select_nth_unstable_by", text) and not ordered and before != "fn":
             self.stop(at, "Rust may panic if this isn't an order")
 
     def dots(self):
-        """Rejects ranges without an end that aren't an index, because in Rust they go past the last number, and `..` of a
-        record before anything but names, because Rust evaluates it even if no field is taken from it."""
+        """Rejects ranges without an end that aren't an index, because in Rust they go past the last number, and `..` of
+        a record before anything but names, because Rust evaluates it even if no field is taken from it."""
         opened = []
         for at, token in enumerate(self.tokens):
             if token.text in BRACKETS:
@@ -493,13 +500,9 @@ class Eraser:
                 if self.text(end) != "}":
                     self.stop(at, "only names may follow '..' in a record")
 
-    def calls(self, known, values, methods, same):
+    def calls(self, known, values, methods):
         """Rejects calls and names of functions that neither this repository defines nor the lists above have."""
         imported = 0
-        shows = all(
-            self.has(at - 3, "write!(f,") or self.has(at, "f: &mut fmt::Formatter<W>")
-            for at in range(len(self.tokens)) if self.text(at) == "f"
-        )
         for at, token in enumerate(self.tokens):
             text, after = token.text, self.text(at + 1)
             if token.strange:
@@ -510,6 +513,10 @@ class Eraser:
                     self.stop(at + 1, "unknown crate")
             if text == "as" and at < imported:
                 self.stop(at, "imports may not be renamed")
+            if (text in CALLS or text in HOST) and self.text(at - 1) not in (".", ":", "fn"):
+                self.stop(at, "renaming would change this name, which `{:?}` may print")
+            if text == "as" and after not in CASTS:
+                self.stop(at, "only casts to numbers of a fixed size are allowed")
             if text in ("std", "core") and at >= imported and not self.has(at, "std::result::Result<"):
                 self.stop(at, "paths of Rust have to be imported")
             named = self.text(at - 1) == "fn" or self.has(at - 2, "#[") or at < imported
@@ -522,7 +529,7 @@ class Eraser:
                 ours = text in known and (of in known or of in ("crate", "super"))
                 if not ours and f"{of}::{text}" not in OF_TYPES:
                     self.stop(at, f"{of}::{text} isn't among the known calls")
-            elif called and text not in same and not (shows and self.has(at, "write!(f,")):
+            elif called and text not in SAME:
                 by = self.text(at - 1) == "."
                 if macro or text not in (methods if by else known | values):
                     self.stop(at, "it isn't among the known calls")
@@ -570,9 +577,6 @@ def defined(eraser):
 
 def rust_of(path, eraser, module, names):
     called = eraser.rename(names)
-    for at, token in enumerate(eraser.tokens):
-        if token.text == "in" and eraser.text(at - 2) == "!" and eraser.text(at - 3) != "text":
-            eraser.stop(at, "this macro takes no allocator")
     # Examples in comments are Rattle; Rust's doctests couldn't compile them.
     shown = functools.partial(re.sub, r"(//[/!] ```)\n((?:.*\n)*?.*//[/!] ```\n)", r"\1text\n\2")
     text = "".join(shown(token.lead) + token.text for token in eraser.tokens)
@@ -595,11 +599,9 @@ def sources():
         for eraser in [*crates[name].values(), *laws]:
             names, held, called = defined(eraser)
             known, values, methods = known | names, values | held, methods | called
-    for name, files in crates.items():
-        # The library doesn't call what `host.rs` replaces; it only uses `write!` with the `f` of `Display`.
-        same = SAME - (set() if CRATES[name][2] is HOST else {call.rstrip("!") for call in HOST})
+    for files in crates.values():
         for eraser in files.values():
-            eraser.calls(known, values, methods, same)
+            eraser.calls(known, values, methods)
     return crates
 
 

@@ -1,5 +1,6 @@
-//! The types that erased code has to compile over. Neither they nor `core` have a method that allocates without reporting
-//! a failure, so rustc rejects a call of a method of Rust's `String` or `Vec` that the source takes for one of its own.
+//! The types that erased code has to compile over. Neither they nor `core` have a method that
+//! allocates without reporting a failure, so rustc rejects a call of a method of Rust's `String` or
+//! `Vec` that the source takes for one of its own.
 #![no_std]
 #![forbid(unsafe_code)]
 #![allow(warnings)]
@@ -33,8 +34,14 @@ pub mod width {
     }
 }
 
-/// An extra module, so that `super::` in the erased root names nothing.
-pub mod held {
-    #[path = "ERASED"]
-    pub mod erased;
+/// Extra modules, so that `super::` in an erased root names nothing.
+pub mod library {
+    #[path = "PROVED"]
+    pub mod proved;
 }
+pub mod encoding {
+    #[path = "BYTES"]
+    pub mod bytes;
+}
+pub use encoding::bytes;
+pub use library::proved;
