@@ -133,25 +133,33 @@ def folder(tmp_path_factory):
     return copy_folders(tmp_path_factory.mktemp("rust"), "bindings/rust") / "bindings/rust"
 
 
-@pytest.mark.parametrize("features", [["--features", "proved"], ["--no-default-features", "--features", "std", "--tests"],
-                                      ["--no-default-features", "--features", "unicode", "--doc"]])
-def test_crate(folder, features):
-    cargo(folder, "test", *features)
+@pytest.mark.parametrize("features, tests", [("std,unicode,proved", []), ("std", ["--tests"]), ("proved", [])])
+def test_crate(folder, features, tests):
+    cargo(folder, "test", "--no-default-features", "--features", features, *tests)
 
 
-@pytest.mark.parametrize("features", [[], ["--features", "proved"], ["--no-default-features", "--features", "std"],
-                                      ["--no-default-features"]])
-def test_no_warnings(folder, features):
-    cargo(folder, "check", *features, env={"RUSTFLAGS": "-D warnings"})
+@pytest.mark.parametrize("features", ["", "std", "unicode", "proved", "std,unicode", "std,unicode,proved"])
+def test_lints(folder, features):
+    cargo(folder, "clippy", "--all-targets", "--no-default-features", "--features", features, "--", "-D", "warnings")
 
 
-def test_lints(folder):
-    cargo(folder, "clippy", "--all-targets", "--features", "proved", "--", "-D", "warnings")
-    cargo(folder, "clippy", "--no-default-features", "--", "-D", "warnings")
+def test_features_compose(folder, tmp_path):
+    """Two crates of one program ask for different features."""
+    for name, dependencies, options in (
+        ("one", f'{{ path = "{folder}", default-features = false, features = ["proved"] }}', "proved::Options"),
+        ("other", f'{{ path = "{folder}" }}\none = {{ path = "../one" }}', "Options"),
+    ):
+        (tmp_path / name / "src").mkdir(parents=True)
+        (tmp_path / name / "src/lib.rs").write_text(f"pub use getopts::{options};\n")
+        (tmp_path / name / "Cargo.toml").write_text(f"""package = {{ name = "{name}", version = "0.0.0", edition = "2021" }}
+[dependencies]
+proved-getopts = {dependencies}
+""")
+    cargo(tmp_path / "other", "check")
 
 
 def test_documentation(folder):
-    cargo(folder, "doc", "--no-deps", "--features", "proved", env={"RUSTDOCFLAGS": "-D warnings"})
+    cargo(folder, "doc", "--no-deps", "--all-features", env={"RUSTDOCFLAGS": "-D warnings"})
     for name in ("options", "matches", "os"):
         example = False
         for line in (RUST / f"src/{name}.rs").read_text().splitlines():
@@ -289,7 +297,7 @@ def test_target(target, tmp_path, request, ours, example):
         shutil.copy(Path(crate) / "tests/public.rs", twin / "tests")
     cargo_for(target, twin, "build", "--release", "--features", "canonical")
     cargo_for(target, twin, "test", "--release", "--features", "canonical", "--test", "*", "--", *left_out)
-    cargo_for(target, tmp_path / "crate", "build", "--no-default-features")
+    cargo_for(target, tmp_path / "crate", "build", "--no-default-features", "--features", "proved")
     by, built = runner(target, tmp_path), twin / "target" / target / "release"
     program = {path.stem: path for path in built.iterdir() if path.suffix in ("", ".exe", ".wasm") and path.is_file()}
     for rows in ROWS:

@@ -43,8 +43,8 @@ impl fmt::Display for Fail {
     }
 }
 
-impl From<proved::Fail> for Fail {
-    fn from(fail: proved::Fail) -> Fail {
+impl Fail {
+    pub(crate) fn of(fail: proved::Fail) -> Fail {
         match fail {
             proved::Fail::ArgumentMissing(name) => Fail::ArgumentMissing(name),
             proved::Fail::UnrecognizedOption(name) => Fail::UnrecognizedOption(name),

@@ -24,12 +24,12 @@
 //! isn't UTF-8, `parse` rejects it and `parse_os` accepts it; the iterator `std::env::args()` would
 //! panic.
 //!
-//! `README.md` says what differs from the original crate, what is proved and what it costs. The
-//! feature `proved` makes the proved source itself public; without the feature `std` there is
-//! nothing else. Its methods take the allocator, and return an error if an allocation fails:
+//! `README.md` says what differs from the original crate, what is proved and what it costs. The feature `proved` makes
+//! the proved source itself public, which doesn't need the feature `std`. Its methods take the allocator, and return an
+//! error if an allocation fails:
 //!
 //! ```
-//! # #[cfg(any(feature = "proved", not(feature = "std")))] {
+//! # #[cfg(feature = "proved")] {
 //! use getopts::alloc::Global;
 //! use getopts::proved::{Fail, Options};
 //!
@@ -62,7 +62,7 @@ mod options;
 mod os;
 mod width;
 
-/// Declares the modules that are public with the feature `proved`, or without `std`.
+/// Declares the modules that are public with the feature `proved`.
 macro_rules! modules {
     ($seen:vis) => {
         $seen mod alloc;
@@ -75,9 +75,9 @@ macro_rules! modules {
         $seen mod bytes;
     };
 }
-#[cfg(any(feature = "proved", not(feature = "std")))]
+#[cfg(feature = "proved")]
 modules!(pub);
-#[cfg(all(feature = "std", not(feature = "proved")))]
+#[cfg(not(feature = "proved"))]
 modules!(pub(crate));
 
 #[cfg(feature = "std")]

@@ -407,7 +407,7 @@ impl Options {
         read_words(
             args.into_iter(),
             OsStr::to_str,
-            |texts| Ok(ask(options, texts)?),
+            |texts| ask(options, texts).map_err(Fail::of),
             |word, _| Err(Fail::UnrecognizedOption(format!("{word:?}"))),
         )
     }

@@ -89,7 +89,7 @@ impl Options {
         let options = self.named();
         let answer = |texts: &[&str], marked| match ask(options, texts) {
             Ok(proved) => Ok(OsMatches::of(Matches::of(proved), marked)),
-            Err(fail) => Err(shown(fail.into())),
+            Err(fail) => Err(shown(Fail::of(fail))),
         };
         read_words(
             args.into_iter(),
