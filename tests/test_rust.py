@@ -160,11 +160,11 @@ proved-getopts = {dependencies}
 
 def test_documentation(folder):
     cargo(folder, "doc", "--no-deps", "--all-features", env={"RUSTDOCFLAGS": "-D warnings"})
-    for name in ("options", "matches", "os"):
+    for name in ("fail", "options", "matches", "os"):
         example = False
         for line in (RUST / f"src/{name}.rs").read_text().splitlines():
-            assert example or not line.startswith("    pub fn"), f"no example for {line.strip()}"
-            example = line.startswith("    /// ```") or example and not line.startswith(("    }", "impl"))
+            assert example or not line.startswith(("    pub fn", "pub struct", "pub enum")), f"no example for {line.strip()}"
+            example = line.lstrip().startswith("/// ```") or example and not line.startswith(("    }", "}", "impl"))
 
 
 def test_package(folder, tmp_path):

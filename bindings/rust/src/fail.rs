@@ -11,18 +11,33 @@ use std::fmt;
 /// `ArgumentMissing`, `UnrecognizedOption` and `UnexpectedArgument` report the first word that
 /// can't be read, with the option's name as typed. If all words can be read, `OptionMissing` and
 /// `OptionDuplicated` report the first option, in order of declaration, that occurs the wrong
-/// number of times, with its main name.
+/// number of times, with its main name: the long name or, if there is none, the short one.
+///
+/// ```
+/// use getopts::{Fail, Options};
+///
+/// let mut options = Options::new();
+/// options.reqopt("o", "output", "set the output file", "NAME");
+/// let problem = |words: &[&str]| match options.parse(words) {
+///     Ok(_) => "none".to_string(),
+///     Err(Fail::UnrecognizedOption(name)) => format!("no option is called {name}"),
+///     Err(fail) => fail.to_string(),
+/// };
+/// assert_eq!(problem(&["--ouput=a"]), "no option is called ouput");
+/// assert_eq!(problem(&["in.txt"]), "Required option 'output' missing");
+/// ```
 #[derive(Clone, Debug, PartialEq, Eq)]
 pub enum Fail {
-    /// The option needs an argument, but the command line ends.
+    /// An option needs an argument, but the command line ends.
     ArgumentMissing(String),
-    /// No option has this name. Also reports a word that isn't UTF-8, as `{:?}` prints it.
+    /// No option has this name. `parse` also reports a word that isn't UTF-8 this way, as `{:?}`
+    /// prints it.
     UnrecognizedOption(String),
     /// A required option is missing.
     OptionMissing(String),
     /// An option that may occur only once was given again.
     OptionDuplicated(String),
-    /// The option takes no argument, but one was attached.
+    /// An option that takes no argument was given one, as in `--verbose=x`.
     UnexpectedArgument(String),
 }
 

@@ -1,32 +1,79 @@
 //! A formally verified command-line option parser, with the types and methods of the crate
 //! `getopts` 0.2.24.
 //!
-//! A program declares options, parses its arguments, queries the result, and prints help:
+//! A program declares its options, parses its arguments, and queries the matches:
 //!
-//! ```
-//! # #[cfg(feature = "std")] {
+#![cfg_attr(feature = "std", doc = "```")]
+#![cfg_attr(not(feature = "std"), doc = "```ignore")]
 //! use getopts::Options;
+//! use std::process::ExitCode;
 //!
-//! let mut options = Options::new();
-//! options
-//!     .optopt("o", "output", "set the output file", "NAME")
-//!     .optflag("h", "help", "print this help")
-//!     .optflagmulti("v", "verbose", "say more");
-//! let matches = options.parse(["-vofile", "--verbose", "in.txt"]).unwrap();
-//! assert_eq!(matches.opt_str("output").unwrap(), "file");
-//! assert_eq!(matches.opt_count("v"), 2);
-//! assert_eq!(matches.free, ["in.txt"]);
-//! assert!(options.usage("Usage: copy FILE").contains("-o, --output NAME"));
-//! # }
+//! fn main() -> ExitCode {
+//!     let mut options = Options::new();
+//!     options
+//!         .optflag("h", "help", "print this help")
+//!         .optopt("o", "output", "write to this file", "FILE")
+//!         .optflagmulti("v", "verbose", "say more");
+//!     let matches = match options.parse(std::env::args_os().skip(1)) {
+//!         Ok(matches) => matches,
+//!         Err(fail) => {
+//!             eprintln!("join: {fail}");
+//!             return ExitCode::from(2);
+//!         }
+//!     };
+//!     if matches.opt_present("help") {
+//!         print!("{}", options.usage("Usage: join [options] FILE.."));
+//!         return ExitCode::SUCCESS;
+//!     }
+//!     let output = matches.value("output").unwrap_or("out.txt");
+//!     if matches.opt_count("verbose") > 0 {
+//!         eprintln!("join: joining {:?} into {output}", matches.free);
+//!     }
+//!     ExitCode::SUCCESS
+//! }
 //! ```
 //!
-//! A program's own arguments are `std::env::args_os().skip(1)`, without the program's name. If one
-//! isn't UTF-8, `parse` rejects it and `parse_os` accepts it; the iterator `std::env::args()` would
-//! panic.
+//! If an argument isn't UTF-8, `parse` rejects it, and [`parse_os`](Options::parse_os) accepts it.
+//! The iterator `std::env::args()` would panic. Below, a *word* is one of the program's arguments,
+//! as opposed to an option's argument.
 //!
-//! `README.md` says what differs from the original crate, what is proved and what it costs. The feature `proved` makes
-//! the proved source itself public, which doesn't need the feature `std`. Its methods take the allocator, and return an
-//! error if an allocation fails:
+//! `parse` also rejects `join --help` if a required option is missing.
+//! [`parse_ignoring_counts`](Options::parse_ignoring_counts) shows how to print help then. If the
+//! order of different options matters, use [`parse_in_order`](Options::parse_in_order).
+//!
+//! # Subcommands
+//!
+//! Stop at the first positional argument, which is the subcommand, and parse the words after it
+//! with the subcommand's options:
+//!
+#![cfg_attr(feature = "std", doc = "```")]
+#![cfg_attr(not(feature = "std"), doc = "```ignore")]
+//! use getopts::{Fail, Options, ParsingStyle};
+//!
+//! fn run(words: &[&str]) -> Result<String, Fail> {
+//!     let mut global = Options::new();
+//!     global
+//!         .optflag("v", "verbose", "say more")
+//!         .parsing_style(ParsingStyle::StopAtFirstFree);
+//!     let matches = global.parse(words)?;
+//!     match matches.free.split_first() {
+//!         Some((command, words)) if command == "add" => {
+//!             let mut options = Options::new();
+//!             options.optflag("f", "force", "replace files");
+//!             let added = options.parse(words)?;
+//!             Ok(format!("add {:?}, force: {}", added.free, added.opt_present("f")))
+//!         }
+//!         Some((command, _)) => Ok(format!("unknown command {command:?}")),
+//!         None => Ok("no command".to_string()),
+//!     }
+//! }
+//! assert_eq!(run(&["-v", "add", "--force", "a.txt"]).unwrap(), "add [\"a.txt\"], force: true");
+//! ```
+//!
+//! # The proved source
+//!
+//! The feature `proved` makes the proved source itself public. It doesn't need the feature `std`.
+//! Its methods take the allocator, and return an error if an allocation fails:
 //!
 //! ```
 //! # #[cfg(feature = "proved")] {
@@ -42,6 +89,8 @@
 //! assert_eq!(output(&["-ofile"]).unwrap().unwrap(), "file");
 //! # }
 //! ```
+//!
+//! `README.md` says what differs from the crate `getopts`, what is proved, and what it costs.
 #![cfg_attr(not(feature = "std"), no_std)]
 #![forbid(unsafe_code)]
 #![warn(missing_docs)]

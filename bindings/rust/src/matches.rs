@@ -10,7 +10,20 @@ use std::fmt;
 use std::result::Result;
 use std::str::FromStr;
 
-/// The matches of an accepted command line: its options, by name, and its positional arguments.
+/// What an accepted command line contains: the options, with their values, and the positional
+/// arguments.
+///
+/// Methods accept both names of an option. They panic on a name that no option has, except
+/// `opt_defined` and `opts_present`.
+///
+/// ```
+/// let mut options = getopts::Options::new();
+/// options.optmulti("I", "include", "add a folder", "DIR").optflagmulti("v", "", "say more");
+/// let matches = options.parse(["-vI", "src", "in.txt", "-v"]).unwrap();
+/// assert_eq!(matches.opt_count("v"), 2);
+/// assert_eq!(matches.opt_strs("include"), ["src"]);
+/// assert_eq!(matches.free, ["in.txt"]);
+/// ```
 pub struct Matches {
     /// The positional arguments (*free words*), in command-line order.
     pub free: Vec<String>,
@@ -96,7 +109,7 @@ impl Matches {
     /// ```
     ///
     /// # Panics
-    /// If no option has this name.
+    /// Panics if no option has this name.
     pub fn value(&self, name: &str) -> Option<&str> {
         self.given(name).first_value()
     }
@@ -112,7 +125,7 @@ impl Matches {
     /// ```
     ///
     /// # Panics
-    /// If no option has this name.
+    /// Panics if no option has this name.
     #[inline]
     pub fn values(&self, name: &str) -> impl Iterator<Item = &str> + '_ {
         self.occurrences(name).filter_map(|(_, value)| value)
@@ -129,13 +142,13 @@ impl Matches {
     /// ```
     ///
     /// # Panics
-    /// If no option has this name.
+    /// Panics if no option has this name.
     #[inline]
     pub fn occurrences(&self, name: &str) -> impl Iterator<Item = (usize, Option<&str>)> + '_ {
         self.given(name).into_iter()
     }
 
-    /// Whether an option has this name. Most other methods panic if none has.
+    /// Whether an option has this name. If none has, most other methods panic.
     ///
     /// ```
     /// let mut options = getopts::Options::new();
@@ -156,7 +169,7 @@ impl Matches {
     /// ```
     ///
     /// # Panics
-    /// If no option has this name.
+    /// Panics if no option has this name.
     pub fn opt_present(&self, name: &str) -> bool {
         !self.given(name).is_empty()
     }
@@ -170,12 +183,13 @@ impl Matches {
     /// ```
     ///
     /// # Panics
-    /// If no option has this name.
+    /// Panics if no option has this name.
     pub fn opt_count(&self, name: &str) -> usize {
         self.given(name).len()
     }
 
-    /// The positions of an option's occurrences: indexes of words, counting separate arguments.
+    /// The positions of an option's occurrences: the index of each one's word. Words that are
+    /// values count, too.
     ///
     /// ```
     /// let mut options = getopts::Options::new();
@@ -185,7 +199,7 @@ impl Matches {
     /// ```
     ///
     /// # Panics
-    /// If no option has this name.
+    /// Panics if no option has this name.
     pub fn opt_positions(&self, name: &str) -> Vec<usize> {
         granted(self.given(name).positions(Global))
     }
@@ -212,7 +226,7 @@ impl Matches {
     /// ```
     ///
     /// # Panics
-    /// If it reaches a name that no option has.
+    /// Panics if it reaches a name that no option has.
     pub fn opts_present_any<C: IntoIterator>(&self, names: C) -> bool
     where
         C::Item: AsRef<str>,
@@ -231,7 +245,7 @@ impl Matches {
     /// ```
     ///
     /// # Panics
-    /// If it reaches a name that no option has.
+    /// Panics if it reaches a name that no option has.
     pub fn opts_str(&self, names: &[String]) -> Option<String> {
         names.iter().find_map(|name| self.opt_str(name))
     }
@@ -247,7 +261,7 @@ impl Matches {
     /// ```
     ///
     /// # Panics
-    /// If it reaches a name that no option has.
+    /// Panics if it reaches a name that no option has.
     pub fn opts_str_first<C: IntoIterator>(&self, names: C) -> Option<String>
     where
         C::Item: AsRef<str>,
@@ -264,7 +278,7 @@ impl Matches {
     /// ```
     ///
     /// # Panics
-    /// If no option has this name.
+    /// Panics if no option has this name.
     pub fn opt_strs(&self, name: &str) -> Vec<String> {
         let given = self.given(name);
         let (count, mut values) = (given.len(), Vec::new());
@@ -288,7 +302,7 @@ impl Matches {
     /// ```
     ///
     /// # Panics
-    /// If no option has this name.
+    /// Panics if no option has this name.
     pub fn opt_strs_pos(&self, name: &str) -> Vec<(usize, String)> {
         granted(self.given(name).pairs(Global))
     }
@@ -302,13 +316,13 @@ impl Matches {
     /// ```
     ///
     /// # Panics
-    /// If no option has this name.
+    /// Panics if no option has this name.
     pub fn opt_str(&self, name: &str) -> Option<String> {
         self.value(name).map(str::to_string)
     }
 
-    /// The value of an option's first occurrence, or `def` if that has none. `None` if the option
-    /// wasn't given.
+    /// The value of an option's first occurrence, or `def` if that occurrence has no value. Returns
+    /// `None` if the option wasn't given.
     ///
     /// ```
     /// let mut options = getopts::Options::new();
@@ -318,7 +332,7 @@ impl Matches {
     /// ```
     ///
     /// # Panics
-    /// If no option has this name.
+    /// Panics if no option has this name.
     pub fn opt_default(&self, name: &str, def: &str) -> Option<String> {
         let value = self.given(name).first_value_or(def);
         value.map(str::to_string)
@@ -333,15 +347,16 @@ impl Matches {
     /// ```
     ///
     /// # Errors
-    /// If the value can't be parsed as a `T`.
+    /// Fails if the value can't be parsed as a `T`.
     ///
     /// # Panics
-    /// If no option has this name.
+    /// Panics if no option has this name.
     pub fn opt_get<T: FromStr>(&self, name: &str) -> Result<Option<T>, T::Err> {
         self.value(name).map(str::parse).transpose()
     }
 
-    /// Parses the value of an option's first occurrence as a `T`. Returns `def` if there is none.
+    /// Parses the value of an option's first occurrence as a `T`, or returns `def` if there is
+    /// none.
     ///
     /// ```
     /// let mut options = getopts::Options::new();
@@ -351,10 +366,10 @@ impl Matches {
     /// ```
     ///
     /// # Errors
-    /// If the value can't be parsed as a `T`.
+    /// Fails if the value can't be parsed as a `T`.
     ///
     /// # Panics
-    /// If no option has this name.
+    /// Panics if no option has this name.
     pub fn opt_get_default<T: FromStr>(&self, name: &str, def: T) -> Result<T, T::Err> {
         self.value(name).map_or(Ok(def), str::parse)
     }

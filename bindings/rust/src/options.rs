@@ -8,7 +8,21 @@ use crate::{Fail, HasArg, Matches, Occur, ParsingStyle, Result, proved};
 use std::ffi::OsStr;
 use std::fmt;
 
-/// The options of a program, with a parsing style and a mode.
+/// The options that a program accepts, with a parsing style and a mode.
+///
+/// Methods that declare options can be chained. They first take a short name of one character, and
+/// a long name; either may be empty. In the help text, `desc` describes the option, and `hint`
+/// names its argument, as `FILE` does in `-o FILE`.
+///
+/// ```
+/// let mut options = getopts::Options::new();
+/// options
+///     .optflag("h", "help", "print this help")
+///     .optopt("o", "output", "set the output file", "NAME");
+/// let matches = options.parse(["--output=a.txt", "in.txt"]).unwrap();
+/// assert_eq!(matches.value("o"), Some("a.txt"));
+/// assert_eq!(options.short_usage("copy"), "Usage: copy [-h] [-o NAME]");
+/// ```
 #[derive(PartialEq, Eq)]
 pub struct Options {
     proved: proved::Options,
@@ -151,8 +165,8 @@ impl Options {
         self
     }
 
-    /// Turns long-only mode on or off. In this mode a long name may follow one dash or two, and
-    /// short options stand alone: `-vv` and `-ofile` aren't accepted.
+    /// Turns long-only mode on or off. In this mode, one dash or two may precede a long name, and
+    /// each short option needs a word of its own: `-vv` and `-ofile` aren't accepted.
     ///
     /// ```
     /// let mut options = getopts::Options::new();
@@ -164,7 +178,8 @@ impl Options {
         self
     }
 
-    /// Adds an option, with any kind of argument and any number of occurrences.
+    /// Adds an option. `hasarg` says whether it takes an argument, and `occur` how often it may
+    /// occur.
     ///
     /// ```
     /// use getopts::{HasArg, Occur, Options};
@@ -174,7 +189,7 @@ impl Options {
     /// ```
     ///
     /// # Panics
-    /// If the short name has more than one byte, or the long name has exactly one.
+    /// Panics if the short name has more than one byte, or the long name has exactly one.
     pub fn opt(
         &mut self,
         short_name: &str,
@@ -212,7 +227,7 @@ impl Options {
     /// ```
     ///
     /// # Panics
-    /// If the short name has more than one byte, or the long name has exactly one.
+    /// Panics if the short name has more than one byte, or the long name has exactly one.
     pub fn optflag(&mut self, short: &str, long: &str, desc: &str) -> &mut Options {
         self.opt(short, long, desc, "", HasArg::No, Occur::Optional)
     }
@@ -226,7 +241,7 @@ impl Options {
     /// ```
     ///
     /// # Panics
-    /// If the short name has more than one byte, or the long name has exactly one.
+    /// Panics if the short name has more than one byte, or the long name has exactly one.
     pub fn optflagmulti(&mut self, short: &str, long: &str, desc: &str) -> &mut Options {
         self.opt(short, long, desc, "", HasArg::No, Occur::Multi)
     }
@@ -240,7 +255,7 @@ impl Options {
     /// ```
     ///
     /// # Panics
-    /// If the short name has more than one byte, or the long name has exactly one.
+    /// Panics if the short name has more than one byte, or the long name has exactly one.
     pub fn optflagopt(&mut self, short: &str, long: &str, desc: &str, hint: &str) -> &mut Options {
         self.opt(short, long, desc, hint, HasArg::Maybe, Occur::Optional)
     }
@@ -254,7 +269,7 @@ impl Options {
     /// ```
     ///
     /// # Panics
-    /// If the short name has more than one byte, or the long name has exactly one.
+    /// Panics if the short name has more than one byte, or the long name has exactly one.
     pub fn optmulti(&mut self, short: &str, long: &str, desc: &str, hint: &str) -> &mut Options {
         self.opt(short, long, desc, hint, HasArg::Yes, Occur::Multi)
     }
@@ -268,7 +283,7 @@ impl Options {
     /// ```
     ///
     /// # Panics
-    /// If the short name has more than one byte, or the long name has exactly one.
+    /// Panics if the short name has more than one byte, or the long name has exactly one.
     pub fn optopt(&mut self, short: &str, long: &str, desc: &str, hint: &str) -> &mut Options {
         self.opt(short, long, desc, hint, HasArg::Yes, Occur::Optional)
     }
@@ -282,7 +297,7 @@ impl Options {
     /// ```
     ///
     /// # Panics
-    /// If the short name has more than one byte, or the long name has exactly one.
+    /// Panics if the short name has more than one byte, or the long name has exactly one.
     pub fn reqopt(&mut self, short: &str, long: &str, desc: &str, hint: &str) -> &mut Options {
         self.opt(short, long, desc, hint, HasArg::Yes, Occur::Req)
     }
@@ -302,7 +317,7 @@ impl Options {
         &self.proved
     }
 
-    /// Parses a command line, given without the program's own name.
+    /// Parses a command line, without the program's own name.
     ///
     /// ```
     /// let mut options = getopts::Options::new();
@@ -314,14 +329,14 @@ impl Options {
     /// assert_eq!(fail.to_string(), "Argument to option 'output' missing");
     /// ```
     ///
-    /// A program's own arguments are `std::env::args_os().skip(1)`; `std::env::args()` panics if
-    /// one isn't UTF-8. All items are taken before the first is read.
+    /// For a program's own arguments, pass `std::env::args_os().skip(1)`; `std::env::args()` panics
+    /// if one isn't UTF-8. The iterator is exhausted before the first item is read.
     ///
     /// # Errors
-    /// If the command line is rejected; see [`Fail`].
+    /// Fails if the command line is rejected; see [`Fail`].
     ///
     /// # Panics
-    /// If an option has two empty names.
+    /// Panics if both names of an option are empty.
     pub fn parse<C: IntoIterator>(&self, args: C) -> Result
     where
         C::Item: AsRef<OsStr>,
@@ -337,18 +352,28 @@ impl Options {
     /// Use it to print help even if a required option is missing:
     ///
     /// ```
-    /// let mut options = getopts::Options::new();
-    /// options.optflag("h", "help", "print this help").reqopt("o", "output", "", "NAME");
-    /// assert!(options.parse(["-h"]).is_err());
-    /// assert!(options.parse_ignoring_counts(["-h"]).unwrap().opt_present("help"));
-    /// assert!(options.parse_ignoring_counts(["-o"]).is_err());
+    /// use getopts::{Fail, Options};
+    ///
+    /// fn run(words: &[&str]) -> Result<String, Fail> {
+    ///     let mut options = Options::new();
+    ///     options.optflag("h", "help", "print this help").reqopt("o", "output", "", "NAME");
+    ///     if options.parse_ignoring_counts(words)?.opt_present("help") {
+    ///         return Ok(options.usage("Usage: copy -o NAME"));
+    ///     }
+    ///     let matches = options.parse(words)?;
+    ///     Ok(matches.opt_str("output").unwrap_or_default())
+    /// }
+    /// assert!(run(&["--help"]).unwrap().starts_with("Usage: copy -o NAME"));
+    /// assert_eq!(run(&["-oa.txt"]).unwrap(), "a.txt");
+    /// assert_eq!(run(&[]), Err(Fail::OptionMissing("output".to_string())));
     /// ```
     ///
     /// # Errors
-    /// If a word can't be read: `ArgumentMissing`, `UnrecognizedOption` or `UnexpectedArgument`.
+    /// Fails if a word can't be read: `ArgumentMissing`, `UnrecognizedOption` or
+    /// `UnexpectedArgument`.
     ///
     /// # Panics
-    /// If an option has two empty names.
+    /// Panics if both names of an option are empty.
     pub fn parse_ignoring_counts<C: IntoIterator>(&self, args: C) -> Result
     where
         C::Item: AsRef<OsStr>,
@@ -357,12 +382,12 @@ impl Options {
         Ok(Matches::of(matches))
     }
 
-    /// Parses words like `parse`, and returns the options that they give, in order, across all
-    /// options: the main name of each (the long name, or the short one if there is no long one) and
-    /// its value. The crate getopts has no such method.
+    /// Parses a command line like `parse`, and returns its options in order: the main name of each
+    /// (the long name or, if there is none, the short one) and its value. The crate getopts has no
+    /// such method.
     ///
-    /// Use it if the order of different options matters. Options in one word, such as `-vq`, have
-    /// the same position.
+    /// Use it if the order of different options matters. Positions don't show it for options in one
+    /// word, such as `-vq`.
     ///
     /// ```
     /// let mut options = getopts::Options::new();
@@ -379,7 +404,7 @@ impl Options {
     /// ```
     ///
     /// # Errors
-    /// Fails if `parse` would reject the words.
+    /// Fails if `parse` would.
     ///
     /// # Panics
     /// Panics if both names of an option are empty.
@@ -412,12 +437,11 @@ impl Options {
         )
     }
 
-    /// Rewrites an accepted command line with main names (the long name if there is one): `--main`
-    /// or `--main=value` for each option in command-line order, then `--`, then the positional
-    /// arguments.
+    /// Parses a command line like `parse`, and rewrites it in one form: each option as `--name` or
+    /// `--name=value`, with its main name (see `parse_in_order`), then `--`, then the positional
+    /// arguments. The crate getopts has no such method.
     ///
-    /// Returns `None` if the main name of a given option contains `=`. The crate getopts has no
-    /// such method.
+    /// Returns `None` if the main name of a given option contains `=`.
     ///
     /// ```
     /// let mut options = getopts::Options::new();
@@ -427,10 +451,10 @@ impl Options {
     /// ```
     ///
     /// # Errors
-    /// If `parse` would reject the command line.
+    /// Fails if `parse` would.
     ///
     /// # Panics
-    /// If an option has two empty names.
+    /// Panics if both names of an option are empty.
     pub fn canonical<C: IntoIterator>(
         &self,
         args: C,
@@ -450,12 +474,12 @@ impl Options {
     /// ```
     ///
     /// # Panics
-    /// If an option has two empty names.
+    /// Panics if both names of an option are empty.
     pub fn short_usage(&self, program_name: &str) -> String {
         granted(self.named().short_usage(Global, program_name))
     }
 
-    /// Returns the help text: the brief, and each option with its description.
+    /// Returns the help text: `brief`, and each option with its description.
     ///
     /// ```
     /// let mut options = getopts::Options::new();
@@ -465,7 +489,7 @@ impl Options {
     /// ```
     ///
     /// # Panics
-    /// If an option has two empty names.
+    /// Panics if both names of an option are empty.
     pub fn usage(&self, brief: &str) -> String {
         granted(self.named().usage(Global, brief))
     }
@@ -481,7 +505,7 @@ impl Options {
     /// ```
     ///
     /// # Panics
-    /// If an option has two empty names.
+    /// Panics if both names of an option are empty.
     pub fn usage_with_format<F: FnMut(&mut dyn Iterator<Item = String>) -> String>(
         &self,
         mut formatter: F,
@@ -491,7 +515,8 @@ impl Options {
     }
 }
 
-// The proved methods for borrowed texts, compiled here once, not in each program that calls them.
+// The proved methods for borrowed texts, compiled here once instead of in each program that calls
+// them.
 
 pub(crate) fn parse_texts(options: &proved::Options, words: &[&str]) -> proved::Result {
     options.parse_words(Global, words)

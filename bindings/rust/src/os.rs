@@ -10,15 +10,27 @@ use std::fmt;
 use std::result::Result;
 use std::str::FromStr;
 
-/// The matches of an accepted command line that may not be UTF-8.
+/// The matches of an accepted command line that may not be UTF-8. See [`Options::parse_os`].
 ///
 /// Methods panic on a name that no option has, except `opt_defined`.
+///
+/// ```
+/// # #[cfg(unix)] {
+/// use std::ffi::OsStr;
+/// use std::os::unix::ffi::OsStrExt;
+///
+/// let mut options = getopts::Options::new();
+/// options.optopt("o", "output", "set the output file", "NAME");
+/// let matches = options.parse_os([OsStr::from_bytes(b"-ocaf\xe9")]).unwrap();
+/// assert_eq!(matches.value("output").unwrap(), OsStr::from_bytes(b"caf\xe9"));
+/// # }
+/// ```
 #[derive(Clone, PartialEq, Eq)]
 pub struct OsMatches {
     /// The positional arguments (*free words*), in command-line order.
     pub free: Vec<OsString>,
     matches: Matches,
-    /// If a word wasn't text, the values of each option.
+    /// The values of each option, if a word wasn't text. Otherwise empty.
     values: Vec<Vec<Option<OsString>>>,
 }
 
@@ -27,10 +39,10 @@ impl Options {
     /// positional arguments are returned as they were given. The crate getopts has no such method.
     ///
     /// Arguments may be any bytes on Unix, and may contain lone surrogates on Windows; elsewhere
-    /// they are text. Names in errors are text, with U+FFFD in place of what isn't.
+    /// they are text. Errors contain U+FFFD in place of what isn't text.
     ///
-    /// The characters from U+10FF80 on, the last ones for private use, represent bytes here, so
-    /// only `parse` finds an option whose name contains one.
+    /// Names of options may not contain the last private-use characters (U+10FF80 and above), which
+    /// represent bytes here. Only `parse` finds such options.
     ///
     /// ```
     /// use std::ffi::OsString;
@@ -42,13 +54,13 @@ impl Options {
     /// assert_eq!(matches.free, ["in.txt"]);
     /// ```
     ///
-    /// A program's own arguments are `std::env::args_os().skip(1)`.
+    /// For a program's own arguments, pass `std::env::args_os().skip(1)`.
     ///
     /// # Errors
     /// See `parse`.
     ///
     /// # Panics
-    /// If an option has two empty names.
+    /// Panics if both names of an option are empty.
     pub fn parse_os<C: IntoIterator>(&self, args: C) -> Result<OsMatches, Fail>
     where
         C::Item: AsRef<OsStr>,
@@ -70,7 +82,7 @@ impl Options {
     /// See `parse_ignoring_counts`.
     ///
     /// # Panics
-    /// If an option has two empty names.
+    /// Panics if both names of an option are empty.
     pub fn parse_os_ignoring_counts<C: IntoIterator>(&self, args: C) -> Result<OsMatches, Fail>
     where
         C::Item: AsRef<OsStr>,
@@ -157,7 +169,8 @@ impl OsMatches {
         self.matches.opt_count(name)
     }
 
-    /// The positions of an option's occurrences: indexes of words, counting separate arguments.
+    /// The positions of an option's occurrences: the index of each one's word. Words that are
+    /// values count, too.
     ///
     /// ```
     /// let mut options = getopts::Options::new();
@@ -217,8 +230,8 @@ impl OsMatches {
         })
     }
 
-    /// The value of an option's first occurrence, or `def` if that has none. `None` if the option
-    /// wasn't given.
+    /// The value of an option's first occurrence, or `def` if that occurrence has no value. Returns
+    /// `None` if the option wasn't given.
     ///
     /// ```
     /// let mut options = getopts::Options::new();
@@ -244,7 +257,8 @@ impl OsMatches {
     /// ```
     ///
     /// # Errors
-    /// If the value can't be parsed as a `T`, the error of `T`; if it isn't UTF-8, `None`.
+    /// Fails with `Some(error)` if the value can't be parsed as a `T`, and with `None` if it isn't
+    /// UTF-8.
     pub fn opt_get<T: FromStr>(&self, name: &str) -> Result<Option<T>, Option<T::Err>> {
         let read = |value: &OsStr| value.to_str().ok_or(None)?.parse().map_err(Some);
         self.value(name).map(read).transpose()
@@ -321,7 +335,8 @@ fn word_of(bytes: Vec<u8>) -> OsString {
     std::os::unix::ffi::OsStringExt::from_vec(bytes)
 }
 
-/// The bytes of a word. A lone surrogate becomes three bytes (WTF-8), which aren't valid UTF-8.
+/// The bytes of a word. A lone surrogate is encoded as three bytes (WTF-8), which aren't valid
+/// UTF-8.
 #[cfg(windows)]
 fn bytes_of(word: &OsStr) -> Result<Cow<'_, [u8]>, Fail> {
     let mut bytes = Vec::new();

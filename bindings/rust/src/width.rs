@@ -1,5 +1,5 @@
-//! The widths of texts: with the feature `unicode` those of the crate `unicode-width`, otherwise
-//! their bytes.
+//! The widths of texts: with the feature `unicode`, those that the crate `unicode-width` computes;
+//! otherwise, their bytes.
 
 /// Texts with a width.
 pub trait UnicodeWidthStr {

@@ -81,7 +81,7 @@ fn arguments_of_any_bytes_are_preserved() {
         assert_eq!(matches.opt_default("c", "auto"), Some(&*word));
         let read = matches.opt_get::<String>("o");
         assert_eq!(read, word.to_str().map(|text| Some(text.into())).ok_or(None));
-        // The characters that stand for bytes aren't printed.
+        // The characters that represent bytes aren't printed.
         assert!(format!("{matches:?}").contains(&format!("vals: [[(0, Val({word:?}))]")));
         assert!(format!("{matches:?}").contains(&format!("free: [{word:?}]")));
     }
