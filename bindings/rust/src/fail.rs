@@ -9,9 +9,9 @@ use std::fmt;
 /// Why a command line was rejected.
 ///
 /// `ArgumentMissing`, `UnrecognizedOption` and `UnexpectedArgument` report the first word that
-/// can't be read, with the option's name as typed. If all words can be read, `OptionMissing` and
+/// can't be parsed, with the option's name as typed. Otherwise, `OptionMissing` and
 /// `OptionDuplicated` report the first option, in order of declaration, that occurs the wrong
-/// number of times, with its main name: the long name or, if there is none, the short one.
+/// number of times, by its main name: the long name or, if there is none, the short one.
 ///
 /// ```
 /// use getopts::{Fail, Options};
@@ -35,7 +35,7 @@ pub enum Fail {
     UnrecognizedOption(String),
     /// A required option is missing.
     OptionMissing(String),
-    /// An option that may occur only once was given again.
+    /// An option that may occur once was given more than once.
     OptionDuplicated(String),
     /// An option that takes no argument was given one, as in `--verbose=x`.
     UnexpectedArgument(String),

@@ -33,13 +33,13 @@
 //! }
 //! ```
 //!
-//! If an argument isn't UTF-8, `parse` rejects it, and [`parse_os`](Options::parse_os) accepts it.
-//! The iterator `std::env::args()` would panic. Below, a *word* is one of the program's arguments,
-//! as opposed to an option's argument.
+//! `parse` rejects arguments that aren't UTF-8, and [`parse_os`](Options::parse_os) accepts them;
+//! `std::env::args()` would panic. Below, a *word* is one of the program's arguments, as opposed to
+//! an option's argument.
 //!
-//! `parse` also rejects `join --help` if a required option is missing.
-//! [`parse_ignoring_counts`](Options::parse_ignoring_counts) shows how to print help then. If the
-//! order of different options matters, use [`parse_in_order`](Options::parse_in_order).
+//! `parse` also rejects `join --help` if a required option is missing. To print help anyway, use
+//! [`parse_ignoring_counts`](Options::parse_ignoring_counts). If the order of different options
+//! matters, use [`parse_in_order`](Options::parse_in_order).
 //!
 //! # Subcommands
 //!
@@ -72,8 +72,8 @@
 //!
 //! # The proved source
 //!
-//! The feature `proved` makes the proved source itself public. It doesn't need the feature `std`.
-//! Its methods take the allocator, and return an error if an allocation fails:
+//! The feature `proved` makes the proved source public, and doesn't need the feature `std`. The
+//! methods of `proved` take an allocator, and return an error if an allocation fails:
 //!
 //! ```
 //! # #[cfg(feature = "proved")] {
@@ -90,7 +90,7 @@
 //! # }
 //! ```
 //!
-//! `README.md` says what differs from the crate `getopts`, what is proved, and what it costs.
+//! `README.md` lists differences from the crate `getopts`, and describes what is proved.
 #![cfg_attr(not(feature = "std"), no_std)]
 #![forbid(unsafe_code)]
 #![warn(missing_docs)]

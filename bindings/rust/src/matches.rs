@@ -13,7 +13,7 @@ use std::str::FromStr;
 /// What an accepted command line contains: the options, with their values, and the positional
 /// arguments.
 ///
-/// Methods accept both names of an option. They panic on a name that no option has, except
+/// Methods accept either name of an option. They panic if no option has the given name, except
 /// `opt_defined` and `opts_present`.
 ///
 /// ```
@@ -100,7 +100,7 @@ impl Matches {
         shown.field("free", free).field("args_end", &self.free_trailing_start()).finish()
     }
 
-    /// Borrows the value of an option's first occurrence. The crate getopts has no such method.
+    /// Borrows the value of an option's first occurrence. Not in the crate getopts.
     ///
     /// ```
     /// let mut options = getopts::Options::new();
@@ -114,8 +114,8 @@ impl Matches {
         self.given(name).first_value()
     }
 
-    /// Borrows the values of an option's occurrences, in command-line order. The crate getopts has
-    /// no such method.
+    /// Borrows the values of an option's occurrences, in command-line order. Not in the crate
+    /// getopts.
     ///
     /// ```
     /// let mut options = getopts::Options::new();
@@ -131,8 +131,8 @@ impl Matches {
         self.occurrences(name).filter_map(|(_, value)| value)
     }
 
-    /// Borrows the positions and values of an option's occurrences, in command-line order. The
-    /// crate getopts has no such method.
+    /// Borrows the positions and values of an option's occurrences, in command-line order. Not in
+    /// the crate getopts.
     ///
     /// ```
     /// let mut options = getopts::Options::new();
@@ -148,7 +148,7 @@ impl Matches {
         self.given(name).into_iter()
     }
 
-    /// Whether an option has this name. If none has, most other methods panic.
+    /// Whether an option has this name. If not, most other methods panic.
     ///
     /// ```
     /// let mut options = getopts::Options::new();
@@ -188,8 +188,8 @@ impl Matches {
         self.given(name).len()
     }
 
-    /// The positions of an option's occurrences: the index of each one's word. Words that are
-    /// values count, too.
+    /// The position of each occurrence of an option: the index of its word. Words that are values
+    /// count, too.
     ///
     /// ```
     /// let mut options = getopts::Options::new();
@@ -234,8 +234,7 @@ impl Matches {
         names.into_iter().any(|name| self.opt_present(name.as_ref()))
     }
 
-    /// The value of the first named option that has one in its first occurrence. Stops at that
-    /// option.
+    /// The first value that `opt_str` returns for one of these names. Stops at that name.
     ///
     /// ```
     /// let mut options = getopts::Options::new();
@@ -250,8 +249,7 @@ impl Matches {
         names.iter().find_map(|name| self.opt_str(name))
     }
 
-    /// The value of the first named option that has one in its first occurrence. Stops at that
-    /// option.
+    /// The first value that `opt_str` returns for one of these names. Stops at that name.
     ///
     /// ```
     /// let mut options = getopts::Options::new();
@@ -292,7 +290,7 @@ impl Matches {
         values
     }
 
-    /// The positions and values of an option's occurrences, without those that have no value.
+    /// The position and value of each occurrence that has a value.
     ///
     /// ```
     /// let mut options = getopts::Options::new();
@@ -374,8 +372,8 @@ impl Matches {
         self.value(name).map_or(Ok(def), str::parse)
     }
 
-    /// The index in `free` of the first word after `--`, or `None` if no word follows a `--` that
-    /// ends the options.
+    /// The index in `free` of the first word after the `--` that ends the options, or `None` if
+    /// there is no such word.
     ///
     /// ```
     /// let options = getopts::Options::new();

@@ -8,11 +8,11 @@ use crate::{Fail, HasArg, Matches, Occur, ParsingStyle, Result, proved};
 use std::ffi::OsStr;
 use std::fmt;
 
-/// The options that a program accepts, with a parsing style and a mode.
+/// The options that a program accepts, and how to parse them.
 ///
-/// Methods that declare options can be chained. They first take a short name of one character, and
-/// a long name; either may be empty. In the help text, `desc` describes the option, and `hint`
-/// names its argument, as `FILE` does in `-o FILE`.
+/// Methods that declare options can be chained. Their first arguments are a short name of one
+/// character and a long name; either may be empty. In the help text, `desc` describes the option,
+/// and `hint` names its argument, as `FILE` does in `-o FILE`.
 ///
 /// ```
 /// let mut options = getopts::Options::new();
@@ -80,7 +80,7 @@ pub(crate) fn read_words<A: AsRef<OsStr>, T>(
     }
 }
 
-/// Reads words without a list. With larger items, this would take too much stack.
+/// Reads words without a `Vec`. Larger items would take too much stack.
 fn read_few<A: AsRef<OsStr>, T>(
     mut words: impl Iterator<Item = A>,
     text_of: impl Fn(&OsStr) -> Option<&str>,
@@ -142,7 +142,7 @@ fn put_texts<'a>(
 }
 
 impl Options {
-    /// Creates empty options, in the style `FloatingFrees` and in ordinary mode.
+    /// Creates an empty set of options, in the style `FloatingFrees` and with long-only mode off.
     ///
     /// ```
     /// let options = getopts::Options::new();
@@ -288,7 +288,7 @@ impl Options {
         self.opt(short, long, desc, hint, HasArg::Yes, Occur::Optional)
     }
 
-    /// Adds a required option with a mandatory argument: it has to occur exactly once.
+    /// Adds a required option with a mandatory argument: it must occur exactly once.
     ///
     /// ```
     /// let mut options = getopts::Options::new();
@@ -317,7 +317,7 @@ impl Options {
         &self.proved
     }
 
-    /// Parses a command line, without the program's own name.
+    /// Parses a command line, excluding the program's own name.
     ///
     /// ```
     /// let mut options = getopts::Options::new();
@@ -330,10 +330,10 @@ impl Options {
     /// ```
     ///
     /// For a program's own arguments, pass `std::env::args_os().skip(1)`; `std::env::args()` panics
-    /// if one isn't UTF-8. The iterator is exhausted before the first item is read.
+    /// if one isn't UTF-8. The iterator is exhausted before the first item is parsed.
     ///
     /// # Errors
-    /// Fails if the command line is rejected; see [`Fail`].
+    /// See [`Fail`].
     ///
     /// # Panics
     /// Panics if both names of an option are empty.
@@ -346,8 +346,8 @@ impl Options {
     }
 
     /// Parses a command line like `parse`, but doesn't check how often options occur: a required
-    /// option may be missing, and an option that may occur once may occur several times. The crate
-    /// getopts has no such method.
+    /// option may be missing, and an option that may occur once may occur several times. Not in the
+    /// crate getopts.
     ///
     /// Use it to print help even if a required option is missing:
     ///
@@ -369,8 +369,7 @@ impl Options {
     /// ```
     ///
     /// # Errors
-    /// Fails if a word can't be read: `ArgumentMissing`, `UnrecognizedOption` or
-    /// `UnexpectedArgument`.
+    /// Fails with `ArgumentMissing`, `UnrecognizedOption` or `UnexpectedArgument`; see [`Fail`].
     ///
     /// # Panics
     /// Panics if both names of an option are empty.
@@ -383,11 +382,10 @@ impl Options {
     }
 
     /// Parses a command line like `parse`, and returns its options in order: the main name of each
-    /// (the long name or, if there is none, the short one) and its value. The crate getopts has no
-    /// such method.
+    /// (the long name or, if there is none, the short one) and its value. Not in the crate getopts.
     ///
-    /// Use it if the order of different options matters. Positions don't show it for options in one
-    /// word, such as `-vq`.
+    /// Use it if the order of different options matters. Options in one word, such as `-vq`, have
+    /// the same position.
     ///
     /// ```
     /// let mut options = getopts::Options::new();
@@ -437,11 +435,11 @@ impl Options {
         )
     }
 
-    /// Parses a command line like `parse`, and rewrites it in one form: each option as `--name` or
-    /// `--name=value`, with its main name (see `parse_in_order`), then `--`, then the positional
-    /// arguments. The crate getopts has no such method.
+    /// Parses a command line like `parse`, and rewrites it in canonical form: each option as
+    /// `--name` or `--name=value`, with its main name (see `parse_in_order`), then `--`, then the
+    /// positional arguments. Not in the crate getopts.
     ///
-    /// Returns `None` if the main name of a given option contains `=`.
+    /// Returns `None` if the command line gives an option whose main name contains `=`.
     ///
     /// ```
     /// let mut options = getopts::Options::new();
@@ -494,8 +492,8 @@ impl Options {
         granted(self.named().usage(Global, brief))
     }
 
-    /// Passes the rows of the usage text to a closure, and returns its result. All rows are created
-    /// before it runs.
+    /// Passes the rows that describe the options to a closure, and returns its result. All rows are
+    /// created before it runs.
     ///
     /// ```
     /// let mut options = getopts::Options::new();
@@ -526,7 +524,7 @@ pub(crate) fn read_texts(options: &proved::Options, words: &[&str]) -> proved::R
     options.parse_ignoring_counts(Global, words)
 }
 
-/// The place and the value of each option that words give, in order.
+/// The index and the value of each option given, in order.
 fn texts_in_order(
     options: &proved::Options,
     words: &[&str],

@@ -1,4 +1,4 @@
-//! Command lines that may not be UTF-8, for example because of file names.
+//! Command lines with arguments that aren't UTF-8, such as file names.
 
 use crate::bytes::{plain_text, push_bytes, push_text};
 use crate::fail::granted;
@@ -10,9 +10,9 @@ use std::fmt;
 use std::result::Result;
 use std::str::FromStr;
 
-/// The matches of an accepted command line that may not be UTF-8. See [`Options::parse_os`].
+/// The matches of an accepted command line, which needn't be UTF-8. See [`Options::parse_os`].
 ///
-/// Methods panic on a name that no option has, except `opt_defined`.
+/// Methods panic if no option has the given name, except `opt_defined`.
 ///
 /// ```
 /// # #[cfg(unix)] {
@@ -36,13 +36,13 @@ pub struct OsMatches {
 
 impl Options {
     /// Parses a command line like `parse`, but also accepts arguments that aren't UTF-8. Values and
-    /// positional arguments are returned as they were given. The crate getopts has no such method.
+    /// positional arguments are returned as they were given. Not in the crate getopts.
     ///
     /// Arguments may be any bytes on Unix, and may contain lone surrogates on Windows; elsewhere
-    /// they are text. Errors contain U+FFFD in place of what isn't text.
+    /// they must be UTF-8. Errors contain U+FFFD in place of invalid bytes or surrogates.
     ///
-    /// Names of options may not contain the last private-use characters (U+10FF80 and above), which
-    /// represent bytes here. Only `parse` finds such options.
+    /// An option whose name contains a private-use character from U+10FF80 up isn't found: here,
+    /// these characters represent bytes. `parse` finds it.
     ///
     /// ```
     /// use std::ffi::OsString;
@@ -57,7 +57,7 @@ impl Options {
     /// For a program's own arguments, pass `std::env::args_os().skip(1)`.
     ///
     /// # Errors
-    /// See `parse`.
+    /// See [`Fail`].
     ///
     /// # Panics
     /// Panics if both names of an option are empty.
@@ -68,8 +68,7 @@ impl Options {
         self.read_os(args, parse_texts)
     }
 
-    /// Parses a command line like `parse_os`, but like `parse_ignoring_counts` doesn't check how
-    /// often options occur.
+    /// Parses a command line like `parse_os`, but doesn't check how often options occur.
     ///
     /// ```
     /// let mut options = getopts::Options::new();
@@ -169,8 +168,8 @@ impl OsMatches {
         self.matches.opt_count(name)
     }
 
-    /// The positions of an option's occurrences: the index of each one's word. Words that are
-    /// values count, too.
+    /// The position of each occurrence of an option: the index of its word. Words that are values
+    /// count, too.
     ///
     /// ```
     /// let mut options = getopts::Options::new();
@@ -264,8 +263,8 @@ impl OsMatches {
         self.value(name).map(read).transpose()
     }
 
-    /// The index in `free` of the first word after `--`, or `None` if no word follows a `--` that
-    /// ends the options.
+    /// The index in `free` of the first word after the `--` that ends the options, or `None` if
+    /// there is no such word.
     ///
     /// ```
     /// let options = getopts::Options::new();
@@ -309,7 +308,7 @@ fn os_of(text: &str) -> OsString {
     word_of(bytes)
 }
 
-/// An error, with U+FFFD in its name for what isn't text.
+/// The error, with U+FFFD in place of what isn't text.
 fn shown(fail: Fail) -> Fail {
     let shown = |name: String| {
         let mut bytes = Vec::new();

@@ -1,5 +1,5 @@
-//! The widths of texts: with the feature `unicode`, those that the crate `unicode-width` computes;
-//! otherwise, their bytes.
+//! The widths of texts: measured by the crate `unicode-width` or, without the feature `unicode`, in
+//! bytes.
 
 /// Texts with a width.
 pub trait UnicodeWidthStr {

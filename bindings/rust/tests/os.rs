@@ -16,7 +16,7 @@ fn options() -> Options {
     options
 }
 
-/// Arguments that aren't valid Unicode, if the system has such.
+/// Arguments that aren't valid Unicode, if the system allows any.
 fn not_unicode() -> Vec<OsString> {
     #[cfg(unix)]
     {
