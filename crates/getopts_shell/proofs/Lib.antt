@@ -10,8 +10,10 @@ mod Help
 mod Line
 -- texts cut at a byte, with another in its place
 mod Parts
--- what is offered at the last of words
+-- what is offered at the last word
 mod Offers
+-- when an option may follow words
+mod AtEnd
 mod Fronts
 mod Shell
 -- what a shell makes of the bytes that are written

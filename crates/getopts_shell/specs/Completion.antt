@@ -1,17 +1,16 @@
 -- Completion: the code that a shell runs at a script's words, and what the program offers there.
-use Rattle.std.specs.Prelude.{◌==◌, ◌&&◌, ◌||◌, not, ℕ, nat_eq, Bool, true, false}
-use Rattle.std.specs.Prelude.{List, [], ◌++◌, ◌∷◌, ◌-◌, Option, Some, None, Result, Ok, Err, codes}
-use Rattle.std.specs.Prelude.{if◌then◌else◌, length}
+use Rattle.std.specs.Prelude.{◌==◌, ◌&&◌, ◌||◌, not, ℕ, nat_eq, Bool, true, false, List, [], ◌++◌}
+use Rattle.std.specs.Prelude.{Option, Some, None, Result, Ok, Err, codes, if◌then◌else◌}
 use Rattle.std.specs.List.{filter, flat_map, starts_with}
 use Rattle.std.specs.Option.{option_map, option_map_or}
 use Rattle.std.specs.Str.{bytes_eq}
 use Rattle.getopts.specs.Accessors.{is_present}
 use Rattle.getopts.specs.Fail.{Fault}
-use Rattle.getopts.specs.Matches.{Matched, MatchedGroup}
+use Rattle.getopts.specs.Matches.{MatchedGroup, matches_of}
 use Rattle.getopts.specs.Names.{Text, is_empty, main_name}
 use Rattle.getopts.specs.Options.{Declared}
-use Rattle.getopts.specs.Reading.{stop_word}
-use Rattle.getopts.specs.Results.{read_result}
+use Rattle.getopts.specs.Reading.{Reading, Tail, line_end}
+use Rattle.getopts.specs.Results.{reading_result}
 use Rattle.getopts.specs.declared.groups.HasArg.{HasArg}
 use Rattle.getopts.specs.declared.groups.HasArg.TheVariants.{No}
 use Rattle.getopts_shell.specs.declared.complete.TheConstants.{BASH, ZSH, FISH}
@@ -22,20 +21,20 @@ use Rattle.getopts_shell.specs.declared.row.Often.TheVariants.{All}
 
 -- ---- which options may follow
 
--- whether exactly one free word, the last one, follows a stop
-abbrev pub is_last_after_stop : Matched → Bool
-is_last_after_stop matches =
-    option_map_or (λ start. length matches.free - start == 1) matches.trailing_start false
+-- whether a tail is the end of the line
+abbrev pub is_line_end : Tail → Bool
+is_line_end line_end = true
+is_line_end tail = false
 
--- An option may follow if a `--` and one more word would be read as a stop and a free word.
--- the groups that these words give, if an option may follow them
-abbrev pub groups_after : Result Matched Fault → Option (List MatchedGroup)
-groups_after (Ok matches) = if is_last_after_stop matches then Some matches.groups else None
-groups_after (Err fault) = None
+-- the groups of a reading that ends with the line, and so neither in a stop nor in a rest
+abbrev pub groups_at_end : Declared → Result Reading Fault → Option (List MatchedGroup)
+groups_at_end options (Ok reading) =
+    if is_line_end reading.tail then Some (matches_of options reading).groups else None
+groups_at_end options (Err fault) = None
 
+-- the groups of words that have such a reading: an option may follow them
 abbrev pub goes_on : Declared → List Text → Option (List MatchedGroup)
-goes_on options before =
-    groups_after (read_result options (before ++ stop_word ∷ [] ∷ []))
+goes_on options before = groups_at_end options (reading_result options before)
 
 -- whether all values of an option count
 abbrev pub holds_all : Often → Bool
@@ -79,8 +78,7 @@ abbrev pub options_lines : List MatchedGroup → Bool → Text → List Entry �
 options_lines groups long_only word entries =
     flat_map (option_lines long_only word) (filter (may_come groups) entries)
 
--- These words are read by these options, whose table has these entries. Options are offered if the
--- word begins with `-` and an option may follow; otherwise files.
+-- Options are offered if the word begins with `-` and an option may follow, and otherwise files.
 -- the completions at a word, after these words
 abbrev pub offer : Declared → List Entry → List Text → Text → Text
 offer options entries before word =
@@ -90,8 +88,7 @@ offer options entries before word =
 
 -- ---- the code for a shell
 
--- Quotes and backslashes are outside quotes, after a backslash.
--- a byte in quotes, as each of the three shells reads it
+-- a byte in quotes, as the three shells read it: quotes and backslashes follow one, outside quotes
 abbrev pub stub_byte : ℕ → Text
 stub_byte byte = if byte == 92 then codes "'\\\\'" else quoted_byte byte
 
@@ -99,8 +96,7 @@ stub_byte byte = if byte == 92 then codes "'\\\\'" else quoted_byte byte
 abbrev pub stub_quoted : Text → Text
 stub_quoted word = codes "'" ++ (flat_map stub_byte word ++ codes "'")
 
--- In zsh it names the script, so that a file in `$fpath` completes its words. A name that couldn't
--- be a long name has no such line, since it might break it.
+-- In zsh it names the script, for a file in `$fpath`, unless the name might break the line.
 -- the first line of the code for a shell
 abbrev pub first_line : Text → Text → Text
 first_line shell name = if bytes_eq shell (codes "zsh") && is_long_name name

@@ -1,9 +1,9 @@
 -- What the code stores, as the definitions see it.
-use Rattle.std.specs.Prelude.{false, ◌≡◌, ⊤, List, [], ◌∷◌, Option, Some, None, map}
-use Rattle.std.specs.Prelude.{MatchOption}
-use Rattle.std.specs.Option.{option_map}
+use Rattle.std.specs.Prelude.{false, ◌≡◌, ◌==◌, ◌-◌, ⊤, Bool, List, [], ◌∷◌, Option, Some, None}
+use Rattle.std.specs.Prelude.{MatchOption, length, map}
+use Rattle.std.specs.Option.{option_map, option_map_or}
 use Rattle.std.specs.String.{string_bytes}
-use Rattle.getopts.specs.Matches.{MatchedGroup, matched}
+use Rattle.getopts.specs.Matches.{Matched, MatchedGroup, matched}
 use Rattle.getopts.specs.Options.{Declared, Group, Signature, signatures_of, with_group}
 use Rattle.getopts.specs.Reading.{Occurrence}
 use Rattle.getopts_shell.specs.Program.{Answer, Asked, OperandFault, missing, own_groups}
@@ -101,3 +101,8 @@ variable_fault_told (variable.VariableTwice number name) = variable_twice number
 abbrev pub operand_fault_told : OperandError → OperandFault
 operand_fault_told (operand.Missing name) = missing name.now
 operand_fault_told (operand.Unexpected word) = unexpected word.now
+
+-- whether exactly one free word, the last one, follows a stop
+abbrev pub is_last_after_stop : Matched → Bool
+is_last_after_stop matches =
+    option_map_or (λ start. length matches.free - start == 1) matches.trailing_start false

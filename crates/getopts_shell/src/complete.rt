@@ -1,8 +1,8 @@
 //! Completion of a script's words: the code for bash, zsh and fish, and the program's answers to
 //! it.
 
-ghost use Rattle.std.specs.Prelude.{◌≡◌, ◌++◌, ◌∷◌, [], None, Some, MatchResult};
-ghost use Rattle.std.specs.Prelude.{map, nat_eq, IfOk, OnOk};
+ghost use Rattle.std.specs.Prelude.{◌≡◌, ◌++◌, ◌∷◌, [], None, Some, MatchResult, map, nat_eq, IfOk};
+ghost use Rattle.std.specs.Prelude.{OnOk};
 ghost use Rattle.std.specs.List.{starts_with};
 ghost use Rattle.std.specs.Option.{option_map};
 ghost use Rattle.std.specs.String.{string_bytes};
@@ -11,18 +11,17 @@ ghost use Rattle.getopts.specs.Fail.{Fault, fault_of};
 ghost use Rattle.getopts.specs.Names.{texts};
 ghost use Rattle.getopts.specs.Results.{read_result};
 ghost use Rattle.getopts.specs.Reading.{stop_word};
-ghost use Rattle.getopts_shell.specs.Completion.{goes_on, holds_all, is_last_after_stop, may_come};
-ghost use Rattle.getopts_shell.specs.Completion.{name_line, offer};
+ghost use Rattle.getopts_shell.specs.Completion.{goes_on, holds_all, may_come, name_line, offer};
 ghost use Rattle.getopts_shell.specs.Completion.{option_lines, options_lines, takes_argument};
 ghost use Rattle.getopts_shell.specs.Completion.{first_line, functions, modes, stub, stub_call};
 ghost use Rattle.getopts_shell.specs.Completion.{stub_quoted};
-ghost use Rattle.getopts_shell.specs.Held.{entries_of, entry_of_row};
+ghost use Rattle.getopts_shell.specs.Held.{entries_of, entry_of_row, is_last_after_stop};
 
 use crate::item::is_long_name;
 use crate::quote::{push_parting, push_replaced};
 use crate::row::{Often, Row};
 use crate::variables::main_name;
-use getopts::{Fail, HasArg, Matches, Options};
+use getopts::{Fail, HasArg, Matches, Options, names_resolve};
 use std::alloc::{AllocError, Global};
 
 /// Completes words in bash: it reads the words up to the cursor, asks the program, and shows the
@@ -209,8 +208,8 @@ pub(crate) fn offers(
     }
 }
 
-/// The matches of words after which an option may follow, with a `--` and an empty word appended.
-/// None if these two aren't read as a stop and a free word.
+/// What words give, if an option may follow them. That is so if `--` and an empty word after them
+/// are the stop and the only word after it.
 fn goes_on(
     alloc: Global,
     options: &Options,
@@ -219,6 +218,7 @@ fn goes_on(
     ensures { IfOk result (λ found. option_map (λ matches. matches.groups) found
         ≡ goes_on options.now (map string_bytes before.now)) }
 {
+    names_resolve(options);
     let words = with_stop(alloc, before)?;
     let found = read_words(alloc, options, &words)?;
     match found {

@@ -8,7 +8,7 @@ use super::item::is_long_name;
 use super::quote::{push_parting, push_replaced};
 use super::row::{Often, Row};
 use super::variables::main_name;
-use crate::getopts::{Fail, HasArg, Matches, Options};
+use crate::getopts::{Fail, HasArg, Matches, Options, names_resolve};
 use crate::host::alloc::{AllocError, Global};
 
 /// Completes words in bash: it reads the words up to the cursor, asks the program, and shows the
@@ -176,13 +176,14 @@ pub(crate) fn offers(
     }
 }
 
-/// The matches of words after which an option may follow, with a `--` and an empty word appended.
-/// None if these two aren't read as a stop and a free word.
+/// What words give, if an option may follow them. That is so if `--` and an empty word after them
+/// are the stop and the only word after it.
 fn goes_on(
     alloc: Global,
     options: &Options,
     before: &[String],
 ) -> Result<Option<Matches>, AllocError> {
+    names_resolve(options);
     let words = with_stop(alloc, before)?;
     let found = read_words(alloc, options, &words)?;
     match found {
