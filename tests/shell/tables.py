@@ -15,7 +15,7 @@ OPERAND_FORM = "write an operand as FILE, [FILE], FILE.. or [FILE].."
 DASHES = "write a short name as -s, a long name as --long, and an operand in capital letters"
 APART = "write names as -s|--long, without spaces or commas"
 GAP = "put a tab or two spaces before the description"
-LETTER = "a short name must be a letter, a digit or one of ?@#%+_^,./:"
+LETTER = "a short name must be an ASCII letter or digit, or one of ?@#%+_^,./:"
 BRACKETS = "put brackets around the whole option or its argument, and '..' or '...' only after ']'"
 
 
@@ -36,17 +36,17 @@ def reason_of(item):
         ("," in names[2:], APART),
         ("[" in names, BRACKETS),
         (names[:1] != "-" or short == "-", DASHES),
-        ("|" in names and not long.startswith("--"), "write a long name with two dashes after '|'"),
+        ("|" in names and not long.startswith("--"), "write two dashes after '|', as in -s|--long"),
         (long.startswith("---"), DASHES),
         ("|" in long, "write the short name first, then a single long name"),
         (short[1:2] > "\x7f", LETTER),
-        (len(short.encode()) > 2, "a short name has one byte, and a long name needs two dashes"),
+        (len(short.encode()) > 2, "a short name has one character, and a long name needs two dashes"),
         (short and not re.fullmatch(SHORT, short[1:]), LETTER),
         (long and len(long.encode()) < 4, "a long name must have at least two bytes"),
         (not re.fullmatch(f"{LONG_BYTE}*", long),
-         "a long name may contain letters, digits, '-', '_', '.', '+', ':' and bytes above 127"),
+         "a long name may contain letters, digits, '-', '_', '.', '+', ':' and non-ASCII characters"),
         (long[-1:] in (":", "."), "a long name can't end in ':' or '.'; write dots after ']'"),
-        (item.endswith("!"), "'!' may only follow ']' of an option without an argument"),
+        (item.endswith("!"), "'!' may only follow the ']' of an option without an argument"),
         ("]" in item and item[-1] not in "].", "only '..', '...' or '!' may follow ']'"),
     ]
     return next((reason for is_so, reason in reasons if is_so), BRACKETS)
@@ -63,17 +63,17 @@ def table_error(table):
         if operand := OPERAND.fullmatch(item):
             optional, again = operand.groups()
             if any(dots or opened and not optional for opened, dots in before):
-                return f"line {number} of the options: {item}: an operand with dots must be last; required ones precede optional ones"
+                return f"line {number} of the table: {item}: an operand with dots must be last, and required operands must be first"
             before.append((optional, again))
             continue
         brackets = re.fullmatch(r"\[(.*)\](|\.\.\.?|!)", item)
         inside, mark = brackets.groups() if brackets else (item, "")
         it = None if mark == "!" and " " in inside else ITEM.fullmatch(inside)
         if not it:
-            return f"line {number} of the options: {item}: {reason_of(item)}"
+            return f"line {number} of the table: {item}: {reason_of(item)}"
         for name in filter(None, it.groups()):
             if name in seen:
-                return f"line {number} of the options: the name '{name}' is already used on an earlier line"
+                return f"line {number} of the table: the name '{name}' is already used on an earlier line"
         seen.update(it.groups())
     return None
 

@@ -1,6 +1,6 @@
 -- The program: what it answers to its words, and with which status.
-use Rattle.std.specs.Prelude.{◌≡◌, ◌≢◌, ◌≤◌, ◌&&◌, ◌-◌, ℕ, Bool, true, false, List, [], ◌∷◌}
-use Rattle.std.specs.Prelude.{◌++◌, Option, Some, None, MatchOption, MatchResult, codes, decimal}
+use Rattle.std.specs.Prelude.{◌≡◌, ◌≢◌, ◌≤◌, ◌&&◌, ◌-◌, ℕ, Bool, true, false, List, [], ◌∷◌, ◌++◌}
+use Rattle.std.specs.Prelude.{Option, Some, None, MatchOption, MatchResult, codes, decimal}
 use Rattle.std.specs.Prelude.{if◌then◌else◌, length, map, nat_lt, not, take}
 use Rattle.std.specs.Bool.{MatchBool}
 use Rattle.std.specs.Io.KnownBytes.{Appends}
@@ -39,7 +39,7 @@ use Rattle.getopts_shell.specs.declared.row.Often.TheVariants.{Alone}
 
 abbrev pub own_groups : List Group
 own_groups =
-    group_of (codes "b") (codes "brief") (codes "begin the help with TEXT") (codes "TEXT") Yes
+    group_of (codes "b") (codes "brief") (codes "print TEXT instead of the usage line") (codes "TEXT") Yes
     Optional
     ∷ group_of (codes "s") (codes "stop") (codes "stop at the first argument that isn't an option")
     [] No Optional
@@ -64,16 +64,17 @@ own_groups =
 abbrev pub own_options : Declared
 own_options = record { groups = own_groups; style = StopAtFirstFree; long_only = false }
 
--- the first line of the program's own help, and that help
+-- the top of the program's own help, and that help
 abbrev pub own_brief : Text
-own_brief = codes "Usage: getopts_shell [options] NAME TABLE [WORD].."
+own_brief = codes "Usage: getopts_shell [options] NAME TABLE [WORD]..\n\n"
+    ++ codes "Parses each WORD as TABLE describes, and prints shell code to be run by eval."
 
 abbrev pub own_help : Text
 own_help = joined (codes "\n") (
     own_brief
     ∷ []
     ∷ codes "Options:"
-    ∷ codes "    -b, --brief TEXT    begin the help with TEXT"
+    ∷ codes "    -b, --brief TEXT    print TEXT instead of the usage line"
     ∷ codes "    -s, --stop          stop at the first argument that isn't an option"
     ∷ codes "    -l, --long-only     also accept long names after a single dash"
     ∷ codes "    -V, --variables PREFIX"
@@ -124,8 +125,7 @@ asked_by own = record {
 
 -- ---- answers
 
--- It is written to standard output if the status is 0, and otherwise to standard error.
--- an answer: a text, and a status
+-- an answer: a text, for standard output if the status is 0 and otherwise for standard error
 pub record Answer : Type 0 where
   pub text : Text
   pub status : ℕ
@@ -145,7 +145,7 @@ fault_line name fault = name ++ (codes ": " ++ (fault_text fault ++ codes "\n"))
 -- a message about the table's line with this number
 abbrev pub of_line : ℕ → Text → Text
 of_line number text =
-    codes "getopts_shell: line " ++ (decimal number ++ (codes " of the options: " ++ text))
+    codes "getopts_shell: line " ++ (decimal number ++ (codes " of the table: " ++ text))
 
 -- the line for an error in a table
 abbrev pub table_fault_line : TableFault → Text
@@ -154,7 +154,7 @@ table_fault_line (no_option number item) =
 table_fault_line (name_twice number name) =
     of_line number (codes "the name '" ++ (name ++ codes "' is already used on an earlier line\n"))
 table_fault_line (late_operand number item) = of_line number
-    (item ++ codes ": an operand with dots must be last; required ones precede optional ones\n")
+    (item ++ codes ": an operand with dots must be last, and required operands must be first\n")
 
 -- ---- a script
 
@@ -190,8 +190,7 @@ usage_line script = short_usage_text (shown_options script) script.name
 abbrev pub brief_text : Script → Text
 brief_text script = unwrap_or script.asked.brief (usage_line script)
 
--- This is its item, and spaces up to 24 columns or else the next row.
--- what precedes the description of an operand
+-- what precedes an operand's description: its item, and spaces up to 24 columns or the next row
 abbrev pub operand_padding : Text → Text
 operand_padding item = if nat_lt (length item) 20 then spaces (20 - length item) else next_row
 
@@ -204,9 +203,8 @@ IsOperandRow operand row =
     (description : List Text) × IsDescriptionRows 54 operand.description description
     × (row ≡ operand_head operand.item ++ joined next_row description)
 
--- This is the text at its top; then, if there are operands, an empty line, a line `Arguments:`, and
--- the rows of the operands.
--- what precedes the options in a help
+-- what precedes the options in a help: the text at its top; then, if there are operands, an empty
+-- line, a line `Arguments:`, and the rows of the operands
 abbrev pub help_front : Text → List Text → Text
 help_front brief [] = brief
 help_front brief rows = brief ++ (codes "\n\nArguments:\n" ++ joined (codes "\n") rows)
@@ -216,8 +214,7 @@ abbrev pub IsHelp : Script → Text → Type 0
 IsHelp script help = (rows : List Text) × IsTheOnly (AllZip IsOperandRow script.operands) rows
     × IsTheOnly (IsUsageText (shown_options script) (help_front (brief_text script) rows)) help
 
--- It has the line for the error, and the text at the top of the help.
--- the answer to words that are rejected
+-- the answer to rejected words: the line for the error, and the text at the top of the help
 abbrev pub refused_by : Script → Text → Answer
 refused_by script line = record { text = line ++ (brief_text script ++ codes "\n"); status = 2 }
 
@@ -231,9 +228,8 @@ pub data OperandFault : Type 0 where
   missing : Text → OperandFault
   unexpected : Text → OperandFault
 
--- Each word is the next operand, and all words from a repeatable one on are that operand. An
--- operand is named by what precedes its dots.
--- the error of free words for these operands, if they have one
+-- Each word is the next operand, and all words from a repeatable one on are that operand.
+-- the error of free words for these operands, if they have one; it names an operand without dots
 abbrev pub operand_fault : List Operand → List Text → Option OperandFault
 operand_fault [] [] = None
 operand_fault [] (word ∷ words) = Some (unexpected word)
@@ -254,14 +250,12 @@ operand_fault_line name (missing operand) =
 operand_fault_line name (unexpected word) =
     name ++ (codes ": Unexpected operand: '" ++ (word ++ codes "'\n"))
 
--- It also turns the bytes of that into the bytes of the text.
--- A shell turns this text in quotes into one word, which is the text.
+-- A shell turns this text in quotes into one word, the text, and the bytes of that into its bytes.
 pub record IsOneWord (text : Text) : Type 0 where
   pub shell : shell_words (quoted text) ≡ Some (text ∷ [])
   pub bytes : shell_words (bytes_of (quoted text)) ≡ Some (bytes_of text ∷ [])
 
--- No alias can replace a word that begins with `\`.
--- the code that prints a help and ends the script
+-- the code that prints a help and ends the script; `\` keeps aliases from replacing a command
 abbrev pub help_code : Text → Text
 help_code help = codes "\\printf %s " ++ (quoted help ++ codes "; \\exit\n")
 
@@ -290,7 +284,7 @@ alone_line entry = (codes "--" ++ main_name entry.names) ∷ stop_word ∷ []
 -- why a name or a prefix doesn't make a variable
 abbrev pub not_in_variables : Text
 not_in_variables =
-    codes "' doesn't make a valid variable name (letters, digits and '_', no digit first)\n"
+    codes "' doesn't make a valid variable name (ASCII letters, digits and '_', no digit first)\n"
 
 -- the line for an error about variables
 abbrev pub variable_fault_line : VariableFault → Text
@@ -339,8 +333,7 @@ AnswersOffer script shell words answer = MatchOption (functions shell)
     ≡ done (offer (read_options script) script.entries (take (length words - 1) words)
     (last_word words)))
 
--- A shell that runs it holds these. The values are UTF-8, so a shell that runs its bytes holds
--- their bytes.
+-- The values are UTF-8, so a shell that runs the bytes of the code holds their bytes.
 -- These are the facts about code that sets variables for options and free words.
 pub record TellsOptions (script : Script) (prefix : Text) (options : List Given) (free : List Text)
     (answer : Answer) : Type 0 where

@@ -13,24 +13,23 @@ ghost use Rattle.getopts.specs.Options.{signatures_of};
 ghost use Rattle.getopts.specs.Results.{first_count_fault, fits_count, parse_result, read_result};
 ghost use Rattle.getopts_shell.specs.Completion.{offer, takes_argument};
 ghost use Rattle.getopts_shell.specs.Held.{HasOwnGroups, answer_of, asked_of, entries_of};
-ghost use Rattle.getopts_shell.specs.Held.{entry_of_row, fault_told, groups_of};
-ghost use Rattle.getopts_shell.specs.Held.{held_signatures, operand_fault_told, operands_of};
-ghost use Rattle.getopts_shell.specs.Held.{variable_fault_told, with_groups};
+ghost use Rattle.getopts_shell.specs.Held.{entry_of_row, fault_told, groups_of, held_signatures};
+ghost use Rattle.getopts_shell.specs.Held.{operand_fault_told, operands_of, variable_fault_told};
+ghost use Rattle.getopts_shell.specs.Held.{with_groups};
 ghost use Rattle.getopts_shell.specs.HeldScript.{script_of};
 ghost use Rattle.getopts_shell.specs.Program.{AnswersAccepted, AnswersAlone, AnswersCounted};
-ghost use Rattle.getopts_shell.specs.Program.{AnswersDeclared};
-ghost use Rattle.getopts_shell.specs.Program.{operand_fault_line, refused_by, usage_line};
-ghost use Rattle.getopts_shell.specs.Program.{AnswersFree, AnswersLine, AnswersOffer, AnswersOwn};
-ghost use Rattle.getopts_shell.specs.Program.{AnswersRead, AnswersScript, AnswersTable};
-ghost use Rattle.getopts_shell.specs.Program.{AnswersWords, AppendsFront};
-ghost use Rattle.getopts_shell.specs.Program.{IsAnswer, IsHelp, IsOutput, IsStatus};
-ghost use Rattle.getopts_shell.specs.Program.{ShowsAnswer, ShowsFront, TellsOptions, alone_line};
-ghost use Rattle.getopts_shell.specs.Program.{asked_by, asked_fault, asks_help, brief_text};
-ghost use Rattle.getopts_shell.specs.Program.{completion_answer, done, fault_line};
-ghost use Rattle.getopts_shell.specs.Program.{help_code, help_front, is_alone, last_word, misused};
-ghost use Rattle.getopts_shell.specs.Program.{no_completion, options_in, own_groups, own_options};
-ghost use Rattle.getopts_shell.specs.Program.{read_options, refused, shown_options, stands_alone};
-ghost use Rattle.getopts_shell.specs.Program.{table_fault_line, variable_fault_line};
+ghost use Rattle.getopts_shell.specs.Program.{AnswersDeclared, operand_fault_line, refused_by};
+ghost use Rattle.getopts_shell.specs.Program.{usage_line, AnswersFree, AnswersLine, AnswersOffer};
+ghost use Rattle.getopts_shell.specs.Program.{AnswersOwn, AnswersRead, AnswersScript, AnswersTable};
+ghost use Rattle.getopts_shell.specs.Program.{AnswersWords, AppendsFront, IsAnswer, IsHelp};
+ghost use Rattle.getopts_shell.specs.Program.{IsOutput, IsStatus, ShowsAnswer, ShowsFront};
+ghost use Rattle.getopts_shell.specs.Program.{TellsOptions, alone_line, asked_by, asked_fault};
+ghost use Rattle.getopts_shell.specs.Program.{asks_help, brief_text, completion_answer, done};
+ghost use Rattle.getopts_shell.specs.Program.{fault_line, help_code, help_front, is_alone};
+ghost use Rattle.getopts_shell.specs.Program.{last_word, misused, no_completion, options_in};
+ghost use Rattle.getopts_shell.specs.Program.{own_groups, own_options, read_options, refused};
+ghost use Rattle.getopts_shell.specs.Program.{shown_options, stands_alone, table_fault_line};
+ghost use Rattle.getopts_shell.specs.Program.{variable_fault_line};
 ghost use Rattle.getopts_shell.specs.Table.{TableFault, groups_as, occurrence_of};
 ghost use Rattle.getopts_shell.specs.Variables.{given_from, line_code};
 
@@ -61,8 +60,9 @@ const NOT_WRITTEN: u8 = 4;
 /// The status if the script called the program incorrectly and the error was written.
 const MISUSED: u8 = 5;
 
-/// The line before the options in the program's own help.
-const BRIEF: &str = "Usage: getopts_shell [options] NAME TABLE [WORD]..";
+/// What precedes the options in the program's own help.
+const BRIEF: &str = "Usage: getopts_shell [options] NAME TABLE [WORD]..\n\n\
+    Parses each WORD as TABLE describes, and prints shell code to be run by eval.";
 
 /// What `--version` writes.
 const VERSION: &str = "getopts_shell 0.2.24\n";
@@ -226,7 +226,7 @@ fn add_own_options(options: &mut Options) -> Result<(), AllocError>
     ensures { OnOk result (options.new ≡ with_groups options.old own_groups) }
 {
     options
-        .optopt("b", "brief", "begin the help with TEXT", "TEXT")?
+        .optopt("b", "brief", "print TEXT instead of the usage line", "TEXT")?
         .optflag(
             "s",
             "stop",
@@ -384,15 +384,15 @@ fn table_refusal(alloc: Global, error: TableError<'_>) -> Result<String, AllocEr
     match error {
         TableError::NoOption(number, item) => {
             let reason = reason_of(item);
-            format!(in alloc; "getopts_shell: line {number} of the options: {item}: {reason}\n")
+            format!(in alloc; "getopts_shell: line {number} of the table: {item}: {reason}\n")
         }
         TableError::NameTwice(number, name) => format!(in alloc;
-            "getopts_shell: line {number} of the options: \
+            "getopts_shell: line {number} of the table: \
              the name '{name}' is already used on an earlier line\n"
         ),
         TableError::LateOperand(number, item) => format!(in alloc;
-            "getopts_shell: line {number} of the options: \
-             {item}: an operand with dots must be last; required ones precede optional ones\n"
+            "getopts_shell: line {number} of the table: \
+             {item}: an operand with dots must be last, and required operands must be first\n"
         ),
         TableError::OutOfMemory => Err(AllocError),
     }
@@ -421,14 +421,14 @@ fn variable_refusal(alloc: Global, error: VariableError<'_>) -> Result<String, A
         }
         VariableError::NoPrefix(prefix) => format!(in alloc;
             "getopts_shell: '{prefix}' doesn't make a valid variable name \
-             (letters, digits and '_', no digit first)\n"
+             (ASCII letters, digits and '_', no digit first)\n"
         ),
         VariableError::NoVariable(number, name) => format!(in alloc;
-            "getopts_shell: line {number} of the options: '{name}' doesn't make a valid variable name \
-             (letters, digits and '_', no digit first)\n"
+            "getopts_shell: line {number} of the table: '{name}' doesn't make a valid variable name \
+             (ASCII letters, digits and '_', no digit first)\n"
         ),
         VariableError::VariableTwice(number, name) => format!(in alloc;
-            "getopts_shell: line {number} of the options: '{name}' would share its variable with another option\n"
+            "getopts_shell: line {number} of the table: '{name}' would share its variable with another option\n"
         ),
     }
 }
@@ -868,7 +868,7 @@ fn refusal(alloc: Global, script: Script<'_>, fail: &Fail) -> Result<Outcome, Al
     refused(alloc, script, line)
 }
 
-/// The same for free words that don't match the script's operands.
+/// Why free words don't match the script's operands, and the text at the top of its help.
 fn operand_refusal(
     alloc: Global,
     script: Script<'_>,
@@ -900,7 +900,7 @@ fn operand_fault_line(
     }
 }
 
-/// A line, and the text at the top of a script's help.
+/// Rejects a script's words with a line, and the text at the top of its help.
 fn refused(alloc: Global, script: Script<'_>, line: String) -> Result<Outcome, AllocError>
     ensures { IfOk result (λ outcome.
         answer_of outcome ≡ refused_by (script_of script.entry) (string_bytes line)) }

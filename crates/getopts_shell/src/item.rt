@@ -1,7 +1,7 @@
 //! Items of a table: the names, the argument and the occurrence of an option.
 
-ghost use Rattle.std.specs.Prelude.{◌≡◌, ◌≢◌, ◌==◌, ◌++◌, ◌∷◌, codes, drop, not, ◌&&◌, ◌||◌};
-ghost use Rattle.std.specs.Prelude.{◌≤◌, Bool, MatchOption, find, length, map, nat_lt, slice_index};
+ghost use Rattle.std.specs.Prelude.{◌≡◌, ◌≢◌, ◌==◌, ◌++◌, ◌∷◌, codes, drop, not, ◌&&◌, ◌||◌, ◌≤◌};
+ghost use Rattle.std.specs.Prelude.{Bool, MatchOption, find, length, map, nat_lt, slice_index};
 ghost use Rattle.std.specs.Prelude.{true, false};
 ghost use Rattle.std.specs.List.{AllByRecursion, ends_with, list_all, position_or_len, starts_with};
 ghost use Rattle.std.specs.Option.{option_copied, option_map_or};
@@ -9,11 +9,11 @@ ghost use Rattle.getopts.specs.Names.{Text, Names, is_empty};
 ghost use Rattle.getopts.specs.Reading.{begins_with_dash};
 ghost use Rattle.getopts.specs.declared.groups.HasArg.{HasArg as Kind};
 ghost use Rattle.getopts_shell.specs.Table.{is_name, is_name_byte, is_hint, is_hint_byte, AreNames};
-ghost use Rattle.getopts_shell.specs.Table.{is_long_name, is_long_byte, MayBeNames};
-ghost use Rattle.getopts_shell.specs.Table.{IsArgument, HasParts, IsBracketed, IsItem, end_means};
-ghost use Rattle.getopts_shell.specs.Table.{begins_capital, begins_name, ends_as_name};
-ghost use Rattle.getopts_shell.specs.Table.{ends_behind, fits, unopened};
-ghost use Rattle.getopts_shell.specs.Table.{after, before, dashed, holds, names_in, reason_of};
+ghost use Rattle.getopts_shell.specs.Table.{is_long_name, is_long_byte, MayBeNames, IsArgument};
+ghost use Rattle.getopts_shell.specs.Table.{HasParts, IsBracketed, IsItem, end_means};
+ghost use Rattle.getopts_shell.specs.Table.{begins_capital, begins_name, ends_as_name, ends_behind};
+ghost use Rattle.getopts_shell.specs.Table.{fits, unopened, after, before, dashed, holds, names_in};
+ghost use Rattle.getopts_shell.specs.Table.{reason_of};
 ghost use Rattle.getopts_shell.specs.declared.row.Often.{Often as Frequency};
 
 use crate::row::{Often, Row};
@@ -48,8 +48,7 @@ pub(crate) fn row_of<'t>(line: usize, item: &'t str, description: &'t str) -> Op
     })
 }
 
-/// Whether an option with this occurrence may have this kind: one that stands alone takes no
-/// argument.
+/// Whether an option with this occurrence may have this kind: alone, it takes no argument.
 fn fits(often: Often, kind: HasArg) -> bool
     ensures { result ≡ fits often kind }
 {
@@ -59,7 +58,7 @@ fn fits(often: Often, kind: HasArg) -> bool
     }
 }
 
-/// A text without the brackets that say how often its option may come, and how often that is.
+/// A text without its brackets, and how often they say that the option may occur.
 fn unbracketed(text: &str) -> Option<(&str, Often)>
     ensures { MatchOption result ((inside : Text) (often : Frequency)
         → ¬ (IsBracketed text.now inside often))
@@ -246,16 +245,16 @@ fn is_hint_byte(byte: u8) -> bool
     !matches!(byte, b' ' | b'\t' | b'[' | b']')
 }
 
-/// Why an item that contains `[` but no `]` isn't valid.
+/// Why an item isn't valid that contains `[` but no `]`.
 const OPEN: &str = "missing ']'";
 /// The reason if a dash, `|` or `]` follows the first space, or the names contain a comma.
 const APART: &str = "write names as -s|--long, without spaces or commas";
 /// The reason if a space follows the first `]`, or an operand.
 const GAP: &str = "put a tab or two spaces before the description";
-/// The reason if it has another second space.
+/// The reason if it has a second space elsewhere.
 const SPACE: &str =
     "an argument can't contain spaces, and a description needs a tab or two spaces before it";
-/// The reason if its names begin like an operand.
+/// The reason if its names begin with a capital letter, like an operand.
 const OPERAND: &str = "write an operand as FILE, [FILE], FILE.. or [FILE]..";
 /// The reason if its names contain `=`.
 const EQUALS: &str = "write the argument after a space, as in '--long ARG'";
@@ -265,27 +264,27 @@ const BRACKETS: &str =
 /// The reason if a name has the wrong dashes.
 const DASHES: &str =
     "write a short name as -s, a long name as --long, and an operand in capital letters";
-/// The reason if no long name follows `|`.
-const BAR: &str = "write a long name with two dashes after '|'";
-/// The reason if another name follows the long one.
+/// The reason if no two dashes follow `|`.
+const BAR: &str = "write two dashes after '|', as in -s|--long";
+/// The reason if a second `|` follows, or one follows a long name.
 const ORDER: &str = "write the short name first, then a single long name";
-/// The reason if its short name is longer.
-const SHORT: &str = "a short name has one byte, and a long name needs two dashes";
-/// The reason if its short name is another byte, or begins with a byte that isn't ASCII.
-const LETTER: &str = "a short name must be a letter, a digit or one of ?@#%+_^,./:";
-/// The reason if its long name is shorter.
+/// The reason if its short name has more than one byte.
+const SHORT: &str = "a short name has one character, and a long name needs two dashes";
+/// The reason if its short name is a byte that isn't allowed, or begins with one that isn't ASCII.
+const LETTER: &str = "a short name must be an ASCII letter or digit, or one of ?@#%+_^,./:";
+/// The reason if its long name has fewer than two bytes.
 const LONG: &str = "a long name must have at least two bytes";
-/// The reason if its long name contains another byte.
+/// The reason if its long name contains a byte that isn't allowed.
 const BYTES: &str =
-    "a long name may contain letters, digits, '-', '_', '.', '+', ':' and bytes above 127";
-/// The reason if its long name ends in one of these.
+    "a long name may contain letters, digits, '-', '_', '.', '+', ':' and non-ASCII characters";
+/// The reason if its long name ends in `:` or `.`.
 const COLON: &str = "a long name can't end in ':' or '.'; write dots after ']'";
-/// The reason if another item follows.
+/// The reason if another option follows the first `]`.
 const ONE: &str = "write each option on its own line";
-/// The reason if anything else follows the last `]`.
+/// The reason if it ends in anything else after a `]`.
 const END: &str = "only '..', '...' or '!' may follow ']'";
 /// The reason if it ends in `!`.
-const MARK: &str = "'!' may only follow ']' of an option without an argument";
+const MARK: &str = "'!' may only follow the ']' of an option without an argument";
 
 /// Why an item isn't valid.
 pub(crate) fn reason_of(item: &str) -> &'static str

@@ -30,8 +30,9 @@ const NOT_WRITTEN: u8 = 4;
 /// The status if the script called the program incorrectly and the error was written.
 const MISUSED: u8 = 5;
 
-/// The line before the options in the program's own help.
-const BRIEF: &str = "Usage: getopts_shell [options] NAME TABLE [WORD]..";
+/// What precedes the options in the program's own help.
+const BRIEF: &str = "Usage: getopts_shell [options] NAME TABLE [WORD]..\n\n\
+    Parses each WORD as TABLE describes, and prints shell code to be run by eval.";
 
 /// What `--version` writes.
 const VERSION: &str = "getopts_shell 0.2.24\n";
@@ -152,7 +153,7 @@ fn own_options(alloc: Global) -> Result<Options, AllocError> {
 /// Adds the program's own options.
 fn add_own_options(options: &mut Options) -> Result<(), AllocError> {
     options
-        .optopt("b", "brief", "begin the help with TEXT", "TEXT")?
+        .optopt("b", "brief", "print TEXT instead of the usage line", "TEXT")?
         .optflag(
             "s",
             "stop",
@@ -281,15 +282,15 @@ fn table_refusal(alloc: Global, error: TableError<'_>) -> Result<String, AllocEr
     match error {
         TableError::NoOption(number, item) => {
             let reason = reason_of(item);
-            text!(in alloc; "getopts_shell: line {number} of the options: {item}: {reason}\n")
+            text!(in alloc; "getopts_shell: line {number} of the table: {item}: {reason}\n")
         }
         TableError::NameTwice(number, name) => text!(in alloc;
-            "getopts_shell: line {number} of the options: \
+            "getopts_shell: line {number} of the table: \
              the name '{name}' is already used on an earlier line\n"
         ),
         TableError::LateOperand(number, item) => text!(in alloc;
-            "getopts_shell: line {number} of the options: \
-             {item}: an operand with dots must be last; required ones precede optional ones\n"
+            "getopts_shell: line {number} of the table: \
+             {item}: an operand with dots must be last, and required operands must be first\n"
         ),
         TableError::OutOfMemory => Err(AllocError),
     }
@@ -312,14 +313,14 @@ fn variable_refusal(alloc: Global, error: VariableError<'_>) -> Result<String, A
         }
         VariableError::NoPrefix(prefix) => text!(in alloc;
             "getopts_shell: '{prefix}' doesn't make a valid variable name \
-             (letters, digits and '_', no digit first)\n"
+             (ASCII letters, digits and '_', no digit first)\n"
         ),
         VariableError::NoVariable(number, name) => text!(in alloc;
-            "getopts_shell: line {number} of the options: '{name}' doesn't make a valid variable name \
-             (letters, digits and '_', no digit first)\n"
+            "getopts_shell: line {number} of the table: '{name}' doesn't make a valid variable name \
+             (ASCII letters, digits and '_', no digit first)\n"
         ),
         VariableError::VariableTwice(number, name) => text!(in alloc;
-            "getopts_shell: line {number} of the options: '{name}' would share its variable with another option\n"
+            "getopts_shell: line {number} of the table: '{name}' would share its variable with another option\n"
         ),
     }
 }
@@ -677,7 +678,7 @@ fn refusal(alloc: Global, script: Script<'_>, fail: &Fail) -> Result<Outcome, Al
     refused(alloc, script, line)
 }
 
-/// The same for free words that don't match the script's operands.
+/// Why free words don't match the script's operands, and the text at the top of its help.
 fn operand_refusal(
     alloc: Global,
     script: Script<'_>,
@@ -703,7 +704,7 @@ fn operand_fault_line(
     }
 }
 
-/// A line, and the text at the top of a script's help.
+/// Rejects a script's words with a line, and the text at the top of its help.
 fn refused(alloc: Global, script: Script<'_>, line: String) -> Result<Outcome, AllocError> {
     let mut text = line;
     let shown = shown_options(alloc, script)?;
