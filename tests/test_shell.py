@@ -290,7 +290,7 @@ printf '%s|' "$o_v" "$o_L" "$1"
 @HERE
 @pytest.mark.parametrize("where", ["its name", "BASH_ENV", ".zshenv"])
 def test_script_that_calls_itself(program, open_room, where):
-    """As the README says, a script called getopts_shell calls itself forever. So does a script whose shell runs the
+    """A script called getopts_shell calls itself forever. As the README says, so does a script whose shell runs the
     line for completion whenever it starts."""
     shell = {"BASH_ENV": "bash", ".zshenv": "zsh"}.get(where, "sh")
     need(shell)

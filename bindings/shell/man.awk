@@ -6,15 +6,12 @@ function escaped(text) {
     gsub(/’/, "\\(cq", text)
     return text ~ /^\./ ? "\\&" text : text
 }
-# Formats code in bold, and defined terms in italics. Keeps only the text of links.
-function said(text,    part, bold) {
+# Formats code in bold.
+function said(text) {
     gsub(/\\\|/, "|", text)
-    gsub(/\]\([^)]*\)/, "", text)
     text = escaped(text)
     while (match(text, /`[^`]*`/))
         text = substr(text, 1, RSTART - 1) "\\fB" substr(text, RSTART + 1, RLENGTH - 2) "\\fP" substr(text, RSTART + RLENGTH)
-    while (match(text, /\*[a-z ]+\*/))
-        text = substr(text, 1, RSTART - 1) "\\fI" substr(text, RSTART + 1, RLENGTH - 2) "\\fP" substr(text, RSTART + RLENGTH)
     return text
 }
 # Switches to another kind of lines: text, code, a table, or an item.

@@ -72,7 +72,8 @@ fn bytes_of(word: OsString) -> Vec<u8> {
     std::os::unix::ffi::OsStringExt::into_vec(word)
 }
 
-/// The bytes of an argument. A lone surrogate becomes three bytes (WTF-8), not valid UTF-8.
+/// The bytes of an argument. A lone surrogate is encoded as three bytes (WTF-8), which aren't valid
+/// UTF-8.
 #[cfg(windows)]
 fn bytes_of(word: OsString) -> Vec<u8> {
     let mut bytes = Vec::new();
@@ -93,11 +94,11 @@ fn bytes_of(word: OsString) -> Vec<u8> {
     bytes
 }
 
-/// On other systems arguments have to be Unicode; otherwise the process ends.
+/// The bytes of an argument. On other systems, arguments have to be Unicode.
 #[cfg(not(any(unix, windows)))]
 fn bytes_of(word: OsString) -> Vec<u8> {
     word.into_string()
-        .expect("arguments are UTF-8")
+        .expect("arguments should be Unicode")
         .into_bytes()
 }
 

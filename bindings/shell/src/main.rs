@@ -1,5 +1,4 @@
-//! Parses a shell script's arguments according to a table of options, and prints code for the
-//! script to run.
+//! Parses a shell script's arguments by a table of options, and prints code for the script to run.
 //!
 //! `program` is the proved source with its contracts erased, and uses the library's erased source.
 //! `host` provides what the program needs from the system.
