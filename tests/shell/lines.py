@@ -10,8 +10,8 @@ from model import Group, Options
 
 WITH_ARRAYS = ["bash", "zsh", "ksh93", "mksh", "yash"]
 SPECIAL = list("'\"\\$`!~=*?[]{}()<>|&;#%^ \t\n\r-") + ["''", "\\'", "$(", "\n\n", "$HOME", "--", "\u00a0", "\u2028"]
-# The pieces of words: how often in a hundred, and a random piece. The last two are characters that stand for bytes, and
-# bytes.
+# The pieces of words: a percentage, and a function that returns a random piece. The last two return marks, and bytes
+# that aren't text.
 PIECES = [(50, lambda rng: rng.choice(SPECIAL)), (20, lambda rng: chr(rng.randrange(1, 128))),
           (20, lambda rng: rng.choice("abcxyz")), (2, lambda rng: chr(rng.randrange(0x80, 0xD800))),
           (2, lambda rng: chr(rng.randrange(0xE000, 0x110000))), (2, lambda rng: chr(rng.randrange(0x80, 0xA0))),
@@ -29,7 +29,7 @@ def text_of(rng):
 
 def table_of(rng, alone):
     """A random table: for each option its names, its kind and how often it may be given. `alone` is the probability
-    that it is to be given alone."""
+    of an option that is given alone."""
     shorts = rng.sample("abcdefgXYZ", 8)
     longs = rng.sample(["aa", "b-b", "c_c", "K3", "e-1-f", "g--h", "long-", "_x"], 8)
     options = []

@@ -11,11 +11,11 @@ use Rattle.std.specs.List.{AllByRecursion, flat_map, list_any}
 use Rattle.std.specs.Str.{IsAscii, IsUtf8, chars, continuation_len, is_utf8}
 use Rattle.getopts_bytes.specs.Marks.{is_mark, is_plain, written, mark_of}
 
--- each of these bytes is past ASCII
+-- none of these bytes is ASCII
 abbrev pub ArePastAscii : List ℕ → Type 0
 ArePastAscii bytes = AllByRecursion (λ byte. 128 ≤ byte) bytes
 
--- a character's first byte says how many bytes follow it, which are past ASCII
+-- a character's first byte announces how many bytes follow, and these aren't ASCII
 pub lead_of : (c : ℕ) → (lead : ℕ) × (tail : List ℕ) × (encode c ≡ lead ∷ tail)
     × (length tail ≡ continuation_len lead) × ArePastAscii tail
 unfolding encode
@@ -49,7 +49,7 @@ lead_of c = by (ltb c 128) (ltb c 2048) (ltb c 65536) refl refl refl
 
 -- ---- marks
 
--- ASCII holds no mark
+-- ASCII contains no mark
 ascii_unmarked : (bytes : List ℕ) → IsAscii bytes → list_any is_mark bytes ≡ false
 ascii_unmarked [] ascii = refl
 ascii_unmarked (byte ∷ bytes) ascii =
@@ -106,7 +106,7 @@ not_utf8_not_plain bytes not_utf8 = by (is_utf8 bytes) refl
 pub ascii_plain : (bytes : List ℕ) → IsAscii bytes → is_plain bytes ≡ true
 ascii_plain bytes ascii = is_plain_of bytes (IsUtf8-from_ascii bytes ascii) (ascii_no_marks bytes ascii)
 
--- its bytes are its own
+-- its bytes are the text
 pub plain_bytes : (bytes : List ℕ) → Plain bytes → flat_map written (chars bytes) ≡ bytes
 plain_bytes bytes is = unmarked_written (chars bytes) is.unmarked ∙ encodes-chars bytes is.utf8
 

@@ -1,4 +1,4 @@
--- Where the text of a word may be cut.
+-- Where the text of a word can be cut.
 use Rattle.std.proofs.Common.{◌≡◌, ℕ, zero, suc, ◌<◌, ◌≤◌, inl, inr, Bool, true, false}
 use Rattle.std.proofs.Common.{List, [], ◌∷◌, ◌++◌, length, take, drop, refl, sym, ap, subst, ◌∙◌, arith}
 use Rattle.std.proofs.Common.{append_assoc, append-nil}
@@ -17,7 +17,7 @@ use Rattle.getopts_bytes.proofs.Texts.{begins_ascii, text_char, text_mark}
 
 -- ---- one character
 
--- fronts of one length are the same, and so is what follows them
+-- fronts of equal length are the same, and so is what follows them
 same_front : (front other rest left : List ℕ) → front ++ rest ≡ other ++ left
     → length front ≡ length other → (front ≡ other) × (rest ≡ left)
 same_front front other rest left same size = (
@@ -27,7 +27,7 @@ same_front front other rest left same size = (
       ∙ ap (λ n. drop n (other ++ left)) size ∙ drop-append_seam other left,
 )
 
--- a first byte, and as many after it as it says
+-- a first byte, and the number of bytes after it that it announces
 record IsWhole (byte : ℕ) (tail : List ℕ) : Type 0 where
   size : length tail ≡ continuation_len byte
   past : ArePastAscii tail
@@ -42,7 +42,7 @@ same_whole byte other tail more rest left size also same =
     let both = same_front tail more rest left behind (size ∙ ap continuation_len first ∙ sym also) in
     (first, both.0, both.1)
 
--- a text without marks that is no longer than its first byte says is one character
+-- a text without marks that is no longer than its first byte announces is one character
 one_char : (byte : ℕ) (tail : List ℕ) → is_plain (byte ∷ tail) ≡ true → length tail ≤ continuation_len byte
     → IsWhole byte tail
 one_char byte tail is fits =
@@ -63,7 +63,7 @@ one_char byte tail is fits =
         sym (append-nil lead.1) ∙ ap (λ (l : List ℕ). lead.1 ++ l) (sym none) ∙ behind in
         record { size = ap length (sym same_tail) ∙ size; past = subst ArePastAscii same_tail lead.4 }
 
--- what begins a character has as many bytes after it
+-- what begins a character has that many bytes after it
 whole_of : (byte : ℕ) (bytes : List ℕ) → begins_char byte bytes ≡ true
     → IsWhole byte (take (continuation_len byte) bytes)
 whole_of byte bytes is =
@@ -74,7 +74,7 @@ enough : (byte : ℕ) (bytes : List ℕ) → begins_char byte bytes ≡ true →
 enough byte bytes is =
     omega (arith, (whole_of byte bytes is).size, length-take (continuation_len byte) bytes)
 
--- so with fewer none begins
+-- so with fewer bytes no character begins
 short_begins_not : (byte : ℕ) (bytes : List ℕ) → length bytes < continuation_len byte
     → begins_char byte bytes ≡ false
 short_begins_not byte bytes short =
@@ -87,7 +87,7 @@ past_reached zero front byte back short past = absurd (omega arith)
 past_reached (suc n) [] byte back short past = past.0
 past_reached (suc n) (b ∷ front) byte back short past = past_reached n front byte back (omega (arith, short)) past.1
 
--- so an ASCII byte that comes changes nothing of that
+-- so an ASCII byte after these changes nothing
 begins_before_ascii : (b : ℕ) (front : List ℕ) (byte : ℕ) (back : List ℕ) → byte < 128
     → begins_char b (front ++ byte ∷ back) ≡ begins_char b front
 begins_before_ascii b front byte back small = elim (cases_lt (length front) (continuation_len b)) [
@@ -112,7 +112,7 @@ text_ascii byte bytes small =
     text_char byte bytes (begins_ascii byte bytes small)
     ∙ ap (λ (n : ℕ). take (suc n) (byte ∷ bytes) ++ text_of (drop (suc n) (byte ∷ bytes))) none
 
--- what stands before it and after it has its own text
+-- what precedes it and what follows it have their own texts
 ascii_from : (n : ℕ) (front : List ℕ) (byte : ℕ) (back : List ℕ) → byte < 128 → n ≤ length front
     → text_from n (front ++ byte ∷ back) ≡ text_from n front ++ byte ∷ text_of back
 ascii_from zero [] byte back small fits = text_ascii byte back small

@@ -24,18 +24,18 @@ text_past zero bytes = refl
 text_past (suc n) [] = refl
 text_past (suc n) (byte ∷ bytes) = ap (λ (l : List ℕ). byte ∷ l) (text_past n bytes)
 
--- a character that is no mark stays
+-- a character that isn't a mark stays
 pub text_char : (byte : ℕ) (bytes : List ℕ) → begins_char byte bytes ≡ true
     → text_of (byte ∷ bytes) ≡ take (suc (continuation_len byte)) (byte ∷ bytes)
     ++ text_of (drop (suc (continuation_len byte)) (byte ∷ bytes))
 text_char byte bytes is = simp is (ap (λ (l : List ℕ). byte ∷ l) (text_past (continuation_len byte) bytes))
 
--- for another byte its mark stands
+-- another byte becomes its mark
 pub text_mark : (byte : ℕ) (bytes : List ℕ) → begins_char byte bytes ≡ false
     → text_of (byte ∷ bytes) ≡ encode (mark_of byte) ++ text_of bytes
 text_mark byte bytes is = simp is refl
 
--- the same of a word that has a byte
+-- the same for a word that isn't empty
 pub first_char : (word : List ℕ) → 0 < length word
     → is_plain (take (suc (continuation_len (get_or word 0 0))) word) ≡ true
     → text_of word ≡ take (suc (continuation_len (get_or word 0 0))) word
@@ -113,7 +113,7 @@ comes_back (suc n) (byte ∷ bytes) fits are = by (comes_back n) (begins_char by
 
 -- ---- a text without marks stays
 
--- a character that is no mark stays, whatever follows it
+-- a character that isn't a mark stays, whatever follows it
 pub text_past_char : (c : ℕ) (more : List ℕ) → scalar c ≡ true → is_mark c ≡ false
     → text_of (encode c ++ more) ≡ encode c ++ text_of more
 text_past_char c more is unmarked =

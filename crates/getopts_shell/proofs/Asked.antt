@@ -30,7 +30,7 @@ begun : (begins : Bool) (first : Option VariableFault) (fault : VariableFault) �
 begun true first fault is = is
 begun false first fault is = absurd cc
 
--- where there is no fault, the options make their own variables
+-- if there is no error, the options make their own variables
 pub asked_own : (asked : Asked) (prefix : Text) (entries : List Entry)
     → asked.variables ≡ Some prefix → asked_fault asked entries ≡ None
     → HaveOwnVariables prefix entries
@@ -61,7 +61,7 @@ matched_signatures place (signature ∷ signatures) occurrences =
     ap (λ (others : List Signature). signature ∷ others) (matched_signatures (place + 1) signatures
     occurrences)
 
--- matches that are read have the signatures of the options
+-- the matches of words have the signatures of the options
 pub held_signatures_are : (options : Declared) (words : List Text) (matches : Matched)
     → read_result options words ≡ Ok matches → held_signatures matches.groups
     ≡ signatures_of options.groups
@@ -70,7 +70,7 @@ held_signatures_are options words matches is =
     ap (λ (m : Matched). held_signatures m.groups) (sym made.2)
     ∙ matched_signatures 0 (signatures_of options.groups) _
 
--- matches that are read and have no fault of counts are the result of the words
+-- matches of words without a count error are the result of the words
 pub kept_result : (options : Declared) (words : List Text) (matches : Matched)
     → read_result options words ≡ Ok matches → is_none (first_count_fault matches.groups) ≡ true
     → parse_result options words ≡ Ok matches
@@ -87,7 +87,7 @@ kept_result options words matches is kept =
     by_fault reading None none same = ap Ok same
     by_fault reading (Some fault) none same = absurd (false≢true none)
 
--- matches of as many groups as there are rows
+-- matches with one group for each row
 pub as_many : (groups : List MatchedGroup) (rows : List Row)
     → held_signatures groups ≡ signatures_of (groups_of rows) → length groups ≡ length rows
 as_many [] [] same = refl

@@ -1,8 +1,7 @@
--- The text that sets variables, as it is written, and the faults of their names.
+-- The code that sets variables, as it is written, and the errors of their names.
 use Rattle.std.proofs.Common.{◌≡◌, ◌≢◌, ℕ, Bool, true, false, cond, eqb, List, [], ◌∷◌, ◌++◌}
-use Rattle.std.proofs.Common.{Option, Some, None, refl, sym, ap, ◌∙◌, suc, zero, length}
-use Rattle.std.proofs.Common.{take, drop, map, append_assoc, append-nil, add-one, arith}
-use Rattle.std.proofs.Common.{get_or, ◌+◌, ◌-◌, ◌<◌}
+use Rattle.std.proofs.Common.{Option, Some, None, refl, sym, ap, ◌∙◌, suc, zero, length, take, drop}
+use Rattle.std.proofs.Common.{map, append_assoc, append-nil, add-one, arith, get_or, ◌+◌, ◌-◌, ◌<◌}
 use Rattle.std.specs.Prelude.{nat_lt, not, slice_get, ◌&&◌}
 use Rattle.std.specs.Char.{is_ascii_digit}
 use Rattle.std.specs.List.{AllByRecursion, flat_map, last_or, list_all, list_any}
@@ -20,10 +19,9 @@ use Rattle.getopts.specs.Wrap.{parting}
 use Rattle.getopts_shell.specs.Held.{entries_of, entry_of_row}
 use Rattle.getopts_shell.specs.Quote.{quoted, quoted_words, replaced, spaced}
 use Rattle.getopts_shell.specs.Table.{Entry}
-use Rattle.getopts_shell.specs.Variables.{any_has_variable, first_fault, given_from}
-use Rattle.getopts_shell.specs.Variables.{is_variable, is_variable_byte}
-use Rattle.getopts_shell.specs.Variables.{texts_found, variable, variable_byte, variable_fault}
-use Rattle.getopts_shell.specs.Variables.{VariableFault, variable_of}
+use Rattle.getopts_shell.specs.Variables.{any_has_variable, first_fault, given_from, is_variable}
+use Rattle.getopts_shell.specs.Variables.{is_variable_byte, texts_found, variable, variable_byte}
+use Rattle.getopts_shell.specs.Variables.{variable_fault, VariableFault, variable_of}
 use Rattle.getopts_shell.specs.declared.row.Row.{Row}
 use Rattle.getopts_shell.proofs.Alone.{rows_from}
 
@@ -32,7 +30,7 @@ some_lt n = grind (arith, nat_tests)
 
 -- ---- a name with `_` for each `-`
 
--- each byte of a name as it stands in a variable
+-- each byte of a name, as it is in a variable's name
 pub name_written : (name : Text) → flat_map (replaced 45 (95 ∷ [])) name ≡ map variable_byte name
 name_written [] = refl
 name_written (byte ∷ name) = rw (name_written name) (by_test (eqb byte 45))
@@ -53,7 +51,7 @@ text_of [] nth = refl
 text_of (first ∷ founds) zero = refl
 text_of (first ∷ founds) (suc nth) = text_of founds nth
 
--- occurrences have as many texts
+-- there is one text for each occurrence
 pub length_texts : (founds : List Found) → length (texts_found founds) ≡ length founds
 length_texts founds =
     length-map (each_value founds) (λ (value : Option Text). unwrap_or value [])
@@ -93,7 +91,7 @@ last_text (text ∷ other ∷ texts) before some =
     let next : suc (length (other ∷ texts) - 1) ≡ length (text ∷ other ∷ texts) - 1 = omega arith in
     rw (← next) (last_text (other ∷ texts) (Some text) (omega arith))
 
--- the value of the last of so many occurrences
+-- the value of the last occurrence
 pub last_found : (founds : List Found) (count : ℕ) → count ≡ length founds → count ≢ 0
     → last_or None (texts_found founds) ≡ Some (get_or (texts_found founds) (count - 1) [])
 last_found founds count is some =
@@ -126,7 +124,7 @@ given_more place rows held row found below is found_is =
 
 -- ---- variables
 
--- what stands in front, and its bytes, make a name of a variable
+-- the test on the first byte and those on all bytes make a variable's name
 pub variable_parts : (prefix name : Text) → is_variable (variable prefix name)
     ≡ (option_map_or (λ byte. not (is_ascii_digit byte)) (slice_get (variable prefix name) 0) false
     && (list_all is_variable_byte prefix
@@ -140,7 +138,7 @@ variable_parts prefix name =
     by_first [] = refl
     by_first (byte ∷ text) = refl
 
--- a text in front of both changes nothing
+-- the same text before both changes nothing
 same_front : (front name other : Text)
     → bytes_eq (front ++ name) (front ++ other) ≡ bytes_eq name other
 same_front [] name other = refl
@@ -159,7 +157,7 @@ any_variable prefix (row ∷ rows) entry =
       any_variable prefix rows entry,
     ) refl
 
--- the fault from a row on: its own, or else that from the next one on
+-- the error from a row on: its own, or else the error from the next row on
 pub fault_from : (prefix : Text) (rows : List Row) (place : ℕ) (row : Row) → place < length rows
     → row ≡ get_or rows place row
     → first_fault prefix (entries_of (take place rows)) (entries_of (drop place rows))
@@ -172,7 +170,7 @@ fault_from prefix rows place row below row_is =
     rw (take_more rows place row below, ← row_is) (simp map-append) in
     rw (rows_from rows place row below row_is, more) refl
 
--- an entry without a fault makes a variable
+-- an entry without an error makes a variable
 no_fault : (made again : Bool) (one two : VariableFault) (rest : Option VariableFault)
     → option_or (cond made (cond again (Some two) None) (Some one)) rest ≡ None
     → (made ≡ true) × (rest ≡ None)
@@ -180,7 +178,7 @@ no_fault false again one two rest is = absurd cc
 no_fault true true one two rest is = absurd cc
 no_fault true false one two rest is = (refl, is)
 
--- where no fault is found, each entry makes a variable
+-- if no error is found, each entry makes a variable
 pub each_makes : (prefix : Text) (before entries : List Entry)
     → first_fault prefix before entries ≡ None
     → AllByRecursion (λ entry. is_variable (variable_of prefix entry) ≡ true) entries

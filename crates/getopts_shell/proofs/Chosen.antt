@@ -1,4 +1,4 @@
--- A fact for each variant, where the value is known.
+-- A fact for each variant, if the value is known.
 use Rattle.std.proofs.Common.{◌≡◌, Bool, true, false, Option, Some, None, Result, Ok, Err, subst}
 use Rattle.std.proofs.Common.{sym}
 use Rattle.std.specs.Prelude.{MatchOption, MatchResult}

@@ -1,4 +1,4 @@
--- What is written of bytes is a front of them.
+-- What was written of bytes is a prefix of them.
 use Rattle.std.proofs.Common.{◌≡◌, ◌≢◌, ℕ, ◌-◌, zero, suc, List, [], ◌++◌, length, take, drop}
 use Rattle.std.proofs.Common.{Option, Some, None, Result, Ok, Err, inl, inr, ◌∙◌, ap, append-nil}
 use Rattle.std.proofs.Common.{append_assoc, arith, refl, sym}
@@ -8,12 +8,12 @@ use Rattle.std.proofs.lemmas.List.{take-append-drop, take_rest}
 use Rattle.getopts.specs.Names.{Text}
 use Rattle.getopts_shell.specs.Program.{AppendsFront, IsOutput, ShowsFront}
 
--- nothing is appended where nothing changes
+-- nothing is appended if nothing changes
 pub appends_none : (old : Option (List ℕ)) → Appends old old []
 appends_none None = tt
 appends_none (Some bytes) = sym (append-nil bytes)
 
--- what was appended stays where a writer keeps what it holds
+-- what was appended is unchanged if a writer is
 pub appends_kept : (old new again : Option (List ℕ)) (bytes : List ℕ) → Appends old new bytes
     → Keeps new again → Appends old again bytes
 appends_kept None new again bytes is kept = tt
@@ -37,13 +37,13 @@ one_more_piece all done rest count is =
     is ∙ ap (λ (l : List ℕ). done ++ l) (sym (take-append-drop count rest))
     ∙ sym (append_assoc done (take count rest) (drop count rest))
 
--- the same, where a slice cuts the rest
+-- the same, if a slice cuts the rest
 pub cut_piece : (all done rest : List ℕ) (count : ℕ) → all ≡ done ++ rest
     → all ≡ (done ++ take count rest) ++ take (length rest - count) (drop count rest)
 cut_piece all done rest count is = one_more_piece all done rest count is
     ∙ ap (λ (l : List ℕ). (done ++ take count rest) ++ l) (sym (take_rest rest count))
 
--- a front on one of two writers, by the status
+-- a prefix on one of two writers, by the status
 pub shows_front : (out out_now err err_now : Option (List ℕ)) (words : List Text)
     → (bytes : List ℕ) (status : ℕ) → IsOutput words bytes status
     → (status ≡ 0 → AppendsFront out out_now bytes)
@@ -55,7 +55,7 @@ shows_front out out_now err err_now words bytes (suc n) is on_out on_err =
     let other : suc n ≢ 0 = λ same. absurd (omega arith) in
     inr (bytes, suc n, other, is, on_err other)
 
--- a fact holds of whatever result
+-- a fact is true whatever the result
 pub on_ok : {X E : Type 0} (result : Result X E) (Fact : Type 0) → Fact → OnOk result Fact
 on_ok (Ok value) Fact fact = fact
 on_ok (Err error) Fact fact = tt

@@ -1,4 +1,4 @@
--- Readings, and what refusals tell.
+-- Readings, and what failures report.
 use Rattle.std.proofs.Common.{◌≡◌, ℕ, false, List, [], Option, Some, None, refl, sym, ap, ◌∙◌}
 use Rattle.std.specs.Prelude.{length, nat_lt, IsSome}
 use Rattle.std.specs.Option.{option_map_or}
@@ -11,7 +11,7 @@ use Rattle.getopts.specs.Parse.{HasReading}
 use Rattle.getopts.specs.declared.fail.Fail.{Fail}
 use Rattle.getopts.specs.declared.fail.Fail.TheVariants as fail
 
--- an option that isn't defined isn't there
+-- an option that isn't defined isn't present
 pub undefined_absent : (groups : List MatchedGroup) (name : Text) → ¬ (IsDefined groups name)
     → is_present groups name ≡ false
 undefined_absent groups name none = by_place (place_of groups name) none
@@ -28,7 +28,7 @@ one_reading options words matches others is also =
     let same = (is.only also.reading).0 ((also.only also.reading).1 refl) in
     also.matches_are ∙ ap (matches_of options) same ∙ sym is.matches_are
 
--- what a refusal tells, unless it tells that memory was refused
+-- the error that a `Fail` reports, unless it is out of memory
 pub fault_told_of : (refusal : Fail) → ¬ (refusal ≡ fail.OutOfMemory)
     → (fault : Fault) × (fault_of refusal ≡ Some fault)
 fault_told_of (fail.ArgumentMissing name) other = (_, refl)

@@ -1,8 +1,7 @@
--- Items: what they are made of, in one way each.
+-- Items: each has only one set of parts.
 use Rattle.std.proofs.Common.{◌≡◌, ◌≢◌, ℕ, ◌<◌, Bool, true, false, [], ◌∷◌, ◌++◌, length, get_or}
 use Rattle.std.proofs.Common.{Bor, MatchOption, cond, eqb, drop, take, Option, Some, None, refl}
-use Rattle.std.proofs.Common.{sym, ap, subst}
-use Rattle.std.proofs.Common.{◌∙◌, ◌+◌, ◌≤◌, arith, lit<, take-append-drop}
+use Rattle.std.proofs.Common.{sym, ap, subst, ◌∙◌, ◌+◌, ◌≤◌, arith, lit<, take-append-drop}
 use Rattle.std.specs.Prelude.{slice_index, ◌&&◌, not}
 use Rattle.std.specs.List.{AllByRecursion, ends_with, list_all}
 use Rattle.std.specs.Option.{option_map_or, unwrap_or}
@@ -12,9 +11,8 @@ use Rattle.getopts.specs.Names.{Text, Names, is_empty}
 use Rattle.getopts.specs.declared.groups.HasArg.{HasArg}
 use Rattle.getopts.specs.declared.groups.HasArg.TheVariants.{Yes, No, Maybe}
 use Rattle.getopts_shell.specs.Table.{is_name, is_hint, names_text, MayBeNames, AreNames}
-use Rattle.getopts_shell.specs.Table.{IsArgument}
-use Rattle.getopts_shell.specs.Table.{HasParts, IsBracketed, bare, bracketed, IsItem, end_means}
-use Rattle.getopts_shell.specs.Table.{begins_name, fits, is_hint_byte}
+use Rattle.getopts_shell.specs.Table.{IsArgument, HasParts, IsBracketed, bare, bracketed, IsItem}
+use Rattle.getopts_shell.specs.Table.{end_means, begins_name, fits, is_hint_byte}
 use Rattle.getopts_shell.specs.declared.row.Often.{Often}
 use Rattle.std.specs.Str.Pattern.{RFindsChar}
 use Rattle.std.proofs.lemmas.List.Elements.{All-from_get_or, recursion_from_All}
@@ -35,7 +33,7 @@ no_bracket (byte ∷ rest) none = λ is. none rest (ap (λ (b : ℕ). b ∷ rest
 never : {X : Type 0} (x : X) → None ≡ Some x → ⊥
 never x is = cc
 
--- an end holds no `]`
+-- an end contains no `]`
 closed : (end : Text) (often : Often) → end_means end ≡ Some often
     → AllByRecursion (λ (byte : ℕ). byte ≢ 93) end
 closed [] often means = tt
@@ -45,7 +43,7 @@ closed (a ∷ b ∷ c ∷ []) often means =
     (grind (arith, nat_tests), (grind (arith, nat_tests), (grind (arith, nat_tests), tt)))
 closed (a ∷ b ∷ c ∷ d ∷ more) often means = absurd (grind (arith, nat_tests))
 
--- where a text is cut at its last `]`
+-- a text is cut at its last `]`
 pub last_close : (text : Text) (result : Option (Bor Text × Bor Text))
     → MatchOption result (RFindsChar 93 text None)
     (λ x. (i : ℕ) × (j : ℕ) × RFindsChar 93 text (Some (i, j))
@@ -67,7 +65,7 @@ last_close text (Some x) h = (
       (λ i. NoCharPasses-char 93 (drop h.1 text) i h.2.0 (lit< tt)))),
 )
 
--- a text without `]` is none with one
+-- a text without `]` isn't a text with one
 no_close : (text front back : Text) → AllByRecursion (λ (byte : ℕ). byte ≢ 93) text → text ≡ front
     ++ 93 ∷ back → ⊥
 no_close [] [] back none is = cc
@@ -75,7 +73,7 @@ no_close [] (byte ∷ front) back none is = cc
 no_close (byte ∷ text) [] back none is = none.0 cc
 no_close (byte ∷ text) (other ∷ front) back none is = no_close text front back none.1 cc
 
--- a text is cut at its last `]` in one way
+-- a text is cut at its last `]` in only one way
 one_cut : (front other back after : Text) → AllByRecursion (λ (byte : ℕ). byte ≢ 93) back
     → AllByRecursion (λ (byte : ℕ). byte ≢ 93) after → front ++ 93 ∷ back ≡ other ++ 93 ∷ after
     → (other ≡ front) × (after ≡ back)
@@ -98,7 +96,7 @@ none_closed text opened opens none inside often (bracketed end _ is means) =
     let same : 91 ∷ opened ≡ 91 ∷ (inside ++ 93 ∷ end) = sym opens ∙ is in
     no_close opened inside end none cc
 
--- nor has one whose end means nothing
+-- nor has a text whose end means nothing
 pub none_meant : (text opened before end : Text) → text ≡ 91 ∷ opened → opened ≡ before ++ 93 ∷ end
     → AllByRecursion (λ (byte : ℕ). byte ≢ 93) end → end_means end ≡ None
     → (inside : Text) (often : Often) → ¬ (IsBracketed text inside often)
@@ -110,7 +108,7 @@ none_meant text opened before end opens parts none means inside often (bracketed
     let same = one_cut before inside end other none (closed other often also) cc in
     never often (sym means ∙ ap end_means (sym same.1) ∙ also)
 
--- a text is in brackets that say one thing, with one inside
+-- a text has only one inside, and its brackets only one meaning
 pub one_bracketed : (text inside other : Text) (often another : Often)
     → IsBracketed text inside often → IsBracketed text other another
     → (other ≡ inside) × (another ≡ often)
@@ -132,11 +130,11 @@ one_bracketed text inside other often another (bracketed end _ is means)
 
 -- ---- parts
 
--- what stands after names
+-- what follows names
 abbrev after_names : Option Text → Text
 after_names argument = option_map_or (λ (text : Text). 32 ∷ text) argument []
 
--- a text is cut at its first space in one way
+-- a text is cut at its first space in only one way
 cut_once : (names others : Text) (argument other : Option Text)
     → AllByRecursion (λ (byte : ℕ). byte ≢ 32) names
     → AllByRecursion (λ (byte : ℕ). byte ≢ 32) others
@@ -179,7 +177,7 @@ data Shape (short long text : Text) : Type 0 where
   both : (byte : ℕ) → byte ≢ 45 → short ≡ byte ∷ [] → 0 < length long
       → text ≡ 45 ∷ byte ∷ 124 ∷ 45 ∷ 45 ∷ long → Shape short long text
 
--- names that may stand are written in one of these ways
+-- names that are allowed are written in one of these ways
 shape_of : (short long text : Text) → MayBeNames short long
     → text ≡ names_text (record { short = short; long = long }) → Shape short long text
 shape_of [] long text may is = long_one refl is
@@ -206,7 +204,7 @@ only_long text dash names are = by_shape (shape names text are)
     by_shape (both byte plain one some is) =
         absurd (plain (sym (ap (λ (t : Text). get_or t 1 0) is) ∙ dash))
 
--- one of two bytes has only a short name
+-- a text of two bytes has only a short name
 only_short : (text : Text) → get_or text 1 0 ≢ 45 → length text ≡ 2
     → (names : Names) → AreNames names text → (names.short ≡ drop 1 text) × (names.long ≡ [])
 only_short text no_dash two names are = by_shape (shape names text are)
@@ -216,7 +214,7 @@ only_short text no_dash two names are = by_shape (shape names text are)
     by_shape (short_one byte plain one none is) = (one ∙ sym (ap (λ (t : Text). drop 1 t) is), none)
     by_shape (both byte plain one some is) = absurd (omega (arith, ap length is))
 
--- a longer one with one dash has both
+-- a longer text with one dash has both
 pub only_both : (text : Text) → get_or text 1 0 ≢ 45 → 2 < length text
     → (names : Names) → AreNames names text
     → (names.short ≡ take 1 (drop 1 text)) × (names.long ≡ drop 5 text)
@@ -229,14 +227,14 @@ only_both text no_dash more names are = by_shape (shape names text are)
     by_shape (both byte plain one some is) =
         (one ∙ sym (ap (λ (t : Text). take 1 (drop 1 t)) is), sym (ap (λ (t : Text). drop 5 t) is))
 
--- what stands between two names
+-- what separates two names
 pub record Between (text : Text) : Type 0 where
   pub long_enough : 5 < length text
   pub bar : get_or text 2 0 ≡ 124
   pub first_dash : get_or text 3 0 ≡ 45
   pub second_dash : get_or text 4 0 ≡ 45
 
--- what stands between the two names of a text that has both
+-- what separates the two names of a text that has both
 pub between_names : (text : Text) → get_or text 1 0 ≢ 45 → 2 < length text
     → (names : Names) → AreNames names text → Between text
 between_names text no_dash more names are = by_shape (shape names text are)
@@ -251,7 +249,7 @@ between_names text no_dash more names are = by_shape (shape names text are)
       second_dash = ap (λ (t : Text). get_or t 4 0) is;
     }
 
--- and a text where that stands is written for what stands before and after it
+-- and a text with that separator consists of the names before and after it
 pub written_both : (text : Text) → get_or text 0 0 ≡ 45 → Between text
     → text ≡ names_text (record { short = take 1 (drop 1 text); long = drop 5 text })
 written_both [] dash is = absurd (omega (arith, is.long_enough))
@@ -287,7 +285,7 @@ by_names (Some found) short long text written only some = record {
       ∙ ap (λ (l : Text). names_text (record { short = found.0.now; long = l })) (sym some.2);
 }
 
--- a text is written for one pair of names
+-- a text consists of only one pair of names
 pub one_names : (names others : Names) (text : Text) → AreNames names text → AreNames others text
     → others ≡ names
 one_names names others text are also = by_shape (shape names text are)
@@ -318,7 +316,7 @@ one_names names others text are also = by_shape (shape names text are)
 
 -- ---- arguments
 
--- a hint holds no `[`
+-- a hint contains no `[`
 hint_open : (rest : Text) → is_hint (91 ∷ rest) ≡ true → ⊥
 hint_open rest is =
     let some = is_empty-cons 91 rest in
@@ -350,7 +348,7 @@ one_argument Maybe Yes hint other (Some text) is also =
 
 -- ---- items
 
--- the parts of an item, and how often it may come, are those that are found
+-- the parts of an item, and how often it may occur, are those that are found
 same_parts_found : (text inside names : Text) (often : Often) (argument : Option Text)
     → IsBracketed text inside often → HasParts inside names argument
     → (own : Names) (kind : HasArg) (another : Often) (hint : Text)
@@ -373,7 +371,7 @@ no_names_none text inside names often argument brackets parts none own kind anot
     hint is in
     none own (subst (AreNames own) same.0 is.names_are)
 
--- nor where what stands for its argument is none
+-- nor if it has no valid argument
 pub no_argument_none : (text inside names : Text) (often : Often) (argument : Option Text)
     → IsBracketed text inside often → HasParts inside names argument
     → ((kind : HasArg) (hint : Text) → ¬ (IsArgument kind hint argument))
@@ -384,7 +382,7 @@ no_argument_none text inside names often argument brackets parts none own kind a
     hint is in
     none kind hint (subst (IsArgument kind hint) same.1 is.argument_is)
 
--- nor where its argument doesn't fit how often it may come
+-- nor if its argument doesn't fit how often it may occur
 pub no_fit_none : (text inside names : Text) (often : Often) (argument : Option Text)
     (kind : HasArg) (its_hint : Text) → IsBracketed text inside often
     → HasParts inside names argument → IsArgument kind its_hint argument → fits often kind ≡ false

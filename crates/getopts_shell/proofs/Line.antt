@@ -12,7 +12,7 @@ use Rattle.getopts_shell.specs.Program.{TellsWords}
 use Rattle.getopts_shell.proofs.Plain.{ArePlainlyNamed}
 use Rattle.getopts_shell.proofs.Written.{sets_words}
 
--- no main name holds `=`
+-- no main name contains `=`
 plain_at : (groups : List Group) → ArePlainlyNamed groups → (place : ℕ)
     → holds_equals (main_at groups place) ≡ false
 plain_at [] plain zero = refl
@@ -35,7 +35,7 @@ pub never_unwritable : (options : Declared) (words : List Text) → ArePlainlyNa
 never_unwritable options words plain is = is.not_plain (always_plain options.groups plain
     is.content.mentions)
 
--- a word of a main name isn't the stop
+-- the canonical word of a main name isn't the stop
 main_no_stop : (groups : List Group) → EmptyResolvesNot (names_of groups) → (m : Mention)
     → resolution (names_of groups) (main_at groups m.group) ≡ Some m.group
     → canonical_word groups m ≢ stop_word
@@ -55,7 +55,7 @@ no_stops groups empty [] sound = tt
 no_stops groups empty (m ∷ mentioned) sound =
     (main_no_stop groups empty m sound.0, no_stops groups empty mentioned sound.1)
 
--- a canonical line tells the words
+-- the facts about a canonical line
 pub tells_words : (options : Declared) (words line : List Text) → AreTexts line
     → EmptyResolvesNot (names_of options.groups)
     → KeepsLineLaws options → IsWritten options words line → TellsWords options words line

@@ -1,15 +1,12 @@
 -- Lines of a table.
 use Rattle.std.proofs.Common.{◌≡◌, ℕ, ◌<◌, ◌+◌, Bool, true, false, List, [], ◌∷◌, ◌++◌, length}
-use Rattle.std.proofs.Common.{take, drop}
-use Rattle.std.proofs.Common.{get_or}
-use Rattle.std.proofs.Common.{map, refl, sym, ap, ◌∙◌, arith}
-use Rattle.std.specs.Prelude.{◌&&◌, if◌then◌else◌, not}
-use Rattle.std.specs.Prelude.{OnOk, Result, Ok, Err, ◌||◌, ◌==◌, IfSome, Option, Some, None, slice_index, min, ◌-◌, ◌^◌}
+use Rattle.std.proofs.Common.{take, drop, get_or, map, refl, sym, ap, ◌∙◌, arith, append-nil}
+use Rattle.std.proofs.Common.{append_assoc, subst, length-append}
+use Rattle.std.specs.Prelude.{◌&&◌, if◌then◌else◌, not, OnOk, Result, Ok, Err, ◌||◌, ◌==◌, IfSome}
+use Rattle.std.specs.Prelude.{Option, Some, None, slice_index, min, ◌-◌, ◌^◌}
 use Rattle.std.specs.List.{list_any}
 use Rattle.std.specs.Option.{option_to_list}
-use Rattle.std.proofs.Common.{append-nil, append_assoc, subst, length-append}
-use Rattle.std.proofs.lemmas.List.{take-append-drop}
-use Rattle.std.proofs.lemmas.List.{at_drop_more}
+use Rattle.std.proofs.lemmas.List.{take-append-drop, at_drop_more}
 use Rattle.std.proofs.lemmas.List.Concat.{flat_map-append}
 use Rattle.getopts.specs.Names.{Names, Text, is_empty}
 use Rattle.getopts.specs.declared.groups.HasArg.{HasArg}
@@ -19,14 +16,13 @@ use Rattle.getopts_shell.specs.declared.table.TableError.{TableError}
 use Rattle.getopts_shell.specs.declared.table.TableError.TheVariants as error
 use Rattle.std.specs.Str.{IsTrimAscii}
 use Rattle.std.proofs.lemmas.Str.Ascii.{trim_ascii_is}
-use Rattle.getopts_shell.specs.Table.{after_blanks, trimmed, before_gap, from_gap}
-use Rattle.getopts_shell.specs.Table.{Entry, is_passed, IsItem, DeclaresEntry, Declares}
-use Rattle.getopts_shell.specs.Table.{Operand, is_operand, is_skipped, item_of, operand_at}
-use Rattle.getopts_shell.specs.Table.{operands_among}
-use Rattle.getopts_shell.specs.declared.row.Often.{Often}
+use Rattle.getopts_shell.specs.Table.{after_blanks, trimmed, before_gap, from_gap, Entry, is_passed}
+use Rattle.getopts_shell.specs.Table.{IsItem, DeclaresEntry, Declares, Operand, is_operand}
+use Rattle.getopts_shell.specs.Table.{is_skipped, item_of, operand_at, operands_among}
 use Rattle.getopts_shell.specs.Table.{DeclareEntries, DeclareOptions, EachAfter, IsLineFault}
-use Rattle.getopts_shell.specs.Table.{IsTableFault, TableFault, line_number, may_follow}
-use Rattle.getopts_shell.specs.Table.{name_again, no_option, none}
+use Rattle.getopts_shell.specs.Table.{IsTableFault, TableFault, line_number, may_follow, name_again}
+use Rattle.getopts_shell.specs.Table.{no_option, none}
+use Rattle.getopts_shell.specs.declared.row.Often.{Often}
 
 -- a test of what is made of elements
 pub list_any_map : {X Y : Type 0} (p : Y → Bool) (f : X → Y) (xs : List X)
@@ -44,7 +40,7 @@ trimmed_is text other is = trim_ascii_is text other (after_blanks text) refl is
 abbrev skips : Text → Bool
 skips text = is_empty text || (slice_index text 0 == 35)
 
--- a line that declares something, and no operand, isn't passed over
+-- a line that declares something other than an operand isn't passed over
 passed_not : (line text item : Text) → text ≡ trimmed line → skips text ≡ false
     → item ≡ trimmed (before_gap text) → is_operand item ≡ false → is_passed line ≡ false
 passed_not line text item text_is there item_is plain =
@@ -86,7 +82,7 @@ declares_operand line text item rest description text_is there item_is rest_is d
           ∙ rw (description_is, rest_is, item_is, text_is) refl,
     )
 
--- those of a line among lines
+-- the operands of a line among lines
 pub operands_around : (lines : List Text) (line : Text) (more : List Text)
     → operands_among (lines ++ line ∷ more)
     ≡ operands_among lines ++ (option_to_list (operand_at line) ++ operands_among more)
@@ -110,7 +106,7 @@ declares_entry number line text item rest description entry number_is text_is th
       description = is ∙ description_is ∙ rw (rest_is, text_is) refl;
     }
 
--- a line that isn't passed over and has no option has a fault
+-- a line that isn't passed over and has no option has an error
 pub faulty_line : (line text item : Text) (number : ℕ) (entries : List Entry)
     (operands : List Operand) → text ≡ trimmed line
     → skips text ≡ false → item ≡ trimmed (before_gap text) → is_operand item ≡ false
@@ -128,20 +124,20 @@ faulty_line line text item number entries operands text_is there item_is plain n
 
 -- ---- lines, one after the other
 
--- How two places of one list are to each other, by what stands before each.
+-- The order of two places in a list, by what precedes each.
 pub data Places {X : Type 0} (before others : List X) (x y : X) : Type 0 where
   here : others ≡ before → y ≡ x → Places before others x y
   later : (more : List X) → others ≡ before ++ x ∷ more → Places before others x y
   earlier : (more : List X) → before ≡ others ++ y ∷ more → Places before others x y
 
--- the same, where one element more stands before both
+-- the same, with one more element before both
 one_further : {X : Type 0} (before others : List X) (x y first other : X) → other ≡ first
     → Places before others x y → Places (first ∷ before) (other ∷ others) x y
 one_further before others x y first other same (here is also) = here (cc) also
 one_further before others x y first other same (later more is) = later more cc
 one_further before others x y first other same (earlier more is) = earlier more cc
 
--- one of these is so of any two places
+-- one of these is true of any two places
 pub places : {X : Type 0} (before others after rest : List X) (x y : X)
     → before ++ x ∷ after ≡ others ++ y ∷ rest → Places before others x y
 places [] [] after rest x y same = here refl cc
@@ -150,7 +146,7 @@ places (first ∷ before) [] after rest x y same = earlier before cc
 places (first ∷ before) (other ∷ others) after rest x y same =
     one_further before others x y first other (cc) (places before others after rest x y (cc))
 
--- with one more of which this is so
+-- with one more element that has the property
 each_push : {X : Type 0} (Is : List X → X → Type 0) (xs : List X) (x : X) → EachAfter Is xs
     → Is xs x → EachAfter Is (xs ++ x ∷ [])
 each_push {X} Is xs x each is before after other parts =
@@ -217,7 +213,7 @@ no_lines = record {
   };
 }
 
--- the operands of the lines so far, with that of one more
+-- the operands of the lines so far and of one more
 pub next_operands : (lines : List Text) (line : Text) (operands more : List Operand)
     → more ≡ operands ++ option_to_list (operand_at line) → operands ≡ operands_among lines
     → more ≡ operands_among (lines ++ line ∷ [])
@@ -258,7 +254,7 @@ in_parts all n x below is =
     sym (take-append-drop n all)
     ∙ rw (at_drop_more (λ (t : List Text). t) all n x below, ← is) refl
 
--- the fault of a line is the table's
+-- the error of a line is the table's
 pub table_fault : (table : Text) (lines : List Text) (line : Text) (number next : ℕ)
     (entries : List Entry) (operands : List Operand)
     (fault : TableFault) → lines ≡ take (length lines) (lines_of table)
@@ -287,7 +283,7 @@ pub ok_of_both : {T E P Q R : Type 0} (r : Result T E) → OnOk r P → OnOk r Q
 ok_of_both (Ok value) is also gives = gives is also
 ok_of_both (Err error) is also gives = tt
 
--- what an error tells meets what is weaker
+-- what an error reports has a weaker property
 pub tells_weaker : (error : TableError) (P Q : TableFault → Type 0) → TellsFault error P
     → ((fault : TableFault) → P fault → Q fault) → TellsFault error Q
 tells_weaker (error.NoOption number item) P Q tells weaker = weaker _ tells

@@ -1,7 +1,6 @@
--- What is offered at the last of words.
-use Rattle.std.proofs.Common.{◌≡◌, ◌<◌, ◌-◌, ℕ, List, [], Option, None, arith, ap, map}
-use Rattle.std.proofs.Common.{◌∙◌, get_or, length, string_bytes, sym, take}
-use Rattle.std.proofs.Common.{Global, String}
+-- What is offered at the last word.
+use Rattle.std.proofs.Common.{◌≡◌, ◌<◌, ◌-◌, ℕ, List, [], Option, None, arith, ap, map, ◌∙◌, get_or}
+use Rattle.std.proofs.Common.{length, string_bytes, sym, take, Global, String}
 use Rattle.std.specs.Prelude.{unwrap_or}
 use Rattle.std.proofs.lemmas.List.{get_or-map, length-map, take-map}
 use Rattle.getopts.specs.Names.{Text}
@@ -11,7 +10,7 @@ use Rattle.getopts_shell.specs.Program.{last_word}
 use Rattle.getopts_shell.specs.Table.{Entry}
 use Rattle.getopts_shell.proofs.Assignments.{last_text}
 
--- what is offered at the last of words
+-- what is offered at the last word
 pub at_last : (options : Declared) (entries : List Entry) (words before : List (String Global))
     (word other : String Global) → (last : ℕ) (at : Text) (text : Text) → 0 < length words
     → last ≡ length words - 1 → before ≡ take last words → word ≡ get_or words last other

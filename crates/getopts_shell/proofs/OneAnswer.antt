@@ -1,7 +1,6 @@
 -- Words have one answer, with a status of 0, 2 or 5.
-use Rattle.std.proofs.Common.{◌≡◌, ◌≢◌, ◌≤◌, ℕ, Bool, true, false, Result, Ok, Err, List, []}
-use Rattle.std.proofs.Common.{◌∷◌, Option, Some, None, arith, ap, refl, subst, sym}
-use Rattle.std.proofs.Common.{◌∙◌}
+use Rattle.std.proofs.Common.{◌≡◌, ◌≢◌, ◌≤◌, ℕ, Bool, true, false, Result, Ok, Err, List, [], ◌∷◌}
+use Rattle.std.proofs.Common.{Option, Some, None, arith, ap, refl, subst, sym, ◌∙◌}
 use Rattle.std.specs.Prelude.{MatchOption, MatchResult, codes}
 use Rattle.std.specs.Bool.{MatchBool}
 use Rattle.std.specs.Option.{option_map_or}
@@ -14,15 +13,13 @@ use Rattle.getopts_shell.specs.Completion.{functions, stub}
 use Rattle.getopts_shell.specs.Program.{Answer, AnswersAlone, AnswersCounted, AnswersDeclared}
 use Rattle.getopts_shell.specs.Program.{AnswersFree, AnswersLine, AnswersOffer, AnswersOwn}
 use Rattle.getopts_shell.specs.Program.{AnswersAccepted, AnswersRead, AnswersScript, AnswersTable}
-use Rattle.getopts_shell.specs.Program.{free_fault}
-use Rattle.getopts_shell.specs.Program.{AnswersWords, Asked, IsAnswer, IsHelp, IsStatus, OneAnswer}
-use Rattle.getopts_shell.specs.Program.{PrintsHelp, Script, TellsOptions, asked_by, asked_fault}
-use Rattle.getopts.specs.Usage.{IsUsageText}
-use Rattle.getopts_shell.specs.Program.{asks_help, brief_text, declared, done, faulty, help_front}
-use Rattle.getopts_shell.specs.Program.{shown_options}
-use Rattle.getopts_shell.specs.Program.{help_code, is_alone, is_given, misused}
-use Rattle.getopts_shell.specs.Program.{no_completion, own_options, read_options}
+use Rattle.getopts_shell.specs.Program.{free_fault, AnswersWords, Asked, IsAnswer, IsHelp, IsStatus}
+use Rattle.getopts_shell.specs.Program.{OneAnswer, PrintsHelp, Script, TellsOptions, asked_by}
+use Rattle.getopts_shell.specs.Program.{asked_fault, asks_help, brief_text, declared, done, faulty}
+use Rattle.getopts_shell.specs.Program.{help_front, shown_options, help_code, is_alone, is_given}
+use Rattle.getopts_shell.specs.Program.{misused, no_completion, own_options, read_options}
 use Rattle.getopts_shell.specs.Program.{table_fault_line}
+use Rattle.getopts.specs.Usage.{IsUsageText}
 use Rattle.getopts_shell.specs.Table.{Entry, TableFault, operands_in}
 use Rattle.getopts_shell.proofs.Only.{one_table, one_fault, no_fault}
 
@@ -45,9 +42,9 @@ is_refused = by_status 2 (omega arith) (λ is. absurd (omega arith)) (λ is. abs
 is_misused : AnswersBy 5
 is_misused = by_status 5 (omega arith) (λ is. absurd (omega arith)) (λ is. absurd (omega arith))
 
--- ---- one answer at most
+-- ---- at most one answer
 
--- one answer at most is so, and it has such a status
+-- at most one answer has this property, and it has such a status
 record IsOne (Is : Answer → Type 0) : Type 0 where
   only : (answer other : Answer) → Is answer → Is other → other ≡ answer
   by : (answer : Answer) → Is answer → AnswersBy answer.status

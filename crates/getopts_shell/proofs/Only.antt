@@ -1,25 +1,22 @@
--- A table declares one list of options at most, or has one fault.
+-- A table declares at most one list of options, or has only one error.
 use Rattle.std.proofs.Common.{◌≡◌, ℕ, true, false, List, [], ◌∷◌, ◌++◌, length, Option, Some, None}
-use Rattle.std.proofs.Common.{refl, sym, ap, subst, ◌∙◌}
-use Rattle.std.proofs.Common.{append_assoc, arith, ◌+◌, Bool}
+use Rattle.std.proofs.Common.{refl, sym, ap, subst, ◌∙◌, append_assoc, arith, ◌+◌, Bool}
 use Rattle.std.specs.Prelude.{◌||◌, ◌&&◌, if◌then◌else◌, not}
 use Rattle.std.specs.Option.{option_to_list}
 use Rattle.getopts.specs.Names.{Names, Text}
 use Rattle.getopts.specs.declared.groups.HasArg.{HasArg}
 use Rattle.getopts.specs.Wrap.{lines_of}
 use Rattle.getopts_shell.specs.Table.{AreNames, Entry, IsItem, HasParts, IsArgument, is_operand}
-use Rattle.getopts_shell.specs.Table.{is_passed, is_skipped, item_of}
+use Rattle.getopts_shell.specs.Table.{is_passed, is_skipped, item_of, Declares, DeclareEntries}
+use Rattle.getopts_shell.specs.Table.{DeclaresOptions, OneTableOneList, DeclareOptions, name_again}
+use Rattle.getopts_shell.specs.Table.{TableFault, name_twice, IsLineFault, IsTableFault, Operand}
+use Rattle.getopts_shell.specs.Table.{late, line_number, late_operand, none, operand_at}
+use Rattle.getopts_shell.specs.Table.{operands_among, twice}
 use Rattle.getopts_shell.specs.declared.row.Often.{Often}
-use Rattle.getopts_shell.specs.Table.{Declares, DeclareEntries, DeclaresOptions}
-use Rattle.getopts_shell.specs.Table.{OneTableOneList, DeclareOptions, name_again, TableFault}
-use Rattle.getopts_shell.specs.Table.{name_twice}
-use Rattle.getopts_shell.specs.Table.{IsLineFault, IsTableFault, Operand, late, line_number}
-use Rattle.getopts_shell.specs.Table.{late_operand, none, operand_at, operands_among}
-use Rattle.getopts_shell.specs.Table.{twice}
 use Rattle.getopts_shell.proofs.Lines.{Places, here, later, earlier, operands_around, places}
 use Rattle.getopts_shell.proofs.Items.{one_bracketed, one_pair, one_names, one_argument}
 
--- an item has one meaning
+-- an item has only one meaning
 one_item : (text : Text) (own others : Names) (kind other : HasArg) (often another : Often)
     (hint behind : Text) → IsItem text own kind often hint → IsItem text others other another behind
     → (others ≡ own) × (other ≡ kind) × (another ≡ often) × (behind ≡ hint)
@@ -33,7 +30,7 @@ one_item text own others kind other often another hint behind is also =
     (subst (λ (a : Option Text). IsArgument other behind a) pair.1 also.argument_is) in
     (names, argument.0, same.1, argument.1)
 
--- an entry of these parts
+-- an entry with these parts
 abbrev made : ℕ → Names → HasArg → Often → Text → Text → Entry
 made line names kind often hint description = record {
   line = line;
@@ -44,7 +41,7 @@ made line names kind often hint description = record {
   description = description;
 }
 
--- a line declares one thing
+-- a line declares only one thing
 one_declared : (number : ℕ) (line : Text) (declared other : Option Entry)
     → Declares number line declared → Declares number line other → other ≡ declared
 one_declared number line None None is also = refl
@@ -73,7 +70,7 @@ one_declared number line (Some entry) (Some other) is also =
         hint
         ∙ ap (made entry.line entry.names entry.kind entry.often entry.hint) description
 
--- lines declare one list of entries
+-- lines declare only one list of entries
 one_entries : (before : ℕ) (lines : List Text) (entries others : List Entry)
     → DeclareEntries before lines entries → DeclareEntries before lines others → others ≡ entries
 one_entries before [] entries others is also = also ∙ sym is
@@ -82,7 +79,7 @@ one_entries before (line ∷ lines) entries others is also =
     let rest = one_entries (before + 1) lines is.1 also.1 is.3 also.3 in
     also.4 ∙ rw (first, rest) (sym is.4)
 
--- lines declare one list of options at most
+-- lines declare at most one list of options
 one_list : (lines : List Text) (entries others : List Entry) → DeclareOptions lines entries
     → DeclareOptions lines others → others ≡ entries
 one_list lines entries others is also =
@@ -92,14 +89,14 @@ one_list lines entries others is also =
 pub one_table : OneTableOneList
 one_table table = one_list (lines_of table)
 
--- ---- faults
+-- ---- errors
 
--- what a line among lines declares, where it is known what the lines before it declare
+-- what a line among lines declares, if it is known what the lines before it declare
 data DeclaresAt (number : ℕ) (line : Text) (entries all : List Entry) : Type 0 where
   stands : (declared : Option Entry) (others : List Entry) → Declares number line declared
       → all ≡ entries ++ (option_to_list declared ++ others) → DeclaresAt number line entries all
 
--- a line declares something, where lines around it do
+-- a line declares something if the lines around it do
 declares_at : (count number : ℕ) (before after : List Text) (line : Text)
     (entries all : List Entry) → number ≡ line_number (count + length before)
     → DeclareEntries count before entries → DeclareEntries count (before ++ line ∷ after) all
@@ -117,7 +114,7 @@ declares_at count number (first ∷ before) after line entries all number_is is 
         stands declared others declares
         (also.4 ∙ rw (same, all_is, is.4) (sym (append_assoc (option_to_list is.0) is.1 _)))
 
--- a line among lines that declare options has no fault
+-- a line among lines that declare options has no error
 no_fault_at : (before after : List Text) (line : Text) (entries all : List Entry)
     (fault : TableFault)
     → DeclareOptions before entries → DeclareOptions (before ++ line ∷ after) all
@@ -144,7 +141,7 @@ no_fault_at before after line entries all fault so_far whole =
         ∙ ap (λ (declared : Option Operand). operands_among before
         ++ (option_to_list declared ++ operands_among after)) is) in cc
 
--- a table that declares options has no fault
+-- a table that declares options has no error
 pub no_fault : (table : Text) (entries : List Entry) (fault : TableFault)
     → DeclaresOptions table entries
     → ¬ (IsTableFault table fault)
@@ -152,7 +149,7 @@ no_fault table entries fault declares is =
     no_fault_at is.before is.after is.line is.entries entries fault is.declared
     (rw is.lines_are at declares) is.fault_at
 
--- a line of an operand declares no option
+-- the line of an operand declares no option
 operand_passed : (line : Text) (operand : Operand)
     → operand_at line ≡ Some operand → is_passed line ≡ true
 operand_passed line operand is = by_tests _ (is_skipped line) (is_operand (item_of line)) is
@@ -164,7 +161,7 @@ operand_passed line operand is = by_tests _ (is_skipped line) (is_operand (item_
     by_tests there false true is = refl
     by_tests there false false is = absurd cc
 
--- a line has one fault at most
+-- a line has at most one error
 one_line_fault : (number : ℕ) (entries : List Entry) (operands : List Operand) (line : Text)
     (fault other : TableFault) → IsLineFault number entries operands line fault
     → IsLineFault number entries operands line other → other ≡ fault
@@ -197,7 +194,7 @@ one_line_fault number entries operands line fault other (twice entry name of aga
     (late operand at not_so) =
     let both : true ≡ false = sym (operand_passed line operand at) ∙ of.there in cc
 
--- a table has one fault at most
+-- a table has at most one error
 pub one_fault : (table : Text) (fault other : TableFault) → IsTableFault table fault
     → IsTableFault table other
     → other ≡ fault

@@ -1,17 +1,15 @@
 -- Operands, one after the other.
 use Rattle.std.proofs.Common.{◌≡◌, ℕ, ◌<◌, ◌≤◌, ◌+◌, Bool, true, false, List, [], ◌∷◌, ◌++◌, length}
-use Rattle.std.proofs.Common.{drop, get_or, map, take, Some, None, refl, sym, ap, ◌∙◌}
-use Rattle.std.proofs.Common.{arith}
+use Rattle.std.proofs.Common.{drop, get_or, map, take, Some, None, refl, sym, ap, ◌∙◌, arith, ◌-◌}
+use Rattle.std.proofs.Common.{append-nil, append_assoc, suc, zero}
 use Rattle.std.proofs.Math.ListN.{drop_of_length-le}
-use Rattle.std.proofs.Common.{◌-◌, append-nil, append_assoc, suc, zero}
 use Rattle.std.specs.Prelude.{◌||◌, codes, if◌then◌else◌, nat_lt}
 use Rattle.std.specs.List.{AllZip, flat_map}
 use Rattle.getopts.specs.Only.{IsTheOnly}
 use Rattle.getopts.specs.Usage.{next_row, spaces}
 use Rattle.getopts.proofs.Wrapping.Usage.{made_of_the_only}
-use Rattle.std.proofs.lemmas.List.{at_drop_more, length-map, length-take-le}
+use Rattle.std.proofs.lemmas.List.{at_drop_more, length-map, length-take-le, map-append, take_more}
 use Rattle.std.proofs.lemmas.List.Concat.{flat_map-append}
-use Rattle.std.proofs.lemmas.List.{map-append, take_more}
 use Rattle.getopts.proofs.Wrapping.Texts.{joined-push}
 use Rattle.getopts.specs.Wrap.{IsDescriptionRows, continued, joined, parting}
 use Rattle.getopts.specs.Names.{Text}
@@ -21,13 +19,13 @@ use Rattle.getopts_shell.specs.Program.{help_front, unexpected}
 use Rattle.getopts_shell.specs.Table.{Operand, may_repeat}
 use Rattle.getopts_shell.specs.declared.operand.Operand.{Operand as OperandHeld}
 
--- where a table has operands, the fault of free words is theirs
+-- if a table has operands, the error of free words is theirs
 pub fault_of_some : (operands : List OperandHeld) (free : List Text) → 0 < length operands
     → free_fault (operands_of operands) free ≡ operand_fault (operands_of operands) free
 fault_of_some [] free some = absurd (omega arith)
 fault_of_some (operand ∷ operands) free some = refl
 
--- where no word is left for an operand, it decides
+-- if no word is left for an operand, it decides
 pub fault_at_end : (operands : List OperandHeld) (free : List Text) (at : ℕ) (d : OperandHeld)
     → at < length operands → length free ≤ at
     → operand_fault (operands_of (drop at operands)) (drop at free)
@@ -38,7 +36,7 @@ fault_at_end operands free at d below past =
     ∙ ap (operand_fault (operands_of (get_or operands at d ∷ drop (at + 1) operands)))
     (drop_of_length-le free past)
 
--- a word is that of an operand, or all from there on are
+-- a word is the operand's, or all from there on are
 pub fault_from : (operands : List OperandHeld) (free : List Text) (at : ℕ) (d : OperandHeld)
     (again : Bool)
     → at < length operands → at < length free → may_repeat (operand_of (get_or operands at d))
@@ -54,7 +52,7 @@ fault_from operands free at d again below more again_is =
     ∙ ap (λ (b : Bool). if b then None else operand_fault (operands_of (drop (at + 1) operands))
     (drop (at + 1) free)) again_is
 
--- where each operand has its word, the next word is one too many
+-- if each operand has its word, the next word is one too many
 pub fault_past : (operands : List OperandHeld) (free : List Text) (at : ℕ)
     → length operands ≤ at → at < length free
     → operand_fault (operands_of (drop at operands)) (drop at free)
@@ -64,7 +62,7 @@ fault_past operands free at past more =
     (drop_of_length-le operands past)
     ∙ ap (operand_fault []) (at_drop_more (λ (t : List Text). t) free at [] more)
 
--- and where there is none, no word is
+-- and if there is no next word, none is
 pub fault_none : (operands : List OperandHeld) (free : List Text) (at : ℕ)
     → length operands ≤ at → length free ≤ at
     → operand_fault (operands_of (drop at operands)) (drop at free) ≡ None
@@ -88,14 +86,14 @@ continued_push false separator texts text = joined-push separator texts text
 abbrev pub items_of : List OperandHeld → List Text
 items_of operands = map (λ (operand : Operand). operand.item) (operands_of operands)
 
--- what stands past the last operand, as the code reads it
+-- what follows the last operand, as the code reads it
 abbrev pub no_operand : OperandHeld
 no_operand = record {
   item = record { ref_ptr = (0, 0); now = [] };
   description = record { ref_ptr = (0, 0); now = [] };
 }
 
--- one operand more
+-- one more operand
 pub items_push : (begun parted : Bool) (operands : List OperandHeld) (at : ℕ) (d : OperandHeld)
     (old text : Text) → at < length operands → parted ≡ (begun || nat_lt 0 at)
     → text ≡ old ++ continued begun (codes " ") (items_of (take at operands))
@@ -135,7 +133,7 @@ padding_short columns short =
     ap (λ (skipped : ℕ). drop skipped next_row) past_line_end
     ∙ drop_spaces (4 + columns) (20 - columns) 24 (omega arith)
 
--- a row that is made of the only description rows is the only row
+-- a row made of the only description rows is the only row
 pub row_made : (operand : Operand) (description : List Text) (row : Text)
     → IsTheOnly (IsDescriptionRows 54 operand.description) description
     → row ≡ operand_head operand.item ++ joined next_row description
@@ -150,7 +148,7 @@ abbrev pub AreOnlyRows : List Operand → List Text → Type 0
 AreOnlyRows operands rows =
     AllZip (λ (operand : Operand) (row : Text). IsTheOnly (IsOperandRow operand) row) operands rows
 
--- one row more
+-- one more row
 pub rows_push : (operands : List Operand) (rows : List Text) (operand : Operand) (row : Text)
     → AreOnlyRows operands rows → IsTheOnly (IsOperandRow operand) row
     → AreOnlyRows (operands ++ operand ∷ []) (rows ++ row ∷ [])
@@ -160,7 +158,7 @@ rows_push (other ∷ operands) [] operand row all is = absurd all
 rows_push (other ∷ operands) (first ∷ rows) operand row all is =
     (all.0, rows_push operands rows operand row all.1 is)
 
--- what a help says before its options, where there are no rows, and where there are some
+-- what precedes the options in a help, without rows and with some
 pub front_without : (brief : Text) (rows : List Text) → length rows ≡ 0
     → help_front brief rows ≡ brief
 front_without brief [] none = refl

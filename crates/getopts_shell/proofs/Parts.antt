@@ -20,7 +20,7 @@ module _ (one : ℕ) (other : Text) (write : Text → Text) (write_byte : ℕ �
     (more : (byte : ℕ) (part : Text) → eqb byte one ≡ false → write (byte ∷ part) ≡ write_byte byte
     ++ write part)
     (at : write_byte one ≡ other) where
-  -- a byte before the first part is written before all
+  -- a byte before the first part is written first
   onto_part : (byte : ℕ) (parts : List Text) → 0 < length parts → eqb byte one ≡ false
       → joined other (map write (onto_first byte parts)) ≡ write_byte byte
       ++ joined other (map write parts)
@@ -90,7 +90,7 @@ one_more separator texts begun more old text so_far = record {
 itself : (one : ℕ) → eqb one one ≡ true
 itself one = grind (arith, nat_tests)
 
--- with the last part done, the word stands there with the other text in each place
+-- after the last part, the word was appended with the other text in each place
 pub all_replaced : (one : ℕ) (other word : Text) (parts : List Text) (begun : Bool)
     (old text : Text)
     → JoinedSoFar other parts begun old text → parts ≡ slice_split (λ b. eqb b one) word
@@ -104,7 +104,7 @@ all_replaced one other word parts begun old text so_far all =
     (λ byte part apart. simp apart refl)
     (simp (itself one) refl) word)
 
--- and with both a quote and a backslash in their places, it stands in quotes
+-- and if both quotes and backslashes are replaced, it is in quotes
 pub all_stub_quoted : (word : Text) (parts : List Text) (begun : Bool) (old text : Text)
     → JoinedSoFar (39 ∷ 92 ∷ 92 ∷ 39 ∷ []) (map (flat_map quoted_byte) parts) begun (old ++ 39 ∷ [])
     text

@@ -1,6 +1,5 @@
--- No name of a table holds `=`.
-use Rattle.std.proofs.Common.{◌≡◌, ℕ, Bool, true, false, cond, eqb, List, [], ◌∷◌}
-use Rattle.std.proofs.Common.{refl, arith}
+-- No name in a table contains `=`.
+use Rattle.std.proofs.Common.{◌≡◌, ℕ, Bool, true, false, cond, eqb, List, [], ◌∷◌, refl, arith}
 use Rattle.std.specs.Prelude.{◌&&◌, not}
 use Rattle.std.specs.List.{AllByRecursion, list_all}
 use Rattle.getopts.specs.Names.{Text, Names, is_empty, main_name}
@@ -20,7 +19,7 @@ plain_byte byte is = grind (arith, nat_tests)
 plain_long_byte : (byte : ℕ) → is_long_byte byte ≡ true → eqb byte 61 ≡ false
 plain_long_byte byte is = grind (arith, nat_tests)
 
--- nor one of a text of such bytes
+-- nor is a byte of a text of such bytes
 plain_bytes : (may_be : ℕ → Bool) → ((byte : ℕ) → may_be byte ≡ true → eqb byte 61 ≡ false)
     → (text : Text) → list_all may_be text ≡ true → holds_equals text ≡ false
 plain_bytes may_be each_plain [] is = refl
@@ -29,7 +28,7 @@ plain_bytes may_be each_plain (byte ∷ text) is =
     or_from (eqb byte 61) (holds_equals text) (each_plain byte each.0)
     (plain_bytes may_be each_plain text each.1)
 
--- a main name that may stand in a table holds no `=`
+-- a main name that is allowed in a table contains no `=`
 pub plain_main : (names : Names) → is_name names.short ≡ true → is_long_name names.long ≡ true
     → holds_equals (main_name names) ≡ false
 plain_main names short long = by_test (is_empty names.long)
@@ -42,12 +41,12 @@ plain_main names short long = by_test (is_empty names.long)
         (and_parts (not (begins_with_dash names.long))
         (list_all is_long_byte names.long && ends_as_name names.long) long).1).0
 
--- no main name holds `=`
+-- no main name contains `=`
 abbrev pub ArePlainlyNamed : List Group → Type 0
 ArePlainlyNamed groups =
     AllByRecursion (λ group. holds_equals (main_name group.signature.names) ≡ false) groups
 
--- no main name of a row holds `=`
+-- no main name of a row contains `=`
 pub plain_rows : (rows : List Row) → ArePlainlyNamed (groups_of rows)
 plain_rows [] = tt
 plain_rows (row ∷ rows) = (

@@ -1,4 +1,4 @@
--- A shell makes the words of the quoted words' bytes.
+-- A shell turns the bytes of quoted words into the bytes of the words.
 use Rattle.std.proofs.Common.{◌≡◌, ℕ, zero, suc, ◌<◌, ◌≤◌, Bool, true, false, eqb, ltb, List, []}
 use Rattle.std.proofs.Common.{◌∷◌, ◌++◌, Some, length, map, refl, sym, ap, ◌∙◌, append-nil, arith}
 use Rattle.std.proofs.Math.Utf8.{encode, encodes, scalar, scalars}
@@ -33,7 +33,7 @@ append_gives {text} {more} {bytes} {others} is also = record {
       ∙ ap (λ (l : List ℕ). bytes ++ l) also.bytes_are;
 }
 
--- a text whose bytes pass the test for ASCII is of ASCII
+-- a text whose bytes pass the test for ASCII is ASCII
 are_ascii : (text : List ℕ) → list_all is_ascii text ≡ true → IsAscii text
 are_ascii [] are i = omega arith
 are_ascii (byte ∷ text) are zero =
@@ -42,7 +42,7 @@ are_ascii (byte ∷ text) are zero =
 are_ascii (byte ∷ text) are (suc i) =
     are_ascii text (and_parts (is_ascii byte) (list_all is_ascii text) are).1 i
 
--- a text of ASCII has itself for its bytes
+-- the bytes of an ASCII text are the text
 pub ascii_gives : (text : List ℕ) → list_all is_ascii text ≡ true → Gives text text
 ascii_gives text are =
     let ascii = are_ascii text are in
@@ -63,9 +63,9 @@ char_gives c is = record {
       ∙ append-nil (written c);
 }
 
--- ---- bytes past ASCII stand in quotes as they are
+-- ---- non-ASCII bytes are the same in quotes
 
--- bytes past ASCII need no quoting
+-- non-ASCII bytes need no quoting
 past_stays : (bytes : List ℕ) → list_any is_ascii bytes ≡ false → flat_map quoted_byte bytes ≡ bytes
 past_stays [] past = refl
 past_stays (byte ∷ bytes) past =
@@ -74,7 +74,7 @@ past_stays (byte ∷ bytes) past =
     let other : eqb byte 39 ≡ false = grind (arith, nat_tests) in
     simp other (ap (λ (l : List ℕ). byte ∷ l) (past_stays bytes each.1))
 
--- the bytes of a character past ASCII are past ASCII
+-- the bytes of a non-ASCII character are non-ASCII
 encode_past : (c : ℕ) → 128 ≤ c → list_any is_ascii (encode c) ≡ false
 unfolding encode
 encode_past c large = by (ltb c 128) (ltb c 2048) (ltb c 65536) refl refl refl
@@ -86,7 +86,7 @@ encode_past c large = by (ltb c 128) (ltb c 2048) (ltb c 65536) refl refl refl
     by false false true is also too = simp (is, also, too) (grind (arith, nat_tests))
     by false false false is also too = simp (is, also, too) (grind (arith, nat_tests))
 
--- so are those that it is written by
+-- so are those by which it is written
 written_past : (c : ℕ) → 128 ≤ c → list_any is_ascii (written c) ≡ false
 written_past c large = by (is_mark c) refl
   where
@@ -149,7 +149,7 @@ quoted_gives {word} {bytes} is =
     rw (encodes-chars word is.utf8) at (quoted_chars (chars word) (scalars-chars word is.utf8)) in
     rw (← is.bytes_are) (append_gives quote (append_gives middle quote))
 
--- words in quotes after a space each
+-- words in quotes, each after a space
 spaced_gives : (words : List Text) → AreTexts words
     → Gives (flat_map spaced words) (flat_map spaced (map bytes_of words))
 spaced_gives [] are = ascii_gives [] refl
@@ -164,7 +164,7 @@ words_give [] are = ascii_gives [] refl
 words_give (word ∷ words) are =
     append_gives (quoted_gives (text_gives word are.0)) (spaced_gives words are.1)
 
--- a shell makes of the bytes of quoted words the bytes of the words
+-- a shell turns the bytes of quoted words into the bytes of the words
 pub bytes_same : (words : List Text) → AreTexts words
     → shell_words (bytes_of (quoted_words words)) ≡ Some (map bytes_of words)
 bytes_same words are =
@@ -182,7 +182,7 @@ texts_back (word ∷ words) are =
           ∙ ap (λ (l : List (List ℕ)). word ∷ l) others.1,
     )
 
--- a shell makes of words in quotes, read as texts and written as bytes, the same words
+-- a shell turns words in quotes, read as texts and written as bytes, into the same words
 pub words_given : (words : List (List ℕ)) → AllByRecursion AreBytes words
     → shell_words (bytes_of (quoted_words (map text_of words))) ≡ Some words
 words_given words are =

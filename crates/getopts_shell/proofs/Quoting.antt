@@ -1,4 +1,4 @@
--- A shell makes of words in quotes the same words.
+-- A shell turns words in quotes into the same words.
 use Rattle.std.proofs.Common.{◌≡◌, ℕ, Bool, true, false, eqb, List, [], ◌∷◌, ◌++◌, Some, None, refl}
 use Rattle.std.proofs.Common.{sym, ap, subst, ◌∙◌, append_assoc, append-nil}
 use Rattle.std.specs.List.{flat_map, fold}
@@ -46,7 +46,7 @@ read_quoted words word more =
     rw (append_assoc (flat_map quoted_byte word) (39 ∷ []) more)
     (read_quoted_bytes words [] word (39 ∷ more))
 
--- words in quotes, after a space each, are read as these words
+-- words in quotes, each after a space, are read as these words
 read_spaced : (words : List Text) (word : Text) (others : List Text)
     → words_read (fold read_byte (outside words (Some word)) (flat_map spaced others))
     ≡ Some (words ++ word ∷ others)
@@ -58,7 +58,7 @@ read_spaced words word (other ∷ others) =
     )
     (ap Some (append_assoc words (word ∷ []) (other ∷ others)))
 
--- a shell makes of words in quotes the same words
+-- a shell turns words in quotes into the same words
 pub words_same : (words : List Text) → shell_words (quoted_words words) ≡ Some words
 words_same [] = refl
 words_same (word ∷ words) =
@@ -71,6 +71,6 @@ words_only words others alike =
     let same : Some words ≡ Some others =
     sym (words_same words) ∙ ap shell_words alike ∙ words_same others in cc
 
--- of one word in quotes a shell makes that word
+-- a shell turns one word in quotes into that word
 pub word_same : (word : Text) → shell_words (quoted word) ≡ Some (word ∷ [])
 word_same word = ap words_read (read_quoted_bytes [] [] word (39 ∷ []))

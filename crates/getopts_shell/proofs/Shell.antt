@@ -1,4 +1,4 @@
--- A shell that runs the text for options holds what they do.
+-- A shell that runs the code for options holds their values.
 use Rattle.std.proofs.Common.{◌≡◌, Bool, true, false, cond, List, [], ◌∷◌, ◌++◌, Option, Some, None}
 use Rattle.std.proofs.Common.{refl, sym, ap, subst, append_assoc, map}
 use mathlib.Core.Path.{fun_ext}
@@ -8,15 +8,15 @@ use Rattle.std.specs.Str.{bytes_eq}
 use Rattle.std.proofs.lemmas.Slice.Eq.{bytes_eq-Decides}
 use Rattle.getopts.specs.Names.{Text}
 use Rattle.getopts_shell.specs.Quote.{quoted, quoted_words, shell_words}
-use Rattle.getopts_shell.specs.Variables.{array_front, array_words, assigns, Given}
-use Rattle.getopts_shell.specs.Variables.{is_variable, command_line, last_command}
-use Rattle.getopts_shell.specs.Variables.{line_code, many, no_command, one, option_code, own_value}
-use Rattle.getopts_shell.specs.Variables.{Runs, RunsCommand, RunsText, sets, Shell, texts_found}
-use Rattle.getopts_shell.specs.Variables.{unsets, value_line, variable_of, Value, variables_code}
-use Rattle.getopts_shell.specs.Variables.{with_options, with_variable, one_word}
+use Rattle.getopts_shell.specs.Variables.{array_front, array_words, assigns, Given, is_variable}
+use Rattle.getopts_shell.specs.Variables.{command_line, last_command, line_code, many, no_command}
+use Rattle.getopts_shell.specs.Variables.{one, option_code, own_value, Runs, RunsCommand, RunsText}
+use Rattle.getopts_shell.specs.Variables.{sets, Shell, texts_found, unsets, value_line, variable_of}
+use Rattle.getopts_shell.specs.Variables.{Value, variables_code, with_options, with_variable}
+use Rattle.getopts_shell.specs.Variables.{one_word}
 use Rattle.getopts_shell.proofs.Quoting.{word_same, words_same}
 
--- what stands before the words of `set`, and before the name of `unset`
+-- what precedes the words of `set`, and the name of `unset`
 abbrev set_front : Text
 set_front = codes "\\set -- "
 
@@ -32,11 +32,11 @@ line_then before next after command more text does runs is =
 
 -- ---- the commands for one option
 
--- a variable that was taken away has no value
+-- a variable that was unset has no value
 unset_value : (shell : Shell) (name : Text) → (with_variable shell name None).value name ≡ None
 unset_value shell name = rw ((bytes_eq-Decides name name).1 refl) refl
 
--- a variable that is taken away first holds its value all the same
+-- a variable that is unset first holds its new value all the same
 set_again : (shell : Shell) (name : Text) (value : Option Value)
     → with_variable (with_variable shell name None) name value ≡ with_variable shell name value
 set_again shell name value =
@@ -101,7 +101,7 @@ after_codes prefix arrays shell (option ∷ options) free more make last =
     (after_option prefix arrays shell _ option (flat_map code options ++ more) make.0
     (after_codes prefix arrays next options free more make.1 last))
 
--- a shell that runs the text holds what the options do; also where its last line end has gone
+-- a shell that runs the code holds the options' values, also if the last line end is missing
 pub code_runs : (prefix : Text) (arrays : Bool) (options : List Given) (free : List Text)
     → AllByRecursion (λ entry. is_variable (variable_of prefix entry) ≡ true)
     (map (λ (option : Given). option.entry) options) → (before : Shell)

@@ -23,10 +23,10 @@ use Rattle.getopts_shell.specs.Program.{IsOneWord}
 use Rattle.getopts_shell.specs.Table.{Entry}
 use Rattle.getopts_shell.specs.Variables.{AreTextValues, CodeSetsVariables, found_in_bytes, Given}
 use Rattle.getopts_shell.specs.Variables.{count_text, given_alone, HaveOwnVariables, held_value}
-use Rattle.getopts_shell.specs.Completion.{holds_all}
 use Rattle.getopts_shell.specs.Variables.{HoldTexts, in_bytes, is_variable, is_variable_byte}
 use Rattle.getopts_shell.specs.Variables.{line_code, many, once, one, option_code, SetsVariables}
 use Rattle.getopts_shell.specs.Variables.{SetsWords, texts_found, Value, value_line, variable_of}
+use Rattle.getopts_shell.specs.Completion.{holds_all}
 use Rattle.getopts_shell.proofs.Assignments.{each_makes}
 use Rattle.getopts_shell.proofs.Quoting.{word_same}
 use Rattle.getopts_shell.proofs.QuotedBytes.{append_gives, ascii_gives, Gives, quoted_gives}
@@ -35,7 +35,7 @@ use Rattle.getopts_shell.proofs.Shell.{code_runs, line_runs, once_more}
 
 -- ---- ASCII
 
--- the bytes that the name of a variable may hold are ASCII
+-- the bytes that a variable's name may contain are ASCII
 variable_bytes_ascii : (name : Text) → list_all is_variable_byte name ≡ true
     → list_all is_ascii name ≡ true
 variable_bytes_ascii [] is = refl
@@ -45,7 +45,7 @@ variable_bytes_ascii (byte ∷ name) is =
     and_from (is_ascii byte) (list_all is_ascii name) (grind (arith, nat_tests))
     (variable_bytes_ascii name each.1)
 
--- the name of a variable has itself for its bytes
+-- the bytes of a variable's name are the name
 variable_gives : (name : Text) → is_variable name ≡ true → Gives name name
 variable_gives [] is = ascii_gives [] refl
 variable_gives (byte ∷ name) is = ascii_gives (byte ∷ name) (variable_bytes_ascii (byte ∷ name)
@@ -65,12 +65,12 @@ digits_ascii (suc k) n onto are =
     (λ (text : Text). list_all is_ascii text ≡ true)
     (λ _. more) (λ _. digits_ascii k (n / 10) (last ∷ onto) more)
 
--- so has a number
+-- the bytes of a number's digits are the digits
 decimal_gives : (n : ℕ) → Gives (decimal n) (decimal n)
 unfolding digits
 decimal_gives n = ascii_gives (decimal n) (digits_ascii 64 n [] refl)
 
--- so has a count
+-- so are those of a count
 count_gives : (count : ℕ) → Gives (count_text count) (count_text count)
 count_gives count = by_test (eqb count 0)
   where
@@ -94,21 +94,21 @@ texts_in_bytes (found ∷ founds) = by_value found.value (texts_in_bytes founds)
     by_value None others = rw ((ascii_gives [] refl).bytes_are, others) refl
     by_value (Some text) others = rw others refl
 
--- so is the last of them
+-- so is the last value
 last_in_bytes : (texts : List Text) (before : Option Text)
     → last_or (option_map bytes_of before) (map bytes_of texts)
     ≡ option_map bytes_of (last_or before texts)
 last_in_bytes [] before = refl
 last_in_bytes (text ∷ texts) before = last_in_bytes texts (Some text)
 
--- the line that gives a variable one word, or many
+-- the line that gives a variable one word
 one_gives : (name text bytes : Text) → Gives name name → Gives text bytes
     → Gives (value_line name (Some (one text))) (value_line name (Some (one bytes)))
 one_gives name text bytes named is =
     append_gives named (append_gives (ascii_gives (codes "=") refl)
     (append_gives (quoted_gives is) (ascii_gives (codes "\n") refl)))
 
--- and many
+-- the line that gives a variable many words
 many_give : (name : Text) (texts : List Text) → Gives name name → AreTexts texts
     → Gives (value_line name (Some (many texts)))
     (value_line name (Some (many (map bytes_of texts))))
@@ -174,7 +174,7 @@ codes_give prefix arrays (option ∷ options) make hold =
     named hold.0))))
     (codes_give prefix arrays options make.1 hold.1)
 
--- the entries stay where values are taken in bytes
+-- the entries are the same if values are taken in bytes
 entries_kept : (options : List Given)
     → map (λ (option : Given). option.entry) (map in_bytes options)
     ≡ map (λ (option : Given). option.entry) options
@@ -184,7 +184,7 @@ entries_kept (option ∷ options) =
 
 -- ---- what a shell makes of it
 
--- a shell that runs the command holds the words, and of its bytes their bytes
+-- a shell that runs the command holds the words, and one that runs its bytes holds their bytes
 pub sets_words : (words : List Text) → AreTexts words → SetsWords words
 sets_words words are = record {
   shell = line_runs words;
@@ -192,7 +192,7 @@ sets_words words are = record {
       rw (line_code_gives words are).bytes_are (line_runs (map bytes_of words) before);
 }
 
--- the text for options sets variables
+-- the code for options sets variables
 pub code_sets : CodeSetsVariables
 code_sets prefix arrays options free own =
     let make = each_makes prefix [] (map (λ (option : Given). option.entry) options) own in record {
@@ -209,7 +209,7 @@ code_sets prefix arrays options free own =
 
 -- ---- one option alone
 
--- what a variable holds where its option came once without a value, or not at all, is UTF-8
+-- what a variable holds is UTF-8 if its option was given once without a value, or not at all
 argument_texts : (all given : Bool) → AreTextValues Yes all (cond given once [])
 argument_texts true true = ((ascii_gives [] refl).utf8, tt)
 argument_texts true false = tt
@@ -221,7 +221,7 @@ bare_texts No all given = tt
 bare_texts Yes all given = argument_texts all given
 bare_texts Maybe all given = argument_texts all given
 
--- what the variables hold where one option came alone is UTF-8
+-- what the variables hold is UTF-8 if only one option was given
 pub alone_holds_texts : (entries : List Entry) (alone : Entry)
     → HoldTexts (given_alone entries alone)
 alone_holds_texts [] alone = tt
@@ -230,14 +230,14 @@ alone_holds_texts (entry ∷ entries) alone = (
   alone_holds_texts entries alone,
 )
 
--- its entries are those of the table
+-- the entries of these options are the table's
 alone_entries : (entries : List Entry) (alone : Entry)
     → map (λ (option : Given). option.entry) (given_alone entries alone) ≡ entries
 alone_entries [] alone = refl
 alone_entries (entry ∷ entries) alone =
     ap (λ (others : List Entry). entry ∷ others) (alone_entries entries alone)
 
--- so the text for it sets variables where the table's options make them
+-- so the code for it sets variables if the table's options make them
 pub alone_sets : (prefix : Text) (arrays : Bool) (entries : List Entry) (alone : Entry)
     → HaveOwnVariables prefix entries → SetsVariables prefix arrays (given_alone entries alone) []
 alone_sets prefix arrays entries alone own =

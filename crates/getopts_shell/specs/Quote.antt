@@ -7,10 +7,9 @@ use Rattle.getopts.specs.Names.{Text}
 
 -- ---- what a shell makes of a text
 
--- These are the complete words, and where it is. Outside quotes it is in an incomplete word or
--- between words; in quotes, and after a backslash, it is in a word. Nothing is said about other
--- texts.
--- what a shell has read of a text
+-- Outside quotes it is in an incomplete word or between words; in quotes, and after a backslash, it
+-- is in a word.
+-- what a shell has read of a text: the complete words, and where it is, unless nothing is said
 pub data Progress : Type 0 where
   outside : List Text → Option Text → Progress
   quoting : List Text → Text → Progress
@@ -50,8 +49,7 @@ shell_words text = words_read (fold read_byte (outside [] None) text)
 abbrev pub replaced : ℕ → Text → ℕ → Text
 replaced one other byte = if byte == one then other else byte ∷ []
 
--- For `'` the quotes end, it follows a backslash, and new quotes begin.
--- a byte of a word in quotes
+-- a byte of a word in quotes: `'` is outside quotes, after a backslash
 abbrev pub quoted_byte : ℕ → Text
 quoted_byte = replaced 39 (codes "'\\''")
 

@@ -1,14 +1,11 @@
 -- The table of options: what each of its lines declares, and which options it declares.
 use Rattle.std.specs.Prelude.{◌≡◌, ◌≢◌, ◌==◌, ◌||◌, ◌&&◌, not, ℕ, ◌+◌, nat_lt, min, ◌-◌, ◌^◌, Bool}
-use Rattle.std.specs.Prelude.{true, false}
-use Rattle.std.specs.Prelude.{List, [], ◌∷◌, ◌++◌, Option, Some, None, codes, if◌then◌else◌}
-use Rattle.std.specs.Prelude.{slice_index, length, map}
-use Rattle.std.specs.Prelude.{drop, take, find}
+use Rattle.std.specs.Prelude.{true, false, List, [], ◌∷◌, ◌++◌, Option, Some, None, codes}
+use Rattle.std.specs.Prelude.{if◌then◌else◌, slice_index, length, map, drop, take, find}
 use Rattle.std.specs.Char.{is_ascii_alphanumeric, is_ascii_digit, is_ascii_uppercase}
 use Rattle.std.specs.Char.{is_ascii_whitespace}
-use Rattle.std.specs.List.{AllByRecursion, after_first, before_first, ends_with, flat_map}
-use Rattle.std.specs.List.{list_all, list_any}
-use Rattle.std.specs.List.{prefix_len, starts_with, suffix_len}
+use Rattle.std.specs.List.{AllByRecursion, after_first, before_first, ends_with, flat_map, list_all}
+use Rattle.std.specs.List.{list_any, prefix_len, starts_with, suffix_len}
 use Rattle.std.specs.Option.{option_map_or, option_to_list}
 use Rattle.std.specs.Str.{bytes_eq}
 use Rattle.getopts.specs.Names.{Text, Names, AreLawful, is_empty}
@@ -20,8 +17,8 @@ use Rattle.getopts.specs.declared.groups.HasArg.TheVariants.{Yes, No, Maybe}
 use Rattle.getopts.specs.declared.groups.Occur.{Occur}
 use Rattle.getopts.specs.declared.groups.Occur.TheVariants.{Req, Optional, Multi}
 use Rattle.getopts_shell.specs.declared.item.TheConstants.{APART, BAR, BRACKETS, BYTES, COLON}
-use Rattle.getopts_shell.specs.declared.item.TheConstants.{DASHES, END, EQUALS, GAP, LETTER}
-use Rattle.getopts_shell.specs.declared.item.TheConstants.{LONG, MARK, ONE, OPEN, OPERAND, ORDER, SHORT}
+use Rattle.getopts_shell.specs.declared.item.TheConstants.{DASHES, END, EQUALS, GAP, LETTER, LONG}
+use Rattle.getopts_shell.specs.declared.item.TheConstants.{MARK, ONE, OPEN, OPERAND, ORDER, SHORT}
 use Rattle.getopts_shell.specs.declared.item.TheConstants.{SPACE}
 use Rattle.getopts_shell.specs.declared.row.Often.{Often}
 use Rattle.getopts_shell.specs.declared.row.Often.TheVariants.{Once, Last, All, Alone}
@@ -56,8 +53,7 @@ is_name_byte byte = is_ascii_alphanumeric byte || byte == 63 || byte == 64 || by
 abbrev pub is_name : Text → Bool
 is_name text = not (begins_with_dash text) && list_all is_name_byte text
 
--- It is a letter, a digit, `-`, `_`, `.`, `+`, `:`, or above 127.
--- whether a byte may be in a long name
+-- whether a byte may be in a long name: a letter, a digit, `-`, `_`, `.`, `+`, `:`, or above 127
 abbrev pub is_long_byte : ℕ → Bool
 is_long_byte byte = is_ascii_alphanumeric byte || byte == 45 || byte == 95 || byte == 46
     || byte == 43 || byte == 58 || nat_lt 127 byte
@@ -67,8 +63,7 @@ abbrev pub ends_as_name : Text → Bool
 ends_as_name text =
     not (ends_with ◌==◌ text (codes ":")) && not (ends_with ◌==◌ text (codes "."))
 
--- It doesn't begin with `-`, its bytes are allowed, and it ends like a long name may.
--- whether a text may be a long name
+-- whether a text may be a long name: no dash first, only allowed bytes, and an allowed end
 abbrev pub is_long_name : Text → Bool
 is_long_name text = not (begins_with_dash text)
     && (list_all is_long_byte text && ends_as_name text)
@@ -81,8 +76,7 @@ is_hint_byte byte = not (byte == 32) && not (byte == 9) && not (byte == 91) && n
 abbrev pub begins_name : Text → Bool
 begins_name text = slice_index text 0 == 45 || slice_index text 0 == 124
 
--- It doesn't begin like names do, nor end in two dots, which follow brackets.
--- whether a text may be a hint
+-- whether a text may be a hint: it neither begins like names do nor ends in two dots
 abbrev pub is_hint : Text → Bool
 is_hint text = not (is_empty text) && (list_all is_hint_byte text
     && (not (begins_name text) && not (ends_with ◌==◌ text (codes ".."))))
@@ -105,8 +99,7 @@ pub record AreNames (names : Names) (text : Text) : Type 0 where
   pub may_be : MayBeNames names.short names.long
   pub written : text ≡ names_text names
 
--- The text is none for `No`, the hint for `Yes`, and the hint in brackets for `Maybe`.
--- This is the argument of this kind with this hint.
+-- This is the argument of this kind: none for `No`, the hint for `Yes`, in brackets for `Maybe`.
 abbrev pub IsArgument : HasArg → Text → Option Text → Type 0
 IsArgument No hint None = hint ≡ []
 IsArgument Yes hint (Some text) = (is_hint hint ≡ true) × (text ≡ hint)
@@ -119,16 +112,14 @@ abbrev pub HasParts : Text → Text → Option Text → Type 0
 HasParts text names argument = AllByRecursion (λ byte. byte ≢ 32) names
     × (text ≡ names ++ option_map_or (λ argument. codes " " ++ argument) argument [])
 
--- Nothing: the last value counts. Two or three dots: all values do. `!`: the option stands alone.
--- what the text after `]` means
+-- what the text after `]` means: none, the last value counts; dots, all do; `!`, it stands alone
 abbrev pub end_means : Text → Option Often
 end_means end =
     if is_empty end then Some Last
     else (if bytes_eq end (codes "!") then Some Alone
     else (if bytes_eq end (codes "..") || bytes_eq end (codes "...") then Some All else None))
 
--- There are no brackets if the option has to occur once; otherwise the inside is in `[` and `]`,
--- and the end follows.
+-- An option without brackets has to occur once. After `[` and `]`, the end says how often.
 -- The text has this inside, and brackets that mean this occurrence.
 pub data IsBracketed (text inside : Text) : Often → Type 0 where
   bare : text ≡ inside → slice_index text 0 ≢ 91 → IsBracketed text inside Once
@@ -141,8 +132,7 @@ fits Alone Yes = false
 fits Alone Maybe = false
 fits often kind = true
 
--- It is names, and perhaps an argument, in brackets that say how often the option may occur.
--- The text is an item with these parts.
+-- The text is an item: names, and perhaps an argument, in brackets that mean this occurrence.
 pub record IsItem (text : Text) (own : Names) (kind : HasArg) (often : Often) (hint : Text)
     : Type 0 where
   pub inside : Text
@@ -180,9 +170,8 @@ has_dots text = not (holds 46 text)
 abbrev pub operand_name : Text → Text
 operand_name item = before 93 (unopened (before 46 item))
 
--- It is a name that begins with a capital letter, in brackets if it is optional, with two or three
--- dots if it may be repeated.
--- whether an item is an operand
+-- whether an item is an operand: a name that begins with a capital letter, in brackets if it is
+-- optional, with two or three dots if it may be repeated
 abbrev pub is_operand : Text → Bool
 is_operand item = begins_capital (unopened item)
     && (list_all is_operand_byte (operand_name item)
@@ -200,9 +189,8 @@ is_needed operand = not (slice_index operand.item 0 == 91)
 abbrev pub may_repeat : Operand → Bool
 may_repeat operand = holds 46 operand.item
 
--- It has the number of its line, the names and kind of its option, how often that may occur, the
--- hint, and the description.
--- an entry of a table
+-- an entry of a table: the number of its line, the names and kind of its option, how often that may
+-- occur, the hint, and the description
 pub record Entry : Type 0 where
   pub line : ℕ
   pub names : Names
@@ -212,7 +200,7 @@ pub record Entry : Type 0 where
   pub description : Text
 
 -- In a help, an option whose last value counts may occur once.
--- how often words may give an option, or how often a help says
+-- how often words may give an option, or how often a help says they may
 abbrev pub occurrence_of : Bool → Often → Occur
 occurrence_of shown Once = Req
 occurrence_of shown All = Multi
@@ -277,8 +265,7 @@ is_skipped line = is_empty (trimmed line) || slice_index (trimmed line) 0 == 35
 abbrev pub is_passed : Text → Bool
 is_passed line = is_skipped line || is_operand (item_of line)
 
--- It has its option and, after a tab or two spaces, its description.
--- The line with this number declares this entry.
+-- The line with this number declares this entry: its option and, after a gap, its description.
 pub record DeclaresEntry (number : ℕ) (line : Text) (entry : Entry) : Type 0 where
   pub number_is : entry.line ≡ number
   pub there : is_passed line ≡ false
@@ -317,8 +304,7 @@ operands_among lines = flat_map (λ line. option_to_list (operand_at line)) line
 abbrev pub operands_in : Text → List Operand
 operands_in table = operands_among (lines_of table)
 
--- It can't be repeated, and it is required if this one is.
--- whether another operand may precede this one
+-- whether another operand may precede this one: it can't be repeated, and is required if this is
 abbrev pub comes_before : Operand → Operand → Bool
 comes_before operand other = not (may_repeat other) && (is_needed other || not (is_needed operand))
 
@@ -357,8 +343,7 @@ OneTableOneList = (table : Text) (entries others : List Entry) → DeclaresOptio
 
 -- ---- why a text is no option
 
--- This is everything before the first space or `]`, without a leading `[`.
--- the part of an item for its names
+-- the part of an item for its names: all before the first space or `]`, without a leading `[`
 abbrev pub names_in : Text → Text
 names_in item = before 32 (before 93 (unopened item))
 

@@ -44,9 +44,8 @@ abbrev pub is_variable : Text → Bool
 is_variable [] = false
 is_variable (byte ∷ more) = not (is_ascii_digit byte) && list_all is_variable_byte (byte ∷ more)
 
--- `${NAME+}` adds no word, but keeps the first of them from being the name of a command, as
--- `(typeset)` is.
--- what precedes the words of an array that is assigned to NAME
+-- what precedes the words of an array that is assigned to NAME: `${NAME+}` adds no word, but keeps
+-- the first of them from being the name of a command, as `(typeset)` is
 abbrev pub array_front : Text → Text
 array_front name = codes "(${" ++ (name ++ codes "+} ")
 
@@ -58,9 +57,8 @@ pub data Assigns (name : Text) : Text → Value → Type 0 where
   array_words : (code : Text) (words : List Text) → shell_words code ≡ Some words
       → Assigns name (array_front name ++ (code ++ codes ")")) (many words)
 
--- The command is read to its end, so a line end in it is in quotes, and none are open at its end.
--- Nothing is said about other commands, nor about `NAME=` if NAME is set: an array would keep its
--- other texts.
+-- It reads the whole command, so line ends in it are in quotes, and no quotes are open. Nothing is
+-- said about other commands, nor about `NAME=` if NAME is set: an array would keep its other texts.
 -- A shell that held `before` holds this after the command.
 pub data RunsCommand (before : Shell) : Text → Shell → Type 0 where
   sets : (code : Text) (words : List Text) → shell_words code ≡ Some words
@@ -71,8 +69,7 @@ pub data RunsCommand (before : Shell) : Text → Shell → Type 0 where
       → before.value name ≡ None → Assigns name code value
       → RunsCommand before (name ++ (codes "=" ++ code)) (with_variable before name (Some value))
 
--- A line end follows each command, but perhaps not the last.
--- A shell holds these before and after a text of commands.
+-- A shell holds these before and after commands. Each, except perhaps the last, ends in a line end.
 pub data RunsText : Shell → Text → Shell → Type 0 where
   no_command : (shell : Shell) → RunsText shell [] shell
   last_command : (before after : Shell) (command : Text) → RunsCommand before command after
@@ -107,9 +104,8 @@ abbrev pub any_has_variable : Text → List Entry → Entry → Bool
 any_has_variable prefix before entry =
     list_any (λ other. bytes_eq (variable_of prefix other) (variable_of prefix entry)) before
 
--- It is that arrays are asked for without variables, or about the prefix, or about a name in the
--- line with this number.
--- an error about variables
+-- an error about variables: arrays without variables; a prefix that can't begin a variable; or, in
+-- the line with this number, a name that makes no variable, or the variable of an earlier name
 pub data VariableFault : Type 0 where
   arrays_only : VariableFault
   no_prefix : Text → VariableFault
@@ -201,9 +197,8 @@ abbrev pub own_value : Bool → Given → Option Value
 own_value arrays option =
     held_value arrays option.entry.kind (holds_all option.entry.often) option.found
 
--- Each option's variable has its value or none, all other variables are unchanged, and the words
--- are the free words.
--- a shell that holds these options
+-- a shell that holds these options: the variable of each has its value or none, all others are
+-- unchanged, and the words are the free words
 abbrev pub with_options : Text → Bool → List Given → List Text → Shell → Shell
 with_options prefix arrays options free shell = record (fold
     (λ held option. with_variable held (variable_of prefix option.entry) (own_value arrays option))
@@ -251,8 +246,7 @@ abbrev pub HoldTexts : List Given → Type 0
 HoldTexts options = AllByRecursion
     (λ option. AreTextValues option.entry.kind (holds_all option.entry.often) option.found) options
 
--- A shell that runs its bytes holds the bytes of the words.
--- A shell that runs the command holds these words.
+-- A shell that runs the command holds these words, and one that runs its bytes holds their bytes.
 pub record SetsWords (words : List Text) : Type 0 where
   pub shell : (before : Shell) → Runs before (line_code words) (record before { words = words })
   pub bytes : (before : Shell)

@@ -11,9 +11,8 @@ ghost use Rattle.getopts_shell.specs.Variables.{line_code};
 
 use std::alloc::AllocError;
 
-/// A shell turns words in quotes into the same words, even words of any bytes, which are read as
-/// texts and written as bytes. No other words are written alike. This is a lemma for proofs, which
-/// does nothing.
+/// A lemma, which does nothing: a shell turns words in quotes into the same words, even words of
+/// any bytes, read as texts and written as bytes. No other words are written alike.
 pub fn words_come_back()
     ensures same { (words : List Text) → shell_words (quoted_words words) ≡ Some words }
     ensures bytes { (words : List (List ℕ)) → AllByRecursion AreBytes words

@@ -1,8 +1,7 @@
 //! Tables of options: their lines, and the options that these declare.
 
-ghost use Rattle.std.specs.Prelude.{◌≡◌, ◌++◌, Option, ◌||◌, ◌==◌, slice_index};
-ghost use Rattle.std.specs.Prelude.{◌∷◌, [], MatchResult, IfErr, IfSome, OnOk, Some, None, true};
-ghost use Rattle.std.specs.Prelude.{false};
+ghost use Rattle.std.specs.Prelude.{◌≡◌, ◌++◌, Option, ◌||◌, ◌==◌, slice_index, ◌∷◌, []};
+ghost use Rattle.std.specs.Prelude.{MatchResult, IfErr, IfSome, OnOk, Some, None, true, false};
 ghost use Rattle.std.specs.List.{list_any};
 ghost use Rattle.std.specs.Option.{option_copied, option_to_list};
 ghost use Rattle.std.specs.Str.{bytes_eq};
@@ -10,10 +9,10 @@ ghost use Rattle.getopts.specs.Names.{Text, is_empty};
 ghost use Rattle.getopts_shell.specs.Held.{entry_of_row, entries_of, operand_of, operands_of};
 ghost use Rattle.getopts_shell.specs.Held.{TellsFault};
 ghost use Rattle.getopts_shell.specs.Table.{trimmed, begins_gap, before_gap, from_gap};
-ghost use Rattle.getopts_shell.specs.Table.{any_has_name, name_again};
-ghost use Rattle.getopts_shell.specs.Table.{Entry, OneTableOneList, Declares, DeclaresOptions};
-ghost use Rattle.getopts_shell.specs.Table.{IsLineFault, IsTableFault, late_operand};
-ghost use Rattle.getopts_shell.specs.Table.{may_follow, name_twice, operand_at, operands_in};
+ghost use Rattle.getopts_shell.specs.Table.{any_has_name, name_again, Entry, OneTableOneList};
+ghost use Rattle.getopts_shell.specs.Table.{Declares, DeclaresOptions, IsLineFault, IsTableFault};
+ghost use Rattle.getopts_shell.specs.Table.{late_operand, may_follow, name_twice, operand_at};
+ghost use Rattle.getopts_shell.specs.Table.{operands_in};
 
 use crate::item::row_of;
 use crate::operand::{Operand, is_operand, may_follow};

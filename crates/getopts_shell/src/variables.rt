@@ -1,8 +1,7 @@
 //! Options as variables of a script: the code that sets them, and why a table has none.
 
-ghost use Rattle.std.specs.Prelude.{◌≡◌, ◌++◌, [], length, map, IfOk, OnOk, false, not};
-ghost use Rattle.std.specs.Prelude.{slice_get, get_or, None, Some};
-ghost use Rattle.std.specs.Prelude.{MatchOption, codes, true, ⊤};
+ghost use Rattle.std.specs.Prelude.{◌≡◌, ◌++◌, [], length, map, IfOk, OnOk, false, not, slice_get};
+ghost use Rattle.std.specs.Prelude.{get_or, None, Some, MatchOption, codes, true, ⊤};
 ghost use Rattle.std.specs.Char.{is_ascii_digit};
 ghost use Rattle.std.specs.Option.{option_map, option_map_or};
 ghost use Rattle.std.specs.List.{last_or, list_all, list_any};
@@ -10,16 +9,14 @@ ghost use Rattle.std.specs.String.{string_bytes};
 ghost use Rattle.std.specs.Str.{IsUtf8, bytes_eq};
 ghost use Rattle.getopts.specs.Names.{AreTexts, main_name};
 ghost use Rattle.getopts_shell.specs.Completion.{holds_all};
-ghost use Rattle.getopts_shell.specs.Held.{entries_of, entry_of_row};
-ghost use Rattle.getopts_shell.specs.Held.{variable_fault_told};
+ghost use Rattle.getopts_shell.specs.Held.{entries_of, entry_of_row, variable_fault_told};
 ghost use Rattle.getopts_shell.specs.Quote.{quoted_words};
 ghost use Rattle.getopts_shell.specs.Variables.{AreTextValues, CodeSetsVariables, HoldTexts};
 ghost use Rattle.getopts_shell.specs.Variables.{all_values, count_text, found_alone, founds_of};
-ghost use Rattle.getopts_shell.specs.Variables.{given_alone, given_from, is_prefix};
-ghost use Rattle.getopts_shell.specs.Variables.{is_variable, is_variable_byte, option_code};
-ghost use Rattle.getopts_shell.specs.Variables.{own_value, prefix_fault, texts_found};
-ghost use Rattle.getopts_shell.specs.Variables.{value_line, variable, variable_byte};
-ghost use Rattle.getopts_shell.specs.Variables.{variable_fault, variable_of};
+ghost use Rattle.getopts_shell.specs.Variables.{given_alone, given_from, is_prefix, is_variable};
+ghost use Rattle.getopts_shell.specs.Variables.{is_variable_byte, option_code, own_value};
+ghost use Rattle.getopts_shell.specs.Variables.{prefix_fault, texts_found, value_line, variable};
+ghost use Rattle.getopts_shell.specs.Variables.{variable_byte, variable_fault, variable_of};
 ghost use Rattle.getopts_shell.specs.Variables.{variables_code, many, one};
 
 use crate::quote::{push_line, push_parting, push_quoted, push_replaced};
@@ -59,8 +56,7 @@ pub(crate) enum VariableError<'t> {
     VariableTwice(usize, &'t str),
 }
 
-/// A shell that runs the code holds what the matches hold. This is a lemma for proofs, which does
-/// nothing.
+/// A lemma, which does nothing: a shell that runs the code holds what the matches hold.
 pub fn code_sets_variables()
     ensures { CodeSetsVariables }
 {}

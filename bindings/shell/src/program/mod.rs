@@ -21,14 +21,13 @@ use crate::host::io;
 use std::process::ExitCode;
 use words::system_words;
 
-/// Runs on the system's words, without the program's own name, and on standard output and standard
-/// error.
+/// Runs on the system's words, without the program's own name, and on the standard streams.
 pub fn main(rt: HostRuntime) -> ExitCode {
     ExitCode::from(run(&rt).unwrap_or(NO_MEMORY))
 }
 
-/// The status of `answer` for the system's words. Fails if an allocation for them fails, and
-/// nothing is written then.
+/// The status of `answer` for the system's words. Fails, without writing anything, if an
+/// allocation for them fails.
 fn run(rt: &HostRuntime) -> Result<u8, AllocError> {
     let words = system_words(rt)?;
     Ok(answer(

@@ -5,9 +5,8 @@ use crate::host::*;
 
 use crate::host::alloc::AllocError;
 
-/// A shell turns words in quotes into the same words, even words of any bytes, which are read as
-/// texts and written as bytes. No other words are written alike. This is a lemma for proofs, which
-/// does nothing.
+/// A lemma, which does nothing: a shell turns words in quotes into the same words, even words of
+/// any bytes, read as texts and written as bytes. No other words are written alike.
 pub fn words_come_back() {}
 
 /// Appends a text, with another text in place of each occurrence of an ASCII character.

@@ -40,8 +40,7 @@ pub(crate) enum VariableError<'t> {
     VariableTwice(usize, &'t str),
 }
 
-/// A shell that runs the code holds what the matches hold. This is a lemma for proofs, which does
-/// nothing.
+/// A lemma, which does nothing: a shell that runs the code holds what the matches hold.
 pub fn code_sets_variables() {}
 
 /// The code that sets a variable for each option of a table, and then the script's words to the

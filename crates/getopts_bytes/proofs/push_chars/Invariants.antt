@@ -1,4 +1,4 @@
--- What the characters so far are written as was added.
+-- The bytes for the characters so far were appended.
 use Rattle.std.proofs.Common.{◌≡◌, ◌++◌}
 use Rattle.std.specs.List.{flat_map}
 use Rattle.getopts_bytes.specs.Marks.{written}

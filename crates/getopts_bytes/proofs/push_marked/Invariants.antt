@@ -1,4 +1,4 @@
--- What was added, with the text of the bytes that are left, is the text of the word.
+-- What was appended and the text of the remaining bytes are the text of the word.
 use Rattle.std.proofs.Common.{◌≡◌, ◌≤◌, ◌-◌, ◌++◌, length, drop, string_bytes}
 use Rattle.getopts_bytes.specs.Marks.{text_of}
 use Rattle.getopts_bytes.proofs.push_marked.Given as goal

@@ -1,5 +1,4 @@
-use Rattle.std.proofs.Common.{map, string_bytes}
-use Rattle.std.proofs.Common.{sym, ◌∙◌}
+use Rattle.std.proofs.Common.{map, string_bytes, sym, ◌∙◌}
 use Rattle.std.proofs.lemmas.Result.{IfOk-weaker}
 use Rattle.getopts_shell.specs.HeldScript.{script_of}
 use Rattle.getopts_shell.specs.Program.{read_options}

@@ -1,12 +1,11 @@
 use Rattle.std.proofs.Common.{Some, ap, map, string_bytes, subst, sym, ◌∙◌}
 use Rattle.std.proofs.lemmas.Result.{IfOk-weaker}
 use Rattle.getopts.specs.Options.{Declared}
-use Rattle.getopts_shell.proofs.Plain.{ArePlainlyNamed}
+use Rattle.getopts_shell.proofs.Plain.{ArePlainlyNamed, plain_rows}
 use Rattle.getopts_shell.specs.Program.{done}
 use Rattle.getopts_shell.specs.Variables.{line_code}
 use Rattle.getopts_shell.proofs.Chosen.{at_err, at_ok}
 use Rattle.getopts_shell.proofs.Line.{never_unwritable, tells_words}
-use Rattle.getopts_shell.proofs.Plain.{plain_rows}
 use Rattle.getopts_shell.proofs.Written.{strings_are_texts}
 use Rattle.getopts_shell.proofs.answer.line_answer.Goals as goal
 

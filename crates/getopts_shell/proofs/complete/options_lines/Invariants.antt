@@ -4,7 +4,7 @@ use Rattle.getopts_shell.specs.Completion.{options_lines}
 use Rattle.getopts_shell.specs.Held.{entries_of}
 use Rattle.getopts_shell.proofs.complete.options_lines.Given as goal
 
--- the text is what is offered of the rows so far
+-- the text is what the rows so far offer
 abbrev pub invariant-loop-row : goal.invariant-loop-row
 invariant-loop-row l =
     string_bytes l.text

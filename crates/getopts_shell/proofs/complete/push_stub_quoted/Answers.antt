@@ -1,5 +1,5 @@
-use Rattle.std.proofs.Common.{◌≡◌, true, List, [], ◌∷◌, ◌++◌, map, string_bytes}
-use Rattle.std.proofs.Common.{◌∙◌, ap, append-nil, arith, lit<, refl, rules, subst, sym}
+use Rattle.std.proofs.Common.{◌≡◌, true, List, [], ◌∷◌, ◌++◌, map, string_bytes, ◌∙◌, ap}
+use Rattle.std.proofs.Common.{append-nil, arith, lit<, refl, rules, subst, sym}
 use Rattle.std.proofs.lemmas.Grind.{common_steps}
 use Rattle.std.specs.List.{flat_map}
 use Rattle.std.specs.Str.Iter.{split_text, split_has_more, split_pattern}

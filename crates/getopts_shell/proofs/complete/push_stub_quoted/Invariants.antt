@@ -4,7 +4,7 @@ use Rattle.getopts_shell.proofs.Parts.{JoinedSoFar}
 use Rattle.getopts_shell.specs.Quote.{quoted_byte}
 use Rattle.getopts_shell.proofs.complete.push_stub_quoted.Given as goal
 
--- the parts of the word so far stand in the text, after a quote
+-- the parts of the word so far were appended, after a quote
 abbrev pub invariant-loop-part : goal.invariant-loop-part
 invariant-loop-part l = JoinedSoFar (39 ∷ 92 ∷ 92 ∷ 39 ∷ [])
     (map (flat_map quoted_byte) (map (λ part. part.now) l.yielded)) l.begun

@@ -1,5 +1,4 @@
-use Rattle.std.proofs.Common.{◌≡◌, ℕ, ◌≤◌, cond, Some, None, length, ap, ◌∙◌, rules}
-use Rattle.std.proofs.Common.{arith, tests}
+use Rattle.std.proofs.Common.{◌≡◌, ℕ, ◌≤◌, cond, Some, None, length, ap, ◌∙◌, rules, arith, tests}
 use Rattle.std.specs.Prelude.{nat_lt}
 use Rattle.std.specs.Option.{unwrap_or}
 use Rattle.std.proofs.lemmas.Bool.Decides.{nat_tests}

@@ -8,7 +8,7 @@ use Rattle.getopts_shell.proofs.item.reason_of.Goals as goal
 abbrev Reasons : Type 0
 Reasons = List (Bool × Text)
 
--- the same claim, before the same reasons
+-- the same condition, before the same reasons
 same : (claim other : Bool) (reason : Text) (reasons others : Reasons) → claim ≡ other → reasons
     ≡ others
     → (claim, reason) ∷ reasons ≡ (other, reason) ∷ others

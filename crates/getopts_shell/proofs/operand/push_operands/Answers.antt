@@ -1,5 +1,4 @@
-use Rattle.std.proofs.Common.{◌++◌, ap, arith, string_bytes, ◌∙◌}
-use Rattle.std.proofs.Common.{codes, get_or}
+use Rattle.std.proofs.Common.{◌++◌, ap, arith, string_bytes, ◌∙◌, codes, get_or}
 use Rattle.std.proofs.lemmas.Bool.Decides.{nat_tests}
 use Rattle.std.proofs.lemmas.List.{take_all}
 use Rattle.getopts.specs.Wrap.{continued}

@@ -4,7 +4,7 @@ use Rattle.getopts.specs.Wrap.{continued}
 use Rattle.getopts_shell.specs.Held.{operands_of}
 use Rattle.getopts_shell.proofs.operand.push_operands.Given as goal
 
--- the operands so far stand in the text
+-- the operands so far were appended
 abbrev pub invariant-loop-operand : goal.invariant-loop-operand
 invariant-loop-operand l = (l.parted ≡ (l.begun || nat_lt 0 l.operand-index))
     × (string_bytes l.text ≡ string_bytes l.initial.text ++ continued l.begun (codes " ")

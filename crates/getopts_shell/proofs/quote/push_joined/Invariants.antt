@@ -2,7 +2,7 @@ use Rattle.std.proofs.Common.{map, string_bytes, take}
 use Rattle.getopts_shell.proofs.Parts.{JoinedSoFar}
 use Rattle.getopts_shell.proofs.quote.push_joined.Given as goal
 
--- the texts so far stand in the text
+-- the texts so far were appended
 abbrev pub invariant-loop-part : goal.invariant-loop-part
 invariant-loop-part l =
     JoinedSoFar l.separator (map string_bytes (take l.part-index l.texts)) l.begun

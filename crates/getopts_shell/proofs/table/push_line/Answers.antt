@@ -4,8 +4,8 @@ use Rattle.std.proofs.lemmas.Result.{IfErr-weaker}
 use Rattle.getopts_shell.specs.Held.{entry_of_row, operands_of}
 use Rattle.getopts_shell.specs.Table.{late, may_follow, operand_at, trimmed, twice}
 use Rattle.getopts_shell.proofs.Fronts.{on_ok}
-use Rattle.getopts_shell.proofs.Lines.{declares_entry, declares_operand, faulty_line}
-use Rattle.getopts_shell.proofs.Lines.{no_operand_at, ok_of_both, tells_weaker}
+use Rattle.getopts_shell.proofs.Lines.{declares_entry, declares_operand, faulty_line, no_operand_at}
+use Rattle.getopts_shell.proofs.Lines.{ok_of_both, tells_weaker}
 use Rattle.getopts_shell.proofs.table.push_line.Goals as goal
 
 pub returns-then-is_operand-clause-fault : goal.returns-then-is_operand-clause-fault

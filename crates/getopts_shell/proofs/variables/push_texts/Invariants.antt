@@ -4,7 +4,7 @@ use Rattle.getopts_shell.specs.Quote.{quoted_words}
 use Rattle.getopts_shell.specs.Variables.{founds_of, texts_found}
 use Rattle.getopts_shell.proofs.variables.push_texts.Given as goal
 
--- the values so far stand in the text
+-- the values so far were appended
 abbrev pub invariant-loop-nth : goal.invariant-loop-nth
 invariant-loop-nth l =
     (string_bytes l.text

@@ -3,7 +3,7 @@ use Rattle.getopts_shell.specs.Held.{entries_of}
 use Rattle.getopts_shell.specs.Variables.{first_fault}
 use Rattle.getopts_shell.proofs.variables.variable_error.Given as goal
 
--- the fault of all options is that from this place on
+-- the error of all options is the error from this place on
 abbrev pub invariant-loop-place : goal.invariant-loop-place
 invariant-loop-place l = first_fault l.prefix [] (entries_of l.rows)
     ≡ first_fault l.prefix (entries_of (take l.place l.rows)) (entries_of (drop l.place l.rows))
