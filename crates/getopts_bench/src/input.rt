@@ -70,8 +70,8 @@ impl<'t> Input<'t> {
     fn add(&mut self, row: &'t str) -> Result<(), Trouble> {
         let (call, rest) = row.split_once('\t').unwrap_or((row, ""));
         match call {
-            "words" => self.expect(rest),
-            "word" => self.say(rest),
+            "words" => self.reserve(rest),
+            "word" => self.push_word(rest),
             "optflagmulti" => self.declare(rest, Kind::Flag),
             "optmulti" => self.declare(rest, Kind::Argument),
             "optflagopt" => self.declare(rest, Kind::Maybe),
@@ -80,7 +80,7 @@ impl<'t> Input<'t> {
     }
 
     /// Reserves exactly the capacity for this many words.
-    fn expect(&mut self, count: &str) -> Result<(), Trouble> {
+    fn reserve(&mut self, count: &str) -> Result<(), Trouble> {
         match count.parse::<usize>() {
             Ok(count) => match self.words.reserve_exact(count) {
                 Ok(()) => Ok(()),
@@ -91,7 +91,7 @@ impl<'t> Input<'t> {
     }
 
     /// Appends a word.
-    fn say(&mut self, word: &'t str) -> Result<(), Trouble> {
+    fn push_word(&mut self, word: &'t str) -> Result<(), Trouble> {
         match self.words.push(word) {
             Ok(()) => Ok(()),
             Err(_) => Err(Trouble::NoMemory),

@@ -29,9 +29,9 @@
 #![tactic(auto)]
 
 mod input;
+mod iterations;
 mod job;
 mod trouble;
-mod turns;
 
 use job::Job;
 use std::process::ExitCode;
@@ -87,7 +87,7 @@ fn sum_of_rows(rt: &HostRuntime, job: Job, rows: &str, times: usize) -> Result<u
     match fs::read_to_string(rt, rows) {
         Ok(text) => {
             let input = input::input_of(rt.alloc(), text.as_str())?;
-            turns::run(rt.alloc(), job, times, &input)
+            iterations::run(rt.alloc(), job, times, &input)
         }
         Err(_) => Err(Trouble::NoJob),
     }

@@ -10,7 +10,7 @@ pub enum Trouble {
     /// The arguments aren't jobs, each with a file of rows and a number of iterations.
     NoJob,
     /// A job's line was rejected.
-    Refused,
+    Rejected,
     NoMemory,
     /// A write failed.
     NotWritten,
@@ -20,7 +20,7 @@ impl Trouble {
     /// The exit status.
     pub fn status(&self) -> u8 {
         match self {
-            Trouble::Refused => 1,
+            Trouble::Rejected => 1,
             Trouble::NoJob => 2,
             Trouble::NoMemory => 3,
             Trouble::NotWritten => 4,
@@ -32,7 +32,7 @@ impl fmt::Display for Trouble {
     fn fmt<W: fmt::Write>(&self, f: &mut fmt::Formatter<W>) -> fmt::Result {
         f.write_str(match self {
             Trouble::NoJob => "arguments are JOB ROWS TIMES, and more of the same",
-            Trouble::Refused => "the words are refused",
+            Trouble::Rejected => "a command line was rejected",
             Trouble::NoMemory => "out of memory",
             Trouble::NotWritten => "a sum can't be written",
         })
@@ -43,7 +43,7 @@ impl From<Fail> for Trouble {
     fn from(fail: Fail) -> Trouble {
         match fail {
             Fail::OutOfMemory => Trouble::NoMemory,
-            _ => Trouble::Refused,
+            _ => Trouble::Rejected,
         }
     }
 }

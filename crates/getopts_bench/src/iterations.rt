@@ -19,13 +19,13 @@ pub fn run(alloc: Global, job: Job, times: usize, input: &Input<'_>) -> Result<u
         Job::Copied => Ok(copied(alloc, &input.options, &input.words, times)?),
         _ => {
             let options = declared(alloc, &input.options)?;
-            Ok(turns(alloc, job, times, &input.options, &options, &input.words)?)
+            Ok(iterations(alloc, job, times, &input.options, &options, &input.words)?)
         }
     }
 }
 
 /// The iterations of a job with options declared before, and these words.
-fn turns(
+fn iterations(
     alloc: Global,
     job: Job,
     times: usize,
@@ -98,12 +98,12 @@ fn equal(alloc: Global, options: &Options, words: &[&str], times: usize) -> Resu
     let half = words.len() / 2;
     let matches = options.parse_words(alloc, &words[..half])?;
     let others = options.parse_words(alloc, &words[half..])?;
-    Ok(equal_turns(&matches, &others, times))
+    Ok(equal_iterations(&matches, &others, times))
 }
 
 /// The number of iterations in which the matches are equal.
 #[inline(never)]
-fn equal_turns(matches: &Matches, others: &Matches, times: usize) -> usize {
+fn equal_iterations(matches: &Matches, others: &Matches, times: usize) -> usize {
     let mut sum = 0usize;
     for _ in 0..times {
         if matches == others {
