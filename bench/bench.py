@@ -11,7 +11,7 @@ it, cargo downloads the crate. OURS may name a getopts_bench that is already bui
 one.
 
 WHAT is `instructions` or `peak` (the most bytes allocated at once). The program's last argument is the number of
-iterations. The cost of B iterations minus that of A is divided by B - A, so that work before the iterations isn't counted.
+iterations. What B iterations cost more than A is divided by B - A, so that work before the iterations isn't counted.
 """
 
 import concurrent.futures
@@ -26,32 +26,45 @@ from pathlib import Path
 
 HERE = Path(__file__).resolve().parent
 CRATE = HERE.parent / "crates/getopts_bench"
-TOOLS = {"instructions": ("--tool=callgrind --callgrind-out-file=/dev/null", r"Collected : ([\d,]+)"),
+# Cachegrind is several times faster than callgrind. If it joined blocks, it would count instructions that are skipped.
+TOOLS = {"instructions": ("--tool=cachegrind --cache-sim=no --vex-guest-chase=no --cachegrind-out-file=/dev/null",
+                          r"refs: *([\d,]+)"),
          "peak": ("--tool=dhat --dhat-out-file=/dev/null", r"At t-gmax: *([\d,]+)")}
 
-# The two numbers of iterations for a line, if they aren't 100 and 300. If nothing is allocated, the first iteration
-# costs as much as later ones.
-TURNS = {"long": (2, 6), "many": (2, 6), "many11": (2, 6), "files": (1, 2), "equal": (0, 1), "4000": (0, 1)}
+# The lines that grow: by their number of words, and of options.
+WORDS = {f"words-{count}": count for count in (100, 1000, 10_000, 100_000, 1_000_000)}
+OPTIONS = {f"options-{count}": count for count in (10, 100, 1000, 10_000)}
+# Long lines are parsed once, as in a program. Short ones are parsed 300 times, and the first 100 aren't counted, since
+# the first iteration also does what a program does once, such as binding symbols.
+LONG = {"long", "many", "many11", "files", "equal", "4000", *WORDS, *OPTIONS} - {"words-100", "options-10"}
 
 
-def turn_of(job):
-    """What an iteration of a job does, its line, and the two numbers of iterations."""
-    work, _, line = job.rpartition("-")
-    return work or (job if job in ("equal", "usage") else "whole"), line, *TURNS.get(line, (100, 300))
+def on(line, work="whole"):
+    """A job: what an iteration does, its line, and two numbers of iterations."""
+    return work, line, *((0, 1) if line in LONG else (100, 300))
 
 
-JOBS = {job: turn_of(job) for job in """small read-small canonical-small copied-small os-small typical read-typical
+def job_of(name):
+    work, _, line = name.rpartition("-")
+    return on(line, work or (name if name in ("equal", "usage") else "whole"))
+
+
+JOBS = {name: job_of(name) for name in """small read-small canonical-small copied-small os-small typical read-typical
     copied-typical long read-long canonical-long copied-long os-long many read-many canonical-many copied-many many11 front
     read-front asked-front none rustc sub60 files equal usage defined-4000""".split()}
-# Jobs whose peak memory is counted.
-MEMORY = [("peak", "Peak bytes while reading 100,000 words, besides the words and the options",
-           {"memory": ("read", "memory", 0, 1)}),
-          ("peak", "Bytes that matches take",
-           {"held-small": ("held", "small", 10, 110), "held-long": ("held", "long", 10, 110),
-            "held-described": ("held", "described", 10, 110)})]
-# The jobs in C, and the peers whose iterations consume their words, which are therefore copied before.
-OF_C = ["small", "read-small", "typical", "long", "none"]
-TAKING = ["lexopt", "pico-args", "clap"]
+GROWING = {line: on(line) for line in WORDS | OPTIONS}
+OF_C = {name: JOBS[name] for name in ("small", "read-small", "typical", "long", "none")}
+# Jobs that keep their matches.
+HELD = {f"held-{line}": ("held", line, few, more) for line, few, more in
+        [("small", 10, 110), ("long", 10, 110), ("described", 10, 110), ("cluster", 1, 2), ("values", 1, 2)]}
+# The tables: what is counted, the title, and the jobs.
+TABLES = [("instructions", "Instructions per iteration", JOBS), ("instructions", "Instructions per iteration in C", OF_C),
+          ("instructions", "Instructions per iteration as lines grow", GROWING),
+          ("peak", "Peak bytes while parsing, besides the words and the options", {"memory": ("read", "memory", 0, 1)}),
+          ("peak", "Bytes that matches take", HELD)]
+# Not counted, as it would take minutes: to run clap and pico-args, and to compile lexopt's `match`.
+SKIPPED = {("lexopt", "options-10000"), ("clap", "options-10000"), ("pico-args", "words-100000"),
+           ("pico-args", "words-1000000")}
 
 
 def stored(line):
@@ -73,9 +86,9 @@ def shuffled(options):
     return random.Random(1).sample(options, len(options))
 
 
-def many(front):
+def many(front, count=200):
     options, words = [], []
-    for at in range(200):
+    for at in range(count):
         name = f"{front}{at:03}"
         options.append(("optmulti", "", name, "d", "H") if at % 2 else ("optflagmulti", "", name, "d"))
         words += [f"--{name}=value{at}" if at % 2 else f"--{name}", f"file{at}"]
@@ -101,9 +114,13 @@ LINES = {
     "long": lambda: long(250), "memory": lambda: long(25_000),
     "files": lambda: (stored("small")[0], [f"src/file{at:05}.rs" for at in range(100_000)]),
     "many": lambda: many("name"), "many11": lambda: many("the-name"), "sub60": sub60, "described": described,
+    "cluster": lambda: (stored("small")[0], ["-" + "v" * 100_000]),
+    "values": lambda: (stored("small")[0], ["-L" + "x" * 1_000_000] * 3),
     "equal": lambda: (flags([*(("", f"n{at:04}") for at in range(998)), ("a", ""), ("b", "")]),
                       ["-ab"] * 1000 + ["-ba"] * 1000),
     "4000": lambda: (shuffled(flags(("", f"n{at:04}") for at in range(4000))), []),
+    **{line: lambda count=count: long(count // 4) for line, count in WORDS.items()},
+    **{line: lambda count=count: many("name", count) for line, count in OPTIONS.items()},
 }
 
 
@@ -133,7 +150,8 @@ def lexopt_line(line):
 
 def lexopt_lines():
     """The lines of the jobs that read everything, for the peer lexopt."""
-    lines = dict.fromkeys(line for work, line, *_ in JOBS.values() if work == "whole")
+    lines = dict.fromkeys(line for work, line, *_ in (JOBS | GROWING).values()
+                          if work == "whole" and ("lexopt", line) not in SKIPPED)
     return f"lines! {{\n{''.join(lexopt_line(line) for line in lines)}}}\n"
 
 
@@ -150,7 +168,7 @@ def counted(what, words, env=None):
     return int(re.findall(found, done.stderr)[-1].replace(",", ""))
 
 
-def of_a_turn(what, few, more, words):
+def of_an_iteration(what, few, more, words):
     """What one iteration costs in a program whose last argument is the number of iterations."""
     return (counted(what, [*words, more]) - counted(what, [*words, few])) // (more - few)
 
@@ -166,7 +184,8 @@ def built(out, getopts):
     for tool in ("cargo", "cc", "valgrind", os.environ.get("OURS", "rt")):
         shutil.which(tool) or stop(f"{tool} not found")
     build = HERE.parent / "tests/differential/build.sh"
-    for name, crate, flags in (("peers", getopts, ""), ("over_ours", HERE.parent / "bindings/rust/getopts", " --features over_ours")):
+    drop_in = HERE.parent / "bindings/rust/getopts"
+    for name, crate, flags in ("peers", getopts, ""), ("over_ours", drop_in, " --features over_ours"):
         (out / name / "src").mkdir(parents=True, exist_ok=True)
         (out / name / "src/lines.rs").write_text(lexopt_lines(), encoding="utf-8")
         subprocess.run(["bash", build, HERE / "peers", out / name, *([crate] if crate else [])], check=True,
@@ -176,8 +195,8 @@ def built(out, getopts):
         subprocess.run(["rt", "run", "--", "whole", CRATE / "data/small.rows", "1"], cwd=CRATE, check=True,
                        stdout=subprocess.DEVNULL)
     peers, ours = (out / f"{name}/target/release/peers" for name in ("peers", "over_ours"))
-    return {"this library": [os.environ.get("OURS", CRATE / "out/getopts_bench")], "Rust crate": [peers, "getopts"],
-            "bindings/rust": [ours, "getopts"], **{name: [peers, name] for name in TAKING}}
+    return {"this library": [Path(os.environ.get("OURS", CRATE / "out/getopts_bench"))], "Rust crate": [peers, "getopts"],
+            "bindings/rust": [ours, "getopts"], **{name: [peers, name] for name in ("lexopt", "pico-args", "clap")}}
 
 
 def built_of_c(out):
@@ -192,12 +211,13 @@ def row(out, programs, what, job, work, line, few, more):
     """Prints a row of a table, with a star if the checksum differs from that of the first program that does the job."""
     file = out / f"{line}.rows"
     file.write_text(rows(line), encoding="utf-8")
-    calls = [[*program, work, file, *([more] if column in TAKING else [])] for column, program in programs.items()]
-    sums = [sum_of(words) for words in calls]
+    # The peers in Rust, a program for all, consume copies of the words, which are made before the iterations.
+    calls = [[*program, work, file, *([more] if program[0].name == "peers" else [])] for program in programs.values()]
+    sums = [None if (column, line) in SKIPPED else sum_of(words) for column, words in zip(programs, calls)]
     first = next((total for total in sums if total), None)
 
     def cell(words, total):
-        return "-" if total is None else f"{of_a_turn(what, few, more, words)}{'*' * (total != first)}"
+        return "-" if total is None else f"{of_an_iteration(what, few, more, words)}{'*' * (total != first)}"
 
     with concurrent.futures.ThreadPoolExecutor(os.cpu_count()) as pool:
         cells = pool.map(cell, calls, sums)
@@ -212,15 +232,25 @@ def tables(out, getopts, asked):
     versions = re.findall(r'^name = "(getopts|lexopt|pico-args|clap|unicode-width)"\nversion = "(.*)"', lock, re.M)
     said = [subprocess.check_output([tool, "--version"], text=True).strip() for tool in ("valgrind", "rustc")]
     print("# " + ", ".join([*(" ".join(it) for it in versions), *said, "glibc " + platform.libc_ver()[1]]))
-    for what, title, jobs, columns in (("instructions", "Instructions per iteration", JOBS, programs),
-                                       ("instructions", "Instructions per iteration in C", {job: JOBS[job] for job in OF_C}, of_c),
-                                       *((*table, programs) for table in MEMORY)):
+    for what, title, jobs in TABLES:
+        columns = of_c if jobs is OF_C else programs
         chosen = [job for job in jobs if not asked or job in asked]
         if chosen:
             print(f"\n{title}\n{'job':<16} " + " ".join(f"{column:>14}" for column in columns))
         for job in chosen:
             row(out, columns, what, job, *jobs[job])
     print("\n* its checksum differs from that of the first column")
+
+
+def recorded():
+    """The tables of last_run.txt: for each title and job, the figures by column."""
+    tables = {}
+    text = (HERE / "last_run.txt").read_text(encoding="utf-8")
+    for title, heads, rows in re.findall(r"^(.+)\njob (.*)\n((?:.+\n)*)", text, re.M):
+        columns = re.split(r"\s{2,}", heads.strip())
+        for job, *cells in (re.split(r"\s{2,}", row) for row in rows.splitlines()):
+            tables[title, job] = dict(zip(columns, cells))
+    return tables
 
 
 def shell(program=HERE.parent / f"bindings/shell/{platform.machine()}/getopts_shell"):
@@ -238,7 +268,7 @@ def shell(program=HERE.parent / f"bindings/shell/{platform.machine()}/getopts_sh
 
 def main(words):
     if words[:1] == ["--count"]:
-        print(of_a_turn(words[1], int(words[2]), int(words[3]), words[4:]))
+        print(of_an_iteration(words[1], int(words[2]), int(words[3]), words[4:]))
     elif words[:1] == ["--rows"]:
         print(rows(words[1]), end="")
     elif words[:1] == ["--shell"]:

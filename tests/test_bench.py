@@ -20,8 +20,15 @@ def test_instructions_near_record(job, bench, tmp_path):
     recorded = re.search(rf"^Instructions.*?^{job} +(\d+)", (ROOT / "bench/last_run.txt").read_text(), re.M | re.S)
     if not recorded:
         pytest.skip(f"bench/last_run.txt has no {job}")
-    counted = bench_py.of_a_turn("instructions", few, more, [bench, work, tmp_path / "rows"])
+    counted = bench_py.of_an_iteration("instructions", few, more, [bench, work, tmp_path / "rows"])
     assert abs(counted - int(recorded[1])) <= WITHIN * int(recorded[1]), f"{counted}: run bench/bench.py again"
+
+
+def test_words_are_handed_over():
+    """A Rust peer can get words only by value, so that none is lent what another one has to free."""
+    source = (ROOT / "bench/peers/src/input.rs").read_text(encoding="utf-8")
+    assert re.findall(r"pub .*\b(?:words|args|Args)\b.*", source) == [
+        "pub fn args(&self) -> Args {", "pub struct Args(std::vec::IntoIter<OsString>);"]
 
 
 def test_shell_call(checked_in):

@@ -49,15 +49,7 @@ def fix_page(page, text, request):
 INSTRUCTIONS = "Instructions per iteration"
 
 
-@functools.cache
-def tables():
-    """The tables of bench/last_run.txt: for each title and job, the figures by column."""
-    kept = {}
-    for title, heads, rows in re.findall(r"^(.+)\njob (.*)\n((?:.+\n)*)", read("bench/last_run.txt"), re.M):
-        columns = re.split(r"\s{2,}", heads.strip())
-        for job, *cells in (re.split(r"\s{2,}", row) for row in rows.splitlines()):
-            kept[title, job] = dict(zip(columns, cells))
-    return kept
+tables = functools.cache(bench_py.recorded)
 
 
 def cell(title, job, column):
@@ -76,10 +68,6 @@ def ahead(column, title=INSTRUCTIONS, ours="bindings/rust"):
     fewer = [f"`{job}`" for job, (peers, own) in both.items() if peers < own]
     others = [f"`{job}`" for job, (peers, own) in both.items() if peers >= own]
     return ", ".join(fewer) if len(fewer) <= len(others) else f"all but {', '.join(others)}"
-
-
-def megabytes(column):
-    return f"{int(cell(PEAK, 'memory', column)) / 1e6:.2f}"
 
 
 @functools.cache
@@ -101,15 +89,16 @@ def toolchain():
 
 
 HELD = "Bytes that matches take"
-PEAK = "Peak bytes while reading 100,000 words, besides the words and the options"
+# The libraries in README's list of those that need fewer instructions than the drop-in on some jobs.
+AHEAD = {"Rust crate": "the Rust crate", "lexopt": "`lexopt`", "pico-args": "`pico-args`"}
 # Figures outside the tables of jobs: the page, a pattern whose groups are the figures, and the expected values.
 FIGURES = [
     ("README.md", r"\| ([\d,]+) mutants, written by hand", lambda: [str(len(edits))]),
     ("README.md", r"toolchain \(([\w-]+), logic `(\w+)`", toolchain),
     ("README.md", r"`\(cd crates/getopts && rt lib\)` .* \| ([^|]*) \| ([^|]*) \|", lambda: minutes("rt lib")),
     ("README.md", r"`bash test.sh` .* \| ([^|]*) \| ([^|]*) \|", lambda: minutes("bash test.sh")),
-    ("README.md", r"takes (\d+) % of the instructions of the crate .* and (\d+) %",
-     lambda: [share("copied-small"), share("copied-long")]),
+    ("README.md", r"takes (\d+) % of the instructions of the crate .* (\d+) % on .* (\d+) %\s",
+     lambda: [share("copied-small"), share("copied-long"), share("files")]),
     *((f"bindings/{folder}/README.md", r"Rust ([\d.]+) or later",
        lambda folder=folder: re.findall(r'rust-version = "(.*)"', read(f"bindings/{folder}/Cargo.toml")))
       for folder in ("rust", "c", "shell")),
@@ -118,26 +107,22 @@ FIGURES = [
         f"{int(cell(f'{INSTRUCTIONS} in C', job, column)):,}" for column in ("bindings/c", "getopt_long", "argp")])
       for job, line in {"small": "5 options, 3 words", "read-small": "the same, .*", "typical": "20 options, .*",
                         "long": "5 options, 1,000 words"}.items()),
-    ("bench/README.md", r"peak is ([\d.]+) MB in this library,\s+([\d.]+) MB in\s+the Rust crate and ([\d.]+) MB",
-     lambda: [megabytes("this library"), megabytes("Rust crate"), megabytes("bindings/rust")]),
     *(("README.md", rf"`{line}`: ([\d,]+) options, ([\d,]+) ", lambda line=line: [f"{len(part):,}" for part in bench_py.parts(line)])
-      for line in ("small", "typical", "rustc", "sub60", "long", "files")),
+      for line in ("small", "typical", "long", "files")),
     ("bench/README.md", r"`files`: ([\d,]+) file names", lambda: [f"{len(bench_py.parts('files')[1]):,}"]),
     ("bench/README.md", r"`sub60`: ([\d,]+) options", lambda: [str(len(bench_py.parts("sub60")[0]))]),
     ("bench/README.md", r"`many`: ([\d,]+) options", lambda: [str(len(bench_py.parts("many")[0]))]),
-    *(("bench/README.md", rf"\n- {name} on (.*)\n", lambda of=of: [ahead(*of)]) for name, of in {
-        "`lexopt`": ["lexopt"], "`pico-args`": ["pico-args"], "the Rust crate": ["Rust crate"],
-        "`getopt_long`": ["getopt_long", f"{INSTRUCTIONS} in C", "bindings/c"],
-        "`argp`": ["argp", f"{INSTRUCTIONS} in C", "bindings/c"]}.items()),
-    *(("bench/README.md", rf"{words} ([\d,]+) and ([\d,]+)", lambda line=line: [
-        f"{int(cell(HELD, f'held-{line}', column)):,}" for column in ("this library", "Rust crate")])
-      for line, words in {"small": "of `small`", "long": "1,000 words", "described": "descriptions"}.items()),
+    *(("README.md", rf"\n- {name}(?:, .*,)? on (.*)\n", lambda column=column: [ahead(column)])
+      for column, name in AHEAD.items()),
+    *(("bench/README.md", rf"\n- `{column}` on (.*)\n",
+       lambda column=column: [ahead(column, f"{INSTRUCTIONS} in C", "bindings/c")]) for column in ("getopt_long", "argp")),
+    ("bench/README.md", r"than the Rust crate's on (.*)\.", lambda: [ahead("Rust crate", HELD)]),
 ]
 
 # Numbers that aren't checked: versions, rules of the language, benchmark jobs and sizes of tests.
 NO_FIGURES = re.compile(r"""
     \bU\+\w+ | \b0\.2\.24\b | \d{4}-\d\d-\d\d | Apache-2\.0 | x86-64(-v2)?
-    | 1,000\ words | 100,000\ words | 20\ options | 10\ words
+    | (1,000|10,000|100,000)\ words | (20|1,000)\ options | 10\ words | 100,000\ (letters|file\ names)
     | (32|64)(\ bits|-bit) | 54\ columns | 24\ (spaces|columns) | stop\ at\ 255 | 24\ bytes | 4\.2\ or\ later | before\ 4\.4 | C\+\+11 | Debian\ 12 | 80\ words | 200,000\ cases
 """, re.X)
 
@@ -150,8 +135,8 @@ def table_figures(page):
             columns = [it for _, it in cells]
         elif columns and (job := re.match(r"`([\w-]+)`", cells[0][1])):
             for (at, cell_text), column in list(zip(cells, columns))[1:]:
-                wanted = tables().get((INSTRUCTIONS, job[1]), {}).get("bindings/rust" if column == "drop-in" else column)
-                if wanted:
+                counted = next((counted for (_, name), counted in tables().items() if name == job[1]), {})
+                if wanted := counted.get("bindings/rust" if column == "drop-in" else column):
                     yield at, cell_text, re.sub(r"^\d+", lambda it: f"{int(it[0]):,}", wanted)
 
 
@@ -192,6 +177,10 @@ def test_figures(page, request):
     assert_none([f"{place(at)}: {is_now} should be {wanted} (measured: see bench/last_run.txt and tests/times.txt)"
                  for at, is_now, wanted in wrong()] +
          [f"{place(at)}: nothing checks the figure {it}" for at, it in unknown_in(page)])
+
+
+def test_libraries_ahead_are_listed():
+    assert {column for column in tables()[INSTRUCTIONS, "small"] if ahead(column)} <= {"this library", *AHEAD}
 
 
 # ---- code

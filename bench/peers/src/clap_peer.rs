@@ -1,14 +1,13 @@
 //! The crate `clap`.
 
-use crate::input::{Input, Named};
+use crate::input::{Args, Input, Named};
 use clap::{Arg, ArgAction, ArgMatches, Command};
-use std::ffi::OsString;
 
 const FREE: &str = "free";
 
 /// Declares the options, parses the words, and adds up all counts and the lengths of values and free words.
-pub fn iteration(input: &Input, words: Vec<OsString>) -> usize {
-    let matches = command(&input.options).get_matches_from(words);
+pub fn iteration(input: &Input, args: Args) -> usize {
+    let matches = command(&input.options).get_matches_from(args);
     let mut sum = lengths(&matches, FREE).sum::<usize>();
     for option in &input.options {
         if option.is_flag() {
@@ -30,11 +29,12 @@ fn command(options: &[Named]) -> Command {
 }
 
 fn argument(option: &Named) -> Arg {
-    let mut argument = Arg::new(option.id).action(if option.is_flag() {
-        ArgAction::Count
+    let mut argument = Arg::new(option.id).help(option.desc);
+    argument = if option.is_flag() {
+        argument.action(ArgAction::Count)
     } else {
-        ArgAction::Append
-    });
+        argument.action(ArgAction::Append).value_name(option.hint)
+    };
     if let Some(short) = option.short.chars().next() {
         argument = argument.short(short);
     }

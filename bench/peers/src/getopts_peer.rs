@@ -1,43 +1,55 @@
 //! The Rust crate `getopts`.
 
-use crate::input::{Input, Kind, Named};
+use crate::input::{Args, Input, Kind, Named};
 use crate::iterations;
 use getopts::{Matches, Options};
+use std::ffi::OsString;
 use std::hint::black_box;
 
 const BRIEF: &str = "Usage: getopts_show [options] FILE";
 
-/// The sum of a job's iterations.
-pub fn run(job: &str, input: &Input, times: usize) -> Option<usize> {
+/// The sum of a job's iterations. `args` returns the words of an iteration.
+pub fn run(
+    job: &str,
+    input: &Input,
+    args: &mut dyn FnMut() -> Args,
+    times: usize,
+) -> Option<usize> {
     match job {
-        "whole" => return Some(whole(input, times, taken)),
-        "copied" => return Some(whole(input, times, copied)),
+        "whole" => return Some(whole(input, args, times, taken)),
+        "copied" => return Some(whole(input, args, times, copied)),
         #[cfg(feature = "over_ours")]
-        "os" => return Some(over_ours::os(input, times)),
+        "os" => return Some(over_ours::os(input, args, times)),
         _ => {}
     }
     let options = declared(&input.options);
     match job {
-        "read" => Some(iterations(times, || matches_of(&options, &input.words).free.len())),
-        "equal" => Some(equal(&options, &input.words, times)),
+        "read" => Some(iterations(times, || matches_of(&options, args()).free.len())),
+        "equal" => Some(equal(&options, input.args(), times)),
         "usage" => Some(iterations(times, || options.usage(BRIEF).len())),
         "defined" => Some(counted(&options, input, times, Matches::opt_defined)),
         "asked" => Some(counted(&options, input, times, Matches::opt_present)),
-        "held" => Some(held(&options, &input.words, times)),
+        "held" => Some(held(&options, input, times)),
         _ => None,
     }
 }
 
-fn whole(input: &Input, times: usize, taken: impl Fn(&Matches, &[Named]) -> usize) -> usize {
+fn whole(
+    input: &Input,
+    args: &mut dyn FnMut() -> Args,
+    times: usize,
+    taken: impl Fn(&Matches, &[Named]) -> usize,
+) -> usize {
     iterations(times, || {
-        let matches = matches_of(&declared(&input.options), &input.words);
+        let matches = matches_of(&declared(&input.options), args());
         taken(&matches, &input.options)
     })
 }
 
-fn equal(options: &Options, words: &[String], times: usize) -> usize {
-    let (first, second) = words.split_at(words.len() / 2);
-    let (matches, others) = (matches_of(options, first), matches_of(options, second));
+fn equal(options: &Options, mut words: Args, times: usize) -> usize {
+    let half = words.size_hint().0 / 2;
+    let matches = matches_of(options, words.by_ref().take(half));
+    let others = matches_of(options, words);
     iterations(times, || usize::from(black_box(&matches) == black_box(&others)))
 }
 
@@ -48,16 +60,16 @@ fn counted(
     times: usize,
     call: fn(&Matches, &str) -> bool,
 ) -> usize {
-    let matches = matches_of(options, &input.words);
+    let matches = matches_of(options, input.args());
     iterations(times, || {
         input.options.iter().filter(|option| call(&matches, option.main())).count()
     })
 }
 
-fn held(options: &Options, words: &[String], times: usize) -> usize {
+fn held(options: &Options, input: &Input, times: usize) -> usize {
     let mut kept = Vec::with_capacity(times);
     iterations(times, || {
-        let matches = matches_of(options, words);
+        let matches = matches_of(options, input.args());
         let count = matches.free.len();
         kept.push(matches);
         count
@@ -77,7 +89,7 @@ fn declared(named: &[Named]) -> Options {
     options
 }
 
-fn matches_of(options: &Options, words: &[String]) -> Matches {
+fn matches_of(options: &Options, words: impl Iterator<Item = OsString>) -> Matches {
     options.parse(words).expect("the line is valid")
 }
 
@@ -105,7 +117,7 @@ fn total_length(texts: &[String]) -> usize {
 #[cfg(feature = "over_ours")]
 mod over_ours {
     use super::{declared, iterations, total_length};
-    use crate::input::{Input, Named};
+    use crate::input::{Args, Input, Named};
     use getopts::Matches;
 
     /// Adds up the matches with a call that borrows the values.
@@ -120,10 +132,9 @@ mod over_ours {
     }
 
     /// Each iteration declares the options, parses the words as `OsString`s, and takes counts and values.
-    pub fn os(input: &Input, times: usize) -> usize {
-        let words = input.owned_words();
+    pub fn os(input: &Input, args: &mut dyn FnMut() -> Args, times: usize) -> usize {
         iterations(times, || {
-            let matches = declared(&input.options).parse_os(&words).expect("the line is valid");
+            let matches = declared(&input.options).parse_os(args()).expect("the line is valid");
             let mut sum = matches.free.iter().map(|word| word.len()).sum();
             for option in &input.options {
                 for (_, value) in matches.occurrences(option.main()) {

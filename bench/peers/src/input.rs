@@ -1,5 +1,6 @@
 //! The options and words of the jobs, from the same rows as `getopts_bench`.
 
+use std::collections::HashMap;
 use std::ffi::OsString;
 
 /// The call that declares an option.
@@ -46,12 +47,6 @@ impl Named {
         self.kind == Kind::Flag
     }
 
-    /// Whether a word gives the option, assuming that no option follows another in a cluster.
-    fn is_given_by(&self, word: &str) -> bool {
-        let [short, long] = self.dashed;
-        !self.short.is_empty() && word.starts_with(short) || word.split('=').next() == Some(long)
-    }
-
     /// The long name if there is one, else the short name.
     pub fn main(&self) -> &'static str {
         if self.long.is_empty() {
@@ -67,11 +62,11 @@ fn kept(text: String) -> &'static str {
     Box::leak(text.into_boxed_str())
 }
 
-/// Options to declare, and words to parse.
+/// Options to declare, and words to parse. A peer gets words only by value, as a program does.
 #[derive(Default)]
 pub struct Input {
     pub options: Vec<Named>,
-    pub words: Vec<String>,
+    words: Vec<String>,
 }
 
 impl Input {
@@ -89,14 +84,46 @@ impl Input {
                 _ => return None,
             }
         }
-        for option in &mut input.options {
-            option.again = input.words.iter().filter(|word| option.is_given_by(word)).count() > 1;
-        }
+        input.count();
         Some(input)
     }
 
-    /// A copy of the words, for a peer that consumes them.
-    pub fn owned_words(&self) -> Vec<OsString> {
-        self.words.iter().map(OsString::from).collect()
+    /// Finds the options that occur more than once, assuming that no option follows another in a cluster.
+    fn count(&mut self) {
+        let mut counts = HashMap::new();
+        for word in &self.words {
+            let name = match word.as_bytes() {
+                [b'-', b'-', ..] => word.split('=').next(),
+                [b'-', _, ..] => word.get(..2),
+                _ => None,
+            };
+            *counts.entry(name).or_insert(0) += 1;
+        }
+        for option in &mut self.options {
+            let given = option.dashed.map(|name| counts.get(&Some(name)).copied().unwrap_or(0));
+            option.again = given.iter().sum::<usize>() > 1;
+        }
+    }
+
+    /// A copy of the words, to be consumed.
+    pub fn args(&self) -> Args {
+        Args(self.words.iter().map(OsString::from).collect::<Vec<_>>().into_iter())
+    }
+}
+
+/// Words as a program hands them over: `std::env::args_os().skip(1)`, which is an iterator over a list, too. A plain
+/// `Vec` would let its list be reused.
+#[derive(Clone)]
+pub struct Args(std::vec::IntoIter<OsString>);
+
+impl Iterator for Args {
+    type Item = OsString;
+
+    fn next(&mut self) -> Option<OsString> {
+        self.0.next()
+    }
+
+    fn size_hint(&self) -> (usize, Option<usize>) {
+        self.0.size_hint()
     }
 }

@@ -3,12 +3,13 @@
 //! `bench.py` writes `lines.rs`: the options of each line, each with a field name, the field's type, and the pattern
 //! that users of `lexopt` would write.
 
+use crate::input::Args;
 use lexopt::Arg::{Long, Short, Value};
 use lexopt::Parser;
 use std::ffi::OsString;
 
 /// Parses words, and adds up all counts and the lengths of values and free words.
-pub type Iteration = fn(Vec<OsString>) -> usize;
+pub type Iteration = fn(Args) -> usize;
 
 /// The iteration for a line, by its name: a struct with a field for each option, and a `match` on each item.
 macro_rules! lines {
@@ -21,9 +22,9 @@ macro_rules! lines {
                         free: Vec<String>,
                         $($field: $held,)*
                     }
-                    Some(|words| {
+                    Some(|args| {
                         let mut given = Given::default();
-                        let mut parser = Parser::from_args(words);
+                        let mut parser = Parser::from_args(args);
                         while let Some(item) = parser.next().expect("the line is valid") {
                             match item {
                                 $($option => given.$field.hold(&mut parser),)*

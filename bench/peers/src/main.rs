@@ -1,13 +1,14 @@
 //! Runs the jobs of `getopts_bench` with other libraries, and prints the same sums.
 //!
-//! usage: peers PEER JOB ROWS [READY] TIMES
+//! usage: peers PEER JOB ROWS READY TIMES
 //!
 //! PEER is `getopts` (the Rust crate, or its replacement), `lexopt`, `pico-args` or `clap`. Jobs and rows are those of
 //! `getopts_bench`: all peers do `whole`; `getopts` does the others too, except `canonical`, which the crate lacks.
 //! The replacement also does `os`, which is `whole` with `parse_os`.
 //!
-//! All peers except `getopts` consume their words. READY copies of the words, at least TIMES, are made before the first
-//! iteration, so that no iteration creates words. The status is 2 if the peer doesn't do the job.
+//! Iterations consume the words that they parse. READY copies of the words, at least TIMES, are made before the first
+//! iteration. Only `held` makes its words in each iteration: copies that wait would count as memory. The status is 2 if
+//! the peer doesn't do the job.
 
 mod clap_peer;
 mod getopts_peer;
@@ -15,8 +16,7 @@ mod input;
 mod lexopt_peer;
 mod pico_peer;
 
-use input::Input;
-use std::ffi::OsString;
+use input::{Args, Input};
 use std::path::Path;
 use std::process::ExitCode;
 
@@ -28,7 +28,7 @@ fn main() -> ExitCode {
             ExitCode::SUCCESS
         }
         None => {
-            eprintln!("usage: peers PEER JOB ROWS [READY] TIMES; not every peer does every job");
+            eprintln!("usage: peers PEER JOB ROWS READY TIMES; not every peer does every job");
             ExitCode::from(2)
         }
     }
@@ -36,25 +36,23 @@ fn main() -> ExitCode {
 
 /// The sum of the job given by the arguments.
 fn sum_of(words: &[String]) -> Option<usize> {
-    let [peer, job, rows, ready @ .., times] = words else {
+    let [peer, job, rows, ready, times] = words else {
         return None;
     };
     let (input, times) = (Input::of(rows)?, times.parse().ok()?);
+    let mut copies = vec![input.args(); ready.parse().ok()?];
+    let mut args = || copies.pop().expect("a copy for each iteration");
     if peer == "getopts" {
-        return getopts_peer::run(job, &input, times);
+        return getopts_peer::run(job, &input, &mut args, times);
     }
-    let [ready] = ready else {
-        return None;
-    };
-    let mut copies = vec![input.owned_words(); ready.parse().ok()?];
     let line = Path::new(rows).file_stem()?.to_str()?;
-    let iteration: Box<dyn Fn(Vec<OsString>) -> usize> = match (peer.as_str(), job.as_str()) {
+    let iteration: Box<dyn Fn(Args) -> usize> = match (peer.as_str(), job.as_str()) {
         ("lexopt", "whole") => Box::new(lexopt_peer::iteration_of(line)?),
-        ("pico-args", "whole") => Box::new(|words| pico_peer::iteration(&input, words)),
-        ("clap", "whole") => Box::new(|words| clap_peer::iteration(&input, words)),
+        ("pico-args", "whole") => Box::new(|args| pico_peer::iteration(&input, args)),
+        ("clap", "whole") => Box::new(|args| clap_peer::iteration(&input, args)),
         _ => return None,
     };
-    Some(iterations(times, || iteration(copies.pop().expect("a copy for each iteration"))))
+    Some(iterations(times, || iteration(args())))
 }
 
 /// The wrapping sum of the results of all iterations.

@@ -1,12 +1,13 @@
 //! The crate `pico-args`, which searches for one option after the other.
 
-use crate::input::{Input, Named};
+use crate::input::{Args, Input, Named};
 use pico_args::Arguments;
 use std::ffi::OsString;
 
 /// Adds up all counts and the lengths of values and free words.
-pub fn iteration(input: &Input, words: Vec<OsString>) -> usize {
-    let mut arguments = Arguments::from_vec(words);
+pub fn iteration(input: &Input, args: Args) -> usize {
+    // `Arguments::from_env` collects the words, too.
+    let mut arguments = Arguments::from_vec(args.collect());
     let mut sum = 0;
     for option in &input.options {
         if option.is_flag() {
@@ -24,7 +25,8 @@ pub fn iteration(input: &Input, words: Vec<OsString>) -> usize {
             }
         }
     }
-    sum + arguments.finish().iter().map(|word| word.len()).sum::<usize>()
+    let text = |word: OsString| word.into_string().expect("words are UTF-8");
+    sum + arguments.finish().into_iter().map(|word| text(word).len()).sum::<usize>()
 }
 
 /// Takes one occurrence of the flag; returns whether there was one.
