@@ -1,10 +1,13 @@
-"""Instruction counts by valgrind: some jobs stay near their record, and a call from a shell script stays cheap."""
+"""Instruction counts by valgrind: some jobs stay near their record, which the charts show, and a call from a shell script
+stays cheap."""
 
 import re
+import shutil
+import sys
 
 import bench as bench_py
 import pytest
-from conftest import ROOT, need, run
+from conftest import ROOT, answer, need, run
 
 # How far a job may be from its record, as C libraries differ.
 WITHIN = 0.02
@@ -29,6 +32,21 @@ def test_words_are_handed_over():
     source = (ROOT / "bench/peers/src/input.rs").read_text(encoding="utf-8")
     assert re.findall(r"pub .*\b(?:words|args|Args)\b.*", source) == [
         "pub fn args(&self) -> Args {", "pub struct Args(std::vec::IntoIter<OsString>);"]
+
+
+def test_charts(tmp_path):
+    """bench/chart.py draws the stored charts from bench/last_run.txt, with the version of matplotlib that drew them."""
+    pythons = [python for python in (sys.executable, "/usr/bin/python3")
+               if shutil.which(python) and answer(python, "-c", "import matplotlib")[1] == 0]
+    if not pythons:
+        pytest.skip("matplotlib not found: install python3-matplotlib, see CONTRIBUTING.md")
+    run(pythons[0], ROOT / "bench/chart.py", tmp_path, env={"PYTHONDONTWRITEBYTECODE": "1"})
+    for chart in ("chart.svg", "growth.svg"):
+        drawn, stored = ((folder / chart).read_text(encoding="utf-8") for folder in (tmp_path, ROOT / "bench"))
+        version = re.search("Matplotlib v[^,]*", stored)[0]
+        if version not in drawn:
+            pytest.skip(f"the charts were drawn by {version}")
+        assert drawn == stored, f"{chart}: run bench/chart.py"
 
 
 def test_shell_call(checked_in):
