@@ -1,9 +1,9 @@
-"""Tests without proofs: programs with their stored arguments, and the tests of getopts_show. `rt ci` proves both."""
+"""Tests without proofs: programs with their stored arguments, the tests of getopts_show, and a changed program."""
 
 import subprocess
 
 import pytest
-from conftest import ROOT, VECTORS, run
+from conftest import ROOT, VECTORS, copy_tree, run
 from test_rows import all_rows, written
 
 CRATES = sorted(path.parent.name for path in (ROOT / "crates").glob("*/src"))
@@ -12,9 +12,9 @@ PROGRAMS = [crate for crate in CRATES if (ROOT / f"crates/{crate}/stdout").exist
 pytestmark = [pytest.mark.quick, pytest.mark.rt]
 
 
-def rt_try(crate, *words, status=0):
+def rt_try(crate, *words, status=0, root=ROOT):
     """The output of `rt try` in a crate."""
-    return run("nice", "rt", "try", *words, status=status, cwd=ROOT / "crates" / crate, stdin=subprocess.DEVNULL)
+    return run("nice", "rt", "try", *words, status=status, cwd=root / "crates" / crate, stdin=subprocess.DEVNULL)
 
 
 @pytest.mark.parametrize("crate", PROGRAMS)
@@ -34,5 +34,19 @@ def test_writers_of_getopts_show():
 def test_rows(tmp_path):
     """All rows except the large ones, which would take minutes unproved."""
     (tmp_path / "beyond.rows").write_bytes(written(all_rows()))
-    said, _ = rt_try("getopts_vectors", "--", tmp_path / "beyond.rows", VECTORS / "data/refused.rows")
-    assert said.count(" 0 differ\n") == 2
+    files = tmp_path / "beyond.rows", VECTORS / "data/refused.rows", VECTORS / "data/calls.rows"
+    assert rt_try("getopts_vectors", "--", *files)[0].count(" 0 differ\n") == len(files)
+
+
+def test_cases_without_zero_width_character(tmp_path):
+    """If no character takes no columns, cases with a `{Z}` are omitted, and the others are run."""
+    need("rt")
+    copy = copy_tree(tmp_path / "copy")
+    source = copy / "crates/getopts_vectors/src/short.rt"
+    text = source.read_text(encoding="utf-8")
+    assert text.count(".width() == 0") == 1
+    source.write_text(text.replace(".width() == 0", ".width() == usize::MAX"), encoding="utf-8")
+    case = "case\t{0}\nlawful\ta\t{0}\n> lawful\ttrue\n"
+    (tmp_path / "some.rows").write_text("".join(map(case.format, ["one", "two{Z}", "three", "four{Z}"])))
+    said, _ = rt_try("getopts_vectors", "--", tmp_path / "some.rows", root=copy)
+    assert said.endswith("2 cases, 2 questions, 2 expected lines, 0 differ\n")

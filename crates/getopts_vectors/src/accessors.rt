@@ -9,6 +9,7 @@ use crate::form::{Answer, Field, field_at};
 use crate::stop::{Stop, WRONG_FIELDS};
 use getopts::{Matches, Occurrences};
 use std::alloc::{AllocError, Global};
+use std::str::FromStr;
 
 /// Answers accepted words with a line: where the words after `--` begin, and the free words.
 pub fn accepted(matches: &Matches, answer: &mut Answer) {
@@ -23,7 +24,7 @@ pub fn has(word: &str) -> bool {
     word.starts_with("opt_")
         || matches!(
             word,
-            "any" | "occurrences_at" | "option" | "positions" | "number" | "truth"
+            "any" | "occurrences_at" | "option" | "positions" | "number" | "truth" | "unreadable"
         )
 }
 
@@ -110,6 +111,7 @@ fn ask_or(
         "option" => option(alloc, matches, name, default, answer),
         "number" => number(matches, name, default, answer),
         "truth" => truth(matches, name, default, answer),
+        "unreadable" => as_unreadable(matches, name, answer),
         _ => answer.stop(WRONG_FIELDS),
     }
 }
@@ -169,6 +171,37 @@ fn truth(matches: &Matches, name: &str, default: &str, answer: &mut Answer)
         },
         Err(_) => answer.stop(WRONG_FIELDS),
     }
+}
+
+/// A type that no text can be parsed as.
+#[derive(Clone, Copy)]
+struct Unreadable;
+
+/// The error of parsing anything as an `Unreadable`.
+#[derive(Clone, Copy)]
+struct CannotRead;
+
+impl FromStr for Unreadable {
+    type Err = CannotRead;
+
+    fn from_str(_text: &str) -> Result<Unreadable, CannotRead> {
+        Err(CannotRead)
+    }
+}
+
+/// Answers the value of an option as an `Unreadable`, without a default and with one.
+fn as_unreadable(matches: &Matches, name: &str, answer: &mut Answer)
+    requires { IsDefined matches.now.groups name.now }
+{
+    answer.field(match matches.opt_get::<Unreadable>(name) {
+        Ok(Some(_)) => "=",
+        Ok(None) => "-",
+        Err(CannotRead) => "error",
+    });
+    answer.field(match matches.opt_get_default(name, Unreadable) {
+        Ok(Unreadable) => "default",
+        Err(CannotRead) => "error",
+    });
 }
 
 /// Answers the number of occurrences of the option at a place, and one of them.

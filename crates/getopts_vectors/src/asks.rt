@@ -1,35 +1,18 @@
 //! Answers about options, errors, and calls that need neither, as fields.
 
+use crate::errors::{fault, printed};
 use crate::form::{Answer, Field, field_at, is_taken};
+use crate::iterators::{promised, taken};
 use crate::stop::{Stop, UNKNOWN_WORD, WRONG_FIELDS};
 use getopts::wrap::each_split_within;
 use getopts::{Fail, Options, names_lawful};
-use std::alloc::Global;
+use std::alloc::{AllocError, Global};
 
 /// Answers rejected words with a line.
 pub fn refused(fail: &Fail, answer: &mut Answer) {
     answer.word("refused");
     fault(fail, answer);
     answer.end();
-}
-
-/// Answers an error: its kind, its name, and its text.
-fn fault(fail: &Fail, answer: &mut Answer) {
-    match fail {
-        Fail::ArgumentMissing(name) => named("ArgumentMissing", name.as_str(), answer),
-        Fail::UnrecognizedOption(name) => named("UnrecognizedOption", name.as_str(), answer),
-        Fail::OptionMissing(name) => named("OptionMissing", name.as_str(), answer),
-        Fail::OptionDuplicated(name) => named("OptionDuplicated", name.as_str(), answer),
-        Fail::UnexpectedArgument(name) => named("UnexpectedArgument", name.as_str(), answer),
-        Fail::OutOfMemory => answer.stop(Stop::NoMemory),
-    }
-    answer.printed(fail);
-}
-
-/// Answers the kind of an error and its name.
-fn named(variant: &str, name: &str, answer: &mut Answer) {
-    answer.field(variant);
-    answer.field(name);
 }
 
 /// Answers a line that asks about options, or needs none.
@@ -42,7 +25,10 @@ pub fn ask(alloc: Global, options: &Options, word: &str, fields: &[String], answ
         "rows" => formatted_rows(alloc, options, answer),
         "usage_rows" => answer.given(options.usage_rows(alloc)),
         "called" => called(alloc, options, answer),
-        "canonical" | "canonical_words" | "canonical_filtered" => {
+        "closures" => closures(alloc, options, answer),
+        "taken" => taken(alloc, options, fields, answer),
+        "error" => printed(alloc, field_at(fields, 0), field_at(fields, 1), answer),
+        "canonical" | "canonical_words" | "canonical_filtered" | "canonical_promised" => {
             canonical(&written(alloc, options, word, fields), answer)
         }
         "parse_in_order" => in_order(&options.parse_in_order(alloc, fields), answer),
@@ -86,6 +72,17 @@ fn called(alloc: Global, options: &Options, answer: &mut Answer) {
     }
 }
 
+/// Answers the result of a closure that takes only the first usage row, and whether the error of a
+/// closure is returned.
+fn closures(alloc: Global, options: &Options, answer: &mut Answer) {
+    answer.given(options.usage_with_format(alloc, |mut rows| match rows.next() {
+        Some(row) => Ok(row),
+        None => Ok(String::new(alloc)),
+    }));
+    let failed = options.usage_with_format(alloc, |_rows| Err(AllocError));
+    failed.is_err().put(answer);
+}
+
 /// The canonical line of words, from the call with this name.
 fn written(
     alloc: Global,
@@ -96,6 +93,7 @@ fn written(
     match word {
         "canonical" => options.canonical(alloc, words.iter().map(|word| word.as_str())),
         "canonical_words" => options.canonical_words(alloc, words),
+        "canonical_promised" => options.canonical(alloc, promised(words)),
         _ => options.canonical(
             alloc,
             words.iter().map(|word| word.as_str()).filter(is_taken),

@@ -4,8 +4,8 @@
 //! The expected answers come from elsewhere. Those of `data/rules.rows` and `data/large.rows` are
 //! written by hand, from the rules of the Rust crate and from its tests. Those of
 //! `data/recorded.rows` were written by the Rust crate itself (`tests/differential`).
-//! `data/refused.rows` is for runs in which allocations fail. Calls that no row can describe are
-//! covered by `getopts_uses`.
+//! `data/refused.rows` is for runs in which allocations fail, and `data/calls.rows` for what
+//! depends on the caller: its iterators, closures and types, and errors that no words cause.
 //!
 //! # Rows
 //!
@@ -15,7 +15,8 @@
 //! with `#` are skipped.
 //!
 //! `{Z}` stands for the first character from U+0300 on that takes no columns and isn't white space,
-//! as measured by `unicode_width`. If there is none, cases with a `{Z}` are omitted.
+//! as measured by `unicode_width`. If there is none, cases with a `{Z}` are omitted. Cases in short
+//! form can't have one.
 //!
 //! These lines have no answer, except that `case` is answered with the line itself:
 //!
@@ -33,9 +34,9 @@
 //!
 //! - `words WORD..`: `accepted START FREE..`, where START is `-` or the trailing start, or
 //!   `refused FAULT NAME TEXT`, where TEXT is the error's text
-//! - `parse_words WORD..`, `parse_filtered WORD..` and `ignoring_counts WORD..`: like `words`, with
-//!   `parse_words`, with `parse` of an iterator that doesn't say how many words it has, and with
-//!   `parse_ignoring_counts`
+//! - `parse_words WORD..`, `parse_filtered WORD..`, `parse_promised WORD..` and `ignoring_counts
+//!   WORD..`: like `words`, with `parse_words`, with `parse` of an iterator that doesn't say how
+//!   many words it has or of one that promises too many, and with `parse_ignoring_counts`
 //! - `option NAME DEFAULT`: `option NAME present COUNT STR DEFAULTED` or `option NAME absent ..`,
 //!   with the OPTIONALs of `opt_str` and `opt_default`; then a line `strs` with the values of
 //!   `opt_strs`, and a line `pairs` with the texts of `opt_strs_pos`
@@ -43,6 +44,8 @@
 //!   text of each pair of `opt_strs_pos`
 //! - `number NAME DEFAULT` and `truth NAME DEFAULT`: the result of `opt_get` for `i64` or `bool`,
 //!   an OPTIONAL or `error`, and of `opt_get_default`, the value or `error`
+//! - `unreadable NAME`: the same for a type as which no text can be parsed, `-` or `error`, then
+//!   `default` or `error`
 //! - `any NAME..`: `any PRESENT PRESENT STR STR`, from `opts_present`, `opts_present_any`,
 //!   `opts_str` and `opts_str_first`, or `any PRESENT undefined` if one of the names is undefined
 //! - `lawful SHORT LONG`: `lawful true` or `lawful false`
@@ -53,9 +56,15 @@
 //! - `usage_rows`: the rows
 //! - `called`: the text and the number of calls of a closure of `usage_with_format` that returns an
 //!   empty text
+//! - `closures`: the result of a closure that takes only the first row, and whether the error of a
+//!   closure is returned
 //! - `wrap LIMIT DESC`: the rows of `each_split_within`
 //! - `canonical WORD..`: `canonical line WORD..`, `canonical none`, or `canonical refused FAULT
-//!   NAME TEXT`; also `canonical_words` and `canonical_filtered`
+//!   NAME TEXT`; also `canonical_words`, `canonical_filtered` and `canonical_promised`
+//! - `taken WORD..`: how many words `parse` takes from an iterator, and `FAULT NAME TEXT`, or `-`
+//!   if the words are accepted; then the same for `canonical`
+//! - `error FAULT NAME`: the error's text, whether it prints the same in other formats, and whether
+//!   it equals its clone
 //! - `parse_in_order WORD..`: `parse_in_order order PLACE..`, or `parse_in_order refused FAULT NAME
 //!   TEXT`
 //!
@@ -108,7 +117,9 @@
 mod accessors;
 mod asks;
 mod comparison;
+mod errors;
 mod form;
+mod iterators;
 mod line;
 mod marks;
 mod session;

@@ -3,6 +3,7 @@
 ghost use Rattle.getopts.specs.Names.{AreLawful};
 
 use crate::form::{Answer, Field, field_at, is_taken};
+use crate::iterators::promised;
 use crate::stop::{NO_CASE, Stop, UNLAWFUL_NAMES, WRONG_FIELDS};
 use crate::{accessors, asks};
 use getopts::{HasArg, Matches, Occur, Options, ParsingStyle, names_lawful};
@@ -222,11 +223,11 @@ fn takes(word: &str, count: usize) -> bool {
 
 /// Words, with their number of fields.
 const COUNTS: [(usize, &str); 6] = [
-    (0, "anew called clear keep rows usage_rows"),
+    (0, "anew called clear closures keep rows usage_rows"),
     (1, "case mode same short style usage"),
     (
         2,
-        "lawful number occurrences_at opt_default option truth wrap",
+        "error lawful number occurrences_at opt_default option truth wrap",
     ),
     (3, "optflag optflagmulti"),
     (4, "optflagopt optmulti optopt reqopt"),
@@ -253,7 +254,7 @@ fn count_of(word: &str) -> Option<usize> {
 fn reads(word: &str) -> bool {
     matches!(
         word,
-        "words" | "parse_words" | "parse_filtered" | "ignoring_counts"
+        "words" | "parse_words" | "parse_filtered" | "parse_promised" | "ignoring_counts"
     )
 }
 
@@ -265,6 +266,7 @@ fn read_by(alloc: Global, options: &Options, word: &str, words: &[String]) -> ge
             alloc,
             words.iter().map(|word| word.as_str()).filter(is_taken),
         ),
+        "parse_promised" => options.parse(alloc, promised(words)),
         "parse_words" => options.parse_words(alloc, words),
         _ => options.parse_ignoring_counts(alloc, words),
     }
