@@ -39,6 +39,6 @@ abbrev pub IsAnswerTo : List Text → Text → ℕ → Type 0
 IsAnswerTo words text status = (asked : Result Asked Refusal)
     × IsAskedBy (asked_result greeter_options (codes "help") words) asked × IsAnswerOf asked text status
 
--- The text for these words, which have this status, was appended to what the writer holds.
+-- The writer has received the text for these words, which have this status.
 abbrev pub Shows : Option (List ℕ) → Option (List ℕ) → List Text → ℕ → Type 0
 Shows old new words status = (text : Text) × IsAnswerTo words text status × Appends old new text

@@ -27,8 +27,8 @@ struct Output {
     status: u8,
 }
 
-/// Prints what the words ask for to `out`, or why they were rejected to `err`. The status tells
-/// which.
+/// Prints what the words ask for to `out`, or why they were rejected to `err`, and returns the exit
+/// status.
 pub fn answer<S: AsStr, W: Write, E: Write>(
     alloc: Global,
     words: &[S],
@@ -39,6 +39,8 @@ pub fn answer<S: AsStr, W: Write, E: Write>(
         → Shows (W.contents out.old) (W.contents out.new) (map S.text words.now) status) }
     ensures refused { IfOk result (λ status. status ≢ 0
         → Shows (E.contents err.old) (E.contents err.new) (map S.text words.now) status) }
+    ensures no_error { IfOk result (λ status. status ≡ 0 → err.new ≡ err.old) }
+    ensures no_output { IfOk result (λ status. status ≢ 0 → out.new ≡ out.old) }
 {
     let answer = answer_to(alloc, words)?;
     if answer.status == DONE {

@@ -12,17 +12,9 @@ fn main(rt: HostRuntime) -> ExitCode {
     ExitCode::from(run(&rt).unwrap_or(FAILED))
 }
 
-/// Parses the program's words, and does what they ask for.
+/// Parses the system's words, without the first one, which is the program's name, and does what
+/// they ask for.
 fn run(rt: &HostRuntime) -> io::Result<u8> {
-    let words = words(rt)?;
+    let words: Vec<String> = env::args(rt)?.skip(1).collect(rt.alloc())?;
     answer(rt.alloc(), &words, &mut io::writer(rt), &mut rt.stderr())
-}
-
-/// The system's words, without the first one, which is the program's name.
-fn words(rt: &HostRuntime) -> io::Result<Vec<String>> {
-    let mut words = Vec::new(rt.alloc());
-    for word in env::args(rt)?.skip(1) {
-        words.push(word)?;
-    }
-    Ok(words)
 }
