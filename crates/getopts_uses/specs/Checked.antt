@@ -30,7 +30,7 @@ use Rattle.getopts_uses.specs.declared.checked.Settings.{Settings}
 abbrev pub checked_options : Declared
 checked_options = record {
   groups =
-      group_of (codes "j") (codes "jobs") (codes "run so many jobs, from 1 to 64") (codes "NUMBER") Yes Optional
+      group_of (codes "j") (codes "jobs") (codes "run NUMBER jobs at once, from 1 to 64") (codes "NUMBER") Yes Optional
       ∷ group_of [] (codes "color") (codes "colour: auto, always or never") (codes "WHEN") Yes Optional
       ∷ group_of (codes "D") (codes "set") (codes "set KEY to VALUE") (codes "KEY=VALUE") Yes Multi
       ∷ [];
@@ -43,7 +43,7 @@ abbrev pub IsWithin : ℕ → ℕ → Text → ℕ → Type 0
 IsWithin low high text number =
     ParsesUnsigned {E = ParseIntError} 32 10 text (Ok number) × (low ≤ number) × (number ≤ high)
 
--- The error holds the option, the text and the bounds.
+-- The error contains the option, the text and the bounds.
 -- This is the number that an option's value is, or the default, or an error.
 abbrev pub IsNumberBy : Text → ℕ → ℕ → ℕ → Option Text → Result ℕ Refusal → Type 0
 IsNumberBy option low high default text (Err refusal.OutOfMemory) = ⊤
@@ -61,7 +61,7 @@ color_named word =
     else (if bytes_eq word (codes "always") then Some Always
     else (if bytes_eq word (codes "never") then Some Never else None))
 
--- The error holds the option and the text.
+-- The error contains the option and the text.
 -- This is the choice that an option's value names, or `auto`, or an error.
 abbrev pub IsColorBy : Text → Option Text → Result Color Refusal → Type 0
 IsColorBy option text (Err refusal.OutOfMemory) = ⊤
@@ -80,7 +80,7 @@ cut text = if nat_lt (position_or_len (λ b. b == 61) text) (length text)
 abbrev pub pair_view : Pair → Text × Text
 pair_view pair = (string_bytes pair.key, string_bytes pair.value)
 
--- The error holds the option and the text.
+-- The error contains the option and the text.
 -- This is the pair that a text is, or an error.
 abbrev pub IsPairBy : Text → Text → Result Pair Refusal → Type 0
 IsPairBy option text (Err refusal.OutOfMemory) = ⊤
@@ -94,7 +94,7 @@ abbrev pub first_uncut : List Text → Option Text
 first_uncut [] = None
 first_uncut (text ∷ texts) = option_map_or (λ pair. first_uncut texts) (cut text) (Some text)
 
--- The error holds the option and the first text that isn't a pair.
+-- The error contains the option and the first text that isn't a pair.
 -- These are the pairs that texts are, or an error.
 abbrev pub ArePairsBy : Text → List Text → Result (Vec Pair Global) Refusal → Type 0
 ArePairsBy option texts (Err refusal.OutOfMemory) = ⊤

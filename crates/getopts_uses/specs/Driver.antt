@@ -71,7 +71,7 @@ extras_groups =
     ∷ group_of (codes "F") (codes "framework") (codes "link with a framework") (codes "NAME") Yes Multi
     ∷ group_of (codes "s") (codes "strip") (codes "strip names") [] No Optional
     ∷ group_of (codes "q") (codes "quiet") (codes "say nothing") [] No Optional
-    ∷ group_of (codes "j") (codes "jobs") (codes "run so many jobs") (codes "NUMBER") Yes Optional
+    ∷ group_of (codes "j") (codes "jobs") (codes "run NUMBER jobs at once") (codes "NUMBER") Yes Optional
     ∷ group_of [] (codes "color") (codes "colour what is said") (codes "WHEN") Maybe Optional
     ∷ group_of (codes "k") (codes "keep-going") (codes "go on after an error") [] No Optional
     ∷ group_of (codes "P") (codes "no-lines") (codes "write no line marks") [] No Optional

@@ -16,7 +16,7 @@ use Rattle.getopts_uses.specs.declared.log.Log.{Log}
 abbrev pub log_options : Declared
 log_options = record {
   groups =
-      group_of (codes "n") (codes "max-count") (codes "show so many") (codes "NUMBER") Yes Req
+      group_of (codes "n") (codes "max-count") (codes "show NUMBER entries") (codes "NUMBER") Yes Req
       ∷ group_of [] (codes "grep") (codes "show those that have TEXT") (codes "TEXT") Yes Multi
       ∷ group_of (codes "h") (codes "help") (codes "print this help") [] No Optional
       ∷ [];
@@ -26,7 +26,7 @@ log_options = record {
 
 -- the help of `log`, byte for byte
 abbrev pub log_help : Text
-log_help = codes "Usage: log -n NUMBER [options] FILE..\n\nOptions:\n    -n, --max-count NUMBER\n                        show so many\n        --grep TEXT     show those that have TEXT\n    -h, --help          print this help\n"
+log_help = codes "Usage: log -n NUMBER [options] FILE..\n\nOptions:\n    -n, --max-count NUMBER\n                        show NUMBER entries\n        --grep TEXT     show those that have TEXT\n    -h, --help          print this help\n"
 
 -- This is what matches of `log` ask for.
 pub record IsLogOf (matches : Matched) (log : Log) : Type 0 where

@@ -18,7 +18,7 @@ use Rattle.getopts_uses.specs.declared.logged.Build.{Build}
 abbrev pub build_options : Declared
 build_options = record {
   groups =
-      group_of (codes "j") (codes "jobs") (codes "run so many jobs") (codes "NUMBER") Yes Optional
+      group_of (codes "j") (codes "jobs") (codes "run NUMBER jobs at once") (codes "NUMBER") Yes Optional
       ∷ group_of (codes "k") (codes "keep-going") (codes "go on after an error") [] No Optional
       ∷ group_of (codes "v") (codes "verbose") (codes "say what is run") [] No Multi
       ∷ group_of (codes "D") (codes "set") (codes "set a variable") (codes "NAME=VALUE") Yes Multi

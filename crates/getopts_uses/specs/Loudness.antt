@@ -29,14 +29,14 @@ loudness_options = record {
 abbrev pub asked_by : ℕ → Option Loudness
 asked_by place = if place == 0 then Some Quiet else (if place == 1 then Some Verbose else None)
 
--- how much output options at these places ask for, if it was `loudness` before: the last of the two
--- flags wins
+-- The last of the two flags wins.
+-- how much output options at these places ask for, if it was `loudness` before
 abbrev pub after : Loudness → List ℕ → Loudness
 after loudness [] = loudness
 after loudness (place ∷ places) = after (unwrap_or (asked_by place) loudness) places
 
--- How much output a command line asks for, or its error: its options count in the order in which
--- they were typed.
+-- Its options count in the order in which they were typed.
+-- This is how much output a command line asks for, or its error.
 abbrev pub IsLoudnessOf : List Text → Result Loudness Fail → Type 0
 IsLoudnessOf words (Ok loudness) =
     (places : List ℕ) × IsOrder loudness_options words places × (loudness ≡ after Normal places)

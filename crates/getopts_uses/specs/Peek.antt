@@ -25,7 +25,7 @@ use Rattle.getopts_uses.specs.declared.peek.Refusal.TheVariants.{Line, Number, O
 abbrev pub peek_options : Declared
 peek_options = record {
   groups =
-      group_of (codes "n") (codes "lines") (codes "print so many lines") (codes "COUNT") Yes Req
+      group_of (codes "n") (codes "lines") (codes "print COUNT lines") (codes "COUNT") Yes Req
       ∷ group_of (codes "r") (codes "reverse") (codes "print the last line first") [] No Optional
       ∷ group_of (codes "e") (codes "match") (codes "print lines with TEXT") (codes "TEXT") Yes Multi
       ∷ group_of [] (codes "color") (codes "colour the matches") (codes "WHEN") Maybe Optional
@@ -40,8 +40,8 @@ peek_options = record {
 abbrev pub gives : Matched → Text → Bool
 gives matches name = is_present matches.groups name
 
--- If it asks for help or the version, counts are ignored. The two results are those of the command
--- line without and with its counts checked.
+-- If it asks for help or the version, its counts are ignored. The two results are the command
+-- line's without and with its counts checked.
 -- a command line's matches, or its error
 abbrev pub asked_of : Result Matched Fault → Result Matched Fault → Result Matched Fault
 asked_of (Err fault) line = Err fault
@@ -83,4 +83,4 @@ IsAskedBy (Err fault) result = ⊥
 
 -- the tool's help, byte for byte
 abbrev pub peek_help : Text
-peek_help = codes "Usage: peek -n COUNT [-r] [-e TEXT].. [--color [WHEN]] [-h] [-V]\n\nOptions:\n    -n, --lines COUNT   print so many lines\n    -r, --reverse       print the last line first\n    -e, --match TEXT    print lines with TEXT\n        --color [WHEN]  colour the matches\n    -h, --help          print this help\n    -V, --version       print the version\n"
+peek_help = codes "Usage: peek -n COUNT [-r] [-e TEXT].. [--color [WHEN]] [-h] [-V]\n\nOptions:\n    -n, --lines COUNT   print COUNT lines\n    -r, --reverse       print the last line first\n    -e, --match TEXT    print lines with TEXT\n        --color [WHEN]  colour the matches\n    -h, --help          print this help\n    -V, --version       print the version\n"

@@ -8,6 +8,7 @@ ghost use Rattle.getopts_uses.specs.Command.{IsAddBy, add_help, add_options};
 use crate::asked::matches_of;
 use getopts::{Fail, Options};
 use std::alloc::{AllocError, Global};
+use std::convert::AsStr;
 
 /// What to add.
 #[derive(Debug, Drop)]
@@ -36,8 +37,8 @@ pub fn help_text(alloc: Global) -> Result<String, AllocError>
 }
 
 /// What the words after `add` ask for, or none if they ask for help.
-pub fn read_add(alloc: Global, words: &[String]) -> Result<Option<Add>, Fail>
-    ensures { IsAddBy (asked_result add_options (codes "help") (map string_bytes words.now)) result }
+pub fn read_add<S: AsStr>(alloc: Global, words: &[S]) -> Result<Option<Add>, Fail>
+    ensures { IsAddBy (asked_result add_options (codes "help") (map S.text words.now)) result }
 {
     let options = options(alloc)?;
     let Some(matches) = matches_of(alloc, &options, words)? else {

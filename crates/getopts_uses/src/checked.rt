@@ -88,7 +88,12 @@ fn options(alloc: Global) -> Result<Options, AllocError>
 {
     let mut options = Options::new(alloc);
     options
-        .optopt("j", "jobs", "run so many jobs, from 1 to 64", "NUMBER")?
+        .optopt(
+            "j",
+            "jobs",
+            "run NUMBER jobs at once, from 1 to 64",
+            "NUMBER",
+        )?
         .optopt("", "color", "colour: auto, always or never", "WHEN")?
         .optmulti("D", "set", "set KEY to VALUE", "KEY=VALUE")?;
     Ok(options)

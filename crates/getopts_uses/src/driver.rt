@@ -191,7 +191,7 @@ fn add_extras(options: &mut Options) -> Result<(), AllocError>
         .optmulti("F", "framework", "link with a framework", "NAME")?
         .optflag("s", "strip", "strip names")?
         .optflag("q", "quiet", "say nothing")?
-        .optopt("j", "jobs", "run so many jobs", "NUMBER")?
+        .optopt("j", "jobs", "run NUMBER jobs at once", "NUMBER")?
         .optflagopt("", "color", "colour what is said", "WHEN")?
         .optflag("k", "keep-going", "go on after an error")?
         .optflag("P", "no-lines", "write no line marks")?

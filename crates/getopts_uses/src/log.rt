@@ -9,6 +9,7 @@ ghost use Rattle.getopts_uses.specs.Log.{IsLogBy, IsLogOf, log_help, log_options
 use crate::asked::matches_of;
 use getopts::{Fail, Matches, Options};
 use std::alloc::{AllocError, Global};
+use std::convert::AsStr;
 
 /// Which entries to show.
 #[derive(Debug, Drop)]
@@ -24,7 +25,7 @@ fn options(alloc: Global) -> Result<Options, AllocError>
 {
     let mut options = Options::new(alloc);
     options
-        .reqopt("n", "max-count", "show so many", "NUMBER")?
+        .reqopt("n", "max-count", "show NUMBER entries", "NUMBER")?
         .optmulti("", "grep", "show those that have TEXT", "TEXT")?
         .optflag("h", "help", "print this help")?;
     Ok(options)
@@ -39,8 +40,8 @@ pub fn help_text(alloc: Global) -> Result<String, AllocError>
 }
 
 /// What the words after `log` ask for, or none if they ask for help.
-pub fn read_log(alloc: Global, words: &[String]) -> Result<Option<Log>, Fail>
-    ensures { IsLogBy (asked_result log_options (codes "help") (map string_bytes words.now)) result }
+pub fn read_log<S: AsStr>(alloc: Global, words: &[S]) -> Result<Option<Log>, Fail>
+    ensures { IsLogBy (asked_result log_options (codes "help") (map S.text words.now)) result }
 {
     let options = options(alloc)?;
     let Some(matches) = matches_of(alloc, &options, words)? else {

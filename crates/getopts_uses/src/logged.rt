@@ -36,7 +36,7 @@ fn options(alloc: Global) -> Result<Options, AllocError>
 {
     let mut options = Options::new(alloc);
     options
-        .optopt("j", "jobs", "run so many jobs", "NUMBER")?
+        .optopt("j", "jobs", "run NUMBER jobs at once", "NUMBER")?
         .optflag("k", "keep-going", "go on after an error")?
         .optflagmulti("v", "verbose", "say what is run")?
         .optmulti("D", "set", "set a variable", "NAME=VALUE")?;

@@ -1,13 +1,13 @@
 //! Flags of which the last one wins: how much to print, by `-q` and `-v` in the order in which they
 //! were typed.
 
-ghost use Rattle.std.specs.Prelude.{◌≡◌, IfOk};
-ghost use Rattle.getopts.specs.Names.{texts};
+ghost use Rattle.std.specs.Prelude.{◌≡◌, map, IfOk};
 ghost use Rattle.getopts_uses.specs.Loudness.{IsLoudnessOf, after, asked_by, loudness_options};
 ghost use Rattle.getopts_uses.specs.declared.loudness.Loudness.TheVariants.{Normal};
 
 use getopts::{Fail, Options};
 use std::alloc::{AllocError, Global};
+use std::convert::AsStr;
 
 /// How much to print.
 #[derive(Clone, Copy, Debug)]
@@ -29,10 +29,10 @@ fn options(alloc: Global) -> Result<Options, AllocError>
     Ok(options)
 }
 
-/// How much output a command line asks for: the last of `-q` and `-v` wins. In `-qv`, both have the
-/// same position.
-pub fn loudness_of(alloc: Global, words: &[&str]) -> Result<Loudness, Fail>
-    ensures { IsLoudnessOf (texts words.now) result }
+/// How much output a command line asks for: the last of `-q` and `-v` wins, even in `-qv`, in which
+/// both have the same position.
+pub fn loudness_of<S: AsStr>(alloc: Global, words: &[S]) -> Result<Loudness, Fail>
+    ensures { IsLoudnessOf (map S.text words.now) result }
 {
     let places = options(alloc)?.parse_in_order(alloc, words)?;
     Ok(last_of(&places))

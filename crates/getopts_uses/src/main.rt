@@ -2,12 +2,12 @@
 //!
 //! Each argument of the program is a test case: the name of a caller and the words that it parses,
 //! separated by spaces. The program prints what each caller returns. The cases are in `args`, and
-//! the expected output is in `stdout`. Some cases test what none of `getopts_vectors` can:
-//! closures, iterators, values of types, and errors in any format.
+//! the expected output is in `stdout`.
 #![tactic(auto)]
 
 mod add;
 mod asked;
+mod cases;
 mod checked;
 mod driver;
 mod flag;
@@ -18,7 +18,6 @@ mod loudness;
 mod output;
 mod peek;
 mod plugin;
-mod rows;
 mod subcommand;
 mod wrapper;
 
@@ -27,8 +26,8 @@ use std::{env, io};
 /// Prints the result of each case.
 fn main(rt: HostRuntime) -> io::Result<()> {
     let mut text = String::new(rt.alloc());
-    for row in env::args(&rt)?.skip(1) {
-        rows::push_row(rt.alloc(), &mut text, row.as_str())?;
+    for case in env::args(&rt)?.skip(1) {
+        cases::push_case(rt.alloc(), &mut text, case.as_str())?;
     }
     rt.print(text)
 }

@@ -71,7 +71,7 @@ pub fn options(alloc: Global) -> Result<Options, AllocError>
 {
     let mut options = Options::new(alloc);
     options
-        .reqopt("n", "lines", "print so many lines", "COUNT")?
+        .reqopt("n", "lines", "print COUNT lines", "COUNT")?
         .optflag("r", "reverse", "print the last line first")?
         .optmulti("e", "match", "print lines with TEXT", "TEXT")?
         .optflagopt("", "color", "colour the matches", "WHEN")?

@@ -1,0 +1,138 @@
+//! The test cases: what each caller returns for its words.
+
+ghost use Rattle.std.specs.Prelude.{IfOk, codes};
+ghost use Rattle.getopts.specs.Options.{Declares};
+
+use crate::checked::read_settings;
+use crate::flag::says_more;
+use crate::lists::{any_given, count_of, place_named};
+use crate::logged::{read_and_log, read_build};
+use crate::loudness::loudness_of;
+use crate::output::output_of;
+use crate::peek::{help_text, read_request};
+use crate::plugin::add_flag;
+use crate::subcommand::read_run;
+use crate::wrapper::handed_on;
+use crate::{add, driver, log};
+use getopts::{Matches, Options};
+use std::alloc::{AllocError, Global};
+use std::fmt::Debug;
+
+/// Appends what a call returned, and a line end.
+fn push<T: Debug + Drop, E: Debug + Drop>(
+    text: &mut String,
+    res: Result<T, E>,
+) -> Result<(), AllocError> {
+    match res {
+        Ok(value) => writeln!(text, "{value:?}"),
+        Err(error) => writeln!(text, "{error:?}"),
+    }
+}
+
+/// Appends a case and its result. The word `''` stands for the empty word.
+pub fn push_case(alloc: Global, text: &mut String, case: &str) -> Result<(), AllocError> {
+    write!(text, "{case}: ")?;
+    let mut words = Vec::new(alloc);
+    for word in case.split(' ') {
+        words.push(if word == "''" { "" } else { word })?;
+    }
+    match words.split_first() {
+        Some((caller, words)) => push_caller(alloc, text, caller, words),
+        None => Ok(()),
+    }
+}
+
+/// Appends what a caller returns for words.
+fn push_caller(
+    alloc: Global,
+    text: &mut String,
+    caller: &str,
+    words: &[&str],
+) -> Result<(), AllocError> {
+    match caller {
+        "peek" => push(text, read_request(alloc, words)),
+        "peek_help" => push(text, help_text(alloc)),
+        "logged" => push(text, read_and_log(alloc, words)),
+        "replayed" => push_replayed(alloc, text, words),
+        "checked" => push(text, read_settings(alloc, words)),
+        "loudness" => push(text, loudness_of(alloc, words)),
+        "wrapper" => push(text, handed_on(alloc, words)),
+        "command" => push(text, read_run(alloc, words)),
+        "add_help" => push(text, add::help_text(alloc)),
+        "log_help" => push(text, log::help_text(alloc)),
+        "output" => push(text, output_of(alloc, words)),
+        "driver" => push(text, driver::read_job(alloc, words)),
+        _ => push_given(alloc, text, caller, words),
+    }
+}
+
+/// Appends what the log's line for these words asks for.
+fn push_replayed(alloc: Global, text: &mut String, words: &[&str]) -> Result<(), AllocError> {
+    match read_and_log(alloc, words) {
+        Ok(logged) => push(text, read_build(alloc, &logged.line)),
+        Err(fail) => writeln!(text, "{fail:?}"),
+    }
+}
+
+/// Options for the callers that are given some.
+fn some_options(alloc: Global) -> Result<Options, AllocError>
+    ensures { IfOk result (λ options. Declares options (codes "verbose")) }
+{
+    let mut options = Options::new(alloc);
+    options.optflagmulti("v", "verbose", "say more")?;
+    options.optopt("o", "output", "set output file name", "NAME")?;
+    Ok(options)
+}
+
+/// Appends what a caller that is given options returns for words.
+fn push_given(
+    alloc: Global,
+    text: &mut String,
+    caller: &str,
+    words: &[&str],
+) -> Result<(), AllocError> {
+    let mut options = some_options(alloc)?;
+    match (caller, words) {
+        ("flag", words) => push(text, says_more(alloc, &options, words)),
+        ("plugin", [name]) => push_plugin(text, &mut options, name),
+        _ => push_asked(alloc, text, &mut options, caller, words),
+    }
+}
+
+/// Appends whether a flag of this name was added, and whether the options are unchanged.
+fn push_plugin(text: &mut String, options: &mut Options, name: &str) -> Result<(), AllocError> {
+    let before = options.clone()?;
+    let added = add_flag(options, name, "run the plugin")?;
+    let same = *options == before;
+    writeln!(text, "added {added}, as before {same}")
+}
+
+/// Appends what a caller returns for the matches of a command line that gives a plugin's flag.
+fn push_asked(
+    alloc: Global,
+    text: &mut String,
+    options: &mut Options,
+    caller: &str,
+    names: &[&str],
+) -> Result<(), AllocError> {
+    add_flag(options, "plugin", "run the plugin")?;
+    match options.parse_words(alloc, &["--plugin", "-v", "-o", "-"]) {
+        Ok(matches) => push_of_matches(text, &matches, caller, names),
+        Err(fail) => writeln!(text, "{fail:?}"),
+    }
+}
+
+/// Appends what a caller returns for matches.
+fn push_of_matches(
+    text: &mut String,
+    matches: &Matches,
+    caller: &str,
+    names: &[&str],
+) -> Result<(), AllocError> {
+    match (caller, names) {
+        ("place", [name]) => writeln!(text, "{:?}", place_named(matches, name)),
+        ("count", [name]) => writeln!(text, "{:?}", count_of(matches, name)),
+        ("any", names) => writeln!(text, "{:?}", any_given(matches, names)),
+        _ => writeln!(text, "no such caller"),
+    }
+}
