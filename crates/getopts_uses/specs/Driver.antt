@@ -1,6 +1,6 @@
 -- A compiler driver with forty options: the options, and the job that a command line describes.
-use Rattle.std.specs.Prelude.{◌≡◌, ⊤, List, [], ◌∷◌, ◌++◌, true, map, codes, length}
-use Rattle.std.specs.Prelude.{Result, Ok, Err}
+use Rattle.std.specs.Prelude.{◌≡◌, ◌==◌, ⊤, Bool, List, [], ◌∷◌, ◌++◌, true, false, map, codes}
+use Rattle.std.specs.Prelude.{length, Result, Ok, Err}
 use Rattle.std.specs.Option.{option_map}
 use Rattle.std.specs.String.{string_bytes}
 use Rattle.getopts.specs.Accessors.{first_value, first_value_or, found_of, is_present, values_of}
@@ -151,10 +151,15 @@ pub record IsJobOf (matches : Matched) (job : Job) : Type 0 where
   pub extras : AreExtrasOf matches job.extras
   pub inputs : map string_bytes job.inputs.items ≡ matches.free
 
--- This is the job for a result, or why there is none.
+-- whether matches name no input
+abbrev pub names_none : Matched → Bool
+names_none matches = length matches.free == 0
+
+-- There is none if the command line has an error or names no input.
+-- This is the job for a command line's result, or why there is none.
 abbrev pub IsJobBy : Result Matched Fault → Result Job Refusal → Type 0
 IsJobBy line (Err OutOfMemory) = ⊤
 IsJobBy line (Err (Line fail)) = Tells fail (λ fault. line ≡ Err fault)
-IsJobBy (Ok matches) (Err NoInput) = matches.free ≡ []
-IsJobBy (Ok matches) (Ok job) = IsJobOf matches job
+IsJobBy (Ok matches) (Err NoInput) = names_none matches ≡ true
+IsJobBy (Ok matches) (Ok job) = (names_none matches ≡ false) × IsJobOf matches job
 IsJobBy line result = ⊥

@@ -5,7 +5,7 @@ ghost use Rattle.std.specs.Prelude.{◌≡◌, map, IfOk, OnOk};
 ghost use Rattle.getopts.specs.Holds.{HoldDeclared};
 ghost use Rattle.getopts.specs.Options.{with_groups};
 ghost use Rattle.getopts.specs.Results.{parse_result};
-ghost use Rattle.getopts_uses.specs.Driver.{IsJobBy, IsJobOf, driver_options};
+ghost use Rattle.getopts_uses.specs.Driver.{IsJobBy, IsJobOf, driver_options, names_none};
 ghost use Rattle.getopts_uses.specs.Driver.{IsSearchOf, AreSourcesOf, AreStagesOf, AreTargetsOf, AreExtrasOf};
 ghost use Rattle.getopts_uses.specs.Driver.{search_groups, stages_groups, targets_groups, extras_groups};
 ghost use Rattle.getopts_uses.specs.declared.driver.Refusal.TheVariants.{Line, NoInput, OutOfMemory};
@@ -205,10 +205,17 @@ pub fn read_job<S: AsStr>(alloc: Global, words: &[S]) -> Result<Job, Refusal>
     ensures { IsJobBy (parse_result driver_options (map S.text words.now)) result }
 {
     let matches = options(alloc)?.parse_words(alloc, words)?;
-    if matches.free.is_empty() {
+    if names_none(&matches) {
         return Err(Refusal::NoInput);
     }
     Ok(job_of(alloc, matches)?)
+}
+
+/// Whether matches name no input.
+fn names_none(matches: &Matches) -> bool
+    ensures { result ≡ names_none matches.now }
+{
+    matches.free.is_empty()
 }
 
 /// The job that matches describe. Each helper borrows the matches, and returns a part.
