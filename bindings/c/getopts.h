@@ -16,8 +16,8 @@
  *
  * No function keeps a pointer to its arguments. Words are the strings of argv. They may contain
  * any bytes, and are returned unchanged. The strings in a table, and those passed to the usage
- * functions, must be UTF-8 with all characters below U+10FF80: the others represent the bytes of
- * words that aren't UTF-8.
+ * functions, must be UTF-8 with all characters below U+10FF80: higher characters represent the
+ * bytes of words that aren't UTF-8.
  *
  * There is no global state. Threads may share a struct getopts as long as none of them calls
  * getopts_read or getopts_delete on it.
@@ -57,8 +57,8 @@ enum {
 /* The kind of an option: whether it takes an argument, plus how often it may be given. GETOPTS_NO
  * and GETOPTS_OPTIONAL may be omitted: a kind of 0 is a plain flag. With GETOPTS_MAYBE, a short
  * option also takes the next word if that is `-` or doesn't begin with a dash: `-O f` gives O the
- * argument f. With getopt_long, only `-Of` does. A long option takes an optional
- * argument only after `=`. */
+ * argument f. With getopt_long, only `-Of` does. A long option takes an optional argument only
+ * after `=`. */
 enum getopts_kind {
     GETOPTS_NO = 0,       /* takes no argument */
     GETOPTS_YES = 1,      /* needs an argument, in the same word or the next */
@@ -79,9 +79,9 @@ struct getopts_option {
     enum getopts_kind kind;  /* such as GETOPTS_YES + GETOPTS_REQ */
 };
 
-/* How words are read. Modes can be added. getopts_new rejects a mode used as a kind, and a kind
- * used as a mode. With GETOPTS_LONG_ONLY, short options can't be combined, and take arguments as
- * long options do: write `-I dir` or `-I=dir`, and `-v -v`. `-Idir` and `-vv`, which
+/* How words are read. Modes can be added. A mode used as a kind, or a kind used as a mode, is an
+ * error: see getopts_new. With GETOPTS_LONG_ONLY, short options can't be combined, and take
+ * arguments as long options do: write `-I dir` or `-I=dir`, and `-v -v`. `-Idir` and `-vv`, which
  * getopt_long_only accepts, are rejected. */
 enum getopts_modes {
     GETOPTS_ORDINARY = 0,    /* no mode */
@@ -155,10 +155,9 @@ const char *const *getopts_values(const struct getopts *options, const char *nam
  * PREFIX/share/doc/getopts/order.c is a complete program. */
 int getopts_nth(const struct getopts *options, size_t nth, const char **value);
 
-/* Parses the value of the option's nth occurrence as a decimal number. If it fits in a long,
- * stores it in *value and returns true; otherwise stores nothing and returns false. If there is no
- * value, or no option of that name (see getopts_defined), leaves the default in *value and returns
- * true. */
+/* If the value of the option's nth occurrence is a decimal number that fits in a long, stores the
+ * number in *value and returns true. If there is no value, or no option of that name (see
+ * getopts_defined), keeps *value and returns true. Otherwise keeps *value and returns false. */
 bool getopts_long_value(const struct getopts *options, const char *name, size_t nth, long *value);
 
 /* The number of free words, which are the positional arguments. */

@@ -10,9 +10,9 @@ use std::fmt;
 
 /// The options that a program accepts, and how to parse them.
 ///
-/// Methods that declare options can be chained. Their first arguments are a short name of one
-/// character and a long name; either may be empty. In the help text, `desc` describes the option,
-/// and `hint` names its argument, as `FILE` does in `-o FILE`.
+/// Methods that declare options can be chained. Their first arguments are a short name of one ASCII
+/// character and a long name; one of them may be empty. In the help text, `desc` describes the
+/// option, and `hint` names its argument, as `FILE` does in `-o FILE`.
 ///
 /// ```
 /// let mut options = getopts::Options::new();
@@ -27,7 +27,7 @@ use std::fmt;
 pub struct Options {
     proved: proved::Options,
     /// The options with two empty names, which the proved library doesn't allow: each with its
-    /// index among all options, its hint and description, and its kinds.
+    /// index among all options, hint and description.
     nameless: Vec<(usize, [String; 2], HasArg, Occur)>,
 }
 
@@ -61,7 +61,7 @@ impl fmt::Debug for Options {
 /// Fewer than `FEW` items of at most `SMALL` bytes stay on the stack.
 const FEW: usize = 16;
 const SMALL: usize = 64;
-/// The largest initial capacity of a list: an iterator may give fewer items than it promises.
+/// Limits a list's initial capacity: an iterator may yield fewer items than `size_hint` promises.
 const FIRST_ROOM: usize = 1024;
 
 /// Calls `ask` with the words as texts. If a word isn't text, calls `otherwise` with it and all
@@ -80,7 +80,7 @@ pub(crate) fn read_words<A: AsRef<OsStr>, T>(
     }
 }
 
-/// Reads words without a `Vec`. Larger items would take too much stack.
+/// Reads words without a `Vec`. Items over `SMALL` bytes would take too much stack.
 fn read_few<A: AsRef<OsStr>, T>(
     mut words: impl Iterator<Item = A>,
     text_of: impl Fn(&OsStr) -> Option<&str>,
@@ -330,7 +330,7 @@ impl Options {
     /// ```
     ///
     /// For a program's own arguments, pass `std::env::args_os().skip(1)`; `std::env::args()` panics
-    /// if one isn't UTF-8. The iterator is exhausted before the first item is parsed.
+    /// if an argument isn't UTF-8. The iterator is exhausted before the first item is parsed.
     ///
     /// # Errors
     /// See [`Fail`].
@@ -384,8 +384,8 @@ impl Options {
     /// Parses a command line like `parse`, and returns its options in order: the main name of each
     /// (the long name or, if there is none, the short one) and its value. Not in the crate getopts.
     ///
-    /// Use it if the order of different options matters. Options in one word, such as `-vq`, have
-    /// the same position.
+    /// Use it if the order of different options matters: `opt_positions` can't order options in one
+    /// word, such as `-vq`.
     ///
     /// ```
     /// let mut options = getopts::Options::new();
