@@ -19,7 +19,7 @@ def words_of(line):
 
 def test_calls_of_the_library(vectors, failing_malloc):
     """All calls of the library: after a failure the same row is answered again, so what was borrowed is unchanged."""
-    rows = VECTORS / "data/refused.rows"
+    rows = VECTORS / "data/allocations.rows"
     done = subprocess.run([vectors, rows], stdout=subprocess.PIPE, check=True)
     assert fail_each_allocation(failing_malloc, [vectors, rows], (done.stdout, 3), marks=True) > 600
 

@@ -14,7 +14,7 @@ from conftest import LINES, ROOT, ROWS, VECTORS, answer, need, run
 from targets import REGISTRY, TARGETS, UNWINDS, cargo, cargo_for, commit_repository, copy_folders, offline, runner
 
 RUST = ROOT / "bindings/rust"
-TWIN = ROOT / "tests/differential/twin"
+REFERENCE = ROOT / "tests/differential/reference"
 ERASED = {"getopts": RUST / "src/proved", "getopts_bytes": RUST / "src/bytes",
           "getopts_shell": ROOT / "bindings/shell/src/program"}
 # One worker runs all tests that use cargo.
@@ -59,7 +59,7 @@ def reader(tmp_path):
     return tmp_path / "bindings/rust/erase.py", source
 
 
-PLANTS = sorted(path.stem for path in (ROOT / "tests/eraser").glob("*.plant"))
+REJECTED = sorted(path.stem for path in (ROOT / "tests/eraser").glob("*.rejected"))
 
 
 def compile_over_types(tmp_path, proved=ERASED["getopts"], program=ERASED["getopts_shell"]):
@@ -85,28 +85,28 @@ def test_erased_sources_compile_over_types(tmp_path):
     assert "no method named `to_string`" in compile_over_types(tmp_path / "edited", program=program)
 
 
-def planted(plant):
-    """The text of a planted source, and the error that its last line expects."""
-    text = (ROOT / f"tests/eraser/{plant}.plant").read_text()
+def source_and_error(name):
+    """The text of a source to reject, and the error that its last line expects."""
+    text = (ROOT / f"tests/eraser/{name}.rejected").read_text()
     return text, text.splitlines()[-1].removeprefix("// ")
 
 
-@pytest.mark.parametrize("plant", [plant for plant in PLANTS if plant.endswith("by_type")])
-def test_types_reject_planted_sources(plant, reader, tmp_path):
+@pytest.mark.parametrize("name", [name for name in REJECTED if name.endswith("by_type")])
+def test_types_reject_sources(name, reader, tmp_path):
     """Source that would allocate in Rust without reporting a failure, by a name that it also defines."""
     need("rustc", "rustfmt")
-    (eraser, source), (text, error) = reader, planted(plant)
+    (eraser, source), (text, error) = reader, source_and_error(name)
     (source / "lib.rt").write_text(text)
     run(sys.executable, eraser)
     said = compile_over_types(tmp_path, tmp_path / "bindings/rust/src/proved")
     assert all(word in said for word in error.split(" ", 1)) and len(re.findall("^error", said, re.M)) == 2
 
 
-@pytest.mark.parametrize("plant", [plant for plant in PLANTS if not plant.endswith("by_type")])
-def test_eraser_rejects_planted_sources(plant, reader):
+@pytest.mark.parametrize("name", [name for name in REJECTED if not name.endswith("by_type")])
+def test_eraser_rejects_sources(name, reader):
     """Source that could mean something else once erased."""
-    (eraser, source), (text, error) = reader, planted(plant)
-    file = next((name for name in ("laws", "lib") if plant.endswith(name)), "names")
+    (eraser, source), (text, error) = reader, source_and_error(name)
+    file = next((part for part in ("laws", "lib") if name.endswith(part)), "names")
     (source / "lib.rt").write_text(f"mod {file};\n")
     (source / f"{file}.rt").write_text(text)
     said = run(sys.executable, eraser, status=1)[1]
@@ -210,33 +210,33 @@ def test_example_matches_getopts_show(line, example, show):
 
 # ---- compared with the crate getopts 0.2.24
 
-def twin_over(room, over, edit=None):
+def reference_over(room, over, edit=None):
     """A copy of tests/differential's program that uses a copy of a crate (ours: through its package `getopts`)."""
     ignored, place = shutil.ignore_patterns("target", "Cargo.lock"), "../crate/getopts" if over == RUST else "../crate"
-    for source, to in ((TWIN, "twin"), (over, "crate")):
+    for source, to in ((REFERENCE, "reference"), (over, "crate")):
         shutil.copytree(source, room / to, ignore=ignored)
     if edit:
         edited(room / "crate/src" / edit[0], *edit[1:])
-    with open(room / "twin/Cargo.toml", "a") as file:
+    with open(room / "reference/Cargo.toml", "a") as file:
         file.write(f'\n[patch.crates-io]\ngetopts = {{ path = "{place}" }}\n')
-    return room / "twin"
+    return room / "reference"
 
 
 @pytest.fixture(scope="module")
-def twin(tmp_path_factory):
-    """twin(CRATE, FLAG..): the program of tests/differential, built with the crate in a folder."""
+def reference(tmp_path_factory):
+    """reference(CRATE, FLAG..): the program of tests/differential, built with the crate in a folder."""
     @functools.cache
-    def twin(over, *flags, edit=None):
-        folder = twin_over(tmp_path_factory.mktemp("twin"), over, edit)
+    def reference(over, *flags, edit=None):
+        folder = reference_over(tmp_path_factory.mktemp("reference"), over, edit)
         cargo(folder, "build", "--release", *flags)
-        return folder / "target/release/twin"
+        return folder / "target/release/reference"
 
-    return twin
+    return reference
 
 
 @pytest.fixture(scope="module")
-def ours(twin):
-    return twin(RUST, "--features", "canonical")
+def ours(reference):
+    return reference(RUST, "--features", "canonical")
 
 
 @pytest.mark.parametrize("rows", ROWS, ids=lambda path: path.stem)
@@ -244,40 +244,40 @@ def test_rows(ours, rows):
     assert ", 0 differ" in run(ours, "check", rows)[0]
 
 
-def test_recorded_answers(twin, crate):
+def test_recorded_answers(reference, crate):
     """The Rust crate gives the answers that were recorded from it."""
-    assert ", 0 differ" in run(twin(crate), "check", VECTORS / "data/recorded.rows")[0]
+    assert ", 0 differ" in run(reference(crate), "check", VECTORS / "data/recorded.rows")[0]
 
 
-def random_rows(twin, generator, seed, count):
-    """This many cases of a seed, with a twin's answers."""
-    return run(twin, "answer", input=os.fsencode(run(generator, "generate", seed, count)[0]))[0]
+def random_rows(reference, generator, seed, count):
+    """This many cases of a seed, with the answers of a reference program."""
+    return run(reference, "answer", input=os.fsencode(run(generator, "generate", seed, count)[0]))[0]
 
 
-def test_library(vectors, twin, crate, cases, tmp_path):
+def test_library(vectors, reference, crate, cases, tmp_path):
     """The proved library gives the Rust crate's answers to random cases."""
-    (tmp_path / "random.rows").write_bytes(os.fsencode(random_rows(twin(crate), twin(crate), 5, cases(20_000))))
+    (tmp_path / "random.rows").write_bytes(os.fsencode(random_rows(reference(crate), reference(crate), 5, cases(20_000))))
     assert run(vectors, "random.rows", cwd=tmp_path)[0].endswith(" 0 differ\n")
 
 
 def differing(ours, theirs, seed, count):
-    """The first of this many cases of a seed to which the two twins give different answers."""
-    answers = (random_rows(twin, theirs, seed, count).split("\ncase\t") for twin in (ours, theirs))
+    """The first of this many cases of a seed to which the two programs give different answers."""
+    answers = (random_rows(reference, theirs, seed, count).split("\ncase\t") for reference in (ours, theirs))
     return next((pair for pair in itertools.zip_longest(*answers) if pair[0] != pair[1]), None)
 
 
 @pytest.mark.parametrize("flags, seed", [(("--features", "canonical"), 1), (("--no-default-features",), 3)])
-def test_cases(twin, crate, cases, flags, seed):
+def test_cases(reference, crate, cases, flags, seed):
     without = flags if "--no-default-features" in flags else ()
-    ours, theirs = twin(RUST, *flags), twin(crate, *without)
+    ours, theirs = reference(RUST, *flags), reference(crate, *without)
     for of in (seed, seed + 1):
         assert differing(ours, theirs, of, cases(20_000)) is None
     assert run(ours, "panics") == run(theirs, "panics")
 
 
-def test_difference_is_found(twin, crate):
-    changed = twin(RUST, edit=("matches.rs", "first_value_or(def)", 'first_value_or("")'))
-    assert differing(changed, twin(crate), 1, 2000)
+def test_difference_is_found(reference, crate):
+    changed = reference(RUST, edit=("matches.rs", "first_value_or(def)", 'first_value_or("")'))
+    assert differing(changed, reference(crate), 1, 2000)
 
 
 # ---- other targets
@@ -286,23 +286,23 @@ def test_difference_is_found(twin, crate):
 @pytest.mark.parametrize("target", TARGETS)
 def test_target(target, tmp_path, request, ours, example):
     """With Debian's rustc 1.63: getopts' public tests, the rows, the example, arguments of any bytes, and no `std`."""
-    twin = twin_over(tmp_path, RUST)
+    reference = reference_over(tmp_path, RUST)
     for file, to in (("examples/show.rs", "src/bin"), ("tests/os.rs", "tests")):
-        (twin / to).mkdir()
-        shutil.copy(RUST / file, twin / to)
+        (reference / to).mkdir()
+        shutil.copy(RUST / file, reference / to)
     panics = [] if target in UNWINDS else ["panics", "test_long_name_too_short", "test_undefined_opt_present"]
     left_out = [word for name in panics for word in ("--skip", name)]
     crate = request.config.getoption("--getopts")
     if crate and (Path(crate) / "tests/public.rs").exists():
-        shutil.copy(Path(crate) / "tests/public.rs", twin / "tests")
-    cargo_for(target, twin, "build", "--release", "--features", "canonical")
-    cargo_for(target, twin, "test", "--release", "--features", "canonical", "--test", "*", "--", *left_out)
+        shutil.copy(Path(crate) / "tests/public.rs", reference / "tests")
+    cargo_for(target, reference, "build", "--release", "--features", "canonical")
+    cargo_for(target, reference, "test", "--release", "--features", "canonical", "--test", "*", "--", *left_out)
     cargo_for(target, tmp_path / "crate", "build", "--no-default-features", "--features", "proved")
-    by, built = runner(target, tmp_path), twin / "target" / target / "release"
+    by, built = runner(target, tmp_path), reference / "target" / target / "release"
     program = {path.stem: path for path in built.iterdir() if path.suffix in ("", ".exe", ".wasm") and path.is_file()}
     for rows in ROWS:
         passed_over = [] if target in UNWINDS else ["lawful"]
-        assert ", 0 differ" in run(*by, program["twin"], "check", rows, *passed_over)[0]
+        assert ", 0 differ" in run(*by, program["reference"], "check", rows, *passed_over)[0]
     words = LINES[1].split()
     said, status = answer(example, *words)
     there = run(*by, program["show"], *words)[0].replace("\r", "")

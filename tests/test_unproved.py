@@ -34,13 +34,12 @@ def test_writers_of_getopts_show():
 def test_rows(tmp_path):
     """All rows except the large ones, which would take minutes unproved."""
     (tmp_path / "beyond.rows").write_bytes(written(all_rows()))
-    files = tmp_path / "beyond.rows", VECTORS / "data/refused.rows", VECTORS / "data/calls.rows"
+    files = tmp_path / "beyond.rows", VECTORS / "data/allocations.rows", VECTORS / "data/calls.rows"
     assert rt_try("getopts_vectors", "--", *files)[0].count(" 0 differ\n") == len(files)
 
 
 def test_cases_without_zero_width_character(tmp_path):
     """If no character takes no columns, cases with a `{Z}` are omitted, and the others are run."""
-    need("rt")
     copy = copy_tree(tmp_path / "copy")
     source = copy / "crates/getopts_vectors/src/short.rt"
     text = source.read_text(encoding="utf-8")

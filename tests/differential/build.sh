@@ -1,7 +1,7 @@
 #!/usr/bin/env bash
 # Builds a package that uses the crate getopts, in a folder outside the repository.
 # usage: build.sh PACKAGE OUT [GETOPTS]
-#   PACKAGE   tests/differential/twin or bench/peers
+#   PACKAGE   tests/differential/reference or bench/peers
 #   OUT       the folder to build in; later builds reuse what is there
 #   GETOPTS   a folder with the crate; without it, cargo downloads 0.2.24
 #

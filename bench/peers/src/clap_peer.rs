@@ -5,7 +5,8 @@ use clap::{Arg, ArgAction, ArgMatches, Command};
 
 const FREE: &str = "free";
 
-/// Declares the options, parses the words, and adds up all counts and the lengths of values and free words.
+/// Declares the options, parses the words, and adds up all counts and the lengths of values and
+/// free words.
 pub fn iteration(input: &Input, args: Args) -> usize {
     let matches = command(&input.options).get_matches_from(args);
     let mut sum = lengths(&matches, FREE).sum::<usize>();

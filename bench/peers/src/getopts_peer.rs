@@ -131,7 +131,8 @@ mod over_ours {
         sum
     }
 
-    /// Each iteration declares the options, parses the words as `OsString`s, and takes counts and values.
+    /// Each iteration declares the options, parses the words as `OsString`s, and takes counts and
+    /// values.
     pub fn os(input: &Input, args: &mut dyn FnMut() -> Args, times: usize) -> usize {
         iterations(times, || {
             let matches = declared(&input.options).parse_os(args()).expect("the line is valid");

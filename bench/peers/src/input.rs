@@ -88,7 +88,8 @@ impl Input {
         Some(input)
     }
 
-    /// Finds the options that occur more than once, assuming that no option follows another in a cluster.
+    /// Finds the options that occur more than once, assuming that no option follows another in a
+    /// cluster.
     fn count(&mut self) {
         let mut counts = HashMap::new();
         for word in &self.words {
@@ -111,8 +112,8 @@ impl Input {
     }
 }
 
-/// Words as a program hands them over: `std::env::args_os().skip(1)`, which is an iterator over a list, too. A plain
-/// `Vec` would let its list be reused.
+/// Words as a program hands them over: `std::env::args_os().skip(1)`, which is an iterator over a
+/// list, too. A plain `Vec` would let its list be reused.
 #[derive(Clone)]
 pub struct Args(std::vec::IntoIter<OsString>);
 

@@ -1,7 +1,7 @@
 //! The crate `lexopt`, which returns one item at a time.
 //!
-//! `bench.py` writes `lines.rs`: the options of each line, each with a field name, the field's type, and the pattern
-//! that users of `lexopt` would write.
+//! `bench.py` writes `lines.rs`: the options of each line, each with a field name, the field's
+//! type, and the pattern that users of `lexopt` would write.
 
 use crate::input::Args;
 use lexopt::Arg::{Long, Short, Value};
@@ -11,7 +11,8 @@ use std::ffi::OsString;
 /// Parses words, and adds up all counts and the lengths of values and free words.
 pub type Iteration = fn(Args) -> usize;
 
-/// The iteration for a line, by its name: a struct with a field for each option, and a `match` on each item.
+/// The iteration for a line, by its name: a struct with a field for each option, and a `match` on
+/// each item.
 macro_rules! lines {
     ($($line:literal { $($field:ident: $held:ty = $option:pat,)* })*) => {
         pub fn iteration_of(line: &str) -> Option<Iteration> {

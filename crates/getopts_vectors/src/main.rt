@@ -4,7 +4,7 @@
 //! The expected answers come from elsewhere. Those of `data/rules.rows` and `data/large.rows` are
 //! written by hand, from the rules of the Rust crate and from its tests. Those of
 //! `data/recorded.rows` were written by the Rust crate itself (`tests/differential`).
-//! `data/refused.rows` is for runs in which allocations fail, and `data/calls.rows` for what
+//! `data/allocations.rows` is for runs in which allocations fail, and `data/calls.rows` for what
 //! depends on the caller: its iterators, closures and types, and errors that no words cause.
 //!
 //! # Rows

@@ -14,11 +14,11 @@ mod texts;
 use std::io::{BufRead, BufWriter, Write};
 use std::process::ExitCode;
 
-const USE: &str = "twin generate SEED COUNT     prints the first COUNT cases of a seed
-twin answer                  prints the cases on its standard input as rows with answers
-twin check ROWS [WORD..]     answers rows and compares stored answers; status 1 if one differs. Skips lines that begin
-                             with one of these words
-twin panics                  prints the messages of panics";
+const USE: &str = "reference generate SEED COUNT     prints the first COUNT cases of a seed
+reference answer                  prints the cases on its standard input as rows with answers
+reference check ROWS [WORD..]     answers rows and compares stored answers; status 1 if one differs. Skips lines that begin
+                                  with one of these words
+reference panics                  prints the messages of panics";
 
 fn number(word: Option<&String>) -> u64 {
     word.and_then(|word| word.parse().ok()).unwrap_or_else(|| panic!("{USE}"))
