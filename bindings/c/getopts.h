@@ -100,8 +100,8 @@ struct getopts;
  * been read.
  *
  * If the table is NULL, or a row or the modes are invalid, getopts_message says what is wrong,
- * such as "table[2]: short name 'ab' has 2 bytes". Then getopts_read and getopts_canonical return
- * GETOPTS_BAD, and the two usage functions return NULL. */
+ * such as "table[2]: short name 'ab' isn't one ASCII character". Then getopts_read and
+ * getopts_canonical return GETOPTS_BAD, and the two usage functions return NULL. */
 struct getopts *getopts_new(const struct getopts_option *table, enum getopts_modes modes);
 
 /* Reads `count` words, such as argc - 1 and argv + 1. Returns GETOPTS_OK or an error:

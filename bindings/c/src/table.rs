@@ -34,7 +34,7 @@ pub fn declare<'c>(
         groups += 1;
     }
     if modes & !(STOP | LONG_ONLY | KEEP_ORDER) != 0 {
-        return Ok((0, message_of(&[b"invalid modes: ", &digits(modes as usize)?])?));
+        return Ok((0, message_of(&[b"invalid modes ", &digits(modes as usize)?, MODES])?));
     }
     if modes & STOP != 0 {
         options.parsing_style(ParsingStyle::StopAtFirstFree);
@@ -62,25 +62,30 @@ fn declare_row(options: &mut Options, place: usize, row: &Row<'_>) -> AllocResul
     }
 }
 
+/// What modes consist of.
+const MODES: &[u8] = b": combine GETOPTS_STOP, LONG_ONLY and KEEP_ORDER, or write GETOPTS_ORDINARY";
+
 /// What a kind consists of.
 const KINDS: &[u8] =
     b": combine one of GETOPTS_NO, YES and MAYBE with one of GETOPTS_OPTIONAL, REQ and MULTI";
+
+/// What is wrong with bytes that aren't `text`.
+const NO_TEXT: &[u8] = b" must be UTF-8 with all characters below U+10FF80";
 
 /// What is wrong with a row: the first mistake, in the order of the cases below.
 #[cold]
 fn wrong_row(place: usize, row: &Row<'_>) -> AllocResult<Wrong> {
     let ([short, long, ..], bad) =
         (row.texts, row.texts.iter().position(|bytes| text(bytes).is_none()));
-    let (kind, len) = (digits(row.kind as usize)?, digits(short.len())?);
-    let parts: [&[u8]; 4] = match bad {
-        _ if short.len() > 1 => [b"short name '", shown(short), b"' has ", &len],
-        _ if long.len() == 1 => [b"long name '", long, b"' has 1 byte", b""],
-        _ if short.len() + long.len() == 0 => [b"both names are empty", b"", b"", b""],
-        _ if kind_of(row.kind).is_none() => [b"invalid kind ", &kind, KINDS, b""],
-        nth => [b"the ", TEXTS[nth.unwrap_or(0)].as_bytes(), b" isn't UTF-8 below U+10FF80", b""],
+    let kind = digits(row.kind as usize)?;
+    let parts: [&[u8]; 3] = match bad {
+        _ if short.len() > 1 => [b"short name '", shown(short), b"' isn't one ASCII character"],
+        _ if long.len() == 1 => [b"long name '", long, b"' has 1 byte: write it as the short name"],
+        _ if short.len() + long.len() == 0 => [b"both names are empty", b"", b""],
+        _ if kind_of(row.kind).is_none() => [b"invalid kind ", &kind, KINDS],
+        nth => [b"the ", TEXTS[nth.unwrap_or(0)].as_bytes(), NO_TEXT],
     };
-    let (place, end): (_, &[u8]) = (digits(place)?, if short.len() > 1 { b" bytes" } else { b"" });
-    message_of(&[b"table[", &place, b"]: ", parts[0], parts[1], parts[2], parts[3], end])
+    message_of(&[b"table[", &digits(place)?, b"]: ", parts[0], parts[1], parts[2]])
 }
 
 /// The part of a name that a message shows: all, or its first bytes up to the end of a character.

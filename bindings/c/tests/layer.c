@@ -10,6 +10,9 @@
 #define LEN_37 "1234567890123456789012345678901234567"
 #define LEN_38 LEN_37 "8"
 #define KINDS ": combine one of GETOPTS_NO, YES and MAYBE with one of GETOPTS_OPTIONAL, REQ and MULTI"
+#define MODES ": combine GETOPTS_STOP, LONG_ONLY and KEEP_ORDER, or write GETOPTS_ORDINARY"
+#define NOT_SHORT "' isn't one ASCII character"
+#define NO_TEXT " must be UTF-8 with all characters below U+10FF80"
 
 _Static_assert(sizeof(enum getopts_kind) == 4 && sizeof(enum getopts_modes) == 4, "as the library expects");
 
@@ -28,9 +31,9 @@ static void wrong_rows_are_reported(void) {
         struct getopts_option row;
         const char *message;
     } rows[] = {
-        { { "ab", NULL, NULL, NULL, GETOPTS_NO }, "table[1]: short name 'ab' has 2 bytes" },
-        { { "ab", NULL, NULL, "\xff", GETOPTS_NO }, "table[1]: short name 'ab' has 2 bytes" },
-        { { "a", "b", NULL, NULL, GETOPTS_NO }, "table[1]: long name 'b' has 1 byte" },
+        { { "ab", NULL, NULL, NULL, GETOPTS_NO }, "table[1]: short name 'ab" NOT_SHORT },
+        { { "ab", NULL, NULL, "\xff", GETOPTS_NO }, "table[1]: short name 'ab" NOT_SHORT },
+        { { "a", "b", NULL, NULL, GETOPTS_NO }, "table[1]: long name 'b' has 1 byte: write it as the short name" },
         { { "", "", NULL, NULL, GETOPTS_NO }, "table[1]: both names are empty" },
         { { "", NULL, NULL, NULL, GETOPTS_NO }, "table[1]: both names are empty" },
         { { "a", NULL, NULL, NULL, (enum getopts_kind)7 }, "table[1]: invalid kind 7" KINDS },
@@ -39,21 +42,21 @@ static void wrong_rows_are_reported(void) {
         { { "a", NULL, NULL, NULL, (enum getopts_kind)GETOPTS_LONG_ONLY }, "table[1]: invalid kind 32" KINDS },
         { { "a", NULL, NULL, NULL, (enum getopts_kind)-1 }, "table[1]: invalid kind 4294967295" KINDS },
         /* At most 40 bytes of a name are shown, without cutting a character. */
-        { { LEN_38 "\u00e9", NULL, NULL, NULL, GETOPTS_NO }, "table[1]: short name '" LEN_38 "\u00e9' has 40 bytes" },
-        { { LEN_38 "\u00e9x", NULL, NULL, NULL, GETOPTS_NO }, "table[1]: short name '" LEN_38 "\u00e9' has 41 bytes" },
-        { { LEN_38 "x\u00e9", NULL, NULL, NULL, GETOPTS_NO }, "table[1]: short name '" LEN_38 "x' has 41 bytes" },
-        { { LEN_38 "\u65e5", NULL, NULL, NULL, GETOPTS_NO }, "table[1]: short name '" LEN_38 "' has 41 bytes" },
-        { { LEN_38 "x\u65e5", NULL, NULL, NULL, GETOPTS_NO }, "table[1]: short name '" LEN_38 "x' has 42 bytes" },
-        { { LEN_38 "\U0001f600", NULL, NULL, NULL, GETOPTS_NO }, "table[1]: short name '" LEN_38 "' has 42 bytes" },
-        { { LEN_37 "\U0001f600", NULL, NULL, NULL, GETOPTS_NO }, "table[1]: short name '" LEN_37 "' has 41 bytes" },
-        { { LEN_38 "xxyy", NULL, NULL, NULL, GETOPTS_NO }, "table[1]: short name '" LEN_38 "xx' has 42 bytes" },
-        { { "\xc3\xa9", NULL, NULL, NULL, GETOPTS_NO }, "table[1]: short name '\u00e9' has 2 bytes" },
-        { { "\xff", NULL, NULL, NULL, GETOPTS_NO }, "table[1]: the short name isn't UTF-8 below U+10FF80" },
-        { { "a", "\xff\xff", NULL, NULL, GETOPTS_NO }, "table[1]: the long name isn't UTF-8 below U+10FF80" },
-        { { "a", "ab", "\xff", NULL, GETOPTS_YES }, "table[1]: the hint isn't UTF-8 below U+10FF80" },
-        { { "a", "ab", NULL, "\xc3", GETOPTS_NO }, "table[1]: the description isn't UTF-8 below U+10FF80" },
-        { { "a", "\xf4\x8f\xbe\x80", NULL, NULL, GETOPTS_NO }, "table[1]: the long name isn't UTF-8 below U+10FF80" },
-        { { "a", "ab", NULL, "\xf4\x8f\xbf\xbf", GETOPTS_NO }, "table[1]: the description isn't UTF-8 below U+10FF80" },
+        { { LEN_38 "\u00e9", NULL, NULL, NULL, GETOPTS_NO }, "table[1]: short name '" LEN_38 "\u00e9" NOT_SHORT },
+        { { LEN_38 "\u00e9x", NULL, NULL, NULL, GETOPTS_NO }, "table[1]: short name '" LEN_38 "\u00e9" NOT_SHORT },
+        { { LEN_38 "x\u00e9", NULL, NULL, NULL, GETOPTS_NO }, "table[1]: short name '" LEN_38 "x" NOT_SHORT },
+        { { LEN_38 "\u65e5", NULL, NULL, NULL, GETOPTS_NO }, "table[1]: short name '" LEN_38 "" NOT_SHORT },
+        { { LEN_38 "x\u65e5", NULL, NULL, NULL, GETOPTS_NO }, "table[1]: short name '" LEN_38 "x" NOT_SHORT },
+        { { LEN_38 "\U0001f600", NULL, NULL, NULL, GETOPTS_NO }, "table[1]: short name '" LEN_38 "" NOT_SHORT },
+        { { LEN_37 "\U0001f600", NULL, NULL, NULL, GETOPTS_NO }, "table[1]: short name '" LEN_37 "" NOT_SHORT },
+        { { LEN_38 "xxyy", NULL, NULL, NULL, GETOPTS_NO }, "table[1]: short name '" LEN_38 "xx" NOT_SHORT },
+        { { "\xc3\xa9", NULL, NULL, NULL, GETOPTS_NO }, "table[1]: short name '\u00e9" NOT_SHORT },
+        { { "\xff", NULL, NULL, NULL, GETOPTS_NO }, "table[1]: the short name" NO_TEXT },
+        { { "a", "\xff\xff", NULL, NULL, GETOPTS_NO }, "table[1]: the long name" NO_TEXT },
+        { { "a", "ab", "\xff", NULL, GETOPTS_YES }, "table[1]: the hint" NO_TEXT },
+        { { "a", "ab", NULL, "\xc3", GETOPTS_NO }, "table[1]: the description" NO_TEXT },
+        { { "a", "\xf4\x8f\xbe\x80", NULL, NULL, GETOPTS_NO }, "table[1]: the long name" NO_TEXT },
+        { { "a", "ab", NULL, "\xf4\x8f\xbf\xbf", GETOPTS_NO }, "table[1]: the description" NO_TEXT },
         { { "a", "\xf4\x8f\xbd\xbf", "\u00e9", NULL, GETOPTS_YES }, "" },
         { { "a", "\u00e9", "\u00e9", "\u00e9", GETOPTS_MAYBE + GETOPTS_MULTI }, "" },
         { { "a", NULL, NULL, NULL, (enum getopts_kind)0 }, "" },
@@ -84,8 +87,8 @@ static void modes_are_checked(void) {
         int modes;
         const char *message;
     } rows[] = {
-        { 4, "invalid modes: 4" }, { GETOPTS_STOP + GETOPTS_YES, "invalid modes: 17" },
-        { GETOPTS_LONG_ONLY + GETOPTS_MULTI, "invalid modes: 40" }, { 128, "invalid modes: 128" },
+        { 4, "invalid modes 4" MODES }, { GETOPTS_STOP + GETOPTS_YES, "invalid modes 17" MODES },
+        { GETOPTS_LONG_ONLY + GETOPTS_MULTI, "invalid modes 40" MODES }, { 128, "invalid modes 128" MODES },
         { GETOPTS_ORDINARY, "" }, { GETOPTS_STOP + GETOPTS_LONG_ONLY + GETOPTS_KEEP_ORDER, "" },
     };
     for (size_t nth = 0; nth < sizeof rows / sizeof *rows; nth++) {
