@@ -97,7 +97,7 @@ FIGURES = [
     ("README.md", r"toolchain \(([\w-]+), logic `(\w+)`", toolchain),
     ("README.md", r"`\(cd crates/getopts && rt lib\)` .* \| ([^|]*) \| ([^|]*) \|", lambda: minutes("rt lib")),
     ("README.md", r"`bash test.sh` .* \| ([^|]*) \| ([^|]*) \|", lambda: minutes("bash test.sh")),
-    ("README.md", r"takes (\d+) % of the instructions of the crate .* (\d+) % on .* (\d+) %\s",
+    ("README.md", r"takes (\d+) % of that crate's instructions [^%]* (\d+) % on [^%]* (\d+) %\s",
      lambda: [share("copied-small"), share("copied-long"), share("files")]),
     *((f"bindings/{folder}/README.md", r"Rust ([\d.]+) or later",
        lambda folder=folder: re.findall(r'rust-version = "(.*)"', read(f"bindings/{folder}/Cargo.toml")))
