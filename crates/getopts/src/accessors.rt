@@ -38,7 +38,6 @@ impl Matches {
         ensures place { result ≡ place_of self.now.groups name.now }
         ensures lawful { AreHeldLawfully self.now.groups }
     {
-        self.held.are_lawful();
         self.held.place_of(name)
     }
 
@@ -52,13 +51,6 @@ impl Matches {
         ensures { result ≡ found_in self.now.groups place }
     {
         self.held.occurrences_at(place)
-    }
-
-    /// A lemma for proofs, which compiles to nothing: the groups in the matches have valid names.
-    pub(crate) fn are_held_lawfully(&self)
-        ensures { AreHeldLawfully self.now.groups }
-    {
-        self.held.are_lawful();
     }
 
     /// Whether an option was given. An undefined option counts as not given.

@@ -12,7 +12,7 @@ ghost use Rattle.getopts.specs.Held.Groups.{signature_view, names_view, names_in
 ghost use Rattle.getopts.specs.Held.Groups.{AreLawfulSignatures, HasKeys, AreEndsOf, StandAt, two_at, ends_of};
 ghost use Rattle.getopts.specs.Held.Names.{names_at, HaveNamesOfBytes};
 
-use crate::names::{NO_BYTE, Names, is_of_bytes, key_of, short_byte};
+use crate::names::{NO_BYTE, Names, key_of, short_byte};
 use std::alloc::{AllocError, Global};
 use std::marker::Model;
 
@@ -266,7 +266,7 @@ impl Signatures {
         ensures lawful { AreLawfulSignatures self.now }
         ensures bytes { HaveNamesOfBytes (names_in self.now) }
     {
-        is_of_bytes(&self.text);
+        let _text = &self.text;
     }
 
     /// The record of the group at `place`.
@@ -363,7 +363,6 @@ impl Signatures {
             self.records.reserve(1)?;
             self.text.reserve(bytes)?;
         }
-        is_of_bytes(short);
         let names = push_two(&mut self.text, short, long);
         let key = key_of(Names { short, long }.main().as_bytes());
         self.records.push_reserved(SignatureRecord {

@@ -103,7 +103,7 @@ pub fn held_names_resolve(matches: &Matches)
     ensures one_byte { OneByteIsShort (held_names matches.now.groups) }
     ensures empty { EmptyResolvesNot (held_names matches.now.groups) }
 {
-    matches.are_held_lawfully();
+    let _place = matches.opt_place("");
 }
 
 /// Equal input gives equal results: for given options and words, there is one result of `parse` and

@@ -178,16 +178,10 @@ impl MatchedGroups {
     /// The place of the group that a name resolves to.
     #[inline]
     pub(crate) fn place_of(&self, name: &str) -> Option<usize>
-        ensures { result ≡ place_of self.now name.now }
+        ensures place { result ≡ place_of self.now name.now }
+        ensures lawful { AreHeldLawfully self.now }
     {
         self.table.resolve(&self.signatures, name)
-    }
-
-    /// A lemma for proofs, which compiles to nothing: the groups have valid names.
-    pub(crate) fn are_lawful(&self)
-        ensures { AreHeldLawfully self.now }
-    {
-        self.signatures.are_lawful();
     }
 
     /// The occurrences of the group at `place`.

@@ -4,7 +4,6 @@ ghost use Rattle.std.specs.Prelude.{◌≡◌, ◌↔◌, ◌+◌, ◌*◌, ◌^
 ghost use Rattle.std.specs.Int.{from_be_bytes, w64};
 ghost use Rattle.getopts.specs.Names.{AreLawful};
 ghost use Rattle.getopts.specs.Held.Names.{key_of, short_code};
-ghost use Rattle.getopts.specs.Held.Pieces.{IsOfBytes};
 
 /// Multiplying by this shifts a number by four bytes.
 const FOUR_BYTES: u64 = 1 << 32;
@@ -48,11 +47,6 @@ impl<'g> Names<'g> {
         }
     }
 }
-
-/// A lemma for proofs, which compiles to nothing: a `&str` consists of bytes.
-pub(crate) fn is_of_bytes(text: &str)
-    ensures { IsOfBytes text.now }
-{}
 
 /// Packs the first seven bytes of a name into a key, and its length (8 if longer) into the lowest
 /// byte. So keys sort like the names' bytes, and names under eight bytes are equal if their keys

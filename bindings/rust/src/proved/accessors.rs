@@ -25,7 +25,6 @@ impl Matches {
     /// no such method.
     #[inline]
     pub fn opt_place(&self, name: &str) -> Option<usize> {
-        self.held.are_lawful();
         self.held.place_of(name)
     }
 
@@ -37,11 +36,6 @@ impl Matches {
     #[inline]
     pub fn occurrences_at(&self, place: usize) -> Occurrences<'_> {
         self.held.occurrences_at(place)
-    }
-
-    /// A lemma for proofs, which compiles to nothing: the groups in the matches have valid names.
-    pub(crate) fn are_held_lawfully(&self) {
-        self.held.are_lawful();
     }
 
     /// Whether an option was given. An undefined option counts as not given.

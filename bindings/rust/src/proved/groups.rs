@@ -3,7 +3,7 @@
 
 use crate::fallible::*;
 
-use super::names::{NO_BYTE, Names, is_of_bytes, key_of, short_byte};
+use super::names::{NO_BYTE, Names, key_of, short_byte};
 use crate::alloc::{AllocError, Global};
 
 /// Initial capacity: up to this many groups fit without reallocating.
@@ -188,7 +188,7 @@ impl Signatures {
     /// A lemma for proofs, which compiles to nothing: the groups may be declared, and their names
     /// consist of bytes.
     pub(crate) fn are_lawful(&self) {
-        is_of_bytes(&self.text);
+        let _text = &self.text;
     }
 
     /// The record of the group at `place`.
@@ -263,7 +263,6 @@ impl Signatures {
             self.records.try_grow(1)?;
             self.text.try_grow(bytes)?;
         }
-        is_of_bytes(short);
         let names = push_two(&mut self.text, short, long);
         let key = key_of(Names { short, long }.main().as_bytes());
         self.records.push_reserved(SignatureRecord {

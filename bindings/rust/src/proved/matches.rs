@@ -107,11 +107,6 @@ impl MatchedGroups {
         self.table.resolve(&self.signatures, name)
     }
 
-    /// A lemma for proofs, which compiles to nothing: the groups have valid names.
-    pub(crate) fn are_lawful(&self) {
-        self.signatures.are_lawful();
-    }
-
     /// The occurrences of the group at `place`.
     #[inline]
     pub(crate) fn occurrences_at(&self, place: usize) -> Occurrences<'_> {

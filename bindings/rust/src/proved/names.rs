@@ -37,9 +37,6 @@ impl<'g> Names<'g> {
     }
 }
 
-/// A lemma for proofs, which compiles to nothing: a `&str` consists of bytes.
-pub(crate) fn is_of_bytes(text: &str) {}
-
 /// Packs the first seven bytes of a name into a key, and its length (8 if longer) into the lowest
 /// byte. So keys sort like the names' bytes, and names under eight bytes are equal if their keys
 /// are.

@@ -1,14 +1,17 @@
 -- A text within a common text: where it may be split, and the part between two places.
-use Rattle.std.proofs.Common.{◌≡◌, ℕ, ◌-◌, ◌≤◌, List, ◌++◌, length, get_or, take, drop, subst, inl}
+use Rattle.std.proofs.Common.{◌≡◌, ℕ, ◌+◌, ◌-◌, ◌/◌, ◌%◌, ◌<◌, ◌≤◌, true, List, [], ◌∷◌, ◌++◌, length, get_or, take, drop, subst, inl}
 use Rattle.std.proofs.Common.{inr, refl, ap, ◌∙◌, arith, length-append}
+use Rattle.std.specs.List.{AllByRecursion}
 use Rattle.std.specs.Str.{IsUtf8, IsCharBoundary}
-use Rattle.std.proofs.lemmas.Bool.{cases_lt}
+use Rattle.std.proofs.lemmas.Bool.{cases_lt, and_parts, le-ltb, lt-ltb}
 use Rattle.std.proofs.lemmas.List.{get_or_append_left, take-append-le, drop-append-le, length-drop}
 use Rattle.std.proofs.lemmas.List.{take_all}
 use Rattle.std.proofs.lemmas.Str.{IsCharBoundary-at_seam}
+use Rattle.std.proofs.lemmas.List.Elements.{All-append, All-from_recursion, All-nil}
 use Rattle.std.proofs.Math.Seq.{drop-append_seam}
+use Rattle.std.proofs.Math.Utf8.{encode, encodes, scalar, scalars, scalar_cases}
 use Rattle.getopts.specs.Names.{Text}
-use Rattle.getopts.specs.Held.Pieces.{between}
+use Rattle.getopts.specs.Held.Pieces.{between, IsOfBytes}
 
 -- a text may still be split at a place with more after it
 pub IsCharBoundary-append : (text more : List ℕ) → IsUtf8 more → (place : ℕ)
@@ -37,3 +40,44 @@ pub between-added : (text more : Text) → between (text ++ more) (length text) 
 between-added text more =
     rw (drop-append_seam text more)
     (take_all (length (text ++ more) - length text) more (omega (arith, length-append text more)))
+
+-- ---- bytes
+
+-- elements below 256, one after the other
+few : (xs : List ℕ) → AllByRecursion (λ b. b < 256) xs → IsOfBytes xs
+few xs below = All-from_recursion (λ b. b < 256) xs below
+
+-- a character consists of bytes
+encode-bytes : (c : ℕ) → c < 1114112 → IsOfBytes (encode c)
+unfolding encode
+encode-bytes c small = elim (cases_lt c 128) [
+  | inl one ↦ rw (lt-ltb c 128 one) (few (c ∷ []) (omega arith, tt))
+  | inr more ↦ rw (le-ltb c 128 more) (elim (cases_lt c 2048) [
+    | inl two ↦ rw (lt-ltb c 2048 two)
+        (few ((192 + c / 64) ∷ (128 + c % 64) ∷ []) (omega arith, (omega arith, tt)))
+    | inr more ↦ rw (le-ltb c 2048 more) (elim (cases_lt c 65536) [
+      | inl three ↦ rw (lt-ltb c 65536 three)
+          (few ((224 + c / 4096) ∷ (128 + c / 64 % 64) ∷ (128 + c % 64) ∷ [])
+          (omega arith, (omega arith, (omega arith, tt))))
+      | inr four ↦ rw (le-ltb c 65536 four)
+          (few ((240 + c / 262144) ∷ (128 + c / 4096 % 64) ∷ (128 + c / 64 % 64) ∷ (128 + c % 64) ∷ [])
+          (omega arith, (omega arith, (omega arith, (omega arith, tt)))))
+    ])
+  ])
+]
+
+-- and so do characters
+encodes-bytes : (cs : List ℕ) → scalars cs ≡ true → IsOfBytes (encodes cs)
+encodes-bytes [] are = All-nil (λ b. b < 256)
+encodes-bytes (c ∷ cs) are =
+    let both = and_parts (scalar c) (scalars cs) are in
+    let below : c < 1114112 = elim (scalar_cases c both.0) [
+      | inl low ↦ omega (arith, low)
+      | inr high ↦ high.1
+    ] in
+    All-append (λ b. b < 256) (encode c) (encodes cs) (encode-bytes c below)
+    (encodes-bytes cs both.1)
+
+-- UTF-8 consists of bytes
+pub IsOfBytes-utf8 : (text : Text) → IsUtf8 text → IsOfBytes text
+IsOfBytes-utf8 text utf8 = subst IsOfBytes utf8.1.1 (encodes-bytes utf8.0 utf8.1.0)

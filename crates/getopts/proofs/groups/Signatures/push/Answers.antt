@@ -16,6 +16,7 @@ use Rattle.getopts.specs.Held.Pieces.{IsOfBytes}
 use Rattle.getopts.specs.declared.groups.SignatureRecord.{SignatureRecord}
 use Rattle.getopts.proofs.Lists.{AllByRecursion-append}
 use Rattle.getopts.proofs.Held.Groups.{signatures-push}
+use Rattle.getopts.proofs.Held.Texts.{IsOfBytes-utf8}
 use Rattle.getopts.proofs.groups.Signatures.push.Goals as goal
 use Rattle.getopts.proofs.groups.Signatures.push.Goals.{then-is_empty+in_ok-reserve+in_ok-reserve-2}
 use Rattle.getopts.proofs.groups.Signatures.push.Goals.{
@@ -77,7 +78,7 @@ ends_are c =
     let two = c.push_two-names.result in
     let start : (ends_of (added c)).start ≡ two.start =
     ap (λ code. cond (code == 256) two.first (two.first - 1)) c.short_byte.ensures
-    ∙ short_starts c.args.short.now c.is_of_bytes.ensures c.requires.short_fits two.start
+    ∙ short_starts c.args.short.now (IsOfBytes-utf8 c.args.short.now c.utf8.short) c.requires.short_fits two.start
     two.first c.push_two-names.ensures.first in
     λ i. record { start = start i; first = two.first; second = two.second }
 
