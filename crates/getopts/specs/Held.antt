@@ -1,7 +1,7 @@
 -- What the code stores, and the values that it represents.
 
--- lists and texts cut into pieces
-pub mod Pieces
+-- texts within a longer text
+pub mod Texts
 -- names by their places, and their keys
 pub mod Names
 -- names and kinds of groups, by their records
@@ -15,6 +15,6 @@ pub mod Index
 -- the occurrences of a command line, and those of one group
 pub mod Occurrences
 -- what scanning finds
-pub mod Line
+pub mod Scan
 -- command lines that were read, and groups with their occurrences
 pub mod Matches

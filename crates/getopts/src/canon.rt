@@ -11,7 +11,7 @@ ghost use Rattle.getopts.specs.Fail.{Tells};
 ghost use Rattle.getopts.specs.Held.Matches.{IsOfSignatures};
 ghost use Rattle.getopts.specs.Names.{texts};
 ghost use Rattle.getopts.specs.Options.{signatures_of};
-ghost use Rattle.getopts.specs.Held.Line.{line_content};
+ghost use Rattle.getopts.specs.Held.Scan.{line_content};
 
 use crate::fail::Fail;
 use crate::help::Groups;

@@ -45,7 +45,7 @@ pub(crate) struct Line {
 }
 
 impl Line {
-    ghost use Rattle.getopts.specs.Held.Line.{IsEmptyLine};
+    ghost use Rattle.getopts.specs.Held.Scan.{IsEmptyLine};
 
     /// An empty line, with room for this many options and this many free words.
     pub(crate) fn with_capacity(alloc: Global, room: usize) -> Result<Line, AllocError>
@@ -242,8 +242,8 @@ fn ending<'w, S: AsStr>(
 }
 
 impl<'o> Scanner<'o> {
-    ghost use Rattle.getopts.specs.Held.Line.{scanner_grammar, IsLawfulScanner, IsNamedBy, HasShape};
-    ghost use Rattle.getopts.specs.Held.Line.{ReadsLine};
+    ghost use Rattle.getopts.specs.Held.Scan.{scanner_grammar, IsLawfulScanner, IsNamedBy, HasShape};
+    ghost use Rattle.getopts.specs.Held.Scan.{ReadsLine};
     ghost use Rattle.getopts.specs.Turn.{faults, long_turn, cluster_turn, AddsItem};
 
     /// The option that a name resolves to.

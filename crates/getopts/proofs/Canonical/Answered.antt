@@ -12,7 +12,7 @@ use Rattle.getopts.specs.Fail.{Fault}
 use Rattle.getopts.specs.Reading.{equals_sign, holds_equals, Reading, IsScanFault, Occurrence}
 use Rattle.getopts.specs.Reading.{occurrences_of}
 use Rattle.getopts.specs.ReadingLaws.{mentions_of}
-use Rattle.getopts.specs.Held.Line.{line_content}
+use Rattle.getopts.specs.Held.Scan.{line_content}
 use Rattle.getopts.specs.Matches.{Matched, MatchedGroup, matches_of, matched, KeepsCount}
 use Rattle.getopts.specs.Matches.{KeepsCounts, IsCountFault}
 use Rattle.getopts.specs.Parse.{Reads, IsAccepted, HasReading, IsRefused}

@@ -1,6 +1,6 @@
--- Signatures and groups as they are held: which one is at a place, and what one more adds.
-use Rattle.std.proofs.Common.{◌≡◌, ℕ, zero, suc, ◌-◌, ◌<◌, List, [], ◌∷◌, map, ◌++◌, length}
-use Rattle.std.proofs.Common.{get_or, drop, slice_get, Some, refl, ap, sym, ◌∙◌, subst, arith}
+-- Signatures and groups as they are stored: which one is at a place, and what one more adds.
+use Rattle.std.proofs.Common.{◌≡◌, ℕ, zero, suc, ◌-◌, ◌<◌, List, [], ◌∷◌, map, ◌++◌, length, get_or}
+use Rattle.std.proofs.Common.{drop, slice_get, Some, refl, ap, sym, ◌∙◌, subst, arith, Option, None}
 use Rattle.std.specs.List.{AllByRecursion}
 use Rattle.std.specs.Option.{option_map}
 use Rattle.std.specs.Str.{IsUtf8}
@@ -9,19 +9,46 @@ use Rattle.std.proofs.lemmas.List.{length-map, map-append}
 use Rattle.std.proofs.lemmas.List.Elements.{All-nil, All-take, All-drop}
 use Rattle.std.proofs.lemmas.Option.{same_Some, slice_get-map}
 use Rattle.getopts.specs.Names.{Text, Names, IsLawfullyNamed, main_name}
-use Rattle.getopts.specs.Options.{Signature, Group, MayBeDeclared, signatures_of}
+use Rattle.getopts.specs.Options.{Signature, Group, MayBeDeclared, signatures_of, names_of}
 use Rattle.getopts.specs.Canon.{main_at}
-use Rattle.getopts.specs.Held.Pieces.{IsOfBytes}
+use Rattle.getopts.specs.Held.Texts.{IsOfBytes}
 use Rattle.getopts.specs.Held.Names.{names_at, HaveNamesOfBytes}
 use Rattle.getopts.specs.Held.Groups.{signature_with, names_in, two_at, AreEndsOf, StandAt, ends_of}
-use Rattle.getopts.specs.Held.Groups.{signature_in, AreLawfulSignatures, HasKeys, IsHeld}
+use Rattle.getopts.specs.Held.Groups.{signature_in, AreLawfulSignatures, HasKeys, IsHeld, kinds_of}
 use Rattle.getopts.specs.Held.Help.{groups_with, groups_view, HoldGroups}
 use Rattle.getopts.specs.declared.help.Groups.TheInside.{Inside}
 use Rattle.getopts.specs.declared.groups.Ends.{Ends}
 use Rattle.getopts.specs.declared.groups.SignatureRecord.{SignatureRecord}
-use Rattle.getopts.proofs.Lists.{AllByRecursion-map, AllByRecursion-unmap, AllByRecursion-at, AllByRecursion-append}
-use Rattle.getopts.proofs.Lists.{slice_get-read, each_kept}
-use Rattle.getopts.proofs.Held.Twos.{two-append}
+use Rattle.getopts.specs.declared.groups.Kinds.{Kinds}
+use Rattle.getopts.proofs.Lists.{AllByRecursion-map, AllByRecursion-unmap, AllByRecursion-at}
+use Rattle.getopts.proofs.Lists.{AllByRecursion-append, slice_get-read, each_kept}
+use Rattle.getopts.proofs.Held.Texts.{two-append}
+
+-- there are as many signatures as groups
+pub length-signatures_of : (groups : List Group) → length (signatures_of groups) ≡ length groups
+length-signatures_of groups = length-map groups (λ group. group.signature)
+
+-- the names of the signatures are those of the groups
+pub names-signatures_of : (groups : List Group)
+    → map (λ (signature : Signature). signature.names) (signatures_of groups) ≡ names_of groups
+names-signatures_of [] = refl
+names-signatures_of (group ∷ groups) =
+    ap (λ (more : List Names). group.signature.names ∷ more) (names-signatures_of groups)
+
+-- so are the kinds at a place
+pub kinds-signatures_of : (groups : List Group) (place : ℕ)
+    → option_map (λ (group : Group). kinds_of group.signature) (slice_get groups place)
+    ≡ option_map kinds_of (slice_get (signatures_of groups) place)
+kinds-signatures_of [] place = refl
+kinds-signatures_of (group ∷ groups) zero = refl
+kinds-signatures_of (group ∷ groups) (suc place) = kinds-signatures_of groups place
+
+-- the kind of argument, from the kinds of the group
+pub kind_of-kinds : (group : Option Group)
+    → option_map (λ (k : Kinds). k.kind) (option_map (λ (g : Group). kinds_of g.signature) group)
+    ≡ option_map (λ (g : Group). g.signature.kind) group
+kind_of-kinds None = refl
+kind_of-kinds (Some group) = refl
 
 -- the record of an existing signature
 pub record_within : (text : Text) (records : List SignatureRecord) (signatures : List Signature)

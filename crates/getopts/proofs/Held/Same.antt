@@ -5,9 +5,94 @@ use Rattle.std.specs.Cmp.Lexicographic.{pointwise, pointwise_decides, bytes_deci
 use Rattle.std.specs.Option.{option_eq}
 use Rattle.std.proofs.lemmas.Bool.{false≢true}
 use Rattle.std.proofs.lemmas.Bool.Decides.{Decides-and, Decides-like, Decides-eqb}
+use Rattle.std.specs.Cmp.{booleans_Decides}
 use Rattle.getopts.specs.Matches.{Found, MatchedGroup, Matched}
-use Rattle.getopts.specs.Same.{same_found, same_matched_group, same_matches}
-use Rattle.getopts.proofs.Held.Options.{same_signature-decides}
+use Rattle.getopts.specs.Same.{same_found, same_matched_group, same_matches, kind_index}
+use Rattle.getopts.specs.Same.{occurrence_index, style_index, same_names, same_signature}
+use Rattle.getopts.specs.Same.{same_group, same_options}
+use Rattle.getopts.specs.Names.{Names}
+use Rattle.getopts.specs.Options.{Signature, Group, Declared}
+use Rattle.getopts.specs.declared.groups.HasArg.{HasArg}
+use Rattle.getopts.specs.declared.groups.Occur.{Occur}
+use Rattle.getopts.specs.declared.groups.ParsingStyle.{ParsingStyle}
+use Rattle.getopts.specs.declared.groups.HasArg.TheVariants.{Yes, No, Maybe}
+use Rattle.getopts.specs.declared.groups.Occur.TheVariants.{Req, Optional, Multi}
+use Rattle.getopts.specs.declared.groups.ParsingStyle.TheVariants.{FloatingFrees, StopAtFirstFree}
+
+same_kind : (a b : HasArg) → kind_index a ≡ kind_index b → a ≡ b
+same_kind Yes Yes h = refl
+same_kind Yes No h = cc
+same_kind Yes Maybe h = cc
+same_kind No Yes h = cc
+same_kind No No h = refl
+same_kind No Maybe h = cc
+same_kind Maybe Yes h = cc
+same_kind Maybe No h = cc
+same_kind Maybe Maybe h = refl
+
+same_occurrence : (a b : Occur) → occurrence_index a ≡ occurrence_index b → a ≡ b
+same_occurrence Req Req h = refl
+same_occurrence Req Optional h = cc
+same_occurrence Req Multi h = cc
+same_occurrence Optional Req h = cc
+same_occurrence Optional Optional h = refl
+same_occurrence Optional Multi h = cc
+same_occurrence Multi Req h = cc
+same_occurrence Multi Optional h = cc
+same_occurrence Multi Multi h = refl
+
+same_style : (a b : ParsingStyle) → style_index a ≡ style_index b → a ≡ b
+same_style FloatingFrees FloatingFrees h = refl
+same_style FloatingFrees StopAtFirstFree h = cc
+same_style StopAtFirstFree FloatingFrees h = cc
+same_style StopAtFirstFree StopAtFirstFree h = refl
+
+-- the comparison of two names decides equality
+pub same_names-decides : (a b : Names) → Decides (same_names a b) (a ≡ b)
+same_names-decides a b =
+    Decides-like (same_names a b) (λ h. λ i. record { short = h.0 i; long = h.1 i })
+    (λ e. (ap (λ n. n.short) e, ap (λ n. n.long) e))
+    (Decides-and _ _ (bytes_decides a.short b.short) (bytes_decides a.long b.long))
+
+-- the comparison of two signatures decides equality
+pub same_signature-decides : (a b : Signature) → Decides (same_signature a b) (a ≡ b)
+same_signature-decides a b = Decides-like (same_signature a b)
+    (λ h. λ i. record {
+      names = h.0 i;
+      kind = same_kind a.kind b.kind h.1.0 i;
+      occurrence = same_occurrence a.occurrence b.occurrence h.1.1 i;
+    })
+    (λ e. (
+      ap (λ k. k.names) e,
+      (
+        ap (λ k. kind_index k.kind) e,
+        ap (λ k. occurrence_index k.occurrence) e,
+      ),
+    ))
+    (Decides-and _ _ (same_names-decides a.names b.names)
+    (Decides-and _ _ (Decides-eqb (kind_index a.kind) (kind_index b.kind))
+    (Decides-eqb (occurrence_index a.occurrence) (occurrence_index b.occurrence))))
+
+-- the comparison of two groups decides equality
+pub same_group-decides : (a b : Group) → Decides (same_group a b) (a ≡ b)
+same_group-decides a b = Decides-like (same_group a b)
+    (λ h. λ i. record { signature = h.0 i; hint = h.1.0 i; description = h.1.1 i })
+    (λ e. (ap (λ g. g.signature) e, (ap (λ g. g.hint) e, ap (λ g. g.description) e)))
+    (Decides-and _ _ (same_signature-decides a.signature b.signature)
+    (Decides-and _ _ (bytes_decides a.hint b.hint) (bytes_decides a.description b.description)))
+
+-- the comparison of two options decides equality
+pub same_options-decides : (a b : Declared) → Decides (same_options a b) (a ≡ b)
+same_options-decides a b = Decides-like (same_options a b)
+    (λ h. λ i. record {
+      groups = h.0 i;
+      style = same_style a.style b.style h.1.0 i;
+      long_only = h.1.1 i;
+    })
+    (λ e. (ap (λ o. o.groups) e, (ap (λ o. style_index o.style) e, ap (λ o. o.long_only) e)))
+    (Decides-and _ _ (pointwise_decides same_group-decides a.groups b.groups)
+    (Decides-and _ _ (Decides-eqb (style_index a.style) (style_index b.style))
+    (booleans_Decides a.long_only b.long_only)))
 
 -- the comparison of two `Option`s decides equality, if that of their values does
 pub options_decide : {X : Type 0} (E : X → X → Bool) → ((a b : X) → Decides (E a b) (a ≡ b))

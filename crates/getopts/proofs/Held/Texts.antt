@@ -1,17 +1,20 @@
--- A text within a common text: where it may be split, and the part between two places.
-use Rattle.std.proofs.Common.{◌≡◌, ℕ, ◌+◌, ◌-◌, ◌/◌, ◌%◌, ◌<◌, ◌≤◌, true, List, [], ◌∷◌, ◌++◌, length, get_or, take, drop, subst, inl}
-use Rattle.std.proofs.Common.{inr, refl, ap, ◌∙◌, arith, length-append}
+-- Texts within a common text: where it may be split, and one or two of them, as more is added.
+use Rattle.std.proofs.Common.{◌≡◌, ℕ, ◌+◌, ◌-◌, ◌/◌, ◌%◌, ◌<◌, ◌≤◌, true, List, [], ◌∷◌, ◌++◌}
+use Rattle.std.proofs.Common.{length, get_or, take, drop, subst, inl, inr, refl, ap, ◌∙◌, arith}
+use Rattle.std.proofs.Common.{length-append}
 use Rattle.std.specs.List.{AllByRecursion}
 use Rattle.std.specs.Str.{IsUtf8, IsCharBoundary}
 use Rattle.std.proofs.lemmas.Bool.{cases_lt, and_parts, le-ltb, lt-ltb}
 use Rattle.std.proofs.lemmas.List.{get_or_append_left, take-append-le, drop-append-le, length-drop}
 use Rattle.std.proofs.lemmas.List.{take_all}
-use Rattle.std.proofs.lemmas.Str.{IsCharBoundary-at_seam}
+use Rattle.std.proofs.lemmas.Str.{IsCharBoundary-at_seam, IsCharBoundary-end}
 use Rattle.std.proofs.lemmas.List.Elements.{All-append, All-from_recursion, All-nil}
 use Rattle.std.proofs.Math.Seq.{drop-append_seam}
 use Rattle.std.proofs.Math.Utf8.{encode, encodes, scalar, scalars, scalar_cases}
 use Rattle.getopts.specs.Names.{Text}
-use Rattle.getopts.specs.Held.Pieces.{between, IsOfBytes}
+use Rattle.getopts.specs.Held.Texts.{between, IsOfBytes}
+use Rattle.getopts.specs.Held.Groups.{two_at, AreEndsOf, StandAt}
+use Rattle.getopts.specs.declared.groups.Ends.{Ends}
 
 -- a text may still be split at a place with more after it
 pub IsCharBoundary-append : (text more : List ℕ) → IsUtf8 more → (place : ℕ)
@@ -81,3 +84,44 @@ encodes-bytes (c ∷ cs) are =
 -- UTF-8 consists of bytes
 pub IsOfBytes-utf8 : (text : Text) → IsUtf8 text → IsOfBytes text
 IsOfBytes-utf8 text utf8 = subst IsOfBytes utf8.1.1 (encodes-bytes utf8.0 utf8.1.0)
+
+-- two texts are there too
+pub two-append : (text more : Text) → IsUtf8 more → (e : Ends) → AreEndsOf text e
+    → StandAt (text ++ more) e (two_at text e)
+two-append text more utf8 e ends = record {
+  ends = record {
+    start = IsCharBoundary-append text more utf8 e.start ends.start;
+    first = (ends.first.0, IsCharBoundary-append text more utf8 e.first ends.first.1);
+    second = (ends.second.0, IsCharBoundary-append text more utf8 e.second ends.second.1);
+  };
+  are = λ i. (
+    between-append text more e.start e.first ends.first.0 ends.first.1.0 i,
+    between-append text more e.first e.second ends.second.0 ends.second.1.0 i,
+  );
+}
+
+-- two texts added one after the other are at the end
+pub two-added : (text first second : Text) → IsUtf8 first → IsUtf8 second → (e : Ends)
+    → e.start ≡ length text → e.first ≡ length (text ++ first)
+    → e.second ≡ length ((text ++ first) ++ second)
+    → StandAt ((text ++ first) ++ second) e (first, second)
+two-added text first second first_utf8 second_utf8 e starts first_ends second_ends =
+    let one = text ++ first in
+    let from_start = IsCharBoundary-append text first first_utf8 (length text)
+    (IsCharBoundary-end text) in
+    rw (starts, first_ends, second_ends) (record {
+      ends = record {
+        start = IsCharBoundary-append one second second_utf8 (length text) from_start;
+        first = (
+          omega (arith, length-append text first),
+          IsCharBoundary-append one second second_utf8 (length one) (IsCharBoundary-end one),
+        );
+        second = (omega (arith, length-append one second), IsCharBoundary-end (one ++ second));
+      };
+      are = λ i. (
+        (between-append one second (length text) (length one)
+            (omega (arith, length-append text first)) (omega arith)
+            ∙ between-added text first) i,
+        between-added one second i,
+      );
+    })

@@ -26,7 +26,7 @@ use Rattle.getopts.proofs.Canonical.Lines.{kind_at, FitsGroup, IsFitting-reading
 use Rattle.getopts.proofs.Held.Matches.{signatures-matched}
 use Rattle.getopts.proofs.Reading.Laws.{TrailingStartIsAfterStop_lem}
 use Rattle.getopts.proofs.Reading.Readings.{spelled_all-append}
-use Rattle.getopts.proofs.Held.Signatures.{names-signatures_of}
+use Rattle.getopts.proofs.Held.Groups.{names-signatures_of}
 use Rattle.getopts.proofs.Parsing.Parsed.{HavePositionsInOrder-read}
 
 -- each occurrence has a value or none, as this kind of argument requires

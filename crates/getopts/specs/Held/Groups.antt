@@ -7,7 +7,7 @@ use Rattle.std.specs.String.{string_bytes}
 use Rattle.getopts.specs.Names.{Text, Names, IsLawfullyNamed, is_empty, main_name}
 use Rattle.getopts.specs.Options.{Signature}
 use Rattle.getopts.specs.Same.{same_signature}
-use Rattle.getopts.specs.Held.Pieces.{between}
+use Rattle.getopts.specs.Held.Texts.{between}
 use Rattle.getopts.specs.Held.Names.{key_of, short_code}
 use Rattle.getopts.specs.declared.names.Names.{Names as HeldNames}
 use Rattle.getopts.specs.declared.groups.Kinds.{Kinds}

@@ -6,7 +6,7 @@ use Rattle.getopts.specs.Options.{Signature, Declared, MayBeDeclared, signatures
 use Rattle.getopts.specs.Matches.{MatchedGroup, matched, KeepsCounts}
 use Rattle.getopts.specs.Held.Groups.{names_in}
 use Rattle.getopts.specs.Held.Index.{index_of}
-use Rattle.getopts.specs.Held.Line.{ReadsLine}
+use Rattle.getopts.specs.Held.Scan.{ReadsLine}
 use Rattle.getopts.specs.Held.Table.{IsTableOf}
 use Rattle.getopts.specs.declared.matches.MatchedGroups.TheInside.{Inside}
 use Rattle.getopts.specs.declared.matches.ReadLine.{ReadLine}

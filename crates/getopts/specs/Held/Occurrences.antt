@@ -7,7 +7,7 @@ use Rattle.std.specs.String.{string_bytes}
 use Rattle.getopts.specs.Names.{Text}
 use Rattle.getopts.specs.Matches.{Found, found_part}
 use Rattle.getopts.specs.Reading.{Occurrence}
-use Rattle.getopts.specs.Held.Pieces.{between}
+use Rattle.getopts.specs.Held.Texts.{between}
 use Rattle.getopts.specs.declared.occurrences.Span.{Span}
 use Rattle.getopts.specs.declared.occurrences.OccurrenceRecord.{OccurrenceRecord}
 use Rattle.getopts.specs.declared.occurrences.LineOccurrences.TheInside.{Inside}

@@ -14,7 +14,7 @@ use Rattle.getopts.specs.Held.Index.{index_of}
 use Rattle.getopts.specs.Canon.{main_at}
 use Rattle.getopts.proofs.Parsing.Counts.{length-found_at, list_all-by_group}
 use Rattle.getopts.proofs.Parsing.Counts.{list_all-fails_by_group}
-use Rattle.getopts.proofs.Held.Signatures.{length-signatures_of}
+use Rattle.getopts.proofs.Held.Groups.{length-signatures_of}
 use Rattle.getopts.proofs.canon.are_plain.Goals as goal
 use Rattle.getopts.proofs.canon.are_plain.Goals.{
   else-count-gt0-via-then-count-gt0+else-holds_equals,

@@ -12,7 +12,7 @@ use Rattle.getopts.specs.Names.{Text, IsLawfullyNamed}
 use Rattle.getopts.specs.Options.{Signature}
 use Rattle.getopts.specs.Held.Groups.{signature_with, signature_in, HasKeys, IsHeld, ends_of, two_at, AreEndsOf}
 use Rattle.getopts.specs.Held.Names.{key_of, short_code}
-use Rattle.getopts.specs.Held.Pieces.{IsOfBytes}
+use Rattle.getopts.specs.Held.Texts.{IsOfBytes}
 use Rattle.getopts.specs.declared.groups.SignatureRecord.{SignatureRecord}
 use Rattle.getopts.proofs.Lists.{AllByRecursion-append}
 use Rattle.getopts.proofs.Held.Groups.{signatures-push}

@@ -3,7 +3,7 @@ use Rattle.std.proofs.Common.{sym, ◌∙◌, ◌≡◌, ◌-◌, true, cond, ma
 use Rattle.std.specs.Cmp.Lexicographic.{pointwise}
 use Rattle.getopts.specs.Names.{Text}
 use Rattle.getopts.specs.Held.Groups.{signature_in, same_record, same_kinds, two_at, ends_of}
-use Rattle.getopts.specs.Held.Pieces.{between}
+use Rattle.getopts.specs.Held.Texts.{between}
 use Rattle.std.proofs.lemmas.Slice.Eq.{bytes_eq-Decides}
 use Rattle.std.specs.Str.{bytes_eq}
 use Rattle.std.specs.String.{string_bytes}

@@ -1,5 +1,5 @@
 -- The words are accepted with the content of the line.
-use Rattle.getopts.specs.Held.Line.{line_content}
+use Rattle.getopts.specs.Held.Scan.{line_content}
 use Rattle.getopts.proofs.Canonical.Answered.{IsAcceptedWith-line}
 use Rattle.getopts.proofs.options.Options.parse_in_order.Goals as goal
 

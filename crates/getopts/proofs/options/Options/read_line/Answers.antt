@@ -5,7 +5,7 @@ use Rattle.std.specs.String.{string_bytes}
 use Rattle.getopts.proofs.MainTheorem.Results.{HasResults-declared}
 use Rattle.getopts.proofs.Parsing.Faults.{Tells-weaker}
 use Rattle.getopts.proofs.Parsing.Parsed.{HasNoReading-fault}
-use Rattle.getopts.proofs.Held.Signatures.{names-signatures_of}
+use Rattle.getopts.proofs.Held.Groups.{names-signatures_of}
 use Rattle.getopts.proofs.options.Options.read_line.Goals as goal
 
 pub scan-requires : goal.scan-requires

@@ -2,7 +2,7 @@
 use Rattle.std.proofs.Common.{map, Some, None, refl, rules}
 use Rattle.std.specs.Option.{option_copied}
 use Rattle.getopts.specs.Fail.{argument_missing, unrecognized_option, unexpected_argument}
-use Rattle.getopts.specs.Held.Line.{scanner_grammar}
+use Rattle.getopts.specs.Held.Scan.{scanner_grammar}
 use Rattle.getopts.specs.Reading.{none, attached, separate}
 use Rattle.getopts.specs.Turn.{chosen_long, Chooses}
 use Rattle.getopts.specs.declared.groups.HasArg.TheVariants.{Yes, No}

@@ -6,7 +6,7 @@ use Rattle.std.specs.Option.{option_map}
 use Rattle.getopts.specs.Held.Groups.{names_in}
 use Rattle.getopts.specs.Options.{Signature}
 use Rattle.getopts.specs.declared.groups.Kinds.{Kinds}
-use Rattle.getopts.proofs.Held.Signatures.{names-signatures_of, kinds-signatures_of, kind_of-kinds}
+use Rattle.getopts.proofs.Held.Groups.{names-signatures_of, kinds-signatures_of, kind_of-kinds}
 use Rattle.getopts.proofs.Lookup.Names.{resolution_within, wide_unknown}
 use Rattle.getopts.proofs.scan.Scanner.option_at.Goals as goal
 

@@ -4,7 +4,7 @@ use Rattle.std.specs.String.{string_bytes}
 use Rattle.std.proofs.lemmas.List.{drop-map, append-nil, drop_all, length-map}
 use Rattle.std.proofs.lemmas.Option.{slice_get_read}
 use Rattle.std.proofs.lemmas.Result.{err_from_is_err_and}
-use Rattle.getopts.specs.Held.Line.{scanner_grammar, IsLawfulScanner}
+use Rattle.getopts.specs.Held.Scan.{scanner_grammar, IsLawfulScanner}
 use Rattle.getopts.specs.Reading.{line_end, stop, rest, free_items}
 use Rattle.getopts.specs.declared.groups.ParsingStyle.TheVariants.{FloatingFrees, StopAtFirstFree}
 use Rattle.getopts.specs.declared.scan.Scanner.{Scanner}
