@@ -2,7 +2,6 @@
 use Rattle.std.specs.Prelude.{◌≡◌, ℕ, ◌-◌, Bool, not, nat_lt, List, [], ◌++◌, map}
 use Rattle.std.specs.Prelude.{codes, if◌then◌else◌}
 use Rattle.std.specs.List.{AllZip, list_any, repeat}
-use Rattle.getopts.specs.Only.{IsTheOnly}
 use Rattle.getopts.specs.Names.{Text, Names, is_empty}
 use Rattle.getopts.specs.Options.{Group, Declared}
 use Rattle.getopts.specs.Wrap.{width_of, IsDescriptionRows, joined}
@@ -10,10 +9,6 @@ use Rattle.getopts.specs.declared.groups.HasArg.{HasArg}
 use Rattle.getopts.specs.declared.groups.HasArg.TheVariants as argument
 use Rattle.getopts.specs.declared.groups.Occur.{Occur}
 use Rattle.getopts.specs.declared.groups.Occur.TheVariants as occurrence
-
--- The text grows by the only text that has the property.
-abbrev pub AddsTheOnly : (Text → Type 0) → Text → Text → Type 0
-AddsTheOnly Fact old new = (added : Text) × IsTheOnly Fact added × (new ≡ old ++ added)
 
 -- ---- texts
 
@@ -113,13 +108,6 @@ IsUsageRow long_only among_shorts group row =
 abbrev pub AreUsageRows : Declared → List Text → Type 0
 AreUsageRows options rows =
     AllZip (IsUsageRow options.long_only (any_short options.groups)) options.groups rows
-
--- These are the only rows of the options.
--- The text grows by the options' rows, separated by line ends.
-abbrev pub AddsRows : Declared → Text → Text → Type 0
-AddsRows options old new =
-    (rows : List Text) × IsTheOnly (AreUsageRows options) rows
-    × (new ≡ old ++ joined (codes "\n") rows)
 
 -- ---- the usage text
 

@@ -1,6 +1,6 @@
 -- Descriptions in rows: the lines of a description, their words, and the ways to break a line's
 -- words.
-use Rattle.std.specs.Prelude.{◌≡◌, ℕ, ◌+◌, ◌-◌, ◌<◌, ◌≤◌, ◌==◌, nat_lt, Bool, false, ◌||◌, ◌⊎◌}
+use Rattle.std.specs.Prelude.{◌≡◌, ℕ, ◌+◌, ◌-◌, ◌<◌, ◌≤◌, ◌==◌, nat_lt, Bool, false, ◌⊎◌}
 use Rattle.std.specs.Prelude.{List, [], ◌∷◌, ◌++◌, length, take, map, filter, sum_by, All}
 use Rattle.std.specs.Prelude.{chars, encode_utf8_all, if◌then◌else◌}
 use Rattle.std.specs.List.{AllZip, flat_map, join_by, join_with_byte, slice_split}
@@ -95,21 +95,3 @@ parting begun separator = if begun then separator else []
 abbrev pub continued : Bool → Text → List Text → Text
 continued begun separator texts =
     if begun then flat_map (λ text. separator ++ text) texts else joined separator texts
-
--- The text grows by the rows of a description, with the separator between them.
-abbrev pub AddsDescription : ℕ → Text → Text → Text → Text → Type 0
-AddsDescription limit separator desc old new =
-    (rows : List Text) × IsDescriptionRows limit desc rows
-    × (new ≡ old ++ joined separator rows)
-
--- The rows are the texts of the runs of the line's tight breaking.
-abbrev pub IsLineRows : ℕ → Text → List Text → Type 0
-IsLineRows limit line rows =
-    (runs : List Run) × IsTightBreaking limit (words_of line) runs × (rows ≡ map text_of runs)
-
--- The flags say whether the text has any row before and after, of this line or another.
--- The text grows by the rows of a line, with the separator between them.
-abbrev pub AddsLine : ℕ → Text → Text → Bool → Bool → Text → Text → Type 0
-AddsLine limit separator line before after old new =
-    (rows : List Text) × IsLineRows limit line rows
-    × (after ≡ before || nat_lt 0 (length rows)) × (new ≡ old ++ continued before separator rows)

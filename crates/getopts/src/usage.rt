@@ -5,9 +5,10 @@ ghost use Rattle.getopts.specs.Held.Groups.{names_view};
 ghost use Rattle.getopts.specs.Held.Help.{group_view};
 ghost use Rattle.getopts.specs.Names.{Text};
 ghost use Rattle.getopts.specs.Only.{IsTheOnly};
-ghost use Rattle.getopts.specs.Usage.{AddsRows, AreUsageRows, IsUsageText, any_short};
+ghost use Rattle.getopts.specs.Usage.{AreUsageRows, IsUsageText, any_short};
 ghost use Rattle.getopts.specs.Usage.{option_name, option_text, short_usage_text};
 ghost use Rattle.getopts.specs.Wrap.{joined};
+ghost use Rattle.getopts.specs.Held.Rows.{AddsRows};
 
 use crate::groups::{HasArg, Occur, Signature};
 use crate::help::Group;

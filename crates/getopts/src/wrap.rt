@@ -1,9 +1,10 @@
 //! Descriptions in rows: each line is broken into as few rows as its words allow.
 ghost use Rattle.std.specs.Prelude.{◌≡◌, ◌+◌, ◌<◌, ◌≤◌, ◌∷◌, ◌++◌, map, string_bytes, IfOk, OnOk};
 ghost use Rattle.std.specs.Str.Lines.{lines};
-ghost use Rattle.getopts.specs.Wrap.{AddsDescription, AddsLine, BreaksInto, IsDescriptionRows};
+ghost use Rattle.getopts.specs.Wrap.{BreaksInto, IsDescriptionRows};
 ghost use Rattle.getopts.specs.Wrap.{IsFewestBreaking, parting, width_of};
 ghost use Rattle.getopts.specs.Only.{IsTheOnly};
+ghost use Rattle.getopts.specs.Held.Rows.{AddsDescription, AddsLine};
 
 use std::alloc::{AllocError, Global};
 use unicode_width::UnicodeWidthStr;

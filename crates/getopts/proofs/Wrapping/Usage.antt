@@ -14,10 +14,11 @@ use Rattle.getopts.specs.Held.Help.{group_view}
 use Rattle.getopts.specs.Names.{Text, is_empty}
 use Rattle.getopts.specs.Options.{Group, Declared}
 use Rattle.getopts.specs.Only.{IsTheOnly}
-use Rattle.getopts.specs.Usage.{AddsTheOnly, any_short, spaces, head, next_row, padding, row_text}
+use Rattle.getopts.specs.Usage.{any_short, spaces, head, next_row, padding, row_text}
 use Rattle.getopts.specs.Usage.{IsUsageRow, AreUsageRows, usage_text, IsUsageText}
-use Rattle.getopts.specs.Wrap.{width_of, IsDescriptionRows, joined, parting, AddsDescription}
+use Rattle.getopts.specs.Wrap.{width_of, IsDescriptionRows, joined, parting}
 use Rattle.getopts.specs.declared.help.Group.{Group as Borrowed}
+use Rattle.getopts.specs.Held.Rows.{AddsTheOnly, AddsDescription}
 use Rattle.getopts.proofs.Wrapping.Lines.{rows_exactly}
 use Rattle.getopts.proofs.Wrapping.Texts.{joined-push}
 
