@@ -91,16 +91,10 @@ impl Groups {
 
     /// The names and kinds of the groups.
     pub(crate) fn signatures(&self) -> &Signatures
-        ensures { result.now ≡ signatures_of self.now }
+        ensures signatures { result.now ≡ signatures_of self.now }
+        ensures declared { MayBeDeclared self.now }
     {
         &self.signatures
-    }
-
-    /// A lemma for proofs, which compiles to nothing: the groups may be declared.
-    pub(crate) fn may_be_declared(&self)
-        ensures { MayBeDeclared self.now }
-    {
-        self.signatures.are_lawful();
     }
 
     /// The main name of the group at `place`.

@@ -65,7 +65,7 @@ pub fn one_reading_one_canonical_line(options: &Options)
     ensures sound { (words : List Text) (content : Content)
         → Says options.now words content → IsSound options.now.groups content }
 {
-    let _groups = options.groups();
+    let _signatures = options.signatures();
 }
 
 /// For all options that may be declared: the laws of readings and of canonical lines, and that
@@ -93,7 +93,7 @@ pub fn names_resolve(options: &Options)
     // The premise of `declared_options_keep_laws`.
     ensures declared { MayBeDeclared options.now.groups }
 {
-    let _groups = options.groups();
+    let _signatures = options.signatures();
 }
 
 /// The three facts of `names_resolve`, about the names in the matches. This is a lemma for

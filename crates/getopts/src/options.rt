@@ -311,10 +311,8 @@ impl Options {
 
     /// The groups.
     pub(crate) fn groups(&self) -> &Groups
-        ensures groups { result.now ≡ self.now.groups }
-        ensures declared { MayBeDeclared self.now.groups }
+        ensures { result.now ≡ self.now.groups }
     {
-        self.groups.may_be_declared();
         &self.groups
     }
 
@@ -323,7 +321,7 @@ impl Options {
         ensures signatures { result.now ≡ signatures_of self.now.groups }
         ensures declared { MayBeDeclared self.now.groups }
     {
-        self.groups().signatures()
+        self.groups.signatures()
     }
 }
 

@@ -51,11 +51,6 @@ impl Groups {
         &self.signatures
     }
 
-    /// A lemma for proofs, which compiles to nothing: the groups may be declared.
-    pub(crate) fn may_be_declared(&self) {
-        self.signatures.are_lawful();
-    }
-
     /// The main name of the group at `place`.
     pub(crate) fn main(&self, place: usize) -> &str {
         self.signatures.main(place)

@@ -221,13 +221,12 @@ impl Options {
 
     /// The groups.
     pub(crate) fn groups(&self) -> &Groups {
-        self.groups.may_be_declared();
         &self.groups
     }
 
     /// The names and kinds of the groups.
     pub(crate) fn signatures(&self) -> &Signatures {
-        self.groups().signatures()
+        self.groups.signatures()
     }
 }
 

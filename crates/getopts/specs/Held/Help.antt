@@ -6,7 +6,7 @@ use Rattle.std.specs.String.{string_bytes}
 use Rattle.getopts.specs.Names.{Text}
 use Rattle.getopts.specs.Options.{Signature, Group}
 use Rattle.getopts.specs.Same.{same_group}
-use Rattle.getopts.specs.Held.Groups.{two_at, AreEndsOf, signature_view}
+use Rattle.getopts.specs.Held.Groups.{two_at, AreEndsOf, AreLawfulSignatures, signature_view}
 use Rattle.getopts.specs.declared.help.Group.{Group as HeldGroup}
 use Rattle.getopts.specs.declared.help.Groups.TheInside.{Inside}
 
@@ -24,10 +24,11 @@ abbrev pub groups_view : Inside → List Group
 groups_view inside =
     groups_with inside.signatures (map (two_at (string_bytes inside.help)) inside.ends.items)
 
--- Each group has a hint and a description in the text of all.
+-- The groups have valid names, and each has a hint and a description in the text of all.
 pub record HoldGroups (inside : Inside) : Type 0 where
   pub held : AllByRecursion (AreEndsOf (string_bytes inside.help)) inside.ends.items
   pub as_many : length inside.ends.items ≡ length inside.signatures
+  pub lawful : AreLawfulSignatures inside.signatures
 
 -- a borrowed group
 abbrev pub group_view : HeldGroup → Group

@@ -5,13 +5,15 @@ use Rattle.std.proofs.lemmas.Grind.{common_steps}
 use Rattle.std.proofs.lemmas.List.{length-map}
 use Rattle.std.proofs.lemmas.Str.{IsUtf8-append}
 use Rattle.std.specs.List.{AllByRecursion}
+use Rattle.std.specs.Str.{IsUtf8}
 use Rattle.std.specs.String.{string_bytes}
-use Rattle.getopts.specs.Names.{Text}
+use Rattle.getopts.specs.Names.{Text, IsLawfullyNamed}
 use Rattle.getopts.specs.Options.{Signature, Group}
 use Rattle.getopts.specs.Held.Groups.{signature_with, two_at, AreEndsOf}
 use Rattle.getopts.specs.Held.Help.{groups_with}
 use Rattle.getopts.specs.declared.groups.Ends.{Ends}
 use Rattle.getopts.proofs.Held.Groups.{groups_with-push, twos-push}
+use Rattle.getopts.proofs.Lists.{AllByRecursion-append}
 use Rattle.getopts.proofs.help.Groups.push.Goals as goal
 use Rattle.getopts.proofs.help.Groups.push.Goals.{then-is_empty+in_ok-reserve+in_ok-reserve-2}
 use Rattle.getopts.proofs.help.Groups.push.Goals.{else-is_empty+in_ok-reserve-3+in_ok-reserve-4}
@@ -25,6 +27,10 @@ items c = c.push_reserved.ensures.items
       | else-is_empty+in_ok-reserve-3+in_ok-reserve-4 w ↦
           rw w.self-inside-is w.in_ok-reserve-3.ensures.items
     ])
+
+-- the added signature
+abbrev added : goal.After-push_reserved → Signature
+added c = signature_with c.args.kinds c.args.short.now c.args.long.now
 
 -- the signatures with the added one
 signatures : (c : goal.After-push_reserved) → c.push.new.self
@@ -63,6 +69,14 @@ invariant_of-self-2 c = record {
       ∙ sym (length-append c.self.inside.signatures
       (signature_with c.args.kinds c.args.short.now c.args.long.now ∷ []))
       ∙ sym (ap (λ (ss : List Signature). length ss) (signatures c));
+  lawful = record {
+    named = rw (signatures c)
+        (AllByRecursion-append (λ (s : Signature). IsLawfullyNamed s.names) _ (added c ∷ [])
+        c.self.invariant.lawful.named (c.requires, tt));
+    shorts = rw (signatures c)
+        (AllByRecursion-append (λ (s : Signature). IsUtf8 s.names.short) _ (added c ∷ [])
+        c.self.invariant.lawful.shorts (c.utf8.short, tt));
+  };
 }
 
 pub returns-clause-ok : goal.returns-clause-ok

@@ -12,29 +12,29 @@ use Rattle.getopts.proofs.options.Options.canonical_words.Goals as goal
 
 pub are_plain-requires : goal.are_plain-requires
 are_plain-requires g c =
-    rw c.groups-groups.ensures.groups c.in_ok-accepted.ensures.accepted.is_read.of_groups
+    rw c.groups-groups.ensures c.in_ok-accepted.ensures.accepted.is_read.of_groups
 
 pub canonical_line-requires : goal.canonical_line-requires
 canonical_line-requires g c =
-    rw c.groups-groups.ensures.groups
+    rw c.groups-groups.ensures
     (groups_within _ _ c.in_ok-accepted.accepted c.in_ok-accepted.ensures.accepted)
 
 pub returns-in_ok-canonical_line-clause-written : goal.returns-in_ok-canonical_line-clause-written
 returns-in_ok-canonical_line-clause-written g c =
     IsWritten-line _ _ c.in_ok-accepted.accepted c.in_ok-accepted.ensures.accepted
-    (sym (rw c.groups-groups.ensures.groups at c.are_plain.ensures) ∙ c.if-are_plain.true) _
-    (rw c.groups-groups.ensures.groups at c.in_ok-canonical_line.ensures)
+    (sym (rw c.groups-groups.ensures at c.are_plain.ensures) ∙ c.if-are_plain.true) _
+    (rw c.groups-groups.ensures at c.in_ok-canonical_line.ensures)
 
 pub returns-else-are_plain-clause-unwritable : goal.returns-else-are_plain-clause-unwritable
 returns-else-are_plain-clause-unwritable g c =
     IsUnwritable-line _ _ c.in_ok-accepted.accepted c.in_ok-accepted.ensures.accepted
-    (sym (rw c.groups-groups.ensures.groups at c.are_plain.ensures) ∙ c.if-are_plain.false)
+    (sym (rw c.groups-groups.ensures at c.are_plain.ensures) ∙ c.if-are_plain.false)
 
 pub returns-in_ok-canonical_line-clause-laws : goal.returns-in_ok-canonical_line-clause-laws
-returns-in_ok-canonical_line-clause-laws g c = KeepsLineLaws-lawful _ c.groups-groups.ensures.declared
+returns-in_ok-canonical_line-clause-laws g c = KeepsLineLaws-lawful _ c.in_ok-accepted.ensures.accepted.is_read.declared
 
 pub returns-else-are_plain-clause-laws : goal.returns-else-are_plain-clause-laws
-returns-else-are_plain-clause-laws g c = KeepsLineLaws-lawful _ c.groups-groups.ensures.declared
+returns-else-are_plain-clause-laws g c = KeepsLineLaws-lawful _ c.in_ok-accepted.ensures.accepted.is_read.declared
 
 pub returns-in_err-accepted-clause-result : goal.returns-in_err-accepted-clause-result
 returns-in_err-accepted-clause-result g c =
@@ -61,7 +61,7 @@ again options declared =
     LinesReadAgain_lem options declared (KeepsLineLaws-lawful options declared)
 
 pub returns-in_ok-canonical_line-clause-read_again : goal.returns-in_ok-canonical_line-clause-read_again
-returns-in_ok-canonical_line-clause-read_again g c = again _ c.groups-groups.ensures.declared
+returns-in_ok-canonical_line-clause-read_again g c = again _ c.in_ok-accepted.ensures.accepted.is_read.declared
 
 pub returns-else-are_plain-clause-read_again : goal.returns-else-are_plain-clause-read_again
-returns-else-are_plain-clause-read_again g c = again _ c.groups-groups.ensures.declared
+returns-else-are_plain-clause-read_again g c = again _ c.in_ok-accepted.ensures.accepted.is_read.declared

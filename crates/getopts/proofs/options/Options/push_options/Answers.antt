@@ -18,11 +18,11 @@ loop-place-preserved c =
     let place = c.loop-place.place in
     let texts = map option_text (take place groups) in
     let within : place ≤ length groups =
-    omega (arith, ap (λ (groups : List Group). length groups) c.groups-groups.ensures.groups) in
+    omega (arith, ap (λ (groups : List Group). length groups) c.groups-groups.ensures) in
     let count : length texts ≡ place = simp length-map (length-take-le place groups within) in
     rw (
       group_more groups place (group_view c.get.result)
-          (rw c.groups-groups.ensures.groups at c.get.ensures),
+          (rw c.groups-groups.ensures at c.get.ensures),
       map-append option_text (take place groups) (group_view c.get.result ∷ []),
     )
     (text_more (codes " ") texts place _ _ _ _ (option_text (group_view c.get.result)) count
@@ -32,7 +32,7 @@ loop-place-preserved c =
 pub returns : goal.returns
 returns c =
     let all : length c.args.self.now.groups ≤ c.loop-place.place =
-    omega (arith, ap (λ (groups : List Group). length groups) c.groups-groups.ensures.groups) in
+    omega (arith, ap (λ (groups : List Group). length groups) c.groups-groups.ensures) in
     c.loop-place.invariant
     ∙ ap (λ (groups : List Group). string_bytes c.args.text.now
     ++ joined (codes " ") (map option_text groups))

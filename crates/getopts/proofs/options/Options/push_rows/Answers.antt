@@ -21,7 +21,7 @@ loop-place-preserved c =
       rows = so_far.rows ++ row ∷ [];
       count = omega (arith, so_far.count, length-append so_far.rows (row ∷ []));
       each = rows_more c.args.self.now c.loop-place.place c.get.result
-          (rw c.groups-groups.ensures.groups at c.get.ensures) _ _
+          (rw c.groups-groups.ensures at c.get.ensures) _ _
           c.layout-layout.ensures.long_only c.layout-layout.ensures.any_short so_far.rows row
           so_far.each
           c.in_ok-push_row.ensures.1;
@@ -35,7 +35,7 @@ pub returns : goal.returns
 returns c =
     let so_far = c.loop-place.invariant in
     let all : length c.args.self.now.groups ≤ c.loop-place.place =
-    omega (arith, ap (λ (groups : List Group). length groups) c.groups-groups.ensures.groups) in (
+    omega (arith, ap (λ (groups : List Group). length groups) c.groups-groups.ensures) in (
       so_far.rows,
       rows_all c.args.self.now c.loop-place.place so_far.rows all so_far.each,
       so_far.text_is,

@@ -27,7 +27,7 @@ loop-place-preserved c =
           (c.push_row.new.text ∷ []),
     )
     (rows_more c.args.self.now c.loop-place.place c.get.result
-    (rw c.groups-groups.ensures.groups at c.get.ensures) _ _
+    (rw c.groups-groups.ensures at c.get.ensures) _ _
     c.layout-layout.ensures.long_only c.layout-layout.ensures.any_short
     (map string_bytes c.loop-place.rows.items) row c.loop-place.invariant only)
 
@@ -35,5 +35,5 @@ loop-place-preserved c =
 pub returns : goal.returns
 returns c =
     let all : length c.args.self.now.groups ≤ c.loop-place.place =
-    omega (arith, ap (λ (groups : List Group). length groups) c.groups-groups.ensures.groups) in
+    omega (arith, ap (λ (groups : List Group). length groups) c.groups-groups.ensures) in
     rows_all c.args.self.now c.loop-place.place _ all c.loop-place.invariant
