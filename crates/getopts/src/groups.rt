@@ -9,8 +9,8 @@ ghost use Rattle.std.specs.Cmp.Rules.{comparing};
 ghost use Rattle.std.proofs.Common.{rules};
 ghost use Rattle.getopts.specs.Names.{AreLawful, IsLawfullyNamed, main_name};
 ghost use Rattle.getopts.specs.Held.Groups.{signature_view, names_view, names_in, signature_with};
-ghost use Rattle.getopts.specs.Held.Groups.{AreLawfulSignatures, HasKeys, AreEndsOf, StandAt, two_at, ends_of};
-ghost use Rattle.getopts.specs.Held.Names.{names_at, HaveNamesOfBytes};
+ghost use Rattle.getopts.specs.Held.Groups.{HasKeys, AreEndsOf, StandAt, two_at, ends_of};
+ghost use Rattle.getopts.specs.Held.Names.{names_at};
 
 use crate::names::{NO_BYTE, Names, key_of, short_byte};
 use std::alloc::{AllocError, Global};
@@ -258,15 +258,6 @@ impl Signatures {
         ensures small { 2 * result < 2 ^ 64 }
     {
         self.records.len()
-    }
-
-    /// A lemma for proofs, which compiles to nothing: the groups may be declared, and their names
-    /// consist of bytes.
-    pub(crate) fn are_lawful(&self)
-        ensures lawful { AreLawfulSignatures self.now }
-        ensures bytes { HaveNamesOfBytes (names_in self.now) }
-    {
-        let _text = &self.text;
     }
 
     /// The record of the group at `place`.

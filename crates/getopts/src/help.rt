@@ -8,6 +8,7 @@ ghost use Rattle.std.proofs.Common.{rules};
 ghost use Rattle.getopts.specs.Names.{AreLawful};
 ghost use Rattle.getopts.specs.Options.{MayBeDeclared, group_of, signatures_of};
 ghost use Rattle.getopts.specs.Canon.{main_at};
+ghost use Rattle.getopts.specs.Held.Groups.{AreLawfulSignatures};
 
 use crate::groups::{
     Ends, FIRST_GROUPS, Kinds, Signature, Signatures, first_at, push_two, second_at,
@@ -93,6 +94,7 @@ impl Groups {
     pub(crate) fn signatures(&self) -> &Signatures
         ensures signatures { result.now ≡ signatures_of self.now }
         ensures declared { MayBeDeclared self.now }
+        ensures lawful { AreLawfulSignatures result.now }
     {
         &self.signatures
     }

@@ -5,6 +5,7 @@ ghost use Rattle.std.specs.Prelude.{IsTrue, OnOk, OnErr};
 ghost use Rattle.std.specs.Cmp.Rules.{comparing};
 ghost use Rattle.std.proofs.Common.{rules};
 ghost use Rattle.getopts.specs.Names.{AreLawful};
+ghost use Rattle.getopts.specs.Held.Groups.{AreLawfulSignatures};
 ghost use Rattle.getopts.specs.Options.{group_of, with_group, signatures_of, MayBeDeclared};
 
 use crate::groups::{HasArg, Kinds, Occur, ParsingStyle, Signatures};
@@ -320,6 +321,7 @@ impl Options {
     pub(crate) fn signatures(&self) -> &Signatures
         ensures signatures { result.now ≡ signatures_of self.now.groups }
         ensures declared { MayBeDeclared self.now.groups }
+        ensures lawful { AreLawfulSignatures result.now }
     {
         self.groups.signatures()
     }

@@ -185,12 +185,6 @@ impl Signatures {
         self.records.len()
     }
 
-    /// A lemma for proofs, which compiles to nothing: the groups may be declared, and their names
-    /// consist of bytes.
-    pub(crate) fn are_lawful(&self) {
-        let _text = &self.text;
-    }
-
     /// The record of the group at `place`.
     #[inline(always)]
     pub(crate) fn record(&self, place: usize) -> SignatureRecord {

@@ -1,17 +1,16 @@
 -- Signatures and groups as they are stored: which one is at a place, and what one more adds.
-use Rattle.std.proofs.Common.{◌≡◌, ℕ, zero, suc, ◌-◌, ◌<◌, List, [], ◌∷◌, map, ◌++◌, length, get_or}
-use Rattle.std.proofs.Common.{drop, slice_get, Some, refl, ap, sym, ◌∙◌, subst, arith, Option, None}
+use Rattle.std.proofs.Common.{◌≡◌, ℕ, zero, suc, ◌<◌, List, [], ◌∷◌, map, ◌++◌, length, get_or}
+use Rattle.std.proofs.Common.{slice_get, Some, refl, ap, sym, ◌∙◌, subst, arith, Option, None}
 use Rattle.std.specs.List.{AllByRecursion}
 use Rattle.std.specs.Option.{option_map}
 use Rattle.std.specs.Str.{IsUtf8}
 use Rattle.std.specs.String.{string_bytes}
 use Rattle.std.proofs.lemmas.List.{length-map, map-append}
-use Rattle.std.proofs.lemmas.List.Elements.{All-nil, All-take, All-drop}
+use Rattle.std.proofs.lemmas.List.Elements.{All-nil}
 use Rattle.std.proofs.lemmas.Option.{same_Some, slice_get-map}
 use Rattle.getopts.specs.Names.{Text, Names, IsLawfullyNamed, main_name}
 use Rattle.getopts.specs.Options.{Signature, Group, MayBeDeclared, signatures_of, names_of}
 use Rattle.getopts.specs.Canon.{main_at}
-use Rattle.getopts.specs.Held.Texts.{IsOfBytes}
 use Rattle.getopts.specs.Held.Names.{names_at, HaveNamesOfBytes}
 use Rattle.getopts.specs.Held.Groups.{signature_with, names_in, two_at, AreEndsOf, StandAt, ends_of}
 use Rattle.getopts.specs.Held.Groups.{signature_in, AreLawfulSignatures, HasKeys, IsHeld, kinds_of}
@@ -22,7 +21,7 @@ use Rattle.getopts.specs.declared.groups.SignatureRecord.{SignatureRecord}
 use Rattle.getopts.specs.declared.groups.Kinds.{Kinds}
 use Rattle.getopts.proofs.Lists.{AllByRecursion-map, AllByRecursion-unmap, AllByRecursion-at}
 use Rattle.getopts.proofs.Lists.{AllByRecursion-append, slice_get-read, each_kept}
-use Rattle.getopts.proofs.Held.Texts.{two-append}
+use Rattle.getopts.proofs.Held.Texts.{IsOfBytes-utf8, two-append}
 
 -- there are as many signatures as groups
 pub length-signatures_of : (groups : List Group) → length (signatures_of groups) ≡ length groups
@@ -101,19 +100,20 @@ pub lawful_names : (signatures : List Signature) → AreLawfulSignatures signatu
 lawful_names signatures lawful = AllByRecursion-map IsLawfullyNamed (λ (s : Signature). s.names)
     signatures lawful.named
 
--- if the common text consists of bytes, so does each name
-pub HaveNamesOfBytes-in : (text : Text) → IsOfBytes text → (records : List SignatureRecord)
-    → HaveNamesOfBytes (names_in (map (signature_in text) records))
-HaveNamesOfBytes-in text bytes [] place =
+-- and consist of bytes
+pub HaveNamesOfBytes-lawful : (signatures : List Signature) → AreLawfulSignatures signatures
+    → HaveNamesOfBytes (names_in signatures)
+HaveNamesOfBytes-lawful [] lawful place =
     (All-nil (λ byte. byte < 256), All-nil (λ byte. byte < 256))
-HaveNamesOfBytes-in text bytes (r ∷ records) zero = (
-  All-take (λ byte. byte < 256) ((ends_of r).first - (ends_of r).start) (drop (ends_of r).start text)
-      (All-drop (λ byte. byte < 256) (ends_of r).start text bytes),
-  All-take (λ byte. byte < 256) ((ends_of r).second - (ends_of r).first) (drop (ends_of r).first text)
-      (All-drop (λ byte. byte < 256) (ends_of r).first text bytes),
+HaveNamesOfBytes-lawful (s ∷ more) lawful zero = (
+  IsOfBytes-utf8 s.names.short lawful.shorts.0,
+  IsOfBytes-utf8 s.names.long lawful.longs.0,
 )
-HaveNamesOfBytes-in text bytes (r ∷ records) (suc place) =
-    HaveNamesOfBytes-in text bytes records place
+HaveNamesOfBytes-lawful (s ∷ more) lawful (suc place) = HaveNamesOfBytes-lawful more (record {
+  named = lawful.named.1;
+  shorts = lawful.shorts.1;
+  longs = lawful.longs.1;
+}) place
 
 -- ---- one more
 

@@ -78,10 +78,11 @@ signature_in text group =
 abbrev pub signatures_view : Inside → List Signature
 signatures_view inside = map (signature_in (string_bytes inside.text)) inside.records.items
 
--- Each group has valid names, and its short name is UTF-8.
+-- Each group has valid names, which are UTF-8.
 pub record AreLawfulSignatures (signatures : List Signature) : Type 0 where
   pub named : AllByRecursion (λ signature. IsLawfullyNamed signature.names) signatures
   pub shorts : AllByRecursion (λ signature. IsUtf8 signature.names.short) signatures
+  pub longs : AllByRecursion (λ signature. IsUtf8 signature.names.long) signatures
 
 -- The record has the main name's key, the short name's byte, and whether there is a long name.
 pub record HasKeys (group : SignatureRecord) (names : Names) : Type 0 where

@@ -126,6 +126,9 @@ invariant_of-self-2 c =
         shorts = rw same
             (AllByRecursion-append (λ (s : Signature). IsUtf8 s.names.short) _
             (signature c ∷ []) c.self.invariant.lawful.shorts (c.utf8.short, tt));
+        longs = rw same
+            (AllByRecursion-append (λ (s : Signature). IsUtf8 s.names.long) _
+            (signature c ∷ []) c.self.invariant.lawful.longs (c.utf8.long, tt));
       };
     }
 

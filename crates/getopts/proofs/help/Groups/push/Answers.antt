@@ -76,6 +76,9 @@ invariant_of-self-2 c = record {
     shorts = rw (signatures c)
         (AllByRecursion-append (λ (s : Signature). IsUtf8 s.names.short) _ (added c ∷ [])
         c.self.invariant.lawful.shorts (c.utf8.short, tt));
+    longs = rw (signatures c)
+        (AllByRecursion-append (λ (s : Signature). IsUtf8 s.names.long) _ (added c ∷ [])
+        c.self.invariant.lawful.longs (c.utf8.long, tt));
   };
 }
 
