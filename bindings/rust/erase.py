@@ -61,8 +61,7 @@ RUSTFMT = ["rustfmt", "--edition", "2021", "--config", LAYOUT]
 CALLS = {name: f"try_{name}" for name in "push push_str sort_by extend_from_slice clone".split()} | {
     "reserve": "try_grow", "reserve_exact": "try_grow_exact", "with_capacity": "of_capacity",
     "String::new": "String::empty", "String::from_str": "String::copy_of", "Vec::new": "Vec::empty",
-    "shrink_to_fit": "try_shrink", "vec![in alloc; 0; room]": "Vec::filled(alloc, 0, room)",
-    "impl Clone for": "impl TryClone for",
+    "vec![in alloc; 0; room]": "Vec::filled(alloc, 0, room)", "impl Clone for": "impl TryClone for",
 }
 # In Rattle, the writer of `Display` is a type parameter.
 DISPLAY = {"fmt<W: fmt::Write>": "fmt", "fmt::Formatter<W>": "fmt::Formatter<'_>"}
@@ -96,10 +95,9 @@ SAME = set("""all alloc allocator any arg as_bytes as_slice as_str binary_search
     capacity chars checked_add clone cmp contains count dedup_by encode_utf8 ends_with enumerate
     extend_from_slice first flush format get into_iter is_ascii is_ascii_alphanumeric is_ascii_digit is_empty is_eq
     is_some iter iter_mut kind len len_utf8 lines map_or matches max min next ok_or parse position push push_reserved
-    push_str reserve reserve_exact resize rsplit_once saturating_add saturating_mul saturating_sub shrink_to_fit
-    size_hint sort_by split split_at split_at_mut split_once split_whitespace starts_with stderr strip_prefix
-    strip_suffix then_some trim_ascii truncate unreachable unwrap_or vec width write writeln Err FnMut Ok Some
-    bytes""".split())
+    push_str reserve reserve_exact resize rsplit_once saturating_add saturating_mul saturating_sub size_hint
+    sort_by split split_at split_at_mut split_once split_whitespace starts_with stderr strip_prefix strip_suffix
+    then_some trim_ascii truncate unreachable unwrap_or vec width write writeln Err FnMut Ok Some bytes""".split())
 # Functions that are called by type, as in `u32::from(..)`.
 OF_TYPES = set("""Error::from String::new String::from_str String::with_capacity Vec::new Vec::with_capacity
     ExitCode::from char::from_u32 io::writer str::from_utf8 u32::from u32::from_be_bytes

@@ -20,7 +20,6 @@ WHOLE += [(r"(mod laws|pub use laws)", ";"), (r"[+:,] Drop(?= [>,)])", ""), (r"D
 CALLS = "push push_str sort_by clone extend_from_slice".split()
 RENAMED = {word: "try_" + word for word in CALLS}
 RENAMED |= {"reserve": "try_grow", "reserve_exact": "try_grow_exact", "with_capacity": "of_capacity"}
-RENAMED |= {"shrink_to_fit": "try_shrink"}
 RENAMED |= {"String :: new": "String :: empty", "Vec :: new": "Vec :: empty", "String :: from_str": "String :: copy_of"}
 RENAMED |= {"vec ! [ in alloc ; 0 ; room ]": "Vec :: filled ( alloc , 0 , room )"}
 RENAMED |= {"impl Clone for": "impl TryClone for"}

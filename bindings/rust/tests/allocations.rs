@@ -155,29 +155,6 @@ fn sort_matches_rust() {
     }
 }
 
-/// Calls a function in which the allocation after this many others fails.
-fn granting<T>(granted: usize, call: impl FnOnce() -> T) -> T {
-    GRANTED.with(|state| state.set(Some((granted, false))));
-    let result = call();
-    GRANTED.with(|state| state.set(None));
-    result
-}
-
-#[test]
-fn failed_shrink_keeps_capacity() {
-    for (granted, capacities) in [(0, (9, 2)), (1, (3, 9)), (2, (3, 2))] {
-        let (mut list, mut text) = (Vec::with_capacity(9), String::with_capacity(9));
-        list.extend([3, 1, 2]);
-        text.push_str("ab");
-        granting(granted, || {
-            list.try_shrink();
-            text.try_shrink();
-        });
-        assert_eq!((list.as_slice(), text.as_str()), (&[3, 1, 2][..], "ab"));
-        assert_eq!((list.capacity(), text.capacity()), capacities);
-    }
-}
-
 /// Options with four groups and `more`, enough to have their names sorted in an index.
 fn options(more: usize) -> Options {
     let mut options = Options::new(Global);
@@ -227,26 +204,6 @@ fn parse_reports_every_failed_allocation() {
     let many = ["-vofile", "free"].repeat(2000);
     let floating = options(0).parse_ignoring_counts(Global, &many).unwrap();
     assert_eq!(floating.opt_count("v"), 2000);
-}
-
-#[test]
-fn failing_to_give_back_memory_is_no_error() {
-    let (options, cluster) = (options(0), format!("-{}", "v".repeat(100)));
-    let wanted = options.parse_words(Global, &[&cluster]).unwrap();
-    let mut ignored = 0;
-    for granted in 0.. {
-        FAILED.with(|failed| failed.set(false));
-        match granting(granted, || options.parse_words(Global, &[&cluster])) {
-            Ok(matches) => assert_eq!(matches, wanted),
-            Err(fail) => assert_eq!(fail, Fail::OutOfMemory),
-        }
-        if !FAILED.with(Cell::get) {
-            break;
-        }
-        ignored +=
-            usize::from(granting(granted, || options.parse_words(Global, &[&cluster])).is_ok());
-    }
-    assert_eq!(ignored, 1);
 }
 
 #[test]

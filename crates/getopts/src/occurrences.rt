@@ -117,19 +117,6 @@ impl LineOccurrences {
         self.records.reserve_exact(room)
     }
 
-    /// Gives back unused memory if there are more than this many options, or long values.
-    #[inline(always)]
-    pub(crate) fn shrink(&mut self, most: usize)
-        ensures { self.new ≡ self.old }
-    {
-        if self.records.len() > most {
-            self.records.shrink_to_fit();
-        }
-        if self.values.len() > MOST_BYTES {
-            self.values.shrink_to_fit();
-        }
-    }
-
     pub(crate) fn len(&self) -> usize
         ensures { result ≡ length self.now }
     {

@@ -82,19 +82,6 @@ impl Line {
         self.found.reserve(dashed)?;
         self.free.reserve_exact(words.len().saturating_sub(dashed))
     }
-
-    /// Gives back the memory that a long line of this many words left unused.
-    #[inline(always)]
-    pub(crate) fn shrink(&mut self, words: usize)
-        ensures found { self.new.found ≡ self.old.found }
-        ensures free { self.new.free.items ≡ self.old.free.items }
-        ensures trailing { self.new.trailing_start ≡ self.old.trailing_start }
-    {
-        self.found.shrink(FIRST_ROOM);
-        if words > FIRST_ROOM {
-            self.free.shrink_to_fit();
-        }
-    }
 }
 
 /// The options that words are read by, and the table of their names.

@@ -32,7 +32,6 @@ impl String {
     pub fn try_push_str(&mut self, _: &str) -> Result<(), AllocError> { loop {} }
     pub fn try_push(&mut self, _: char) -> Result<(), AllocError> { loop {} }
     pub fn try_clone(&self) -> Result<String, AllocError> { loop {} }
-    pub fn try_shrink(&mut self) { loop {} }
     pub fn as_str(&self) -> &str { loop {} }
 }
 impl<T> Vec<T> {
@@ -42,7 +41,6 @@ impl<T> Vec<T> {
     pub fn try_grow_exact(&mut self, _: usize) -> Result<(), AllocError> { loop {} }
     pub fn try_push(&mut self, _: T) -> Result<(), AllocFailed<T>> { loop {} }
     pub fn push_reserved(&mut self, _: T) { loop {} }
-    pub fn try_shrink(&mut self) { loop {} }
     pub fn capacity(&self) -> usize { loop {} }
     pub fn as_slice(&self) -> &[T] { loop {} }
     pub fn truncate(&mut self, _: usize) { loop {} }

@@ -74,17 +74,6 @@ impl LineOccurrences {
         self.records.try_grow_exact(room)
     }
 
-    /// Gives back unused memory if there are more than this many options, or long values.
-    #[inline(always)]
-    pub(crate) fn shrink(&mut self, most: usize) {
-        if self.records.len() > most {
-            self.records.try_shrink();
-        }
-        if self.values.len() > MOST_BYTES {
-            self.values.try_shrink();
-        }
-    }
-
     pub(crate) fn len(&self) -> usize {
         self.records.len()
     }

@@ -74,8 +74,7 @@ impl Options {
             options: self,
             table: &table,
         };
-        let mut line = scanner.scan(alloc, words)?;
-        line.shrink(words.len());
+        let line = scanner.scan(alloc, words)?;
         let index = Index::of(alloc, signatures.len(), &line.found)?;
         Ok(ReadLine { table, line, index })
     }

@@ -60,15 +60,6 @@ impl Line {
         self.found.try_grow(dashed)?;
         self.free.try_grow_exact(words.len().saturating_sub(dashed))
     }
-
-    /// Gives back the memory that a long line of this many words left unused.
-    #[inline(always)]
-    pub(crate) fn shrink(&mut self, words: usize) {
-        self.found.shrink(FIRST_ROOM);
-        if words > FIRST_ROOM {
-            self.free.try_shrink();
-        }
-    }
 }
 
 /// The options that words are read by, and the table of their names.

@@ -1,7 +1,5 @@
 -- The line that was read, and its scan error, belong to the declared options.
-use Rattle.std.proofs.Common.{map, ap, ◌∙◌}
 use Rattle.std.proofs.lemmas.Result.{err_from_is_err_and}
-use Rattle.std.specs.String.{string_bytes}
 use Rattle.getopts.proofs.MainTheorem.Results.{HasResults-declared}
 use Rattle.getopts.proofs.Parsing.Faults.{Tells-weaker}
 use Rattle.getopts.proofs.Parsing.Parsed.{HasNoReading-fault}
@@ -29,20 +27,14 @@ returns-in_err-line-clause-refused g c =
     (HasNoReading-fault _ c.signatures-signatures.ensures.declared _ c.are_texts.ensures))
 
 pub returns-clause-read : goal.returns-clause-read
-returns-clause-read g c = let line = c.in_ok-line.ensures.ok in record {
+returns-clause-read g c = record {
   declared = c.signatures-signatures.ensures.declared;
   of_groups = record {
     table = rw c.signatures-signatures.ensures.signatures at c.in_ok-table.ensures;
     index = rw (c.len.ensures.len, c.signatures-signatures.ensures.signatures) at
         c.in_ok-index.ensures;
   };
-  reads = record {
-    reading = line.reading;
-    reads = line.reads;
-    occurrences = c.shrink.ensures.found ∙ line.occurrences;
-    free = ap (map string_bytes) c.shrink.ensures.free ∙ line.free;
-    trailing = c.shrink.ensures.trailing ∙ line.trailing;
-  };
+  reads = c.in_ok-line.ensures.ok;
 }
 
 pub returns-in_err-table-clause-results : goal.returns-in_err-table-clause-results
