@@ -25,5 +25,9 @@ fn run(rt: &HostRuntime) -> io::Result<u8>
     ensures { IfOk result IsStatus }
 {
     let words = system_words(rt)?;
-    Ok(show(rt.alloc(), &words, &mut io::writer(rt)))
+    let mut texts = Vec::with_capacity(rt.alloc(), words.len())?;
+    for word in &words {
+        texts.push(word.as_str())?;
+    }
+    Ok(show(rt.alloc(), &texts, &mut io::writer(rt)))
 }

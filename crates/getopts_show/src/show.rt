@@ -1,16 +1,20 @@
 //! The program's work, for any words and any writer.
 
-ghost use Rattle.std.specs.Prelude.{◌≡◌, ◌++◌, codes, true, false, map, IfOk, Ok, OnOk, Some};
+ghost use Rattle.std.specs.Prelude.{◌≡◌, ◌++◌, codes, true, false, map};
+ghost use Rattle.std.specs.Prelude.{IfNone, IfOk, Ok, OnOk, Some};
 ghost use Rattle.std.specs.List.{flat_map};
+ghost use Rattle.std.specs.Option.{option_map};
 ghost use Rattle.std.specs.String.{string_bytes};
 ghost use Rattle.std.specs.Io.KnownBytes.{Appends};
-ghost use Rattle.getopts.specs.Accessors.{AreDefined, IsDefined, pairs_of, positions_of};
+ghost use Rattle.getopts.specs.Accessors.{AreDefined, IsDefined, found_of, pair_view};
 ghost use Rattle.getopts.specs.Fail.{Fault, fault_of};
 ghost use Rattle.getopts.specs.Names.{texts};
 ghost use Rattle.getopts.specs.Options.{with_groups};
 ghost use Rattle.getopts.specs.Canon.{canonical_line, content_of};
+ghost use Rattle.getopts.specs.CanonAnswers.{IsUnwritable};
+ghost use Rattle.getopts.specs.Gives.{GivesAs, GivesResult};
 ghost use Rattle.getopts.specs.Reading.{Reading};
-ghost use Rattle.getopts.specs.Results.{line_result, parse_result};
+ghost use Rattle.getopts.specs.Results.{canonical_result, line_result, parse_result};
 ghost use Rattle.getopts_show.specs.Program.{AreAccepted, IsHelpText, IsProgramText};
 ghost use Rattle.getopts_show.specs.Program.{HasProgramGroups, IsStatus, IsDone, ShowsText};
 ghost use Rattle.getopts_show.specs.Program.{asks_help, content_text, count_line};
@@ -18,9 +22,8 @@ ghost use Rattle.getopts_show.specs.Program.{fault_line, matches_text};
 ghost use Rattle.getopts_show.specs.Program.{named_lines, position_mark, program_groups};
 ghost use Rattle.getopts_show.specs.Program.{program_options, value_line, word_line};
 
-use getopts::{Fail, Matches, Occurrences, Options};
+use getopts::{Fail, HasArg, Matches, Occur, Options};
 use std::alloc::{AllocError, Global};
-use std::convert::AsStr;
 use std::io;
 use std::io::Write;
 
@@ -56,10 +59,10 @@ struct Answer {
 /// words, even if they ask for help, the text is the error after the program's name, and the status
 /// is 2. If an allocation fails, nothing is written and the status is 3; if writing or flushing
 /// fails, it is 4.
-pub fn show<S: AsStr, W: Write>(alloc: Global, words: &[S], out: &mut W) -> u8
+pub fn show<W: Write>(alloc: Global, words: &[&str], out: &mut W) -> u8
     ensures status { IsStatus result }
     ensures shown { IsDone result
-        → ShowsText (W.contents out.old) (W.contents out.new) (map S.text words.now) result }
+        → ShowsText (W.contents out.old) (W.contents out.new) (texts words.now) result }
     ensures nothing_written { result ≡ 3 → out.new ≡ out.old }
 {
     match answer_to(alloc, words) {
@@ -80,12 +83,12 @@ fn print<W: Write>(out: &mut W, text: &str) -> io::Result<()>
 }
 
 /// What the program answers to these words.
-fn answer_to<S: AsStr>(alloc: Global, words: &[S]) -> Result<Answer, AllocError>
+fn answer_to(alloc: Global, words: &[&str]) -> Result<Answer, AllocError>
     ensures { IfOk result (λ answer.
-        IsProgramText (map S.text words.now) (string_bytes answer.text) answer.status) }
+        IsProgramText (texts words.now) (string_bytes answer.text) answer.status) }
 {
     let options = program_options(alloc)?;
-    match options.parse_words(alloc, words) {
+    match parsed(alloc, &options, words) {
         Ok(matches) => Ok(Answer {
             text: accepted_text(alloc, &options, words, &matches)?,
             status: SHOWN,
@@ -97,17 +100,34 @@ fn answer_to<S: AsStr>(alloc: Global, words: &[S]) -> Result<Answer, AllocError>
     }
 }
 
+/// The matches of words, or their first error.
+fn parsed(alloc: Global, options: &Options, words: &[&str]) -> getopts::Result
+    ensures { GivesResult result (parse_result options.now (texts words.now)) }
+{
+    options.parse(alloc, words.iter().copied())
+}
+
+/// The canonical line of words, or their first error. There is none if it can't be written.
+fn rewritten(alloc: Global, options: &Options, words: &[&str]) -> Result<Option<Vec<String>>, Fail>
+    ensures result { GivesAs (option_map (λ line. map string_bytes line.items)) result
+        (λ answer. canonical_result options.now (texts words.now) ≡ answer) }
+    ensures unwritable { IfOk result (λ answer.
+        IfNone answer (IsUnwritable options.now (texts words.now))) }
+{
+    options.canonical(alloc, words.iter().copied())
+}
+
 /// The text for accepted words with these matches: the program's help if they ask for it, otherwise
 /// what they mean.
-fn accepted_text<S: AsStr>(
+fn accepted_text(
     alloc: Global,
     options: &Options,
-    words: &[S],
+    words: &[&str],
     matches: &Matches,
 ) -> Result<String, AllocError>
     requires program { options.now ≡ program_options }
-    requires accepted { parse_result program_options (map S.text words.now) ≡ Ok matches.now }
-    ensures { IfOk result (λ text. IsProgramText (map S.text words.now) (string_bytes text) 0) }
+    requires accepted { parse_result program_options (texts words.now) ≡ Ok matches.now }
+    ensures { IfOk result (λ text. IsProgramText (texts words.now) (string_bytes text) 0) }
 {
     if matches.opt_present("help") {
         help_text(alloc, options)
@@ -126,16 +146,16 @@ fn help_text(alloc: Global, options: &Options) -> Result<String, AllocError>
 
 /// What accepted words with these matches mean: the text of the matches, and a line for each word
 /// of the canonical line.
-fn shown_text<S: AsStr>(
+fn shown_text(
     alloc: Global,
     options: &Options,
-    words: &[S],
+    words: &[&str],
     matches: &Matches,
 ) -> Result<String, AllocError>
     requires program { options.now ≡ program_options }
-    requires accepted { parse_result program_options (map S.text words.now) ≡ Ok matches.now }
+    requires accepted { parse_result program_options (texts words.now) ≡ Ok matches.now }
     requires no_help { asks_help matches.now ≡ false }
-    ensures { IfOk result (λ text. IsProgramText (map S.text words.now) (string_bytes text) 0) }
+    ensures { IfOk result (λ text. IsProgramText (texts words.now) (string_bytes text) 0) }
 {
     let mut text = matches_text(alloc, matches)?;
     push_canonical(&mut text, alloc, options, words)?;
@@ -143,16 +163,16 @@ fn shown_text<S: AsStr>(
 }
 
 /// Appends a line for each word of the canonical line of accepted words.
-fn push_canonical<S: AsStr>(
+fn push_canonical(
     text: &mut String,
     alloc: Global,
     options: &Options,
-    words: &[S],
+    words: &[&str],
 ) -> Result<(), AllocError>
     requires program { options.now ≡ program_options }
-    requires accepted { AreAccepted (map S.text words.now) }
+    requires accepted { AreAccepted (texts words.now) }
     ensures { OnOk result ((reading : Reading)
-        → line_result program_options (map S.text words.now) ≡ Ok reading
+        → line_result program_options (texts words.now) ≡ Ok reading
         → string_bytes text.new
         ≡ string_bytes text.old ++ content_text (content_of program_options reading)) }
 {
@@ -161,20 +181,20 @@ fn push_canonical<S: AsStr>(
 }
 
 /// The canonical line of accepted words. It exists, since no main name of the program's options
-/// contains `=`, and `canonical_words` fails only if an allocation does.
-fn canonical_line<S: AsStr>(
+/// contains `=`, and `canonical` fails only if an allocation does.
+fn canonical_line(
     alloc: Global,
     options: &Options,
-    words: &[S],
+    words: &[&str],
 ) -> Result<Vec<String>, AllocError>
     requires program { options.now ≡ program_options }
-    requires accepted { AreAccepted (map S.text words.now) }
+    requires accepted { AreAccepted (texts words.now) }
     ensures { IfOk result (λ line. (reading : Reading)
-        → line_result program_options (map S.text words.now) ≡ Ok reading
+        → line_result program_options (texts words.now) ≡ Ok reading
         → map string_bytes line.items
         ≡ canonical_line program_groups (content_of program_options reading)) }
 {
-    match options.canonical_words(alloc, words) {
+    match rewritten(alloc, options, words) {
         Ok(Some(line)) => Ok(line),
         Ok(None) => unreachable!(),
         Err(fail) => match fail {
@@ -210,11 +230,32 @@ fn add_groups(options: &mut Options) -> Result<(), AllocError>
     ensures { OnOk result (options.new ≡ with_groups options.old program_groups) }
 {
     options
-        .optopt("o", "output", "set output file name", "NAME")?
-        .optflag("h", "help", "print this help menu")?
-        .optflagmulti("v", "verbose", "say more")?
-        .optmulti("L", "", "add a folder", "DIR")?
-        .optflagopt("c", "color", "colour the output", "WHEN")?;
+        .opt(
+            "o",
+            "output",
+            "set output file name",
+            "NAME",
+            HasArg::Yes,
+            Occur::Optional,
+        )?
+        .opt(
+            "h",
+            "help",
+            "print this help menu",
+            "",
+            HasArg::No,
+            Occur::Optional,
+        )?
+        .opt("v", "verbose", "say more", "", HasArg::No, Occur::Multi)?
+        .opt("L", "", "add a folder", "DIR", HasArg::Yes, Occur::Multi)?
+        .opt(
+            "c",
+            "color",
+            "colour the output",
+            "WHEN",
+            HasArg::Maybe,
+            Occur::Optional,
+        )?;
     Ok(())
 }
 
@@ -236,64 +277,63 @@ fn options_text(alloc: Global, matches: &Matches, names: &[&str]) -> Result<Stri
 {
     let mut text = String::new(alloc);
     for name in names {
-        push_option(&mut text, matches, name)?;
+        push_option(&mut text, alloc, matches, name)?;
     }
     Ok(text)
 }
 
 /// Appends the lines of the option with this name.
-fn push_option(text: &mut String, matches: &Matches, name: &str) -> Result<(), AllocError>
+fn push_option(
+    text: &mut String,
+    alloc: Global,
+    matches: &Matches,
+    name: &str,
+) -> Result<(), AllocError>
     requires { IsDefined matches.now.groups name.now }
     ensures { OnOk result (string_bytes text.new
         ≡ string_bytes text.old ++ named_lines matches.now.groups name.now) }
 {
-    let place = matches.opt_place(name).unwrap();
-    let occurrences = matches.occurrences_at(place);
-    push_count(text, name, &occurrences)?;
-    push_values(text, name, &occurrences)
+    push_count(text, alloc, matches, name)?;
+    let pairs = matches.opt_strs_pos(alloc, name)?;
+    push_values(text, name, &pairs)
 }
 
-/// Appends the line that says how often an option was given, and where.
+/// Appends the line that says how often the option with this name was given, and where.
 fn push_count(
     text: &mut String,
+    alloc: Global,
+    matches: &Matches,
     name: &str,
-    occurrences: &Occurrences<'_>,
 ) -> Result<(), AllocError>
+    requires { IsDefined matches.now.groups name.now }
     ensures { OnOk result (string_bytes text.new
-        ≡ string_bytes text.old ++ count_line name.now occurrences.now) }
+        ≡ string_bytes text.old ++ count_line name.now (found_of matches.now.groups name.now)) }
 {
-    let count = occurrences.len();
+    let count = matches.opt_count(name);
     write!(text, "{name}: {count}")?;
-    push_positions(text, occurrences)?;
+    let positions = matches.opt_positions(alloc, name)?;
+    push_positions(text, &positions)?;
     text.push('\n')
 }
 
-/// Appends the mark of each position of an option.
-fn push_positions(text: &mut String, occurrences: &Occurrences<'_>) -> Result<(), AllocError>
+/// Appends the mark of each position.
+fn push_positions(text: &mut String, positions: &[usize]) -> Result<(), AllocError>
     ensures { OnOk result (string_bytes text.new
-        ≡ string_bytes text.old ++ flat_map position_mark (positions_of occurrences.now)) }
+        ≡ string_bytes text.old ++ flat_map position_mark positions.now) }
 {
-    for nth in 0..occurrences.len() {
-        if let Some((position, _)) = occurrences.get(nth) {
-            write!(text, " @{position}")?;
-        }
+    for position in positions {
+        write!(text, " @{position}")?;
     }
     Ok(())
 }
 
-/// Appends a line for each value of an option.
-fn push_values(
-    text: &mut String,
-    name: &str,
-    occurrences: &Occurrences<'_>,
-) -> Result<(), AllocError>
+/// Appends a line for each value of an option, with its position.
+fn push_values(text: &mut String, name: &str, pairs: &[(usize, String)]) -> Result<(), AllocError>
     ensures { OnOk result (string_bytes text.new
-        ≡ string_bytes text.old ++ flat_map (value_line name.now) (pairs_of occurrences.now)) }
+        ≡ string_bytes text.old ++ flat_map (value_line name.now) (map pair_view pairs.now)) }
 {
-    for nth in 0..occurrences.len() {
-        if let Some((position, Some(value))) = occurrences.get(nth) {
-            writeln!(text, "{name} @{position} = {value}")?;
-        }
+    for (position, value) in pairs {
+        writeln!(text, "{name} @{position} = {value}")?;
     }
     Ok(())
 }

@@ -6,13 +6,13 @@ use Rattle.getopts_show.proofs.ShowLemmas.{are_accepted, program_groups_of, text
 use Rattle.getopts_show.proofs.show.shown_text.Goals as goal
 
 pub matches_text-requires : goal.matches_text-requires
-matches_text-requires g c = program_groups_of _ _ c.requires.accepted
+matches_text-requires c = program_groups_of _ _ c.requires.accepted
 
 pub push_canonical-requires-clause-accepted : goal.push_canonical-requires-clause-accepted
-push_canonical-requires-clause-accepted g c = are_accepted _ _ c.requires.accepted
+push_canonical-requires-clause-accepted c = are_accepted _ _ c.requires.accepted
 
 pub returns : goal.returns
-returns g c =
+returns c =
     text_of_reading _ _ c.requires.accepted _ _ c.requires.no_help
     (λ reading reads gives. c.in_ok-push_canonical.ensures reading reads
     ∙ ap (λ text. text ++ content_text (content_of program_options reading)) c.in_ok-text.ensures

@@ -1,0 +1,27 @@
+-- What holds for the items of `words.iter().copied()` holds for the words.
+use Rattle.std.proofs.Common.{◌≡◌, ◌∙◌, ap, subst, List, Option, Result, Ok, Err}
+use Rattle.std.specs.Borrow.{Bor}
+use Rattle.std.specs.Iterator.Runs.{EachRunFrom, IsCopiedRun, SomeRun, WholeRun, YieldsRefsInOrder}
+use Rattle.getopts.specs.Fail.{Fault}
+use Rattle.getopts.specs.Gives.{GivesAs}
+use Rattle.getopts.specs.declared.fail.Fail.{Fail}
+use Rattle.getopts.proofs.Parsing.Faults.{Tells-weaker}
+
+module _ {S T A : Type 0} {steps : S → Option (Bor A) → S → Type 0}
+    {copied : T → Option A → T → Type 0} (rest : S → List A) (iter : S) (copy : T) (words : List A)
+    (yields : YieldsRefsInOrder steps rest) (rest_is : rest iter ≡ words)
+    (copies : EachRunFrom copied copy (λ p. SomeRun steps iter (λ q. IsCopiedRun p q (λ y. y.now)))) where
+  pub of_run : (P : List A → Type 0) → WholeRun copied copy (λ run. P run.items) → P words
+  of_run P (run, from, whole, holds) =
+      let (source, is, copied_is) = copies run run.seen from in
+      let items = copied_is.2 ∙ (yields source source.seen).4 (copied_is.0 ∙ whole) in
+      subst P (items ∙ ap rest is ∙ rest_is) holds
+
+  -- the same for a call's result
+  pub result_of_run : {B X : Type 0} (see : B → X) (result : List A → Result X Fault)
+      (answer : Result B Fail)
+      → GivesAs see answer (λ r. WholeRun copied copy (λ run. result run.items ≡ r))
+      → GivesAs see answer (λ r. result words ≡ r)
+  result_of_run see result (Ok value) is = of_run (λ xs. result xs ≡ Ok (see value)) is
+  result_of_run see result (Err fail) is =
+      Tells-weaker fail _ _ is (λ fault. of_run (λ xs. result xs ≡ Err fault))
