@@ -92,7 +92,7 @@ IMPORTS = set("""std::alloc std::cmp::Ordering std::convert::AsStr std::env std:
     std::process::ExitCode std::str::FromStr std::vec unicode_width""".split())
 # Functions, methods and macros of Rust, or their replacements.
 SAME = set("""all alloc allocator any arg as_bytes as_slice as_str binary_search_by binary_search_by_key
-    capacity chars checked_add clone cmp contains count dedup_by encode_utf8 ends_with enumerate
+    capacity chars clone cmp contains count dedup_by encode_utf8 ends_with enumerate
     extend_from_slice first flush format get into_iter is_ascii is_ascii_alphanumeric is_ascii_digit is_empty is_eq
     is_some iter iter_mut kind len len_utf8 lines map_or matches max min next ok_or parse position push push_reserved
     push_str reserve reserve_exact resize rsplit_once saturating_add saturating_mul saturating_sub size_hint
