@@ -141,12 +141,12 @@ fn option(alloc: Global, matches: &Matches, name: &str, default: &str, answer: &
 fn number(matches: &Matches, name: &str, default: &str, answer: &mut Answer)
     requires { IsDefined matches.now.groups name.now }
 {
-    match matches.opt_get::<i64>(name) {
+    match matches.opt_get::<i32>(name) {
         Ok(Some(number)) => answer.number("=", number),
         Ok(None) => answer.field("-"),
         Err(_) => answer.field("error"),
     }
-    match default.parse::<i64>() {
+    match default.parse::<i32>() {
         Ok(default) => match matches.opt_get_default(name, default) {
             Ok(number) => answer.number("", number),
             Err(_) => answer.field("error"),

@@ -189,7 +189,7 @@ impl Answer {
     }
 
     /// Adds a field with a text and a number.
-    pub fn number(&mut self, front: &str, number: i64) {
+    pub fn number(&mut self, front: &str, number: i32) {
         self.raw("\t");
         self.raw(front);
         self.shown(&number);

@@ -42,7 +42,7 @@
 //!   `opt_strs`, and a line `pairs` with the texts of `opt_strs_pos`
 //! - `positions NAME`: `positions NAME POSITION..`, then a line `pairs` with the position and the
 //!   text of each pair of `opt_strs_pos`
-//! - `number NAME DEFAULT` and `truth NAME DEFAULT`: the result of `opt_get` for `i64` or `bool`,
+//! - `number NAME DEFAULT` and `truth NAME DEFAULT`: the result of `opt_get` for `i32` or `bool`,
 //!   an OPTIONAL or `error`, and of `opt_get_default`, the value or `error`
 //! - `unreadable NAME`: the same for a type as which no text can be parsed, `-` or `error`, then
 //!   `default` or `error`

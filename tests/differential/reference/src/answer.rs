@@ -202,7 +202,7 @@ fn ask_of_matches(matches: &Matches, asked: &Line) -> String {
         ("positions", []) => {
             line(head, positions(matches, name)) + &line(&["pairs"], pairs(matches, name))
         }
-        ("number", [default]) => line(head, got::<i64>(matches, name, default)),
+        ("number", [default]) => line(head, got::<i32>(matches, name, default)),
         ("truth", [default]) => line(head, got::<bool>(matches, name, default)),
         _ => panic!("unknown line {asked:?}"),
     }
