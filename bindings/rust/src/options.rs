@@ -74,7 +74,7 @@ pub(crate) fn read_words<A: AsRef<OsStr>, T>(
     otherwise: impl FnOnce(&OsStr, &mut dyn Iterator<Item = &OsStr>) -> T,
 ) -> T {
     if std::mem::size_of::<A>() > SMALL {
-        read_list(None, words, text_of, ask, otherwise)
+        read_list(std::iter::empty(), words, text_of, ask, otherwise)
     } else {
         read_few(words, text_of, ask, otherwise)
     }
@@ -113,14 +113,11 @@ fn read_list<A: AsRef<OsStr>, T>(
     ask: impl FnOnce(&[&str]) -> T,
     otherwise: impl FnOnce(&OsStr, &mut dyn Iterator<Item = &OsStr>) -> T,
 ) -> T {
-    let promised = others.size_hint().0;
-    let mut all = Vec::with_capacity(FEW + promised.min(FIRST_ROOM));
+    let mut all = Vec::with_capacity(FEW + others.size_hint().0.min(FIRST_ROOM));
     all.extend(first);
-    if promised <= FIRST_ROOM {
-        all.extend(others);
-    } else {
-        others.for_each(|word| all.push(word));
-    }
+    others.for_each(|word| all.push(word));
+    // The list is kept while its words are parsed.
+    all.shrink_to_fit();
     let mut texts = vec![""; all.len()];
     match put_texts(&mut texts, all.iter().map(A::as_ref), text_of) {
         Ok(()) => ask(&texts),
@@ -413,15 +410,14 @@ impl Options {
     where
         C::Item: AsRef<OsStr>,
     {
-        let (given, groups) = (self.read(args, texts_in_order)?, self.proved.groups());
-        Ok(given.into_iter().map(|(place, value)| (groups.main(place), value)).collect())
+        self.read(args, texts_in_order)
     }
 
     /// Calls `ask` with the proved options and the words. Rejects the first word that isn't UTF-8.
-    fn read<C: IntoIterator, T>(
-        &self,
+    fn read<'o, C: IntoIterator, T>(
+        &'o self,
         args: C,
-        ask: impl Fn(&proved::Options, &[&str]) -> std::result::Result<T, proved::Fail>,
+        ask: impl Fn(&'o proved::Options, &[&str]) -> std::result::Result<T, proved::Fail>,
     ) -> std::result::Result<T, Fail>
     where
         C::Item: AsRef<OsStr>,
@@ -524,17 +520,17 @@ pub(crate) fn read_texts(options: &proved::Options, words: &[&str]) -> proved::R
     options.parse_ignoring_counts(Global, words)
 }
 
-/// The index and the value of each option given, in order.
-fn texts_in_order(
-    options: &proved::Options,
+/// The main name and the value of each option given, in order.
+fn texts_in_order<'o>(
+    options: &'o proved::Options,
     words: &[&str],
-) -> std::result::Result<Vec<(usize, Option<String>)>, proved::Fail> {
-    let places = options.parse_in_order(Global, words)?;
-    let matches = options.parse_words(Global, words)?;
-    let groups = 0..options.groups().len();
-    let mut given: Vec<_> = groups.map(|at| matches.occurrences_at(at).into_iter()).collect();
-    let mut next_of = |place: usize| given[place].next().and_then(|(_, value)| value);
-    Ok(places.into_iter().map(|place| (place, next_of(place).map(String::from))).collect())
+) -> std::result::Result<Vec<(&'o str, Option<String>)>, proved::Fail> {
+    let found = options.accepted_line(Global, words)?.line.found;
+    let given = (0..found.len()).map(|nth| {
+        let option = found.at(nth);
+        (options.groups().main(option.group), option.value.map(String::from))
+    });
+    Ok(given.collect())
 }
 
 fn canonical_texts(
