@@ -521,7 +521,7 @@ pub(crate) fn read_texts(options: &proved::Options, words: &[&str]) -> proved::R
 }
 
 /// The main name and the value of each option given, in order.
-fn texts_in_order<'o>(
+pub(crate) fn texts_in_order<'o>(
     options: &'o proved::Options,
     words: &[&str],
 ) -> std::result::Result<Vec<(&'o str, Option<String>)>, proved::Fail> {

@@ -2,7 +2,7 @@
 
 use crate::bytes::{plain_text, push_bytes, push_text};
 use crate::fail::granted;
-use crate::options::{parse_texts, read_texts, read_words};
+use crate::options::{parse_texts, read_texts, read_words, texts_in_order};
 use crate::{Fail, Matches, Options, proved};
 use std::borrow::Cow;
 use std::ffi::{OsStr, OsString};
@@ -65,7 +65,7 @@ impl Options {
     where
         C::Item: AsRef<OsStr>,
     {
-        self.read_os(args, parse_texts)
+        self.read_os(args, parse_texts, OsMatches::of)
     }
 
     /// Parses a command line like `parse_os`, but doesn't check how often options occur.
@@ -86,20 +86,51 @@ impl Options {
     where
         C::Item: AsRef<OsStr>,
     {
-        self.read_os(args, read_texts)
+        self.read_os(args, read_texts, OsMatches::of)
     }
 
-    fn read_os<C: IntoIterator>(
+    /// Parses a command line like `parse_os`, and returns its options in order, as `parse_in_order`
+    /// does.
+    ///
+    /// ```
+    /// let mut options = getopts::Options::new();
+    /// options.optflagmulti("q", "quiet", "say less").optmulti("I", "", "add a folder", "DIR");
+    /// let given = options.parse_os_in_order(["-Isrc", "-q", "in.txt"]).unwrap();
+    /// assert_eq!(given, [("I", Some("src".into())), ("quiet", None)]);
+    /// ```
+    ///
+    /// # Errors
+    /// Fails if `parse_os` would.
+    ///
+    /// # Panics
+    /// Panics if both names of an option are empty.
+    pub fn parse_os_in_order<C: IntoIterator>(
         &self,
         args: C,
-        ask: impl Fn(&proved::Options, &[&str]) -> proved::Result,
-    ) -> Result<OsMatches, Fail>
+    ) -> Result<Vec<(&str, Option<OsString>)>, Fail>
+    where
+        C::Item: AsRef<OsStr>,
+    {
+        self.read_os(args, texts_in_order, |given, marked| {
+            let word = |text: String| if marked { os_of(&text) } else { text.into() };
+            given.into_iter().map(|(name, value)| (name, value.map(word))).collect()
+        })
+    }
+
+    /// Calls `ask` with the proved options and the words, and `of` with its answer and whether a
+    /// word wasn't text.
+    fn read_os<'o, C: IntoIterator, T, U>(
+        &'o self,
+        args: C,
+        ask: impl Fn(&'o proved::Options, &[&str]) -> Result<T, proved::Fail>,
+        of: impl Fn(T, bool) -> U,
+    ) -> Result<U, Fail>
     where
         C::Item: AsRef<OsStr>,
     {
         let options = self.named();
         let answer = |texts: &[&str], marked| match ask(options, texts) {
-            Ok(proved) => Ok(OsMatches::of(Matches::of(proved), marked)),
+            Ok(given) => Ok(of(given, marked)),
             Err(fail) => Err(shown(Fail::of(fail))),
         };
         read_words(
@@ -116,7 +147,8 @@ impl Options {
 }
 
 impl OsMatches {
-    fn of(mut matches: Matches, marked: bool) -> OsMatches {
+    fn of(proved: proved::Matches, marked: bool) -> OsMatches {
+        let mut matches = Matches::of(proved);
         let free = std::mem::take(&mut matches.free);
         let values = if marked {
             matches.of_each(|place| matches.given_at(place), |(_, value)| value.map(os_of))

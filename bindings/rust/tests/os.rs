@@ -88,6 +88,21 @@ fn arguments_of_any_bytes_are_preserved() {
 }
 
 #[test]
+fn parse_os_in_order_returns_words_as_given() {
+    let options = options();
+    for word in not_unicode() {
+        let words = [joined("-vo", &word), "-c".into(), word.clone(), "-v".into()];
+        let value = Some(word);
+        let given =
+            [("verbose", None), ("output", value.clone()), ("color", value), ("verbose", None)];
+        assert_eq!(options.parse_os_in_order(&words).unwrap(), given);
+    }
+    let given = options.parse_os_in_order(["-ofile", "in.txt", "-v"]).unwrap();
+    assert_eq!(given, [("output", Some("file".into())), ("verbose", None)]);
+    assert_eq!(options.parse_os_in_order(["-x"]), Err(Fail::UnrecognizedOption("x".into())));
+}
+
+#[test]
 fn parse_os_matches_parse() {
     let words = ["-oé", "--verbose", "日本", "-c", "--", "-x"];
     let (texts, matches) = (options().parse(words).unwrap(), options().parse_os(words).unwrap());
