@@ -1,6 +1,6 @@
 //! The options and words of the jobs, from the same rows as `getopts_bench`.
 
-use std::collections::HashMap;
+use std::collections::BTreeMap;
 use std::ffi::OsString;
 
 /// The call that declares an option.
@@ -91,7 +91,7 @@ impl Input {
     /// Finds the options that occur more than once, assuming that no option follows another in a
     /// cluster.
     fn count(&mut self) {
-        let mut counts = HashMap::new();
+        let mut counts = BTreeMap::new();
         for word in &self.words {
             let name = match word.as_bytes() {
                 [b'-', b'-', ..] => word.split('=').next(),
