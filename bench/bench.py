@@ -1,5 +1,5 @@
 #!/usr/bin/env python3
-"""Counts with valgrind what jobs cost in this library and in its peers.
+"""Counts with valgrind what jobs cost in this library and in other libraries, its peers.
 
 usage: bench.py OUT [--getopts FOLDER] [JOB..]      prints the tables of all or some jobs: > bench/last_run.txt
        bench.py --count WHAT A B PROGRAM WORD..     prints what one iteration of a program costs
@@ -11,7 +11,8 @@ it, cargo downloads the crate. OURS may name a getopts_bench that is already bui
 one.
 
 WHAT is `instructions` or `peak` (the most bytes allocated at once). The program's last argument is the number of
-iterations. What B iterations cost more than A is divided by B - A, so that work before the iterations isn't counted.
+iterations. One iteration costs the difference between B and A iterations, divided by B - A: so work before the
+iterations isn't counted.
 """
 
 import concurrent.futures
@@ -26,7 +27,8 @@ from pathlib import Path
 
 HERE = Path(__file__).resolve().parent
 CRATE = HERE.parent / "crates/getopts_bench"
-# Cachegrind is several times faster than callgrind. If it joined blocks, it would count instructions that are skipped.
+# Cachegrind is several times faster than callgrind. If it joined blocks of code (--vex-guest-chase), it would also
+# count instructions that a jump skips.
 TOOLS = {"instructions": ("--tool=cachegrind --cache-sim=no --vex-guest-chase=no --cachegrind-out-file=/dev/null",
                           r"refs: *([\d,]+)"),
          "peak": ("--tool=dhat --dhat-out-file=/dev/null", r"At t-gmax: *([\d,]+)")}
@@ -62,13 +64,13 @@ TABLES = [("instructions", "Instructions per iteration", JOBS), ("instructions",
           ("instructions", "Instructions per iteration as lines grow", GROWING),
           ("peak", "Peak bytes while parsing, besides the words and the options", {"memory": ("read", "memory", 0, 1)}),
           ("peak", "Bytes that matches take", HELD)]
-# Not counted, as it would take minutes: to run clap and pico-args, and to compile lexopt's `match`.
+# Not counted, because it would take minutes to run clap and pico-args, and to compile lexopt's `match`.
 SKIPPED = {("lexopt", "options-10000"), ("clap", "options-10000"), ("pico-args", "words-100000"),
            ("pico-args", "words-1000000")}
 
 
 def stored(line):
-    """A line stored in getopts_bench: its options, each with the method that declares it, and its words."""
+    """A command line stored in getopts_bench: its options, each with the method that declares it, and its words."""
     rows = [row.split("\t") for row in (CRATE / f"data/{line}.rows").read_text(encoding="utf-8").splitlines()]
     return [row for row in rows if row[0].startswith("opt")], [row[1] for row in rows if row[0] == "word"]
 
@@ -208,7 +210,7 @@ def built_of_c(out):
 
 
 def row(out, programs, what, job, work, line, few, more):
-    """Prints a row of a table, with a star if the checksum differs from that of the first program that does the job."""
+    """Prints a row of a table. A figure has a star if its checksum differs from that of the row's first program."""
     file = out / f"{line}.rows"
     file.write_text(rows(line), encoding="utf-8")
     # The peers in Rust, a program for all, consume copies of the words, which are made before the iterations.

@@ -1,4 +1,4 @@
-/* Runs two jobs of getopts_bench in C, with bindings/c and two parsers of glibc, and prints the same sum.
+/* Runs two jobs of getopts_bench in C, with bindings/c and two parsers of glibc, and prints the same checksums.
  *
  * usage: c_peers PEER whole|read ROWS TIMES
  *

@@ -14,13 +14,13 @@ from matplotlib.ticker import NullLocator
 import bench
 
 JOBS = ["small", "typical", "rustc", "sub60", "many", "long", "files"]
-# The columns of last_run.txt, each with a name, a colour, a marker and its size.
+# For each column of last_run.txt: its name in the chart, a colour, a marker and the marker's size.
 LIBRARIES = {
     "clap": ("clap", "#c8553d", "o", 7),
     "pico-args": ("pico-args", "#e0a030", "s", 8),
     "lexopt": ("lexopt", "#3d5a80", "^", 8),
-    "Rust crate": ("the crate getopts", "#555555", "|", 9),
-    "bindings/rust": ("this library, in Rust", "#0b6e4f", "D", 6),
+    "Rust crate": ("the Rust crate getopts", "#555555", "|", 9),
+    "bindings/rust": ("drop-in (this library)", "#0b6e4f", "D", 6),
 }
 
 
@@ -31,7 +31,7 @@ def instructions(job, column):
 
 
 def draw_jobs():
-    """Each job: the instructions of five libraries over those of the crate getopts."""
+    """For each job, the instructions of five libraries, divided by those of the crate getopts."""
     figure, axes = plt.subplots(figsize=(7.6, 3.4))
     for column, (name, colour, marker, size) in LIBRARIES.items():
         ratios = [instructions(job, column) / instructions(job, "Rust crate") for job in JOBS]
@@ -43,7 +43,7 @@ def draw_jobs():
                                        for job, (options, words) in zip(JOBS, sizes)])
     axes.invert_yaxis()
     axes.grid(axis="y", linewidth=0.4)
-    axes.set_xlabel("instructions, as a multiple of the crate getopts (log scale; left is better)")
+    axes.set_xlabel("instructions, as a multiple of the Rust crate's (log scale; left is better)")
     axes.spines[["top", "right", "left"]].set_visible(False)
     axes.tick_params(axis="y", length=0)
     return figure

@@ -1,4 +1,4 @@
-"""What the tests share: required tools, running programs, and the programs that `rt ci` builds."""
+"""What the tests share: how to require tools, how to run programs, and the programs that `rt ci` builds."""
 
 import functools
 import os
@@ -39,7 +39,7 @@ BY_RT = PROGRAMS | {"failing_malloc", "preload", "verdicts"}
 
 def pytest_collection_modifyitems(config, items):
     """Marks tests by the programs that they use, and deselects those that this run leaves out."""
-    # Edits take longest, and only wait for libraries.
+    # Mutants take longest, and wait only for libraries, so they come first.
     items.sort(key=lambda item: not item.name.startswith("test_edit["))
     for item in items:
         names, built = set(item.fixturenames), item.get_closest_marker("built") is not None
@@ -58,7 +58,7 @@ def pytest_collection_modifyitems(config, items):
 
 @pytest.fixture(scope="session")
 def cases(request):
-    """cases(N, MANY): the number of random cases: N; with --many N * MANY, with --quick N / 10."""
+    """cases(N, MANY) returns how many random cases to try: N, with --many N * MANY, with --quick N / 10."""
     option = request.config.getoption
     return lambda count, many=10: count * many if option("--many") else max(1, count // 10) if option("--quick") else count
 
@@ -80,7 +80,7 @@ def need(*tools):
 
 
 def run(*words, status=0, env=None, **how):
-    """Runs a command, which has to exit with this status, and returns its standard output and standard error."""
+    """Runs a command that has to exit with this status. Returns its standard output and its standard error."""
     done = subprocess.run([str(word) for word in words], capture_output=True, env={**os.environ, **(env or {})}, **how)
     said = os.fsdecode(done.stdout), os.fsdecode(done.stderr)
     assert done.returncode == status, f"{words[0]}: status {done.returncode}\n{said[0][-3000:]}{said[1][-3000:]}"
@@ -109,8 +109,8 @@ def note_sums(log):
 
 
 def wait_for(*crates):
-    """If test.sh is running `rt ci`, waits until it has proved or restored these crates. Gives each library that it
-    built its checksum, so that no later check proves it again."""
+    """If test.sh is running `rt ci`, waits until these crates are proved or restored. Stores its checksum with each
+    library that `rt ci` built, so that no later check proves the library again."""
     log = Path(os.environ.get("CI_LOG", "/nowhere"))
     for crate in crates:
         while log.exists() and not re.search(rf"^rt: {crate} (proved$|is kept: )", log.read_text(errors="replace"), re.M):
@@ -150,7 +150,7 @@ def checked_in():
 
 def rows_in(file):
     """The test cases of a file: the tab-separated fields of each row, and the text below it, whose lines begin with
-    '> '. A row 'text' defines {NAME} for later rows: as the text below it, or as a string and how often to repeat it."""
+    '> '. A row 'text' defines {NAME} for later rows: as the text below it, or as a repeated string."""
     rows, texts = [], {}
 
     def whole(text):
@@ -215,8 +215,8 @@ def failing_malloc(tmp_path_factory):
 
 def fail_each_allocation(preload, words, failure=(b"", 3), like=None, marks=False):
     """Makes each allocation fail in turn, once alone and once with all later ones, and returns how many failed. A run
-    with a failure has to end with `failure`, its output and status; a run without one as the command `like`, or else
-    as usual. With marks, only allocations between the program's marks are counted."""
+    with a failure has to have the output and status `failure`. A run without one has to end like the command `like` or,
+    without `like`, like the first run. With marks, only allocations between the program's marks are counted."""
     def outcome(at, on):
         env = {**os.environ, "FAIL_AT": str(at), "FAIL_ON": str(on), "FAIL_MARKS": str(int(marks))}
         env.update({"LD_PRELOAD": str(preload)} if preload else {})

@@ -177,7 +177,7 @@ class Session:
         self.options, self.read = Options(), None
 
     def answer(self, word, fields):
-        """The answer to a row, as lines; a line is None if it doesn't follow from the rules."""
+        """The answer to a row, as lines. A line is None if the rules don't determine it."""
         if word in ("case", "anew"):
             self.__init__()
             return [line("case", *fields)] if word == "case" else []
@@ -255,7 +255,8 @@ def parts(written):
 
 
 def rows_of(text):
-    """The rows of a text, each with the answers below it. `{Z}` is kept, because the rules here measure nothing."""
+    """The rows of a text, each with the answers below it. `{Z}`, a character of width 0, isn't replaced, because the
+    rules here measure nothing."""
     rows = []
     for one in text.split(b"\n"):
         if one.startswith(b"> "):
@@ -268,9 +269,9 @@ def rows_of(text):
 
 
 def answer_rows(rows):
-    """Answers rows. Returns the rows with further ones (for all words, their canonical line and their options in order;
-    for all names, their positions), the number of stored answers that were checked, and the rows whose stored answers
-    are wrong."""
+    """Answers rows. Returns three things: the rows, with more rows added (for all words, their canonical line and their
+    options in order; for all names, their positions); the number of stored answers that were checked; and the rows
+    whose stored answers are wrong."""
     session, beyond, given, differ, case = Session(), [], 0, [], b""
     for one, answers in rows:
         word, fields = parts(one)

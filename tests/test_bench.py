@@ -1,5 +1,5 @@
-"""Instruction counts by valgrind: some jobs stay near their record, which the charts show, and a call from a shell script
-stays cheap."""
+"""Instructions counted by valgrind: some jobs stay near their recorded counts, which the charts show, and a call from a
+shell script stays cheap."""
 
 import re
 import shutil
@@ -9,7 +9,7 @@ import bench as bench_py
 import pytest
 from conftest import ROOT, answer, need, run
 
-# How far a job may be from its record, as C libraries differ.
+# How much a count may differ from its record, because C libraries differ.
 WITHIN = 0.02
 # Upper limit on the instructions of getopts_shell for six options and five words.
 MOST = 38_000
@@ -28,7 +28,7 @@ def test_instructions_near_record(job, bench, tmp_path):
 
 
 def test_words_are_handed_over():
-    """A Rust peer can get words only by value, so that none is lent what another one has to free."""
+    """Each Rust peer gets its words by value only: none can borrow words that another one has to free."""
     source = (ROOT / "bench/peers/src/input.rs").read_text(encoding="utf-8")
     assert re.findall(r"pub .*\b(?:words|args|Args)\b.*", source) == [
         "pub fn args(&self) -> Args {", "pub struct Args(std::vec::IntoIter<OsString>);"]

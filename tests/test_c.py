@@ -16,8 +16,8 @@ PLUS_WARNINGS = "-Wall -Wextra -Wpedantic -Werror".split()
 SANITIZERS = "-fsanitize=address,undefined -fno-sanitize-recover=all -g -O1".split()
 WRAPS = "-Wl,--wrap=malloc,--wrap=realloc,--wrap=free"
 HOST = "x86_64-unknown-linux-gnu"
-# For each build: the compiler with its flags, the library's target (None: this machine, with its own cargo), and the
-# command that runs its programs (None: the target's).
+# For each build: the compiler with its flags, the library's target (None: this machine, with the cargo on its path),
+# and the command that runs its programs (None: the one in targets.py).
 BUILDS = {
     "gcc": (["gcc", "-O2"], None, []), "clang": (["clang", "-O2"], None, []),
     "gcc-san": (["gcc", *SANITIZERS], None, []), "clang-san": (["clang", *SANITIZERS], None, []),

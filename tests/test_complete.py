@@ -90,7 +90,7 @@ BASH = "COMP_LINE='x ' COMP_POINT=2 COMP_WORDS=(x '') COMP_CWORD=1 COMP_TYPE=9; 
     ("zsh", "compdef() { call=$1; }\n", "CURRENT=2 words=(x '') PREFIX=; eval $call"),
     ("fish", "function complete; set -g call $argv[-1]; end\n", "function commandline; echo x; end; eval echo $call")])
 def test_names_and_tables_with_special_characters(room, name, before, ask):
-    """They reach the program unchanged, and the shell runs nothing in them."""
+    """The names and tables reach the program unchanged, and the shell runs nothing in them."""
     need(name)
     code, _ = run(room / "bin/getopts_shell", "--complete", name, NAME, ANY)
     (room / "bin/getopts_shell").unlink()

@@ -1,17 +1,17 @@
-"""Mutants under must-fail, each an edit of a function body: the prover has to reject every one against the unchanged
-contract.
+"""The mutants under must-fail. Each is an edit of a function's body, and the prover has to reject the edited body by
+the function's unchanged contract.
 
-An edit names the function that it changes ('fn'), and texts of one or more lines that occur exactly once in its module
-('old') with their replacements ('new'). Texts in another file follow the name of that file ('file'). A function that an
-edit adds needs an 'ensures': without one the prover knows nothing about it, so it would reject any body. An edit that
-adds a function or another way to return also has correct replacements ('right'), with which the prover has to prove the
-function.
+An edit names the function that it changes ('fn'). It has texts of one or more lines that occur exactly once in the
+function's module ('old'), with their replacements ('new'). Texts in another file follow the name of that file ('file').
+A function that an edit adds needs an 'ensures': without one, the prover knows nothing about the function, and would
+reject any caller. An edit that adds a function or another way to return also has correct replacements ('right'), with
+which the prover has to prove the function.
 
-In a copy of the repository, each edited function is added beside the original, under its own name and with a copy of
-the proof files, so that one check of the crate tries all selected edits. A trait method can't be copied: it is edited
-in place. Half the time to check a small program goes into reading the library, so the modules of two programs are added
-to a third. The edits in private/ change bodies about which no public clause says anything; --many tries them too. It
-also copies each function unchanged: unless the prover proves that copy, rejecting the edited ones shows nothing.
+In a copy of the repository, each edited function is added beside the original, under a name of its own and with a
+copy of the proof files, so that one check of the crate tries all selected edits. A trait method can't be copied: it is
+edited in place. Checking a small program takes half its time to read the library, so the modules of two programs are
+added to a third. Edits in private/ change what no public clause describes; only --many tries them. --many also copies
+each function unchanged: unless the prover proves that copy, its rejection of the edited copies shows nothing.
 """
 
 import itertools
@@ -22,11 +22,11 @@ import pytest
 from conftest import ROOT, answer, copy_tree, kit, wait_for
 
 LIBRARIES = ["getopts", "getopts_bytes"]
-# Programs whose modules are checked as part of another program, which has no modules of the same names.
+# Programs whose modules are checked as part of another program. No two of these modules have the same name.
 GUESTS = {"getopts_greet": "getopts_uses", "getopts_show": "getopts_uses"}
-# Errors in a proof file that names a step removed by the edit. They don't show that the contract rejects the edit.
+# Errors in proof files that name a step that the edit removed. They don't show that the contract rejects the edit.
 NAMES = re.compile(r"has no field|has no `|is not in scope|was not admitted|was rejected, was not checked")
-# The proof file for a wrong body that has none, and the error that it causes.
+# A false proof file, which is added for a wrong body that has no proof file, and the beginning of its error.
 UNOFFERED = "use Rattle.std.proofs.Common.{◌≡◌, refl, true, false}\nunoffered : true ≡ false\nunoffered = refl\n"
 OWN_ERROR = "error: `unoffered`: "
 
@@ -88,7 +88,7 @@ def named(functions, text):
 
 
 def span(text, name, owner=None):
-    """The start and end of a function in a text: a function of the module, or a method in an impl of its type."""
+    """Where a function, or a method of `owner`, starts and ends in the text of a module."""
     starts = [it.start() for it in re.finditer(rf"^impl(<[^>]*>)? {owner}\b[^\n]*\{{", text, re.M)] if owner else [0]
     for start in starts:
         end = text.find("\n}\n", start) if owner else len(text)
@@ -135,8 +135,8 @@ class Copies:
         return "::".join([edit.host, *path[:-1], new])
 
     def copy_proofs(self, path, new, variant):
-        """Copies a function's proof files. If a wrong body has none, adds one with an error: without it rattle would
-        suggest a proof file, for which it reads everything again."""
+        """Copies a function's proof files. If a wrong body has none, adds one with an error: otherwise the prover would
+        read everything again to suggest a proof file."""
         source, to = (self.folder.joinpath("proofs", *path[:-1], name) for name in (path[-1], new))
         module, texts = ".".join(["proofs", *path[:-1]]), {}
         for file in source.rglob("*.antt"):
@@ -214,7 +214,7 @@ def try_edits(edits, room):
     for file, text in copies.files.items():
         (folder / file).write_text(text, encoding="utf-8")
     only = [word for function in functions.values() for word in ("--only", function)]
-    # Edits of callers come last, when processors are free.
+    # Edits of programs wait for the libraries, and run when more processors are free.
     jobs = os.environ.get("JOBS", "2" if below else "1")
     said = answer("rt", "check", "--jobs", jobs, *only, cwd=folder)[0].decode(errors="replace")
     (room / "said").write_text(said)
@@ -227,7 +227,7 @@ ALL = list(all_edits())
 
 
 def marks(edit):
-    """One worker tries all edits of a crate; edits of callers wait for their libraries to be proved."""
+    """One worker tries all edits of a crate. Edits of programs wait until their libraries are proved."""
     more = [pytest.mark.many] if edit.variant == "old" or "private" in edit.path.parts else []
     more += [] if edit.crate in LIBRARIES else [pytest.mark.built]
     return [pytest.mark.full, pytest.mark.xdist_group(f"edits of {edit.host}"), *more]
@@ -242,7 +242,8 @@ def test_edit(edit, verdicts):
 @pytest.mark.parametrize("edit", [pytest.param(edit, id=f"{edit.crate}-{edit.name}")
                                   for edit in ALL if edit.variant == "new"])
 def test_edit_is_well_formed(edit):
-    """Each old text occurs where the edit says; functions it adds have an `ensures`, and the edit a right text."""
+    """Each old text occurs where the edit says. If the edit adds a function, that has an `ensures`, and the edit has a
+    right text."""
     edit.applied(reader(ROOT / "crates" / edit.crate))
     functions = dict(re.findall(r"\bfn (\w+)(.*?)(?=\bfn \w|\Z)", edit.texts("new"), re.S))
     for name in functions.keys() - set(re.findall(r"\bfn (\w+)", edit.texts("old"))):

@@ -1,4 +1,4 @@
-"""Checked-in generated files are up to date, by checksums of the files, their sources and the toolchain."""
+"""Generated files that are checked in are up to date, judging by checksums of them, their sources and the toolchain."""
 
 import pytest
 from conftest import ROOT, answer, copy_tree, need, run
@@ -17,7 +17,7 @@ def test_binaries_match_source():
     ("bindings/shell/start.c", ";", True), ("bindings/shell/start.h", ";", True), ("bindings/shell/start.c", "/* A */", False),
     ("bindings/shell/x86_64/getopts_shell", "\n", True)])
 def test_change_is_found(file, text, found, tmp_path):
-    """Only comments may change without a new build."""
+    """A change of anything but comments requires a new build."""
     copy = copy_tree(tmp_path / "copy")
     with open(copy / file, "a", encoding="utf-8") as changed:
         changed.write(text)

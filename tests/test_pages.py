@@ -1,5 +1,5 @@
-"""The pages: their names, quotes and figures match the sources, the proofs and the records. Also: no circular imports,
-and well-formed scripts, Rust and manual pages.
+"""The pages: their names, quotations and figures match the sources, the proofs and the records. Also: no circular
+imports, and well-formed scripts, Rust and manual pages.
 
 Every figure of ten or more on a page is counted, measured or recorded (FIGURES). --fix updates the figures and
 CONTRACTS.md.
@@ -62,7 +62,7 @@ def share(job):
 
 
 def ahead(column, title=INSTRUCTIONS, ours="bindings/rust"):
-    """The jobs on which a peer needs fewer instructions than ours."""
+    """The jobs on which another library takes fewer instructions than ours, as a page lists them."""
     both = {job: (int(cells[column].rstrip("*")), int(cells[ours].rstrip("*"))) for (kind, job), cells in tables().items()
             if kind == title and "-" not in (cells[column], cells[ours])}
     fewer = [f"`{job}`" for job, (peers, own) in both.items() if peers < own]
@@ -312,10 +312,10 @@ def test_promised_clauses_exist():
 
 @pytest.mark.parametrize("crate", ["getopts", "getopts_show", "getopts_bytes", "getopts_shell"])
 def test_definitions_are_in_the_grammar(crate):
-    """GRAMMAR names each public definition; of getopts_shell only the facts."""
+    """GRAMMAR names each public definition; for getopts_shell, only those with a capital letter, which state facts."""
     named = set(re.findall(r"`([A-Za-z_][\w-]*)`", pages["docs/GRAMMAR.md"]))
     here = [name for name in tracked if name.startswith(f"crates/{crate}/specs/")]
-    # The rules of modules that only private clauses cite are in comments.
+    # Definitions that only private clauses cite are explained in comments instead.
     order = read(f"crates/{crate}/specs/Lib.antt") if here else ""
     private = re.findall(r"mod (\w+)", order.partition("Cited by private clauses alone")[2]) + ["Held"]
     # Definitions that compute results are tools, except those that clauses cite.

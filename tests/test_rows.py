@@ -29,7 +29,7 @@ def written(rows):
 
 @functools.cache
 def all_rows():
-    """All rows, and further rows that model.py answers: each canonical line and its order, and the positions of each name."""
+    """All rows, and more that model.py answers: canonical lines, options in order, and the positions of names."""
     rows = [row for file in ROWS for row in rows_of(file.read_bytes())]
     asked, given, differ = answer_rows(rows)
     assert not differ, b"\n  ".join(differ[0]).decode()

@@ -86,14 +86,15 @@ def test_erased_sources_compile_over_types(tmp_path):
 
 
 def source_and_error(name):
-    """The text of a source to reject, and the error that its last line expects."""
+    """The text of a source that has to be rejected, and the error that its last line names."""
     text = (ROOT / f"tests/eraser/{name}.rejected").read_text()
     return text, text.splitlines()[-1].removeprefix("// ")
 
 
 @pytest.mark.parametrize("name", [name for name in REJECTED if name.endswith("by_type")])
 def test_types_reject_sources(name, reader, tmp_path):
-    """Source that would allocate in Rust without reporting a failure, by a name that it also defines."""
+    """Source that calls a function of Rust that doesn't report failed allocations. The eraser accepts the call, because
+    the source defines a function of the same name."""
     need("rustc", "rustfmt")
     (eraser, source), (text, error) = reader, source_and_error(name)
     (source / "lib.rt").write_text(text)
@@ -104,7 +105,7 @@ def test_types_reject_sources(name, reader, tmp_path):
 
 @pytest.mark.parametrize("name", [name for name in REJECTED if not name.endswith("by_type")])
 def test_eraser_rejects_sources(name, reader):
-    """Source that could mean something else once erased."""
+    """Source that could mean something else after its contracts are erased."""
     (eraser, source), (text, error) = reader, source_and_error(name)
     file = next((part for part in ("laws", "lib") if name.endswith(part)), "names")
     (source / "lib.rt").write_text(f"mod {file};\n")
@@ -185,7 +186,7 @@ def test_package(folder, tmp_path):
 
 
 def test_git_dependency(tmp_path):
-    """From a git URL: the package as a dependency, and the one that replaces the crate getopts as a patch."""
+    """From a git URL: `proved-getopts` as a dependency, and `getopts` as a patch of the crate getopts."""
     url = commit_repository(copy_folders(tmp_path / "clone", "bindings") / "bindings")
     (tmp_path / "src").mkdir()
     (tmp_path / "src/main.rs").write_text("fn main() { let _: proved::Options = getopts::Options::new(); }\n")

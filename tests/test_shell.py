@@ -30,7 +30,7 @@ BY_WINE = pytest.param("by_wine", marks=[pytest.mark.xdist_group("getopts_shell 
 HERE = pytest.mark.parametrize("program", [PROVED, "checked_in", BY_CARGO], indirect=True)
 EACH = pytest.mark.parametrize("program", [PROVED, "checked_in", BY_CARGO, "by_qemu", BY_WINE], indirect=True)
 OTHERS = pytest.mark.parametrize("program", [BY_CARGO, "by_qemu", BY_WINE], indirect=True)
-# The rows with arguments that are too long for Windows.
+# The indexes of rows whose arguments are too long for Windows.
 LONG = [at for at, (fields, _) in enumerate(ROWS) if sum(map(len, fields)) > 10_000]
 
 
@@ -267,7 +267,8 @@ def run_limited(program, room, *words, **env):
     return wrote, int(count)
 
 
-# Settings that a script may have before it reads its options, and the shells that fork endlessly from these alone.
+# Commands that a script may run before it reads its options, each with the shells that fork endlessly after it even
+# without getopts_shell.
 SETTINGS = {"set -eu": [], "set -fx": [], "set -v": [], "IFS=-_o2": [], "PS4='$(date)'; set -x": ["yash"],
             "trap 'date >/dev/null' CHLD": ["dash", "mksh", "yash", "busybox"]}
 SET = [(setting, name) for setting, forking in SETTINGS.items() for name in SHELLS if name.split()[0] not in forking]
@@ -276,7 +277,7 @@ SET = [(setting, name) for setting, forking in SETTINGS.items() for name in SHEL
 @HERE
 @pytest.mark.parametrize("setting, one_shell", SET, indirect=["one_shell"])
 def test_setting(program, one_shell, open_room, setting):
-    """A script reads the same options after such a setting, with few processes."""
+    """After such a command, a script reads the same options, and starts few processes."""
     (open_room / "script").write_text(f"""{setting}
 code=$(getopts_shell --variables o_ n "[-v]  say more
 [-L DIR]..  a folder" -v -L 1 -L '2 3' "a b") || exit
@@ -290,8 +291,8 @@ printf '%s|' "$o_v" "$o_L" "$1"
 @HERE
 @pytest.mark.parametrize("where", ["its name", "BASH_ENV", ".zshenv"])
 def test_script_that_calls_itself(program, open_room, where):
-    """A script called getopts_shell calls itself forever. As the README says, so does a script whose shell runs the
-    line for completion whenever it starts."""
+    """A script called getopts_shell calls itself forever. As the README warns, so does a script whose shell runs the
+    line for completion at every start."""
     shell = {"BASH_ENV": "bash", ".zshenv": "zsh"}.get(where, "sh")
     need(shell)
     text = f"""#!/usr/bin/env {shell}

@@ -1,5 +1,5 @@
-"""The built programs under unusual conditions: arguments that aren't UTF-8, none at all, and long ones; output that
-accepts nothing, little, or fails midway; little memory and little stack.
+"""The built programs under unusual conditions: with arguments that aren't UTF-8, with none at all, and with long ones;
+with output that accepts nothing, little, or fails midway; with little memory and little stack.
 
 Every run exits with the status that the README documents, is never killed by a signal that the system didn't send, and
 writes what the README says. The program for shell scripts is the static one in bindings/shell for this machine.

@@ -7,7 +7,7 @@ from conftest import ROOT, VECTORS, copy_tree, run
 from test_rows import all_rows, written
 
 CRATES = sorted(path.parent.name for path in (ROOT / "crates").glob("*/src"))
-# The rows of getopts_vectors take longer unproved: test_rows runs the short ones.
+# Without proofs, getopts_vectors takes minutes for all rows, so test_rows leaves the large ones out.
 PROGRAMS = [crate for crate in CRATES if (ROOT / f"crates/{crate}/stdout").exists() and crate != "getopts_vectors"]
 pytestmark = [pytest.mark.quick, pytest.mark.rt]
 
@@ -39,7 +39,7 @@ def test_rows(tmp_path):
 
 
 def test_cases_without_zero_width_character(tmp_path):
-    """If no character takes no columns, cases with a `{Z}` are omitted, and the others are run."""
+    """Cases with a `{Z}` need a character of width 0. If there is none, they are omitted, and the others are run."""
     copy = copy_tree(tmp_path / "copy")
     source = copy / "crates/getopts_vectors/src/short.rt"
     text = source.read_text(encoding="utf-8")

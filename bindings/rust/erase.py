@@ -6,8 +6,8 @@
 Writes the Rust of each crate to its folder (see CRATES). With --check it writes nothing; status 1 means that a folder
 is out of date. It needs `rustfmt`, which formats the result.
 
-It parses a crate's tokens by this grammar, and rejects everything else with file, line and token. What is marked with *
-has no meaning at run time, and is deleted.
+It parses a crate's tokens by this grammar, and rejects everything else, naming file, line and token. What is marked
+with * has no meaning at run time, and is deleted.
 
     file      item..
     item      attribute.. ( ghost* | law* | use | mod NAME ; | const | type | struct | enum | function | impl )
@@ -23,9 +23,9 @@ has no meaning at run time, and is deleted.
 
 A module of laws only has functions that return nothing and borrow their arguments immutably. It is left out.
 
-In function bodies it knows no types. It rejects calls and names that aren't listed. Those of Rust are in SAME, OF_TYPES
-and IMPORTS; each is trusted to do in Rust what its contract in Rattle says. It also rejects forms that both languages
-accept, but with different meanings, as Rattle's guides list them. `tests/eraser` has an example of each:
+In function bodies it knows no types. It rejects calls and names that aren't listed. SAME, OF_TYPES and IMPORTS list
+those of Rust; each is trusted to do in Rust what its contract in Rattle says. It also rejects code that means something
+else in each language. Rattle's guides list such code, and `tests/eraser` has an example of each:
 
     a range without an end, which in Rust goes past the last number; `S { a, ..v[1] }`, for which Rust evaluates `v[1]`;
     sizes of types and capacities of lists; casts to `usize`, which lose bits on 32 bits; sorting by no order;
@@ -37,14 +37,14 @@ It accepts any call of a name that is defined here. If the call means a function
 it: erased source has to compile over `core` and the types in `tests/eraser/types`, which have no such functions. Rustc
 also rejects items that are clones, and `write!` to a text, which can fail in Rattle.
 
-The rest of those lists can't occur here. Errors of `anyhow`, threads, channels, `once`, `empty` and bounds by `Index`
-need an import. `stringify!` isn't among the known calls, nor `try_from` among the names. No `drop` has side
-effects, so it doesn't matter when temporaries and parts of a pattern are dropped (the packages use edition 2021, Rattle
-follows 2024), nor whether a pattern of `self` drops it. What overflows only on 32 bits, or has another value there, as
-`usize::MAX` has, is tested, not proved.
+The other differences that Rattle's guides list can't occur here. Errors of `anyhow`, threads, channels, `once`, `empty`
+and bounds by `Index` need an import. `stringify!` isn't among the known calls, nor `try_from` among the names. No
+`drop` has side effects, so it doesn't matter when temporaries and parts of a pattern are dropped (the packages use
+edition 2021, Rattle follows 2024), nor whether a pattern of `self` drops it. Code that overflows only on 32 bits, or
+has another value there, such as `usize::MAX`, is tested, not proved.
 
-It renames by the tables below; no source has any of the new names. `same_tokens.py` checks the result, and shares
-neither code nor tables with this script.
+It renames by the tables below, and rejects sources that contain a new name. `same_tokens.py` checks the result, and
+shares neither code nor tables with this script.
 """
 
 import functools
@@ -57,7 +57,7 @@ TOP = Path(__file__).resolve().parents[2]
 LAYOUT = "style_edition=2024,reorder_imports=false,use_small_heuristics=Default"
 RUSTFMT = ["rustfmt", "--edition", "2021", "--config", LAYOUT]
 
-# Rattle's functions that allocate, with those of `fallible.rs` that replace them.
+# Rattle's functions that allocate, and the functions of `fallible.rs` that replace them.
 CALLS = {name: f"try_{name}" for name in "push push_str sort_by extend_from_slice clone".split()} | {
     "reserve": "try_grow", "reserve_exact": "try_grow_exact", "with_capacity": "of_capacity",
     "String::new": "String::empty", "String::from_str": "String::copy_of", "Vec::new": "Vec::empty",
@@ -65,18 +65,18 @@ CALLS = {name: f"try_{name}" for name in "push push_str sort_by extend_from_slic
 }
 # In Rattle, the writer of `Display` is a type parameter.
 DISPLAY = {"fmt<W: fmt::Write>": "fmt", "fmt::Formatter<W>": "fmt::Formatter<'_>"}
-# Paths of the library, with those in Rust.
+# Paths in the library, and their replacements in Rust.
 LIBRARY = {f"std::{name}": f"crate::{name}" for name in ("alloc", "convert", "error")} | {
     "std::": "core::", "std::vec": "crate::heap::vec", "str::from_utf8": "core::str::from_utf8",
     "crate::": "super::", "unicode_width": "crate::width", "mod matches;": "pub(crate) mod matches;",
 }
-# Functions and paths of the shell program, with those of its `host.rs`.
+# Functions and paths in the shell program, and their replacements, which its `host.rs` defines.
 HOST = {f"std::{name}": f"crate::host::{name}" for name in ("alloc", "env", "io")} | {
     "resize": "try_resize", "trim_ascii": "trimmed_ascii", "str::from_utf8": "std::str::from_utf8",
     "format!": "text!", "write!": "add!", "writeln!": "add_line!", "fn main": "pub fn main",
     "crate::": "super::", "getopts::": "crate::getopts::", "getopts_bytes::": "::getopts::bytes::",
 }
-# Each crate: the folder for its Rust, the module that defines the new functions, and further names to replace.
+# For each crate: the folder for its Rust, the module that defines the replacements, and further names to replace.
 CRATES = {
     "getopts": ("bindings/rust/src/proved", "fallible", LIBRARY),
     "getopts_bytes": ("bindings/rust/src/bytes", "fallible", LIBRARY),
@@ -121,9 +121,9 @@ GIVEN = re.compile(r"try_\w+|of_capacity|copy_of|TryClone|trimmed_ascii")
 # Types of Rust, which sources may not define, because renaming would affect their functions.
 RUSTS = set("""bool char f32 f64 i8 i16 i32 i64 i128 isize str u8 u16 u32 u64 u128 usize String Vec Option Some None
     Ok Err Box Clone Copy Default Drop Eq Iterator IntoIterator Ord PartialEq PartialOrd ToString alloc core std""".split())
-# What values may be cast to. Sizes would lose bits on 32 bits; `_` and other names may mean them.
+# Types that values may be cast to. `usize` and `isize` would lose bits on 32 bits; `_` and other names may mean these.
 CASTS = {"char", "u8", "u16", "u32", "u64", "u128", "i8", "i16", "i32", "i64", "i128", "f32", "f64"}
-# What lists may be sorted by: these are orders, as the contract of sorting requires.
+# The closures that lists may be sorted by: these two are orders, as the contract of sorting requires.
 ORDERS = ("|entry, other| entry.order(signatures, other))", "|letter, other| letter.short.cmp(&other.short))")
 
 

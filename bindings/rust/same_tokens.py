@@ -5,15 +5,15 @@
 
 FOLDER/X.rs has to have the tokens of SOURCE/X.rt in the same order, except for the renames below and for constructs
 without meaning at run time: each begins with a pattern in `WHOLE`, and extends to the end given there. Comments, white
-space, a comma before a closing bracket and the brackets around a match arm's single expression are ignored. `erase.py`
-rejects what Rattle and Rust interpret differently.
+space, a comma before a closing bracket and the brackets around a match arm's single expression are ignored. This script
+doesn't look for code that Rattle and Rust interpret differently: `erase.py` rejects it.
 """
 
 import re
 import sys
 from pathlib import Path
 
-# How a construct begins, and what ends it: the closing of its brackets, or a sign outside brackets.
+# Patterns of how a construct begins, each with what ends it: the closing of its brackets, or a sign outside brackets.
 WHOLE = [(r"(requires|ensures)( \w+)? {", "}"), (r"ghost", ";,"), (r"impl (< .*? > )?(Model|Drop) for .*? {", "}")]
 WHOLE += [(r"# (! )?\[ (tactic|derive \( Drop \) \])", "]"), (r"use std :: marker :: Model", ";")]
 WHOLE += [(r"(mod laws|pub use laws)", ";"), (r"[+:,] Drop(?= [>,)])", ""), (r"Drop ,", "")]

@@ -1,4 +1,4 @@
-//! Runs the jobs of `getopts_bench` with other libraries, and prints the same sums.
+//! Runs the jobs of `getopts_bench` with other libraries, and prints the same checksums.
 //!
 //! usage: peers PEER JOB ROWS READY TIMES
 //!

@@ -24,7 +24,7 @@ extern "C" {
     fn abort() -> !;
 }
 
-/// The C heap. Its blocks are aligned for all that this crate stores: numbers and pointers.
+/// The C heap. Its blocks are aligned for everything that this crate stores: numbers and pointers.
 struct Heap;
 
 #[global_allocator]
@@ -267,7 +267,7 @@ fn reading(options: Option<&Getopts>) -> &Reading {
 
 #[no_mangle]
 unsafe extern "C" fn getopts_defined(options: Option<&Getopts>, name: Text) -> bool {
-    // SAFETY: as above; so are the next ones.
+    // SAFETY: as above, also in the functions below.
     reading(options).is_defined(unsafe { bytes(name) })
 }
 

@@ -72,8 +72,8 @@ impl Getopts {
         error.status()
     }
 
-    /// Reads words. Returns what they give, and the status: nothing if a word can't be read. If an
-    /// option is missing or was given too often, only the status and the message say so.
+    /// Reads words. Returns what was read, and the status. If a word can't be read, nothing was
+    /// read; if an option is missing or was given too often, everything was.
     #[inline]
     pub fn read(&self, words: Result<Words<'_>, Error>) -> Result<(Reading, Status), Error> {
         let (mut texts, options) = (self.texts(words)?, &self.options);
@@ -152,7 +152,8 @@ impl Getopts {
         Ok(Some((bytes, line.len())))
     }
 
-    /// A usage text, followed by a zero byte.
+    /// A usage text that begins with `start`, followed by a zero byte: the help if `whole`,
+    /// otherwise the short usage.
     pub fn usage(&self, start: Option<&[u8]>, whole: bool) -> Option<String> {
         let start = text(start.filter(|_| self.wrong.is_none())?)?;
         let made = match whole {

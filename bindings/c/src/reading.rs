@@ -60,8 +60,7 @@ impl Reading {
         Ok(reading)
     }
 
-    /// Given the rows of all options in order: the row of each, and the index of its value in the
-    /// lists.
+    /// For the rows of all options in order: each row, and the index of its value in the lists.
     pub fn in_order(&self, rows: &[usize]) -> AllocResult<Vec<(usize, usize)>> {
         let (mut next, mut order) =
             (self.starts.try_clone()?, Vec::of_capacity(Global, rows.len())?);

@@ -11,7 +11,7 @@ const STOP: u32 = 16;
 const LONG_ONLY: u32 = 32;
 pub const KEEP_ORDER: u32 = 64;
 
-/// How many bytes of a name that is too long a message shows at most.
+/// The most bytes that a message shows of a name that is too long.
 const SHOWN: usize = 40;
 
 const TEXTS: [&str; 4] = ["short name", "long name", "hint", "description"];
@@ -62,14 +62,14 @@ fn declare_row(options: &mut Options, place: usize, row: &Row<'_>) -> AllocResul
     }
 }
 
-/// What modes consist of.
+/// What to write instead of invalid modes.
 const MODES: &[u8] = b": combine GETOPTS_STOP, LONG_ONLY and KEEP_ORDER, or write GETOPTS_ORDINARY";
 
-/// What a kind consists of.
+/// What to write instead of an invalid kind.
 const KINDS: &[u8] =
     b": combine one of GETOPTS_NO, YES and MAYBE with one of GETOPTS_OPTIONAL, REQ and MULTI";
 
-/// What is wrong with bytes that aren't `text`.
+/// What is wrong with bytes for which `text` returns none.
 const NO_TEXT: &[u8] = b" must be UTF-8 with all characters below U+10FF80";
 
 /// What is wrong with a row: the first mistake, in the order of the cases below.

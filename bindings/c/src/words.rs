@@ -10,7 +10,7 @@ use library::proved::Fail;
 /// Up to this many words, no list of their texts is allocated.
 const FEW: usize = 16;
 
-/// Words, and what is known about them after `ask`.
+/// Words. `ask` sets the other fields.
 pub struct Texts<'c> {
     words: Words<'c>,
     /// How many bytes they have, each with a zero byte after it.

@@ -1,4 +1,4 @@
-/* Tests the functions of getopts.h: wrong tables, wrong counts, numbers, and arguments of any bytes. */
+/* Tests the functions of getopts.h: invalid tables, missing and repeated options, numbers, arguments of any bytes. */
 #include "../getopts.h"
 
 #include <errno.h>
@@ -25,7 +25,7 @@ static void expect(bool holds, const char *what) {
     failed = 1;
 }
 
-/* A table of three rows; the second may be wrong. */
+/* A table of three rows, of which the second may be invalid. */
 static void wrong_rows_are_reported(void) {
     static const struct {
         struct getopts_option row;
@@ -162,7 +162,7 @@ static const struct getopts_option required[] = {
     { NULL, NULL, NULL, NULL, GETOPTS_NO },
 };
 
-/* What was read stays available if only a count is wrong. */
+/* What was read stays available if the only error is a missing or repeated option. */
 static void wrong_counts_keep_results(void) {
     char *help[] = { "-h", "x", "--", "y", NULL }, *again[] = { "-oa", "--output", "b", NULL };
     char *unknown[] = { "-h", "-x", NULL };
@@ -349,7 +349,7 @@ static const struct getopts_option ordered[] = {
     { "p", "p=x", NULL, NULL, GETOPTS_MAYBE }, { NULL, NULL, NULL, NULL, GETOPTS_NO },
 };
 
-/* Options in order, with their rows and values. There are none before a reading, and without the mode. */
+/* getopts_nth returns options in order, with their rows and values: none before words are read, or without the mode. */
 static void options_are_in_order(void) {
     static const struct {
         int row;
@@ -371,7 +371,7 @@ static void options_are_in_order(void) {
     getopts_delete(other);
 }
 
-/* No options are in order after words that were rejected; after any other failure, those read before. */
+/* After rejected words, getopts_nth returns no option; after any other failure, it returns the options read before. */
 static void order_after_failures(void) {
     char *words[] = { "-La", "-v", NULL }, *missing[] = { "-v", "-L", NULL }, *twice[] = { "-p", "-p", NULL };
     struct getopts *options = getopts_new(ordered, GETOPTS_KEEP_ORDER);

@@ -116,7 +116,7 @@ void *__wrap_malloc(size_t size);
 void *__wrap_realloc(void *block, size_t size);
 void __wrap_free(void *block);
 
-/* Which allocation fails (0: none), and if all later ones fail (on). Counts: allocations, failures, blocks in use. */
+/* Which allocation fails (0: none), and whether later ones fail too (on). Counts: allocations, failures, used blocks. */
 static struct {
     size_t at, requests, failures, blocks, runs;
     bool on;

@@ -77,7 +77,7 @@ impl Matches {
         self.given_at(self.place(name))
     }
 
-    /// For each option, what `each` returns for its occurrences.
+    /// For each option, the list of what `each` returns for its occurrences.
     pub(crate) fn of_each<I: IntoIterator, T>(
         &self,
         given_at: impl Fn(usize) -> I,
@@ -88,7 +88,7 @@ impl Matches {
         given.collect()
     }
 
-    /// Formats matches with these free words and occurrences.
+    /// Prints matches for `{:?}`, with these free words and occurrences.
     pub(crate) fn show<V: fmt::Debug, I: IntoIterator<Item = (usize, Option<V>)>>(
         &self,
         mut shown: fmt::DebugStruct<'_, '_>,

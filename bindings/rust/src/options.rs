@@ -64,8 +64,8 @@ const SMALL: usize = 64;
 /// Limits a list's initial capacity: an iterator may yield fewer items than `size_hint` promises.
 const FIRST_ROOM: usize = 1024;
 
-/// Calls `ask` with the words as texts. If a word isn't text, calls `otherwise` with it and all
-/// words.
+/// Calls `ask` with the words as texts. If some word isn't text, calls `otherwise` with the first
+/// such word and all words.
 #[inline]
 pub(crate) fn read_words<A: AsRef<OsStr>, T>(
     words: impl Iterator<Item = A>,
@@ -80,7 +80,8 @@ pub(crate) fn read_words<A: AsRef<OsStr>, T>(
     }
 }
 
-/// Reads words without a `Vec`. Items over `SMALL` bytes would take too much stack.
+/// Reads fewer than `FEW` words without a `Vec`, and hands more to `read_list`. Items over `SMALL`
+/// bytes would take too much stack.
 fn read_few<A: AsRef<OsStr>, T>(
     mut words: impl Iterator<Item = A>,
     text_of: impl Fn(&OsStr) -> Option<&str>,
@@ -105,7 +106,7 @@ fn read_few<A: AsRef<OsStr>, T>(
     }
 }
 
-/// Reads words into a list.
+/// Reads words into a list: those already taken from the iterator (`first`), and the others.
 fn read_list<A: AsRef<OsStr>, T>(
     first: impl IntoIterator<Item = A>,
     others: impl Iterator<Item = A>,
@@ -509,8 +510,8 @@ impl Options {
     }
 }
 
-// The proved methods for borrowed texts, compiled here once instead of in each program that calls
-// them.
+// The proved methods for borrowed texts. They are generic: here they are compiled once, and not
+// again in each program that calls them.
 
 pub(crate) fn parse_texts(options: &proved::Options, words: &[&str]) -> proved::Result {
     options.parse_words(Global, words)

@@ -30,7 +30,8 @@ pub struct OsMatches {
     /// The positional arguments (*free words*), in command-line order.
     pub free: Vec<OsString>,
     matches: Matches,
-    /// The values of each option, if a word wasn't text. Otherwise empty.
+    /// The values of each option, decoded, if a word wasn't text. Otherwise empty: `matches` has
+    /// the values.
     values: Vec<Vec<Option<OsString>>>,
 }
 
@@ -340,7 +341,7 @@ fn os_of(text: &str) -> OsString {
     word_of(bytes)
 }
 
-/// The error, with U+FFFD in place of what isn't text.
+/// The error with its marks decoded, and U+FFFD in place of bytes that aren't UTF-8.
 fn shown(fail: Fail) -> Fail {
     let shown = |name: String| {
         let mut bytes = Vec::new();
@@ -351,7 +352,7 @@ fn shown(fail: Fail) -> Fail {
         Fail::ArgumentMissing(name) => Fail::ArgumentMissing(shown(name)),
         Fail::UnrecognizedOption(name) => Fail::UnrecognizedOption(shown(name)),
         Fail::UnexpectedArgument(name) => Fail::UnexpectedArgument(shown(name)),
-        // Their names are declared names.
+        // These have declared names, which aren't encoded.
         Fail::OptionMissing(_) | Fail::OptionDuplicated(_) => fail,
     }
 }
@@ -432,8 +433,8 @@ mod tests {
             b"gr\xC3\xBCn \xE2\x82\xAC\xF0\x90\x8D\x88",
             "grün €\u{10348}",
         ),
-        // the first and last character of each length, the ones next to the surrogates, and the
-        // last before the marks
+        // the first and last character of each length, the characters next to the surrogates, and
+        // the last one before the marks
         (
             b"\x7F\xC2\x80\xDF\xBF\xE0\xA0\x80\xED\x9F\xBF\xEE\x80\x80\xEF\xBF\xBF\xF0\x90\x80\x80\xF4\x8F\xBD\xBF",
             "\u{7F}\u{80}\u{7FF}\u{800}\u{D7FF}\u{E000}\u{FFFF}\u{10000}\u{10FF7F}",

@@ -1,4 +1,4 @@
--- What data structures hold, and how it is seen.
+-- What data structures store, and the values that they represent.
 pub mod Texts
 pub mod Groups
 pub mod Index

@@ -1,14 +1,18 @@
--- Lemmas, by subject. Beside them is a folder for each function whose proof needs a file.
+-- Lemmas, by subject. Beside them is a folder for each module of `src`, with a folder for each
+-- function whose proof needs a file: `Answers.antt` proves goals that the checker asks for, and
+-- `Invariants.antt` states the invariants of loops. A loop's label, such as `'items`, names its
+-- goals. In most names of lemmas, the part before `-` is the definition that the lemma is about
+-- (`IsAccepted-line`); a name that ends in `_lem` proves a law of readings or lines.
 
 -- facts about lists of any elements
 pub mod Lists
--- how words are read: a tool for the proofs, and properties of all readings
+-- how words are read: the step-by-step reader `read`, and properties of all readings
 pub mod Reading
 -- how the code scans a word, an item, a cluster, and the line up to a place
 pub mod Scanner
 -- what names resolve to, and the table for looking them up
 pub mod Lookup
--- what data structures hold, and how it is seen
+-- what data structures store, and the values that they represent
 pub mod Held
 -- from a reading or an error to the result of `parse`
 pub mod Parsing

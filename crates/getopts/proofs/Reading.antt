@@ -1,4 +1,4 @@
--- How words are read: a tool for the proofs, and properties of all readings.
+-- How words are read: the step-by-step reader `read`, and properties of all readings.
 pub mod Turns
 pub mod Texts
 pub mod Steps

@@ -87,7 +87,7 @@ first_value_among groups [] = None
 first_value_among groups (name ∷ names) =
     option_or (first_value (found_of groups name)) (first_value_among groups names)
 
--- If there is no value, nothing is parsed.
+-- If there is no value, the answer is `Ok None`.
 -- The answer is what parsing the value gives: a result or an error.
 abbrev pub IsReadAs : {T E : Type 0} → (Text → Result T E → Type 0)
     → Option Text → Result (Option T) E → Type 0

@@ -9,8 +9,8 @@ use Rattle.getopts.specs.Names.{Text}
 use Rattle.getopts.specs.Options.{Declared}
 use Rattle.getopts.specs.Results.{parse_result, read_result}
 
--- With the flag, an option may be missing or be given too often. The two results are those of the
--- command line without and with its counts checked.
+-- The two results are those without and with counts checked: if the flag is given, an option may be
+-- missing or be given too often.
 -- a command line's error; or its matches, or none if it gives the flag
 abbrev pub asked_of : Text → Result Matched Fault → Result Matched Fault → Result (Option Matched) Fault
 asked_of flag (Err fault) line = Err fault

@@ -1,4 +1,4 @@
--- Canonical lines: what a command line says, rewritten with main names alone; the laws of such
+-- Canonical lines: what a command line says, rewritten with main names only; the laws of such
 -- lines, and when there is no such line.
 use Rattle.std.specs.Prelude.{◌≡◌, ◌≢◌, ◌↔◌, ℕ, Bool, false, List, [], ◌∷◌, ◌++◌, map, Option}
 use Rattle.std.specs.Prelude.{Some, None, slice_get}
@@ -103,8 +103,8 @@ pub record ReadsBack (options : Declared) (content : Content) : Type 0 where
       (canonical_line options.groups content)
   pub same : content_of options (canonical_reading options.groups content) ≡ content
 
--- The content is sound. Its line reads back in both styles and both modes, says this content only,
--- and among sound and plain contents is the canonical line of this one only.
+-- The content is sound. Its canonical line reads back in both styles and both modes, says no other
+-- content, and isn't the canonical line of another sound and plain content.
 -- These are the laws of the canonical line of a plain content that some line says.
 pub record HasCanonicalLine (options : Declared) (content : Content) : Type 0 where
   pub sound : IsSound options.groups content
@@ -117,7 +117,7 @@ pub record HasCanonicalLine (options : Declared) (content : Content) : Type 0 wh
       → (canonical_line options.groups other ≡ canonical_line options.groups content)
       ↔ (other ≡ content)
 
--- This is true in both styles and both modes.
+-- There is no such item in either style or either mode.
 -- No valid item with just this mention begins with the mention's canonical word.
 abbrev pub HasNoItem : Declared → Mention → Type 0
 HasNoItem options m = (style : ParsingStyle) (long_only : Bool) (item : Item)

@@ -42,7 +42,7 @@ abbrev pub KeepsLineLaws : Declared → Type 0
 KeepsLineLaws options = (words line : List Text) → (written : IsWritten options words line)
     → HasCanonicalLine options written.content
 
--- Words are accepted, and these are the places of the options that they give, in order.
+-- The words are accepted, and these are the places of their options, in command-line order.
 pub record IsOrder (options : Declared) (words : List Text) (places : List ℕ) : Type 0 where
   pub content : Content
   pub accepted : IsAcceptedWith options words content

@@ -52,6 +52,6 @@ fault_text (unexpected_argument name) =
 abbrev pub fail_text : Fail → Text
 fail_text fail = option_map_or fault_text (fault_of fail) (codes "Out of memory")
 
--- The `Fail` reports an error with this property, or that it is out of memory.
+-- The `Fail` is out of memory, or reports an error with this property.
 abbrev pub Tells : Fail → (Fault → Type 0) → Type 0
 Tells fail P = MatchOption (fault_of fail) ⊤ P

@@ -36,11 +36,11 @@ pub record HasResults (options : Declared) (words : List Text) : Type 0 where
   pub read : IsTheOnly (IsReadAnswer options words) (read_result options words)
   pub canonical : IsTheOnly (IsCanonicalAnswer options words) (canonical_result options words)
 
--- The call's answer, as `see` shows it, meets `Is`, unless it is out of memory.
+-- The call's answer is out of memory or, with its value converted by `see`, has the property `Is`.
 abbrev pub GivesAs : {A X : Type 0} → (A → X) → Result A Fail → (Result X Fault → Type 0) → Type 0
 GivesAs see answer Is =
     MatchResult answer (λ value. Is (Ok (see value))) (λ fail. Tells fail (λ fault. Is (Err fault)))
 
--- The call's answer is this result, unless it is out of memory.
+-- The call's answer is out of memory, or this result.
 abbrev pub GivesResult : {X : Type 0} → Result X Fail → Result X Fault → Type 0
 GivesResult answer result = GivesAs (λ value. value) answer (λ it. result ≡ it)

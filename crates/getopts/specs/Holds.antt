@@ -57,7 +57,7 @@ abbrev pub HaveLastWordsFree : Declared → List Text → Matched → Type 0
 HaveLastWordsFree options words matches =
     options.style ≡ StopAtFirstFree → StandBeforeFree options words matches
 
--- At least one free word is there from the trailing start on.
+-- There is at least one free word from the trailing start on.
 -- The words are some words, `--`, and the free words from the trailing start on.
 pub record EndsInTrailing (words : List Text) (matches : Matched) (start : ℕ) : Type 0 where
   pub below : start < length matches.free

@@ -1,5 +1,7 @@
--- What a caller must believe, in reading order. In each comment the last line says what the
--- definition is, as `rt lemma` prints it; the lines before it say more.
+-- What a caller has to trust, in reading order. The last line above a definition is its summary,
+-- which `rt lemma` prints; the lines before it give details. A name with a capital letter is a
+-- type, of data (`Item`) or of facts (`IsReading`); functions begin with a small letter. In names,
+-- *held* means stored, *lawful* valid, *fault* an error of a command line, and *refused* rejected.
 
 -- one value, and no other
 pub mod Only
@@ -39,7 +41,7 @@ pub mod Wrap
 pub mod Usage
 -- Cited by private clauses alone, and by the views of private types.
 
--- what the first word of a command line gives, with the words after it
+-- one step of reading: what the first word of a command line gives
 pub mod Turn
 -- what the code stores, and the values that it represents
 pub mod Held

@@ -33,7 +33,7 @@ found_part occurrence = record { position = occurrence.position; value = occurre
 abbrev pub found_at : ℕ → List Occurrence → List Found
 found_at place occurrences = map found_part (filter (λ o. o.mention.group == place) occurrences)
 
--- each group with its occurrences, if the first group has this place
+-- each group with its occurrences; the first group has this place
 abbrev pub matched : ℕ → List Signature → List Occurrence → List MatchedGroup
 matched place [] occurrences = []
 matched place (signature ∷ signatures) occurrences =
@@ -66,7 +66,7 @@ KeepsCounts groups = AllByRecursion KeepsCount groups
 abbrev pub count_fault : Text → ℕ → Fault
 count_fault main count = if count == 0 then option_missing main else option_duplicated main
 
--- It reports the first group, in order of declaration, that breaks its count.
+-- The error reports the first group, in order of declaration, that breaks its count.
 -- This is the count error of the groups.
 pub record IsCountFault (groups : List MatchedGroup) (fault : Fault) : Type 0 where
   pub before : List MatchedGroup

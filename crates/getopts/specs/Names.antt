@@ -55,8 +55,8 @@ is_alias name names =
 abbrev pub main_place : List Names → Text → Option ℕ
 main_place groups name = position (is_main name) groups
 
--- This is the first group with this main name. If there is none, it is the group that the main name
--- of the first group with this alias resolves to.
+-- A name resolves to the first group with this main name. If there is none, it resolves like the
+-- main name of the first group with this alias.
 -- the place of the group that a name resolves to
 abbrev pub resolution : List Names → Text → Option ℕ
 resolution groups name = option_or (main_place groups name)

@@ -64,8 +64,8 @@ names_of groups = map (λ group. group.signature.names) groups
 abbrev pub signatures_of : List Group → List Signature
 signatures_of groups = map (λ group. group.signature) groups
 
--- It consists of the style, the mode and, for the group that a name resolves to, its place and its
--- kind of argument.
+-- A grammar consists of the style, the mode and, for each name, the place and the kind of argument
+-- of the group that the name resolves to.
 -- what parsing uses of options
 pub record Grammar : Type 0 where
   pub place : Text → Option ℕ

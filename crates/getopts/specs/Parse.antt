@@ -42,7 +42,8 @@ pub record HasNoReading (options : Declared) (words : List Text) (fault : Fault)
 abbrev pub IsRefused : Declared → List Text → Fault → Type 0
 IsRefused options words fault = HasNoReading options words fault ⊎ BreaksCounts options words fault
 
--- They are about other spellings of a command line, joined command lines, free words and positions.
+-- The laws are about other spellings of a command line, joined command lines, free words and
+-- positions.
 -- This grammar obeys the laws of readings.
 pub record KeepsReadingLaws (grammar : Grammar) : Type 0 where
   pub long_argument : LongAttachedOrSeparate grammar

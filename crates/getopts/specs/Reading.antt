@@ -110,7 +110,8 @@ abbrev pub spelled_all : List Item → List Text → List Text
 spelled_all [] more = more
 spelled_all (item ∷ items) more = item_words item ++ spelled_all items more
 
--- Two dashes may; in long-only mode one dash may too, if the name doesn't begin with a dash.
+-- Two dashes may precede any name. In long-only mode, one dash may precede a name that doesn't
+-- begin with a dash.
 -- These dashes may precede this name.
 abbrev pub MayStandBefore : Bool → Dashes → Text → Type 0
 MayStandBefore long_only one name = (long_only ≡ true) × (begins_with_dash name ≡ false)
@@ -127,8 +128,8 @@ abbrev pub FitsLong : HasArg → Argument → Type 0
 FitsLong Maybe (separate word) = ⊥
 FitsLong kind argument = FitsKind kind (value_of argument)
 
--- Its value fits, and the kind isn't `No`. An attached argument isn't empty, and for `Maybe` a
--- separate one isn't dashed.
+-- The kind isn't `No`, and the argument's value fits it. An attached argument isn't empty, and for
+-- `Maybe` a separate argument isn't dashed.
 -- The argument fits the kind at the end of a cluster.
 abbrev pub FitsEnd : HasArg → Argument → Type 0
 FitsEnd No argument = ⊥
@@ -140,8 +141,8 @@ FitsEnd kind argument = FitsKind kind (value_of argument)
 abbrev pub IsFlag : Grammar → ℕ → Type 0
 IsFlag grammar name = grammar.kind (name ∷ []) ≡ Some No
 
--- There is at least one flag, or else an option at the end. Such an option resolves, and its
--- argument fits its kind.
+-- The cluster has at least one flag, or ends in an option. That option resolves, and its argument
+-- fits its kind.
 -- The end is valid in a cluster with these flags.
 abbrev pub IsLawfulEnd : Grammar → List ℕ → End → Type 0
 IsLawfulEnd grammar bytes flags = bytes ≢ []
@@ -149,7 +150,7 @@ IsLawfulEnd grammar bytes (ends_in option argument) = (kind : HasArg)
     × (grammar.kind (option ∷ []) ≡ Some kind)
     × FitsEnd kind argument
 
--- Its dashes may precede its name; the name contains no `=` and resolves; and its argument fits the
+-- The dashes may precede the name, the name contains no `=` and resolves, and the argument fits the
 -- kind.
 -- The long item is valid.
 pub record IsLawfulLong (grammar : Grammar) (dashes : Dashes) (name : Text) (argument : Argument)
@@ -189,7 +190,7 @@ AreWellFollowed [] more = ⊤
 AreWellFollowed (item ∷ items) more =
     (is_bare item ≡ true → EndsOrIsDashed (spelled_all items more)) × AreWellFollowed items more
 
--- This is the end of the command line; the stop `--` and the words after it; or, from the first
+-- A tail is the end of the command line; the stop `--` and the words after it; or, from the first
 -- free word on, the rest.
 -- what follows the items
 pub data Tail : Type 0 where
@@ -221,7 +222,8 @@ pub record Reading : Type 0 where
   pub items : List Item
   pub tail : Tail
 
--- Its items and its tail are valid and spell the words, and each bare cluster is well followed.
+-- The items and the tail are valid and spell the words. After each bare cluster the command line
+-- ends, or its next word is dashed.
 -- This is a reading of the words.
 pub record IsReading (grammar : Grammar) (reading : Reading) (words : List Text) : Type 0 where
   pub spells : spelled_all reading.items (tail_words reading.tail) ≡ words
@@ -234,7 +236,7 @@ pub record Mention : Type 0 where
   pub group : ℕ
   pub value : Option Text
 
--- The options of a valid item resolve, so the 0 is never used.
+-- Every name in a valid item resolves, so the 0 is never used.
 -- what a name with this value mentions
 abbrev pub mention_of : Grammar → Text → Option Text → Mention
 mention_of grammar name value = record { group = unwrap_or (grammar.place name) 0; value = value }
@@ -288,7 +290,7 @@ free_items (item ∷ items) = free_items items
 abbrev pub free_words : Reading → List Text
 free_words reading = free_items reading.items ++ tail_frees reading.tail
 
--- This is the number of free words before the stop, if any word follows it.
+-- The place is the number of free words before the stop. There is none if no word follows the stop.
 -- where the words after a stop begin among the free words
 abbrev pub trailing_after : ℕ → Tail → Option ℕ
 trailing_after before (stop (word ∷ words)) = Some before
@@ -326,7 +328,7 @@ pub data IsFaultAt (grammar : Grammar) (word : Text) (after : List Text) : Fault
   unknown_byte : (byte : ℕ) (more : Text) → byte < 128 → HasAfterFlags grammar word (byte ∷ more)
       → grammar.kind (byte ∷ []) ≡ None
       → IsFaultAt grammar word after (unrecognized_option (byte ∷ []))
-  -- or a character of several bytes, which is never a short name
+  -- in short form, after flags, a character of several bytes, which is never a short name
   wide_character : (character : ℕ) (more : Text) → IsScalar character
       → 1 < length (encode_utf8 character)
       → HasAfterFlags grammar word (encode_utf8 character ++ more)

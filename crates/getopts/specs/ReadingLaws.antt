@@ -1,5 +1,5 @@
 -- Laws of readings: which items may replace others, how command lines compose, and facts about free
--- words, the trailing start and positions. Each is about every reading of every command line.
+-- words, the trailing start and positions. Each law covers every reading of every command line.
 use Rattle.std.specs.Prelude.{◌≡◌, ◌≢◌, ℕ, ◌+◌, ◌<◌, ⊤, List, [], ◌∷◌, ◌++◌, map, drop, Some, None}
 use Rattle.std.specs.Prelude.{nat_le, if◌then◌else◌, Bool, false, true, length, slice_get, Contains}
 use Rattle.std.specs.List.{AllByRecursion, filter, last_or, zip}
@@ -95,8 +95,8 @@ pub record ClusterSplits (grammar : Grammar) : Type 0 where
       → Respells grammar (cluster (flag ∷ bytes) end)
       (cluster (flag ∷ []) flags ∷ cluster bytes end ∷ []) (λ position old new. ⊤)
 
--- `-name` and `--name` read alike in long-only mode, in positions too, if the name doesn't begin
--- with `-`.
+-- `-name` and `--name` read alike in long-only mode, with the same positions, if the name doesn't
+-- begin with `-`.
 -- In long-only mode a name may follow one dash or two.
 pub record OneDashOrTwo (grammar : Grammar) : Type 0 where
   pub other_dashes : (dashes other : Dashes) (name : Text) (argument : Argument)
@@ -118,9 +118,9 @@ pub record HasContentOfBoth (grammar : Grammar) (first second whole : Reading) :
   pub mentions : mentions_of grammar whole ≡ mentions_of grammar first ++ mentions_of grammar second
   pub free : free_words whole ≡ free_words first ++ free_words second
 
--- Take a command line that is read to its end by items, the last of which isn't a bare cluster, and
--- another that has a reading. Joined, the two readings are a reading of the joined lines, and any
--- reading of the joined lines has the content of both.
+-- The first command line has a reading that ends with the line, and whose last item isn't a bare
+-- cluster. The second one has any reading. Joined, the two readings are a reading of the joined
+-- lines, and every reading of the joined lines has the content of both.
 -- Command lines compose, in both styles.
 pub record LinesCompose (grammar : Grammar) : Type 0 where
   pub of_both : (first second : Reading) (words more : List Text)
@@ -132,12 +132,12 @@ pub record LinesCompose (grammar : Grammar) : Type 0 where
       × ((whole : Reading) → IsReading grammar whole (words ++ more)
       → HasContentOfBoth grammar first second whole)
 
--- This is a place among the free words, from which on they are the words after the stop.
+-- The free words from this place on are the words after the stop, and there is at least one.
 pub record IsAfterStop (reading : Reading) (start : ℕ) : Type 0 where
   pub below : start < length (free_words reading)
   pub tail_is : reading.tail ≡ stop (drop start (free_words reading))
 
--- The trailing start is a place among the free words.
+-- The trailing start is less than the number of free words.
 -- From the trailing start on, the free words are the words after the stop.
 pub record TrailingStartIsAfterStop (grammar : Grammar) : Type 0 where
   pub after_stop : (reading : Reading) (words : List Text) (start : ℕ)
@@ -161,8 +161,8 @@ abbrev pub HavePositionsInOrder : List MatchedGroup → Type 0
 HavePositionsInOrder groups =
     AllByRecursion (λ group. IsNonDecreasingBy (λ found. found.position) group.found) groups
 
--- It is one of the item's mentions. Its position is the number of words that the items before
--- spell, and the word there is the item's first.
+-- The occurrence is one of the item's mentions. Its position is the number of words that earlier
+-- items spell, and the word at that position is the item's first.
 -- The occurrence belongs to an item.
 pub record StandsInItem (grammar : Grammar) (reading : Reading) (words : List Text)
     (occurrence : Occurrence) : Type 0 where

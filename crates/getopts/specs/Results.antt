@@ -1,5 +1,6 @@
--- The results as functions. Nobody has to believe these definitions: `HasResults` says that each
--- function gives what a relation of `Gives` or `CanonAnswers` describes.
+-- The results as functions. Nobody has to trust these definitions: `HasResults` says that each
+-- function gives what a relation of `Gives` or `CanonAnswers` describes. An *outcome* is a reading
+-- or an error.
 use Rattle.std.specs.Prelude.{◌==◌, if◌then◌else◌, ℕ, Bool, true, nat_lt, not, List, [], ◌∷◌, ◌++◌}
 use Rattle.std.specs.Prelude.{length, Option, Some, None, Result, Ok, Err}
 use Rattle.std.specs.List.{list_all}
@@ -16,22 +17,22 @@ use Rattle.getopts.specs.declared.groups.Occur.TheVariants.{Req, Optional, Multi
 use Rattle.getopts.specs.declared.groups.ParsingStyle.{ParsingStyle}
 use Rattle.getopts.specs.declared.groups.ParsingStyle.TheVariants.{FloatingFrees, StopAtFirstFree}
 
--- what a word gives that isn't dashed
+-- the turn of a word that isn't dashed
 abbrev pub free_turn : ParsingStyle → Text → List Text → Turn
 free_turn FloatingFrees word more = takes (free word) none
 free_turn StopAtFirstFree word more = ends (rest (word ∷ more))
 
--- what two dashes and this text give: the stop, or a name in long form
+-- the turn of two dashes and this text: the stop, or a name in long form
 abbrev pub two_dashes_turn : Grammar → Text → List Text → Turn
 two_dashes_turn grammar [] more = ends (stop more)
 two_dashes_turn grammar (c ∷ text) more = long_turn grammar two (c ∷ text) more
 
--- what one dash and this text give, if no second dash follows
+-- the turn of one dash and this text, if no second dash follows
 abbrev pub one_dash_turn : Grammar → Text → List Text → Turn
 one_dash_turn grammar text more =
     if grammar.long_only then long_turn grammar one text more else cluster_turn grammar [] text more
 
--- what the first word of a command line gives
+-- the turn of the first word of a command line, with the words after it
 unfoldable pub turn : Grammar → Text → List Text → Turn
 turn grammar (first ∷ second ∷ text) more = if first == dash
     then (if second == dash then two_dashes_turn grammar text more else one_dash_turn grammar
@@ -44,7 +45,8 @@ abbrev pub with_items : List Item → Result Reading Fault → Result Reading Fa
 with_items items (Ok reading) = Ok (record { items = items ++ reading.items; tail = reading.tail })
 with_items items (Err fault) = Err fault
 
--- It depends on what the first word gives, and on the outcomes after one word and after two.
+-- The outcome depends on the first word's turn, and on the outcomes of what follows one word and
+-- two words.
 -- the outcome of a command line
 abbrev pub after_turn : Turn → Result Reading Fault → Result Reading Fault → Result Reading Fault
 after_turn (ends tail) after_one after_two = Ok (record { items = []; tail = tail })

@@ -1,5 +1,5 @@
 -- When two groups, options, matches or errors are the same, as `==` computes it. Nobody has to
--- believe these definitions: by its clause `same`, `==` is true exactly if both sides are equal.
+-- trust these definitions: by its clause `same`, `==` is true exactly if both sides are equal.
 use Rattle.std.specs.Prelude.{◌==◌, ℕ, Bool}
 use Rattle.std.specs.Bool.{beq}
 use Rattle.std.specs.Cmp.Lexicographic.{pointwise}

@@ -26,8 +26,7 @@ AcceptedExactlyWhen options = (words : List Text) (matches : Matched)
     ↔ ((reading : Reading) × IsCountKeeping options reading words
     × (matches ≡ matches_of options reading))
 
--- The words are UTF-8. The error is the first: their scan error, or the count error of a reading of
--- them.
+-- The words are UTF-8. The error is their scan error, or the count error of a reading of them.
 -- Words are rejected if and only if no reading of them keeps the counts.
 abbrev pub RefusedExactlyWhen : Declared → Type 0
 RefusedExactlyWhen options = (words : List Text) (fault : Fault) → AreTexts words
@@ -64,14 +63,14 @@ pub record ReadAgain (options : Declared) (line : List Text) (matches : Matched)
   pub accepted : IsAccepted options line again
   pub same : HoldSame matches again
 
--- This is true in any style and mode.
+-- The line may be read in any style and mode.
 -- A canonical line, read again, gives the same values and free words as the original words.
 abbrev pub LinesReadAgain : Declared → Type 0
 LinesReadAgain options = (words line : List Text) (matches : Matched) → IsWritten options words line
     → HasReading options words matches → (style : ParsingStyle) (long_only : Bool)
     → ReadAgain (with_setting options style long_only) line matches
 
--- Some command lines say these contents, in styles and modes that may differ.
+-- Each content is said by some command line, in a style and a mode of its own.
 -- Two plain contents have equal canonical lines if and only if they are equal.
 abbrev pub OneLineOneContent : Declared → Type 0
 OneLineOneContent options = (words others : List Text) (content other : Content)

@@ -1,5 +1,6 @@
--- What the first word of a command line gives, with the words after it. Clauses of `scan` say that
--- the code finds this, and lemmas show that it agrees with `Reading`.
+-- One step of reading, called a *turn*: what the first word of a command line gives, with the words
+-- after it. Clauses of `scan` say that the code takes these steps, and lemmas show that they agree
+-- with `Reading`.
 use Rattle.std.specs.Prelude.{◌≡◌, ◌≢◌, ◌==◌, ℕ, List, [], ◌∷◌, ◌++◌, length, map, Option}
 use Rattle.std.specs.Prelude.{Some, None, Result, Ok, Err, if◌then◌else◌, false, encode_utf8}
 use Rattle.std.specs.Option.{option_map_or}
@@ -14,9 +15,9 @@ use Rattle.getopts.specs.Reading.{Occurrence, at_position, mentions}
 use Rattle.getopts.specs.declared.groups.HasArg.{HasArg}
 use Rattle.getopts.specs.declared.groups.HasArg.TheVariants.{Yes, No, Maybe}
 
--- This is a tail, which ends the line; an item, with the argument of its last option, which may be
--- the next word; or an error.
--- what the first word gives
+-- A turn ends the line with a tail; takes an item, and says whether the argument of its last option
+-- is the next word; or is an error.
+-- one step of reading
 pub data Turn : Type 0 where
   ends : Tail → Turn
   takes : Item → Argument → Turn
@@ -41,7 +42,7 @@ pub record IsShortForm (grammar : Grammar) (word text : Text) : Type 0 where
   pub filled : text ≢ []
   pub second : begins_with_dash text ≡ false
 
--- It depends on the argument attached to the option, and on the words after its own.
+-- The argument depends on the one attached to the option, and on the words after the option's.
 -- the argument of an option in long form, or its error
 abbrev pub chosen_long : HasArg → Text → Option Text → List Text → Result Argument Fault
 chosen_long No name None after = Ok none
@@ -52,7 +53,7 @@ chosen_long Yes name (Some argument) after = Ok (attached argument)
 chosen_long Maybe name None after = Ok none
 chosen_long Maybe name (Some argument) after = Ok (attached argument)
 
--- It depends on the text after the option, and on the words after its own.
+-- The argument depends on the rest of the option's word, and on the words after it.
 -- the argument of an option that ends a cluster, or its error
 abbrev pub chosen_end : HasArg → Text → Text → List Text → Result Argument Fault
 chosen_end kind name (byte ∷ text) after = Ok (attached (byte ∷ text))
@@ -67,7 +68,7 @@ abbrev pub chosen_turn : (Argument → Item) → Result Argument Fault → Turn
 chosen_turn item (Ok argument) = takes (item argument) argument
 chosen_turn item (Err fault) = faults fault
 
--- what a name in long form gives, by its kind and the argument attached to it
+-- the turn of a name in long form, by its kind and the argument attached to it
 abbrev pub named_turn : Option HasArg → Dashes → Text → Option Text → List Text → Turn
 named_turn None dashes name argument after = faults (unrecognized_option name)
 named_turn (Some kind) dashes name argument after =
@@ -79,7 +80,7 @@ cut_at_equals [] = ([], None)
 cut_at_equals (c ∷ text) = if c == equals_sign then ([], Some text)
     else (c ∷ (cut_at_equals text).0, (cut_at_equals text).1)
 
--- what a word in long form gives, by its text after the dashes
+-- the turn of a word in long form, by its text after the dashes
 abbrev pub long_turn : Grammar → Dashes → Text → List Text → Turn
 long_turn grammar dashes text after =
     let cut = cut_at_equals text in
@@ -92,14 +93,14 @@ first_char text = of_chars (chars text) where
   of_chars [] = []
   of_chars (c ∷ cs) = encode_utf8 c
 
--- what a byte after flags in a cluster gives, by its kind; if it is a flag too, this is `more`
+-- the turn of a cluster at a byte after flags, by the byte's kind; `more` if the byte is a flag too
 abbrev pub byte_turn : Option HasArg → List ℕ → ℕ → Text → List Text → Turn → Turn
 byte_turn None bytes byte text after more = faults (unrecognized_option (first_char (byte ∷ text)))
 byte_turn (Some No) bytes byte text after more = more
 byte_turn (Some kind) bytes byte text after more =
     chosen_turn (λ a. cluster bytes (ends_in byte a)) (chosen_end kind (byte ∷ []) text after)
 
--- what a cluster gives, by the flags that were read and the remaining text
+-- the turn of a cluster, by the flags that were read and the remaining text
 unfoldable pub cluster_turn : Grammar → List ℕ → Text → List Text → Turn
 cluster_turn grammar bytes [] after = takes (cluster bytes flags) none
 cluster_turn grammar bytes (byte ∷ text) after =

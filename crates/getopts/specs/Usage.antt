@@ -64,7 +64,8 @@ short_usage_text options program =
 abbrev pub any_short : List Group → Bool
 any_short groups = list_any (λ group. not (is_empty group.signature.names.short)) groups
 
--- Without a short name, it is four spaces if another group has one.
+-- Without a short name, the part is four spaces if another group has a short name, and otherwise
+-- empty.
 -- the short name with a dash, and what separates it from what follows
 abbrev pub short_part : Bool → Names → Text
 short_part among_shorts names =

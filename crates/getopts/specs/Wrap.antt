@@ -61,7 +61,7 @@ pub record IsFewestBreaking (limit : ℕ) (words : List Text) (runs : List Run) 
 abbrev pub lines_of : Text → List Text
 lines_of desc = slice_split (λ byte. byte == 10) desc
 
--- So each word is as long as it can be without white space.
+-- Each word is as long as possible without white space.
 -- the words of a line: the pieces that aren't empty, when it is split at white space
 abbrev pub words_of : Text → List Text
 words_of line =
@@ -87,11 +87,12 @@ IsDescriptionRows limit desc rows = BreaksInto (IsTightBreaking limit) desc rows
 abbrev pub joined : Text → List Text → Text
 joined separator texts = join_by (λ text. text) separator texts
 
--- what separates a text from those before it, if the flag says that there are any
+-- the separator, if `begun` says that other texts precede a text
 abbrev pub parting : Bool → Text → Text
 parting begun separator = if begun then separator else []
 
--- the texts in order, each after the separator, the first only if any came before it
+-- The separator precedes the first text only if `begun` says that other texts precede it.
+-- the texts in order, each after the separator
 abbrev pub continued : Bool → Text → List Text → Text
 continued begun separator texts =
     if begun then flat_map (λ text. separator ++ text) texts else joined separator texts

@@ -1,4 +1,4 @@
-//! Canonical lines, which are accepted command lines rewritten with main names alone, and the order
+//! Canonical lines, which are accepted command lines rewritten with main names only, and the order
 //! of options.
 
 ghost use Rattle.std.specs.Prelude.{◌≡◌, ◌<◌, length, map, IfOk, IfErr, IfSome, IfNone, OnOk, not};
@@ -30,7 +30,7 @@ fn holds_equals(text: &str) -> bool
     text.contains('=')
 }
 
-/// Whether no group that occurs has a main name with `=` in it.
+/// Whether no main name of an option in the command line contains `=`.
 fn are_plain(groups: &Groups, read: &ReadLine) -> bool
     requires { IsOfSignatures (signatures_of groups.now) read.now }
     ensures { result
@@ -118,7 +118,7 @@ impl Options {
     ghost use Rattle.getopts.specs.CanonAnswers.{IsWritten, IsUnwritable, IsOrder, KeepsLineLaws};
     ghost use Rattle.getopts.specs.Theorem.{LinesReadAgain};
 
-    /// Rewrites an accepted command line with main names alone, for programs that log, compare or
+    /// Rewrites an accepted command line with main names only, for programs that log, compare or
     /// cache command lines.
     ///
     /// The canonical line has `--main` or `--main=value` for each option, in order, then always
@@ -126,16 +126,15 @@ impl Options {
     /// short name. With the options `v`/`verbose` and `o`/`output`, the latter with an argument,
     /// `["-vofile", "x"]` and `["x", "--verbose", "--output", "file"]` both give
     /// `["--verbose", "--output=file", "--", "x"]`, and an empty command line gives `["--"]`. The
-    /// line keeps neither positions nor the order between options and free words.
+    /// canonical line doesn't show positions, nor which free words preceded which options.
     ///
     /// Returns `None` if the command line gives an option whose main name contains `=`: `--p=x`
     /// means the option `p` with the argument `x`, so it can't name an option called `p=x`. Such an
     /// option does no harm as long as it isn't given.
     ///
-    /// Fails exactly as `parse` does, or with `Fail::OutOfMemory` if an allocation fails. As in
-    /// `parse`, the iterator has to end, all items are taken before anything but
-    /// `Fail::OutOfMemory` is returned, and the options aren't changed. The Rust crate has no such
-    /// method.
+    /// Fails exactly as `parse` does, or with `Fail::OutOfMemory` if an allocation fails. As for
+    /// `parse`, the iterator has to end and, unless an allocation fails, all its items are taken.
+    /// The options aren't changed. The Rust crate has no such method.
     pub fn canonical<'a, I: Iterator<Item = &'a str> + Drop>(
         &self,
         alloc: Global,
@@ -159,14 +158,15 @@ impl Options {
         self.canonical_words(alloc, &words)
     }
 
-    /// Parses a command line like `parse_words`, but returns its options in order, across all
-    /// options.
+    /// Parses a command line like `parse_words`, but returns its options in the order in which they
+    /// were given.
     ///
     /// Use it if the order of different options matters, for example if the last of `-q` and `-v`
     /// wins. (Positions don't help: options in one word, such as `-vq`, share a position.) Each
     /// option is returned as its index in the order of declaration, as from `opt_place`. With the
     /// options `q` and `v`, `["-vq", "x", "-v"]` gives 1, 0 and 1. Free words aren't in the list.
-    /// If an index occurs for the nth time, its value is the nth of `occurrences_at` that index.
+    /// If an index occurs for the nth time in the list, the option's value is in the nth occurrence
+    /// of `occurrences_at` for that index.
     ///
     /// Fails exactly as `parse_words` does. The Rust crate has no such method.
     pub fn parse_in_order<S: AsStr>(&self, alloc: Global, words: &[S]) -> Result<Vec<usize>, Fail>

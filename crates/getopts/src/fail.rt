@@ -15,7 +15,7 @@ use std::fmt;
 /// Why a command line was rejected.
 ///
 /// `ArgumentMissing`, `UnrecognizedOption` and `UnexpectedArgument` report the first word that
-/// can't be read, with the name as typed. Only if every word can be read are occurrences counted:
+/// can't be read, with the name as typed. If every word can be read, occurrences are counted:
 /// `OptionMissing` and `OptionDuplicated` report the first option, in order of declaration, that is
 /// missing or was given too often. They contain its main name, which is the long name or, if there
 /// is none, the short name.

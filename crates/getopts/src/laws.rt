@@ -1,5 +1,5 @@
 //! Lemmas for proofs: the main theorem, and other facts about all options, words and matches. They
-//! do nothing.
+//! do nothing at run time.
 
 ghost use Rattle.getopts.specs.Canon.{Content, Says, IsSound, IsPlain, HasCanonicalLine};
 ghost use Rattle.getopts.specs.Canon.{with_setting};

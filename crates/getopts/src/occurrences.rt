@@ -1,4 +1,4 @@
-//! The options that a command line gives, with their values: all together, and by group.
+//! The options in a command line, with their values: all together, and by group.
 
 ghost use Rattle.std.specs.Prelude.{◌≡◌, ◌↔◌, ◌<◌, ◌∷◌, ◌++◌};
 ghost use Rattle.std.specs.Prelude.{[], Some, IfOk, OnOk, OnErr, IsTrue, map, length};
@@ -45,8 +45,8 @@ pub(crate) struct Occurrence<'l> {
     pub value: Option<&'l str>,
 }
 
-/// Bytes reserved for each option along with the first value, so that short values fit without
-/// reallocating.
+/// Bytes reserved for the value of each option when the first value is stored, so that short values
+/// fit without reallocating.
 const VALUE_BYTES: usize = 8;
 /// The most bytes that `VALUE_BYTES` reserves.
 const MOST_BYTES: usize = 2048;
@@ -71,7 +71,7 @@ fn push_value(values: &mut String, value: &str, room: usize) -> Result<Span, All
     })
 }
 
-/// The options that a command line gives, in order, and their values as one text.
+/// The options in a command line, in order, and their values as one text.
 #[derive(Debug)]
 pub(crate) struct LineOccurrences {
     pub records: Vec<OccurrenceRecord>,

@@ -18,11 +18,12 @@ use crate::table::Table;
 use std::alloc::{AllocError, Global};
 use std::convert::AsStr;
 
-/// The most capacity that is first requested for words and for their results, since an iterator may
-/// yield fewer words than it promises. For more words, the dashed ones are counted first.
+/// The most words, options and free words for which memory is reserved without looking at the
+/// words: an iterator may yield fewer words than it promises. For more words, `reserve_many` counts
+/// the dashed ones first.
 pub(crate) const FIRST_ROOM: usize = 32;
 
-/// A lemma: a `&str` is a text.
+/// A lemma for proofs, which compiles to nothing: a `&str` is UTF-8.
 fn is_text(word: &str)
     ensures { IsUtf8 word.now }
 {}
@@ -36,7 +37,8 @@ pub fn are_texts<S: AsStr>(words: &[S])
     }
 }
 
-/// What a command line gives.
+/// What a command line contains: its options in order, its free words, and the index of the first
+/// free word after `--`.
 #[derive(Drop)]
 pub(crate) struct Line {
     pub found: LineOccurrences,
@@ -47,7 +49,7 @@ pub(crate) struct Line {
 impl Line {
     ghost use Rattle.getopts.specs.Held.Scan.{IsEmptyLine};
 
-    /// An empty line, with room for this many options and this many free words.
+    /// An empty line, with room for `room` options and `room` free words.
     pub(crate) fn with_capacity(alloc: Global, room: usize) -> Result<Line, AllocError>
         ensures { IfOk result IsEmptyLine }
     {
@@ -58,7 +60,8 @@ impl Line {
         })
     }
 
-    /// Makes room for the results of many words. The results of few words fit already.
+    /// Makes room for the results of more than `FIRST_ROOM` words; those of fewer words fit
+    /// already.
     #[inline(always)]
     fn reserve<S: AsStr>(&mut self, words: &[S], stops: bool) -> Result<(), AllocError>
         requires { IsEmptyLine self.old }
@@ -84,7 +87,7 @@ impl Line {
     }
 }
 
-/// The options that words are read by, and the table of their names.
+/// Reads words by these options, with the table of their names.
 #[derive(Clone, Copy)]
 pub(crate) struct Scanner<'o> {
     pub options: &'o Options,
@@ -98,7 +101,8 @@ pub(crate) struct Named {
     pub kind: HasArg,
 }
 
-/// The value that an option takes, if any, and how many of the following words it uses.
+/// The value that an option takes, if any, and how many of the following words it uses: none or
+/// one.
 #[derive(Clone, Copy)]
 struct Argument<'w> {
     value: Option<&'w str>,
@@ -154,8 +158,8 @@ fn after_dash(text: &str) -> Option<&str>
     Some(&text[1..])
 }
 
-/// The name in the text of a long item, and the attached argument. Names are short, so it checks
-/// one byte at a time.
+/// The name in the text of a long item, and the attached argument. Names are short, so checking one
+/// byte at a time is fast.
 fn name_and_argument(text: &str) -> (&str, Option<&str>)
     ensures name { holds_equals result.0.now ≡ false }
     ensures text { text.now ≡ result.0.now ++ with_equals (option_copied result.1) }
@@ -179,8 +183,8 @@ fn is_dashed(word: &str) -> bool
     }
 }
 
-/// How many words are dashed, up to where all words are free. It only determines how much to
-/// reserve, so a wrong number would cost only memory or time.
+/// How many words are dashed, up to the word that ends the options. The number only determines how
+/// much to reserve, so a wrong one would cost only memory or time.
 fn dashed_words<S: AsStr>(words: &[S], stops: bool) -> usize {
     let mut dashed: usize = 0;
     'words: for word in words {
@@ -204,8 +208,8 @@ fn first_character(text: &str) -> &str
     }
 }
 
-/// The argument of an option of kind `Yes` or `Maybe` in a cluster, by the rest of its word and the
-/// following words.
+/// The argument of an option of kind `Yes` or `Maybe` in a cluster: `rest` is the rest of the
+/// cluster's word, `after` the words after it.
 fn ending<'w, S: AsStr>(
     alloc: Global,
     kind: HasArg,
@@ -245,8 +249,8 @@ impl<'o> Scanner<'o> {
         Some(Named { place, kind })
     }
 
-    /// Reads a long item, by its text after the dashes and the words after its first. Appends its
-    /// occurrence, and returns how many of those words it used.
+    /// Reads a long item: `text` follows the dashes in its first word, and `after` is the words
+    /// after that. Appends the item's occurrence, and returns how many words of `after` it used.
     fn long<'w, S: AsStr>(
         &self,
         alloc: Global,
@@ -300,8 +304,8 @@ impl<'o> Scanner<'o> {
         Some(Named { place, kind })
     }
 
-    /// Reads a cluster, by its text after the dash and the words after its first. Appends its
-    /// occurrences, and returns how many of those words it used.
+    /// Reads a cluster: `text` follows the dash in its first word, and `after` is the words after
+    /// that. Appends the cluster's occurrences, and returns how many words of `after` it used.
     fn cluster<S: AsStr>(
         &self,
         alloc: Global,

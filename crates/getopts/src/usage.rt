@@ -29,8 +29,9 @@ const OPTION_ROOM: usize = 16;
 /// The rows of a usage text, one for each option group, in order of declaration.
 ///
 /// `Options::usage_with_format` passes them to its closure. They have all been built by then, so
-/// `next` allocates nothing. A row doesn't end with a line end. It contains one after a head of 24
-/// columns or more, and one between the lines of the description.
+/// `next` allocates nothing. A row doesn't end with a line end. It contains one if its head (the
+/// indentation, the names and the hint) takes 24 columns or more, and one between the rows of the
+/// description.
 ///
 /// In the Rust crate the closure gets a `&mut dyn Iterator`, which builds each row on demand.
 #[derive(Debug, Drop)]
@@ -89,9 +90,9 @@ impl Options {
     /// Returns the brief, then each option with its description, for a help screen.
     ///
     /// Descriptions begin after 24 columns, in rows of at most 54; a wider word has a row of its
-    /// own. A head of 24 columns or more has a line of its own. Columns are counted by
-    /// `unicode_width`, not in bytes, so descriptions are aligned even if names aren't ASCII. A
-    /// line may end in spaces.
+    /// own. A head (the indentation, the names and the hint) of 24 columns or more has a line of
+    /// its own. Columns are counted by `unicode_width`, not in bytes, so descriptions are aligned
+    /// even if names aren't ASCII. A line may end in spaces.
     ///
     /// ```
     /// options
@@ -199,7 +200,7 @@ impl Options {
         Ok(())
     }
 
-    /// What the heads in the usage text have in common.
+    /// What the heads of all rows have in common.
     fn layout(&self) -> Layout
         ensures long_only { result.long_only ≡ self.now.long_only }
         ensures any_short { result.any_short ≡ any_short self.now.groups }
@@ -216,8 +217,8 @@ impl Options {
     }
 }
 
-/// The capacity for a text that begins with another and goes on with this many parts. It is a
-/// guess: if it is too small, the text grows.
+/// The capacity for a text that begins with `start`, followed by `count` parts of `each` bytes. It
+/// is a guess: if it is too small, the text grows.
 fn room_for(start: &str, count: usize, each: usize) -> usize {
     start.len().saturating_add(count.saturating_mul(each))
 }

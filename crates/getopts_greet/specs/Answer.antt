@@ -13,7 +13,7 @@ use Rattle.getopts_greet.specs.declared.greeting.Greeting.{Greeting}
 use Rattle.getopts_greet.specs.declared.greeting.Refusal.{Refusal}
 use Rattle.getopts_greet.specs.declared.greeting.Refusal.TheVariants.{Line, Number, OutOfMemory}
 
--- a greeting as often as requested, or once
+-- the greeting, repeated as often as requested, or once
 abbrev pub greeting_text : Greeting → Text
 greeting_text greeting = repeat (unwrap_or greeting.times 1)
     (codes "hello " ++ (string_bytes greeting.name ++ codes "\n"))

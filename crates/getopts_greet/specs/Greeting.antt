@@ -41,7 +41,7 @@ greeter_help =
     ++ (codes "    -t, --times NUMBER  greet NUMBER times\n"
     ++ codes "    -h, --help          print this help\n"))
 
--- why a command line that the library rejects asks for nothing; out of memory isn't its error
+-- the greeter's error for a `Fail`; out of memory isn't an error of the command line
 abbrev pub refusal_of : Fail → Refusal
 refusal_of fail.OutOfMemory = OutOfMemory
 refusal_of fail = Line fail
@@ -61,8 +61,8 @@ IsGreetingBy matches (Err (Number error)) = IsReadAs {T = ℕ} (ParsesUnsigned 3
 IsGreetingBy matches (Err (Line fail)) = ⊥
 IsGreetingBy matches (Ok greeting) = IsGreetingOf matches greeting
 
--- It asks for nothing if it has an error, or a number that can't be read. Out of memory says
--- nothing about it.
+-- A command line asks for nothing if it has an error, or a number that can't be read. Out of memory
+-- says nothing about the command line.
 -- This is what a command line asks for, or why it asks for nothing.
 abbrev pub IsAskedBy : Result (Option Matched) Fault → Result Asked Refusal → Type 0
 IsAskedBy asked (Err OutOfMemory) = ⊤

@@ -76,7 +76,7 @@ fn answer_to<S: AsStr>(alloc: Global, words: &[S]) -> Result<Output, AllocError>
     }
 }
 
-/// The help, or a greeting as often as requested.
+/// The help, or the greeting, repeated as often as requested.
 fn asked_text(alloc: Global, asked: &Asked) -> Result<String, AllocError>
     ensures { IfOk result (λ text. string_bytes text ≡ asked_text asked.now) }
 {
@@ -86,7 +86,7 @@ fn asked_text(alloc: Global, asked: &Asked) -> Result<String, AllocError>
     }
 }
 
-/// A greeting as often as requested.
+/// The greeting, repeated as often as requested.
 fn greeting_text(alloc: Global, greeting: &Greeting) -> Result<String, AllocError>
     ensures { IfOk result (λ text. string_bytes text ≡ greeting_text greeting.now) }
 {

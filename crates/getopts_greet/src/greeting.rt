@@ -89,7 +89,8 @@ pub fn help_text(alloc: Global) -> Result<String, AllocError>
     options.usage(alloc, "Usage: getopts_greet [options]")
 }
 
-/// What a command line asks for. Errors in its words come first, then help, then what is missing.
+/// What a command line asks for: help is printed even if an option is missing, but not if a word
+/// can't be read.
 pub fn read<S: AsStr>(alloc: Global, words: &[S]) -> Result<Asked, Refusal>
     ensures { IsAskedBy (asked_result greeter_options (codes "help") (map S.text words.now)) result }
 {

@@ -1,4 +1,5 @@
--- A fact for each variant, if the value is known.
+-- If a value is known to be some variant, the fact for this variant proves `MatchResult` and
+-- similar types.
 use Rattle.std.proofs.Common.{◌≡◌, Bool, true, false, Option, Some, None, Result, Ok, Err, subst}
 use Rattle.std.proofs.Common.{sym}
 use Rattle.std.specs.Prelude.{MatchOption, MatchResult}

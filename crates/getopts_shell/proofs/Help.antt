@@ -1,4 +1,4 @@
--- Readings, and what failures report.
+-- Matches of readings, and the errors that failures report.
 use Rattle.std.proofs.Common.{◌≡◌, ℕ, false, List, [], Option, Some, None, refl, sym, ap, ◌∙◌}
 use Rattle.std.specs.Prelude.{length, nat_lt, IsSome}
 use Rattle.std.specs.Option.{option_map_or}

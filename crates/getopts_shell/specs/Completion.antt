@@ -32,7 +32,7 @@ groups_at_end options (Ok reading) =
     if is_line_end reading.tail then Some (matches_of options reading).groups else None
 groups_at_end options (Err fault) = None
 
--- the groups of words that have such a reading: an option may follow them
+-- the groups of words whose reading ends with the line, so that an option may follow them
 abbrev pub goes_on : Declared → List Text → Option (List MatchedGroup)
 goes_on options before = groups_at_end options (reading_result options before)
 
@@ -52,8 +52,9 @@ abbrev pub takes_argument : HasArg → Bool
 takes_argument No = false
 takes_argument kind = true
 
--- If the form begins with the word, this is the form and the description. If the word begins with
--- the form and `=`, and such a value is possible, it offers files for the value.
+-- The dashes and the name are a *form*. If the form begins with the word, the form is offered with
+-- the description. If the word begins with the form and `=`, and the option can take a value there
+-- (`valued`), files are offered for the value.
 -- the completions for a name after its dashes, if there is such a name
 abbrev pub name_line : Text → Bool → Text → Text → Text → Text
 name_line word valued dashes name description =
@@ -63,7 +64,8 @@ name_line word valued dashes name description =
     else (if valued && starts_with nat_eq word (dashes ++ (name ++ codes "="))
     then codes "value\n" else []))
 
--- They are the long name after two dashes, in long-only mode also after one, and the short name.
+-- An option is offered by its long name after two dashes, in long-only mode also after one, and by
+-- its short name.
 -- the completions for an option
 abbrev pub option_lines : Bool → Text → Entry → Text
 option_lines long_only word entry =
@@ -88,7 +90,8 @@ offer options entries before word =
 
 -- ---- the code for a shell
 
--- a byte in quotes, as the three shells read it: quotes and backslashes follow one, outside quotes
+-- Quotes and backslashes are written outside the quotes, after a backslash.
+-- a byte of a word in quotes, as bash, zsh and fish read it
 abbrev pub stub_byte : ℕ → Text
 stub_byte byte = if byte == 92 then codes "'\\\\'" else quoted_byte byte
 
@@ -96,13 +99,14 @@ stub_byte byte = if byte == 92 then codes "'\\\\'" else quoted_byte byte
 abbrev pub stub_quoted : Text → Text
 stub_quoted word = codes "'" ++ (flat_map stub_byte word ++ codes "'")
 
--- In zsh it names the script, for a file in `$fpath`, unless the name might break the line.
+-- In zsh, the first line names the script, in case the code is a file in `$fpath`. It is left out
+-- if the name might break the line.
 -- the first line of the code for a shell
 abbrev pub first_line : Text → Text → Text
 first_line shell name = if bytes_eq shell (codes "zsh") && is_long_name name
     then codes "#compdef " ++ (name ++ codes "\n") else []
 
--- the functions for all scripts in a shell, if it is supported
+-- the functions that all scripts share in a shell, if the shell is supported
 abbrev pub functions : Text → Option Text
 functions shell =
     if bytes_eq shell (codes "bash") then Some BASH.now

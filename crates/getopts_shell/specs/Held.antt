@@ -1,4 +1,4 @@
--- What the code stores, as the definitions see it.
+-- What the code stores, and the values that it represents in definitions.
 use Rattle.std.specs.Prelude.{false, ◌≡◌, ◌==◌, ◌-◌, ⊤, Bool, List, [], ◌∷◌, Option, Some, None}
 use Rattle.std.specs.Prelude.{MatchOption, length, map}
 use Rattle.std.specs.Option.{option_map, option_map_or}

@@ -1,4 +1,4 @@
--- The script that the code stores, as the definitions see it.
+-- The script that the code stores, and the value that it represents in definitions.
 use Rattle.getopts_shell.specs.Held.{asked_of, entries_of, operands_of}
 use Rattle.getopts_shell.specs.Program.{Script}
 use Rattle.getopts_shell.specs.declared.script.Script.{Script as ScriptHeld}

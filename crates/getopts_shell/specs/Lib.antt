@@ -1,4 +1,4 @@
--- What a caller must believe, in reading order.
+-- What a caller has to trust, in reading order.
 
 -- words in quotes, and what a shell makes of them
 pub mod Quote
@@ -12,6 +12,6 @@ pub mod Variables
 pub mod Program
 -- Cited by private clauses alone.
 
--- what the code stores, as the definitions see it
+-- what the code stores, and the values that it represents
 pub mod Held
 pub mod HeldScript

@@ -228,7 +228,7 @@ pub data OperandFault : Type 0 where
   missing : Text → OperandFault
   unexpected : Text → OperandFault
 
--- Each word is the next operand, and all words from a repeatable one on are that operand.
+-- Each word is the next operand. From a repeatable operand on, all words belong to it.
 -- the error of free words for these operands, if they have one; it names an operand without dots
 abbrev pub operand_fault : List Operand → List Text → Option OperandFault
 operand_fault [] [] = None
@@ -250,7 +250,8 @@ operand_fault_line name (missing operand) =
 operand_fault_line name (unexpected word) =
     name ++ (codes ": Unexpected operand: '" ++ (word ++ codes "'\n"))
 
--- A shell turns this text in quotes into one word, the text, and the bytes of that into its bytes.
+-- A shell reads this text in quotes as one word, the text, and the bytes of the quoted text as the
+-- text's bytes.
 pub record IsOneWord (text : Text) : Type 0 where
   pub shell : shell_words (quoted text) ≡ Some (text ∷ [])
   pub bytes : shell_words (bytes_of (quoted text)) ≡ Some (bytes_of text ∷ [])
@@ -301,8 +302,9 @@ abbrev pub asked_fault : Asked → List Entry → Option VariableFault
 asked_fault asked entries = option_map_or (λ prefix. prefix_fault prefix entries) asked.variables
     (if asked.arrays then Some arrays_only else None)
 
--- A shell that runs its code holds its words. It is accepted in both styles and both modes with the
--- content of the words, and says nothing else. Its first word `--` is the stop.
+-- A shell that runs the line's code then has the line's words. The line is accepted in both styles
+-- and both modes with the content of the words, and says nothing else. Its first word `--` is the
+-- stop.
 -- These are the facts about a canonical line.
 pub record TellsWords (options : Declared) (words line : List Text) : Type 0 where
   pub shell : SetsWords line
@@ -342,7 +344,7 @@ pub record TellsOptions (script : Script) (prefix : Text) (options : List Given)
   pub free_values : AreTexts free
   pub answer_is : answer ≡ done (variables_code prefix script.asked.arrays options free)
 
--- It is the option's line, or variables as if only it had been given.
+-- The answer is the option's line, or variables as if only this option had been given.
 -- This is the answer to words that give an option that stands alone.
 abbrev pub AnswersAlone : Script → Entry → Answer → Type 0
 AnswersAlone script entry answer = MatchOption script.asked.variables
@@ -362,8 +364,8 @@ AnswersAccepted script words matches answer = MatchOption script.asked.variables
     (λ prefix. TellsOptions script prefix (given_from 0 script.entries matches.groups) matches.free
     answer)
 
--- It is the first error of an option, or else of the free words. If there is none, the words are
--- accepted.
+-- The answer is the first error of an option, or else of the free words. If there is none, the
+-- words are accepted.
 -- This is the answer to words with their counts checked.
 abbrev pub AnswersCounted : Script → List Text → Answer → Type 0
 AnswersCounted script words answer = MatchResult (parse_result (read_options script) words)
@@ -377,8 +379,8 @@ abbrev pub PrintsHelp : Script → Answer → Type 0
 PrintsHelp script answer = (help : Text) × IsHelp script help × IsOneWord help
     × (answer ≡ done (help_code help))
 
--- It is code that prints the help if they ask for it, or else what the first option that stands
--- alone gives, if they have one.
+-- If the words ask for help, the answer is code that prints it. Otherwise, if they give options
+-- that stand alone, it is the answer for the first of these in the table.
 -- This is the answer to words with these matches, whatever their counts.
 abbrev pub AnswersRead : Script → List Text → Matched → Answer → Type 0
 AnswersRead script words matches answer = MatchBool (asks_help script.entries matches)
@@ -398,15 +400,15 @@ AnswersScript script words answer = MatchBool script.asked.usage
     (MatchOption script.asked.complete_words (AnswersWords script words answer)
     (λ shell. AnswersOffer script shell words answer))
 
--- It is a completion script, the error of the variables, or the answer for the script.
--- This is the answer if a table declares these.
+-- The answer is a completion script, the error of the variables, or the answer for the script.
+-- This is the answer if the table declares the script's entries and operands.
 abbrev pub AnswersDeclared : Script → Text → List Text → Answer → Type 0
 AnswersDeclared script table words answer = MatchOption script.asked.complete
     (MatchOption (asked_fault script.asked script.entries)
     (AnswersScript script words answer) (λ fault. answer ≡ misused (variable_fault_line fault)))
     (λ shell. answer ≡ completion_answer script.asked shell script.name table)
 
--- It is the error of the table, or what its entries give.
+-- The answer is the error of the table, or the answer for what the table declares.
 -- This is the answer to a script's name, its table and its words.
 pub data AnswersTable (asked : Asked) (name table : Text) (words : List Text) (answer : Answer)
     : Type 0 where
@@ -427,7 +429,7 @@ AnswersFree asked (name ∷ table ∷ words) answer = AnswersTable asked name ta
 AnswersFree asked words answer =
     answer ≡ misused (codes "getopts_shell: NAME and TABLE are required (see --help)\n")
 
--- It is the program's help, its version, or what they ask for.
+-- The answer is the program's help, its version, or what the words ask for.
 -- This is the answer to the program's own words, which have these matches.
 abbrev pub AnswersOwn : Matched → Answer → Type 0
 AnswersOwn own answer = MatchBool (is_given own (codes "help")) (answer ≡ done own_help)
@@ -447,8 +449,9 @@ OneAnswer = (words : List Text) (answer other : Answer) → IsAnswer words answe
 
 -- ---- statuses
 
--- It is 0 if text was written for the script, 2 if its words were rejected, 3 if an allocation
--- failed, 4 if writing or flushing failed, and 5 if the script called the program incorrectly.
+-- The status is 0 if text was written for the script, 2 if its words were rejected, 3 if an
+-- allocation failed, 4 if writing or flushing failed, and 5 if the script called the program
+-- incorrectly.
 -- This is one of the program's statuses.
 abbrev pub IsStatus : ℕ → Type 0
 IsStatus status = (status ≤ 5) × (status ≢ 1)

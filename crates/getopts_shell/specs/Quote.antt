@@ -7,9 +7,9 @@ use Rattle.getopts.specs.Names.{Text}
 
 -- ---- what a shell makes of a text
 
--- Outside quotes it is in an incomplete word or between words; in quotes, and after a backslash, it
--- is in a word.
--- what a shell has read of a text: the complete words, and where it is, unless nothing is said
+-- Outside quotes, the shell is within a word or between words; in quotes, and after a backslash, it
+-- is within a word. `unsaid` means that this model doesn't say how the shell goes on.
+-- what a shell has read of a text: the complete words, and where in the text it is
 pub data Progress : Type 0 where
   outside : List Text → Option Text → Progress
   quoting : List Text → Text → Progress
@@ -21,7 +21,7 @@ abbrev pub done : List Text → Option Text → List Text
 done words word = words ++ option_to_list word
 
 -- A space or a tab separates words, `'..'` is literal, and `\` makes the next byte literal unless
--- it is a line end. Nothing is said about other bytes outside quotes.
+-- it is a line end. Other bytes outside quotes aren't modelled.
 -- the progress after one more byte of a command
 abbrev pub read_byte : Progress → ℕ → Progress
 read_byte (outside words word) byte =
@@ -45,11 +45,11 @@ shell_words text = words_read (fold read_byte (outside [] None) text)
 
 -- ---- words in quotes
 
--- a byte, or another text in its place if it is this one
+-- a byte, or `other` instead of the byte `one`
 abbrev pub replaced : ℕ → Text → ℕ → Text
 replaced one other byte = if byte == one then other else byte ∷ []
 
--- a byte of a word in quotes: `'` is outside quotes, after a backslash
+-- a byte of a word in quotes: `'` is written outside the quotes, after a backslash
 abbrev pub quoted_byte : ℕ → Text
 quoted_byte = replaced 39 (codes "'\\''")
 

@@ -33,7 +33,7 @@ holds byte text = list_any (λ other. other == byte) text
 abbrev pub before : ℕ → Text → Text
 before byte text = before_first (λ other. other == byte) text
 
--- what follows it, or nothing
+-- what follows the first such byte, or nothing
 abbrev pub after : ℕ → Text → Text
 after byte text = after_first (λ other. other == byte) text
 
@@ -401,8 +401,9 @@ pub data TableFault : Type 0 where
   name_twice : ℕ → Text → TableFault
   late_operand : ℕ → Text → TableFault
 
--- The lines before it declare these entries and operands. It declares something other than nothing
--- or an entry, or an entry with a name that they have, or an operand that can't follow theirs.
+-- The earlier lines declare these entries and operands. This line is neither empty, a comment, an
+-- option nor an operand (`none`); or an option with a name that they declare (`twice`); or an
+-- operand that can't follow theirs (`late`).
 -- This is the error of the line with this number.
 pub data IsLineFault (number : ℕ) (entries : List Entry) (operands : List Operand) (line : Text)
     : TableFault → Type 0 where

@@ -45,11 +45,12 @@ is_variable [] = false
 is_variable (byte ∷ more) = not (is_ascii_digit byte) && list_all is_variable_byte (byte ∷ more)
 
 -- what precedes the words of an array that is assigned to NAME: `${NAME+}` adds no word, but keeps
--- the first of them from being the name of a command, as `(typeset)` is
+-- the Korn shell from taking a first word such as `typeset` for a command
 abbrev pub array_front : Text → Text
 array_front name = codes "(${" ++ (name ++ codes "+} ")
 
--- This is the one word that a shell reads if the code follows `''`, or the words of an array.
+-- The value is the one word that a shell reads in `''` followed by the code, or the words of an
+-- array.
 -- NAME is unset, and `NAME=` and this code assign this value to it.
 pub data Assigns (name : Text) : Text → Value → Type 0 where
   one_word : (code word : Text) → shell_words (codes "''" ++ code) ≡ Some (word ∷ [])
@@ -57,8 +58,9 @@ pub data Assigns (name : Text) : Text → Value → Type 0 where
   array_words : (code : Text) (words : List Text) → shell_words code ≡ Some words
       → Assigns name (array_front name ++ (code ++ codes ")")) (many words)
 
--- It reads the whole command, so line ends in it are in quotes, and no quotes are open. Nothing is
--- said about other commands, nor about `NAME=` if NAME is set: an array would keep its other texts.
+-- The shell reads the whole command: line ends in the command are in quotes, and no quotes stay
+-- open. Other commands aren't modelled, nor is `NAME=` if NAME is set: an array would keep its
+-- other elements.
 -- A shell that held `before` holds this after the command.
 pub data RunsCommand (before : Shell) : Text → Shell → Type 0 where
   sets : (code : Text) (words : List Text) → shell_words code ≡ Some words
@@ -77,7 +79,7 @@ pub data RunsText : Shell → Text → Shell → Type 0 where
   command_line : (before next after : Shell) (command more : Text) → RunsCommand before command next
       → RunsText next more after → RunsText before (command ++ (codes "\n" ++ more)) after
 
--- This is also true if the text has lost its last line end, as in `$(..)`.
+-- The same is true of the text without its last line end, which `$(..)` removes.
 -- A shell that held `before` and runs the text holds `after`.
 pub record Runs (before : Shell) (text : Text) (after : Shell) : Type 0 where
   pub whole : RunsText before text after

@@ -109,15 +109,15 @@ impl Outcome {
 /// text is built first, then written once and flushed: to `out` if the status is 0, and to `err` if
 /// it is 2 or 5.
 ///
-/// - 0: code that sets the script's words to the canonical line, or, with `--variables`, that sets
-///   variables, or that prints the script's help; with `--usage` the help itself, with `--complete`
-///   a completion script, with `--complete-words` completions for the last word, with `--help` the
-///   program's help
+/// - 0: code that sets the script's words to the canonical line, sets variables (with
+///   `--variables`), or prints the script's help; the help itself with `--usage`, a completion
+///   script with `--complete`, completions for the last word with `--complete-words`, and the
+///   program's own help or version with `--help` or `--version`
 /// - 2: why the script's words were rejected, and its short usage
 /// - 3: out of memory, with nothing written
 /// - 4: writing or flushing failed, and what was written is a prefix of the text
-/// - 5: what is wrong with the call: its own words, an unknown shell, a missing table, or a line of
-///   the table
+/// - 5: what is wrong with the call: the program's own options, a missing name or table, a line of
+///   the table, the name of a variable, or an unknown shell
 pub fn answer<W: Write, E: Write>(alloc: Global, words: &[String], out: &mut W, err: &mut E) -> u8
     ensures status { IsStatus result }
     ensures shown { result ≡ 0
@@ -170,6 +170,7 @@ fn print<W: Write>(out: &mut W, bytes: &[u8]) -> io::Result<()>
     ensures front { AppendsFront (W.contents out.old) (W.contents out.new) bytes.now }
 {
     let mut rest = bytes;
+    // Bounded, so that the loop is proved to end.
     for _ in 0..u64::MAX {
         if rest.is_empty() {
             return out.flush();
@@ -310,7 +311,8 @@ fn asked_by(alloc: Global, own: &Matches) -> Result<Asked, AllocError>
     })
 }
 
-/// The answer to the free words among the program's own: a script's name, its table and its words.
+/// The answer to the free words of the program's command line: a script's name, its table and its
+/// words.
 fn free_answer(alloc: Global, asked: &Asked, words: &[String]) -> Result<Outcome, AllocError>
     ensures { IfOk result (λ outcome. AnswersFree (asked_of asked.now) (map string_bytes words.now)
         (answer_of outcome)) }
@@ -341,8 +343,8 @@ fn table_answer(
     }
 }
 
-/// The answer if a table declares these: a completion script, an error about variables, or the
-/// answer for the script.
+/// The answer if the table is valid: a completion script, an error about variables, or the answer
+/// for the script.
 fn declared_answer(
     alloc: Global,
     asked: &Asked,

@@ -24,8 +24,8 @@ use crate::variables::main_name;
 use getopts::{Fail, HasArg, Matches, Options, names_resolve};
 use std::alloc::{AllocError, Global};
 
-/// Completes words in bash: it reads the words up to the cursor, asks the program, and shows the
-/// descriptions if several options match. One array holds the tables of all scripts.
+/// Completes words in bash: reads the words up to the cursor, asks the program, and shows
+/// descriptions if several options match. One array has the tables of all scripts.
 const BASH: &str = r#"declare -gA _getopts_shell_tables _getopts_shell_modes
 _getopts_shell_offer() {
     local IFS=' ' name=${1##*/} line=${COMP_LINE:0:COMP_POINT} words=() at=-1 word rest
@@ -93,8 +93,8 @@ function _getopts_shell_complete
 end
 "#;
 
-/// Appends a word in quotes, as each of the three shells reads it. Quotes and backslashes in the
-/// word are outside quotes, after a backslash.
+/// Appends a word in quotes, as each of the three shells reads it: quotes and backslashes in the
+/// word are written outside the quotes, after a backslash.
 fn push_stub_quoted(text: &mut String, word: &str) -> Result<(), AllocError>
     ensures { OnOk result (string_bytes text.new ≡ string_bytes text.old ++ stub_quoted word.now) }
 {
@@ -130,7 +130,7 @@ pub(crate) fn stub(
     Ok(Some(text))
 }
 
-/// The functions for all scripts in a shell, if it is supported.
+/// The functions that all scripts share in a shell, if the shell is supported.
 pub(crate) fn functions(shell: &str) -> Option<&'static str>
     ensures { option_map (λ text. text.now) result ≡ functions shell.now }
 {
@@ -208,8 +208,8 @@ pub(crate) fn offers(
     }
 }
 
-/// What words give, if an option may follow them. That is so if `--` and an empty word after them
-/// are the stop and the only word after it.
+/// The matches of words, if an option may follow them. To find out, it appends `--` and an empty
+/// word: an option may follow if these are the stop and the only word after it.
 fn goes_on(
     alloc: Global,
     options: &Options,

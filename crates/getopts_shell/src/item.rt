@@ -19,8 +19,8 @@ ghost use Rattle.getopts_shell.specs.declared.row.Often.{Often as Frequency};
 use crate::row::{Often, Row};
 use getopts::{HasArg, names_lawful};
 
-/// The option that an item declares, in the line with this number and with this description, if it
-/// is one.
+/// The option that an item declares, with the number of its line and its description, if the item
+/// is an option.
 pub(crate) fn row_of<'t>(line: usize, item: &'t str, description: &'t str) -> Option<Row<'t>>
     ensures option { MatchOption result
         ((names : Names) (kind : Kind) (often : Frequency) (hint : Text)
@@ -48,7 +48,8 @@ pub(crate) fn row_of<'t>(line: usize, item: &'t str, description: &'t str) -> Op
     })
 }
 
-/// Whether an option with this occurrence may have this kind: alone, it takes no argument.
+/// Whether an option with this occurrence may have this kind: one that stands alone takes no
+/// argument.
 fn fits(often: Often, kind: HasArg) -> bool
     ensures { result ≡ fits often kind }
 {
@@ -245,7 +246,7 @@ fn is_hint_byte(byte: u8) -> bool
     !matches!(byte, b' ' | b'\t' | b'[' | b']')
 }
 
-/// Why an item isn't valid that contains `[` but no `]`.
+/// Why an item is invalid: this is the reason if it contains `[` but no `]`.
 const OPEN: &str = "missing ']'";
 /// The reason if a dash, `|` or `]` follows the first space, or the names contain a comma.
 const APART: &str = "write names as -s|--long, without spaces or commas";
@@ -281,7 +282,7 @@ const BYTES: &str =
 const COLON: &str = "a long name can't end in ':' or '.'; write dots after ']'";
 /// The reason if another option follows the first `]`.
 const ONE: &str = "write each option on its own line";
-/// The reason if it ends in anything else after a `]`.
+/// The reason if it ends in anything else after `]`.
 const END: &str = "only '..', '...' or '!' may follow ']'";
 /// The reason if it ends in `!`.
 const MARK: &str = "'!' may only follow the ']' of an option without an argument";
@@ -357,7 +358,7 @@ fn begins_name(bytes: &[u8]) -> bool
     matches!(bytes, [b'-' | b'|', ..])
 }
 
-/// Whether what follows the first space isn't an argument, but a name or the end of brackets.
+/// Whether a name or the end of brackets follows the first space, instead of an argument.
 fn stands_apart(argument: &[u8]) -> bool
     ensures { result ≡ (begins_name (unopened argument.now)
         || starts_with ◌==◌ argument.now (codes "]")) }

@@ -11,8 +11,9 @@ ghost use Rattle.getopts_shell.specs.Variables.{line_code};
 
 use std::alloc::AllocError;
 
-/// A lemma, which does nothing: a shell turns words in quotes into the same words, even words of
-/// any bytes, read as texts and written as bytes. No other words are written alike.
+/// A lemma for proofs, which does nothing: a shell reads words in quotes as the same words, even
+/// words of any bytes that were encoded as text and written as bytes. Different words are quoted
+/// differently.
 pub fn words_come_back()
     ensures same { (words : List Text) → shell_words (quoted_words words) ≡ Some words }
     ensures bytes { (words : List (List ℕ)) → AllByRecursion AreBytes words

@@ -1,4 +1,5 @@
-//! Options as variables of a script: the code that sets them, and why a table has none.
+//! Options as variables of a script: the code that sets them, and why a table's options can't be
+//! variables.
 
 ghost use Rattle.std.specs.Prelude.{◌≡◌, ◌++◌, [], length, map, IfOk, OnOk, false, not, slice_get};
 ghost use Rattle.std.specs.Prelude.{get_or, None, Some, MatchOption, codes, true, ⊤};
@@ -34,7 +35,7 @@ pub(crate) struct Variables<'p> {
 /// How an option was given.
 #[derive(Clone, Copy)]
 enum Came<'m> {
-    /// As matches hold it.
+    /// As in the matches.
     Held(&'m Occurrences<'m>),
     /// Once, without a value.
     Once,
@@ -42,7 +43,7 @@ enum Came<'m> {
     Never,
 }
 
-/// Why there are no variables.
+/// Why the options of a table can't be variables.
 #[derive(Clone, Copy)]
 pub(crate) enum VariableError<'t> {
     /// Arrays are asked for without variables.
@@ -56,7 +57,8 @@ pub(crate) enum VariableError<'t> {
     VariableTwice(usize, &'t str),
 }
 
-/// A lemma, which does nothing: a shell that runs the code holds what the matches hold.
+/// A lemma for proofs, which does nothing: a shell that runs the code then has the options' values
+/// in its variables.
 pub fn code_sets_variables()
     ensures { CodeSetsVariables }
 {}

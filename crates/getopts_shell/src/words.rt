@@ -34,6 +34,7 @@ fn read_word(
 ) -> Result<Option<usize>, AllocError>
     ensures { IfOk result (λ place. IfSome place (λ len. len ≤ vec_len buffer.new)) }
 {
+    // Doubling the buffer more often than this would overflow its length.
     for _ in 0..usize::BITS {
         match rt.arg(place, buffer) {
             Ok(len) => return Ok(Some(len)),

@@ -1,4 +1,4 @@
--- What the program's names and groups give.
+-- What the program shows for its names and groups.
 use Rattle.std.proofs.Common.{◌≡◌, ℕ, Bool, zero, suc, ◌<◌, List, [], ◌∷◌, length}
 use Rattle.std.proofs.Common.{get_or, map, refl, ap, ◌∙◌, sym, subst, arith, Result, Ok}
 use Rattle.std.specs.Borrow.{Bor}

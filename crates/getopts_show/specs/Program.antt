@@ -109,8 +109,8 @@ program_help =
 abbrev pub IsHelpText : Text → Type 0
 IsHelpText text = IsTheOnly (IsUsageText program_options help_brief) text × (text ≡ program_help)
 
--- This is the program's help if the words ask for it, and otherwise the output for the matches and
--- content of the reading.
+-- The output is the program's help if the words ask for it, and otherwise the text of the reading's
+-- matches and content.
 -- This is the output for accepted words with this reading.
 abbrev pub IsReadingText : Bool → Reading → Text → Type 0
 IsReadingText true reading text = IsHelpText text
@@ -128,8 +128,8 @@ IsResultText (Err fault) text status = (text ≡ fault_line fault) × (status �
 abbrev pub IsProgramText : List Text → Text → ℕ → Type 0
 IsProgramText words text status = IsResultText (line_result program_options words) text status
 
--- It is 0 if help was shown or what accepted words mean, 2 if the error of rejected words was
--- shown, 3 if an allocation failed, and 4 if writing or flushing did.
+-- The status is 0 if help, or the meaning of accepted words, was shown; 2 if the error of rejected
+-- words was shown; 3 if an allocation failed; and 4 if writing or flushing failed.
 -- This is one of the program's statuses.
 abbrev pub IsStatus : ℕ → Type 0
 IsStatus status = (status ≡ 0) ⊎ (status ≡ 2) ⊎ (status ≡ 3) ⊎ (status ≡ 4)

@@ -191,8 +191,8 @@ line: --
     },
 ];
 
-/// A writer that takes at most `most` bytes at a time. Its `failing_write`-th write fails, and its
-/// flush if `flush_fails`.
+/// A writer that takes at most `most` bytes at a time. Its write number `failing_write` fails (0:
+/// none does), and its flush fails if `flush_fails`.
 #[derive(Drop)]
 struct Memory {
     held: Vec<u8>,

@@ -4,7 +4,8 @@ use std::alloc::Global;
 use std::env::{Env, FillError};
 use std::{env, io};
 
-/// The system, after the program's own name was skipped unread, since it may not be UTF-8.
+/// The system without its argument 0, the program's own name, which is never read, since it may not
+/// be UTF-8.
 #[derive(Drop)]
 struct AfterName<'r>(&'r HostRuntime);
 

@@ -119,13 +119,13 @@ IsColorOf matches color = IsColorBy (codes "color") (value_of matches (codes "co
 abbrev pub AreSetsOf : Matched → Result (Vec Pair Global) Refusal → Type 0
 AreSetsOf matches sets = ArePairsBy (codes "set") (values_of (found_of matches.groups (codes "set"))) sets
 
--- why a command line that the library rejects sets nothing; out of memory isn't its error
+-- the program's error for a `Fail`; out of memory isn't an error of the command line
 abbrev pub refusal_of : Fail → Refusal
 refusal_of fail.OutOfMemory = refusal.OutOfMemory
 refusal_of fail = refusal.Line fail
 
--- It sets nothing if it has an error; otherwise if its number is out of bounds, or else if a word
--- is no choice, or else if a text isn't a pair.
+-- A command line sets nothing if it has an error; otherwise, if its number is out of bounds;
+-- otherwise, if its colour isn't one of the choices; otherwise, if a text isn't a pair.
 -- This is what a command line sets, or why it sets nothing.
 abbrev pub IsSettingsBy : Result Matched Fault → Result Settings Refusal → Type 0
 IsSettingsBy line (Err refusal.OutOfMemory) = ⊤

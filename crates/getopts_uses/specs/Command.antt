@@ -59,7 +59,7 @@ IsAddBy asked result = ⊥
 abbrev pub asked_by : Declared → List Text → Result (Option Matched) Fault
 asked_by options words = asked_result options (codes "help") words
 
--- There is none if its own words have an error, or its name is unknown.
+-- There is no subcommand if its own words have an error, or its name is unknown.
 -- This is the subcommand of this name, with what its own words ask for, or why there is none.
 abbrev pub IsCommandBy : Text → List Text → Result Command Refusal → Type 0
 IsCommandBy name words (Err refusal.OutOfMemory) = ⊤

@@ -35,7 +35,7 @@ abbrev pub after : Loudness → List ℕ → Loudness
 after loudness [] = loudness
 after loudness (place ∷ places) = after (unwrap_or (asked_by place) loudness) places
 
--- Its options count in the order in which they were typed.
+-- The options count in the order in which they were typed.
 -- This is how much output a command line asks for, or its error.
 abbrev pub IsLoudnessOf : List Text → Result Loudness Fail → Type 0
 IsLoudnessOf words (Ok loudness) =

@@ -40,8 +40,8 @@ peek_options = record {
 abbrev pub gives : Matched → Text → Bool
 gives matches name = is_present matches.groups name
 
--- If it asks for help or the version, its counts are ignored. The two results are the command
--- line's without and with its counts checked.
+-- The two results are those without and with counts checked: if the command line asks for help or
+-- the version, its counts are ignored.
 -- a command line's matches, or its error
 abbrev pub asked_of : Result Matched Fault → Result Matched Fault → Result Matched Fault
 asked_of (Err fault) line = Err fault
@@ -52,8 +52,8 @@ asked_of (Ok read) line =
 abbrev pub asked_result : List Text → Result Matched Fault
 asked_result words = asked_of (read_result peek_options words) (parse_result peek_options words)
 
--- They ask for neither help nor the version, but for this number of lines and whatever else they
--- give.
+-- The matches ask for neither help nor the version, but for this number of lines and whatever else
+-- they give.
 -- The matches ask for these lines.
 pub record IsPeekOf (matches : Matched) (peek : Peek) : Type 0 where
   pub no_help : gives matches (codes "help") ≡ false

@@ -74,7 +74,7 @@ fn push_replayed(alloc: Global, text: &mut String, words: &[&str]) -> Result<(),
     }
 }
 
-/// Options for the callers that are given some.
+/// Options for the callers that take options as a parameter.
 fn some_options(alloc: Global) -> Result<Options, AllocError>
     ensures { IfOk result (λ options. Declares options (codes "verbose")) }
 {
@@ -84,7 +84,7 @@ fn some_options(alloc: Global) -> Result<Options, AllocError>
     Ok(options)
 }
 
-/// Appends what a caller that is given options returns for words.
+/// Appends what a caller that takes options as a parameter returns for words.
 fn push_given(
     alloc: Global,
     text: &mut String,

@@ -50,7 +50,7 @@ pub enum Refusal {
         low: u32,
         high: u32,
     },
-    /// The option's text isn't one of its words.
+    /// The option's text isn't one of the choices.
     Choice {
         option: &'static str,
         text: String,

@@ -14,7 +14,8 @@ use getopts::{Fail, Matches, Options};
 use std::alloc::{AllocError, Global};
 use std::convert::AsStr;
 
-/// What the driver does. Each part has at most six values that own memory.
+/// What the driver does. Each part has at most six values that own memory, because more would make
+/// its function slow to check.
 #[derive(Debug, Drop)]
 pub struct Job {
     pub search: Search,
@@ -127,8 +128,8 @@ pub fn options(alloc: Global) -> Result<Options, AllocError>
     Ok(options)
 }
 
-/// Adds options for what is written and searched. Each of these helpers adds about ten options,
-/// since the checker computes both sides.
+/// Adds options for what is written and searched. Each of these helpers adds only about ten
+/// options, because the checker computes both sides of its clause.
 fn add_search(options: &mut Options) -> Result<(), AllocError>
     ensures { OnOk result (options.new ≡ with_groups options.old search_groups) }
 {

@@ -43,7 +43,7 @@ fn options(alloc: Global) -> Result<Options, AllocError>
     Ok(options)
 }
 
-/// What a command line asks for, be it the program's words or a line of the log.
+/// What a command line asks for: the program's own, or a line of the log.
 pub fn read_build<S: AsStr>(alloc: Global, words: &[S]) -> Result<Build, Fail>
     ensures { GivesAs said_of result (λ it. said_result (map S.text words.now) ≡ it) }
 {

@@ -1,4 +1,4 @@
-//! An optional argument.
+//! An option that may be left out: its value, or none.
 
 ghost use Rattle.std.specs.Prelude.{◌≡◌, map, IfOk};
 ghost use Rattle.getopts.specs.Results.{parse_result};
@@ -8,7 +8,7 @@ use getopts::{Fail, Options};
 use std::alloc::{AllocError, Global};
 use std::convert::AsStr;
 
-/// An output, and a flag.
+/// An option with an argument, and a flag.
 fn options(alloc: Global) -> Result<Options, AllocError>
     ensures { IfOk result (λ options. options ≡ output_options) }
 {

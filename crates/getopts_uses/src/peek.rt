@@ -80,8 +80,8 @@ pub fn options(alloc: Global) -> Result<Options, AllocError>
     Ok(options)
 }
 
-/// What a command line asks for. Errors in its words come first, then help, then the version, then
-/// what is missing.
+/// What a command line asks for. Help takes precedence over the version. Both are printed even if
+/// an option is missing, but not if a word can't be read.
 pub fn read_request<S: AsStr>(alloc: Global, words: &[S]) -> Result<Request, Refusal>
     ensures { IsAskedBy (asked_result (map S.text words.now)) result }
 {

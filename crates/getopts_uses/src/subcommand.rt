@@ -1,5 +1,5 @@
-//! A program with subcommands: options before the subcommand are the program's, those after it are
-//! its own.
+//! A program with subcommands: options before the subcommand's name belong to the program, and
+//! options after it to the subcommand.
 
 ghost use Rattle.std.specs.Prelude.{◌≡◌, map, IfOk, Ok, OnOk};
 ghost use Rattle.std.specs.String.{string_bytes};
@@ -70,8 +70,8 @@ fn options(alloc: Global) -> Result<Options, AllocError>
     Ok(options)
 }
 
-/// What a command line runs. The words before the subcommand give the same options, whatever
-/// follows them.
+/// What a command line runs. Whatever follows the words before the subcommand, these words give the
+/// same options.
 pub fn read_run<S: AsStr>(alloc: Global, words: &[S]) -> Result<Run, Refusal>
     ensures run { IsRunBy (parse_result global_options (map S.text words.now)) result }
     ensures before { OnOk result ((global : Matched)

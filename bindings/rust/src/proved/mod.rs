@@ -26,7 +26,7 @@ pub(crate) mod matches;
 mod accessors;
 // Parsing: words are scanned, then counts are checked.
 mod parse;
-// Rewriting a command line with main names alone.
+// Rewriting a command line with main names only.
 mod canon;
 // Descriptions in rows.
 pub mod wrap;

@@ -4,7 +4,7 @@
 /// Multiplying by this shifts a number by four bytes.
 const FOUR_BYTES: u64 = 1 << 32;
 
-/// Takes the place of a short name's byte if there is no short name.
+/// Stands for a short name's byte if there is no short name.
 pub(crate) const NO_BYTE: u16 = 256;
 
 /// Whether an option group may have these two names.
@@ -43,7 +43,7 @@ impl<'g> Names<'g> {
 #[inline]
 pub(crate) fn key_of(name: &[u8]) -> u64 {
     match name {
-        // These eight bytes are a single read from memory.
+        // This compiles to a single read of eight bytes.
         [a, b, c, d, e, f, g, h, ..] => {
             u64::from_be_bytes([*a, *b, *c, *d, *e, *f, *g, *h]) - *h as u64 + 8
         }

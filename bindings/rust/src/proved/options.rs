@@ -33,9 +33,9 @@ impl Options {
     /// Adds an option, with any kind of argument and any number of occurrences, as the last group.
     ///
     /// `options.add_group("o", "output", "write to FILE", "FILE", HasArg::Yes, Occur::Multi)?` does
-    /// the same as `opt`. Use it to continue after an error, or to add options in a loop: its
-    /// contract promises that the options are unchanged after an error. The methods named as in the
-    /// Rust crate call it, but return the options for chaining, and therefore can't promise that.
+    /// the same as `opt`. Use it to add options in a loop, or to continue after an error: its
+    /// contract promises that an error leaves the options unchanged. The methods named as in the
+    /// Rust crate call it, but can't promise that, because they return the options for chaining.
     ///
     /// Requires valid names (see `names_lawful`). Fails only if an allocation fails. The Rust crate
     /// has no such method.

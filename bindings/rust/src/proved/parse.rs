@@ -16,10 +16,10 @@ use crate::convert::AsStr;
 impl Options {
     /// Parses a command line, given without the program's own name.
     ///
-    /// Returns the matches of the words, or their first error: the first word that can't be read
-    /// or, if all can be read, the first option, in order of declaration, that is missing or was
-    /// given too often. Returns `Fail::OutOfMemory` instead if an allocation fails. The options
-    /// aren't changed.
+    /// Returns the matches of the words, or their first error. The error reports the first word
+    /// that can't be read or, if all can be read, the first option, in order of declaration, that
+    /// is missing or was given too often. Returns `Fail::OutOfMemory` instead if an allocation
+    /// fails. The options aren't changed.
     ///
     /// With an option `o`/`output` that needs an argument, `["-ofile", "x"]`, `["-o", "file", "x"]`
     /// and `["--output=file", "x"]` all give `output` the value `file`, and the free word `x`.
@@ -34,9 +34,9 @@ impl Options {
     ///
     /// Use it to print help even if a required option is missing: call it first, print help if the
     /// help option was given, and otherwise call `parse_words`. Succeeds if and only if every word
-    /// can be read. A required option may then be missing, and an option that may occur once may
-    /// occur several times. Other errors are the same as for `parse_words`. The Rust crate has no
-    /// such method.
+    /// can be read; a required option may then be missing, and an option that may occur once may
+    /// occur several times. Otherwise, it returns the same error as `parse_words`. The Rust crate
+    /// has no such method.
     pub fn parse_ignoring_counts<S: AsStr>(&self, alloc: Global, words: &[S]) -> super::Result {
         let read = self.read_line(alloc, words)?;
         Ok(Matches::of_line(self.signatures().try_clone()?, read))
@@ -44,9 +44,9 @@ impl Options {
 
     /// Parses a command line like `parse_words`, from an iterator.
     ///
-    /// Requires an iterator that ends, as in `options.parse(alloc, words.iter().copied())?`. All
-    /// items are taken before anything but `Fail::OutOfMemory` is returned. The Rust crate also
-    /// accepts words that aren't UTF-8, and rejects them at run time.
+    /// Requires an iterator that ends, as in `options.parse(alloc, words.iter().copied())?`. Unless
+    /// an allocation fails, takes all items before it returns. The Rust crate's `parse` also takes
+    /// words that aren't UTF-8, and returns an error for them.
     pub fn parse<'a, I: Iterator<Item = &'a str>>(&self, alloc: Global, args: I) -> super::Result {
         let words = words_from(alloc, args)?;
         self.parse_words(alloc, &words)
@@ -80,7 +80,8 @@ impl Options {
     }
 }
 
-/// The words that an iterator yields, in order. Every failed allocation is reported.
+/// The words that an iterator yields, in order. It reports every failed allocation; std's `collect`
+/// ignores one.
 pub(crate) fn words_from<'a, I: Iterator<Item = &'a str>>(
     alloc: Global,
     args: I,
@@ -115,7 +116,7 @@ fn fits_count(occurrence: Occur, count: usize) -> bool {
     }
 }
 
-/// The error for an option that occurs this often.
+/// The error for an option that may not occur this often.
 fn count_fault(alloc: Global, main: &str, count: usize) -> Fail {
     if count == 0 {
         Fail::option_missing(alloc, main)

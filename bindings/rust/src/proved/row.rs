@@ -19,7 +19,7 @@ const DESCRIPTION_COLUMNS: usize = 54;
 /// A line end, and a space for each column before a description.
 const NEXT_ROW: &str = "\n                        ";
 
-/// What the heads in one usage text have in common.
+/// What the heads of all rows in a usage text have in common.
 #[derive(Clone, Copy)]
 pub(crate) struct Layout {
     pub long_only: bool,

@@ -5,8 +5,9 @@ use crate::host::*;
 
 use crate::host::alloc::AllocError;
 
-/// A lemma, which does nothing: a shell turns words in quotes into the same words, even words of
-/// any bytes, read as texts and written as bytes. No other words are written alike.
+/// A lemma for proofs, which does nothing: a shell reads words in quotes as the same words, even
+/// words of any bytes that were encoded as text and written as bytes. Different words are quoted
+/// differently.
 pub fn words_come_back() {}
 
 /// Appends a text, with another text in place of each occurrence of an ASCII character.

@@ -31,6 +31,7 @@ fn read_word(
     place: usize,
     buffer: &mut Vec<u8>,
 ) -> Result<Option<usize>, AllocError> {
+    // Doubling the buffer more often than this would overflow its length.
     for _ in 0..usize::BITS {
         match rt.arg(place, buffer) {
             Ok(len) => return Ok(Some(len)),

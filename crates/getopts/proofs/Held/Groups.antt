@@ -1,4 +1,5 @@
--- Signatures and groups as they are stored: which one is at a place, and what one more adds.
+-- Signatures and groups as they are stored: which one is at a place, and what appending one
+-- changes.
 use Rattle.std.proofs.Common.{◌≡◌, ℕ, zero, suc, ◌<◌, List, [], ◌∷◌, map, ◌++◌, length, get_or}
 use Rattle.std.proofs.Common.{slice_get, Some, refl, ap, sym, ◌∙◌, subst, arith, Option, None}
 use Rattle.std.specs.List.{AllByRecursion}

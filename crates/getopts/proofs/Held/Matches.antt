@@ -1,4 +1,4 @@
--- What is in matches, in terms of the code's groups and list.
+-- What is in matches, in terms of the groups and the list of occurrences that the code stores.
 use Rattle.std.proofs.Common.{◌≡◌, ℕ, suc, zero, ◌+◌, ◌<◌, ◌≤◌, true, false, List, [], ◌∷◌, map}
 use Rattle.std.proofs.Common.{length, Option, Some, None, unwrap_or, slice_get, refl, ap, sym, ◌∙◌}
 use Rattle.std.proofs.Common.{subst, inl, inr, arith, zero-add}

@@ -1,4 +1,4 @@
--- Accepted words have the result that they are accepted with.
+-- If words are accepted with matches, `parse_result` returns these matches.
 use Rattle.std.proofs.Common.{◌≡◌, List, Option, None, Result, Ok, sym, ap, ◌∙◌, subst}
 use Rattle.getopts.specs.Names.{Text}
 use Rattle.getopts.specs.Options.{Declared, MayBeDeclared, grammar_of}

@@ -1,4 +1,4 @@
--- The computed results are those of the relations.
+-- The functions that compute results return what the relations describe.
 use Rattle.std.proofs.Common.{◌≡◌, Bool, true, false, List, Option, Some, None, Result, Ok, Err}
 use Rattle.std.proofs.Common.{IfOk, IfErr, option_map, refl, ap, sym, inl, inr}
 use Rattle.std.specs.List.{list_all}

@@ -1,4 +1,5 @@
--- What options with valid names find in words is what `parse` returns.
+-- For options with valid names: a reading is the only reading, a scan error the only scan error,
+-- and `parse` returns them.
 use Rattle.std.proofs.Common.{◌≡◌, ℕ, List, length, Option, ap, sym, subst}
 use Rattle.getopts.specs.Only.{IsTheOnly}
 use Rattle.getopts.specs.Names.{Text, AreTexts}

@@ -1,5 +1,5 @@
--- A tool for the proofs: reads word by word. The definitions in
--- `specs/Reading.antt` don't use it.
+-- A tool for the proofs: `read`, which reads word by word. The definitions in `specs/Reading.antt`
+-- don't use it.
 use Rattle.std.proofs.Common.{◌≡◌, ◌⊎◌, ℕ, ◌<◌, List, [], ◌∷◌, ◌++◌, None}
 use Rattle.getopts.specs.Names.{Text}
 use Rattle.getopts.specs.Options.{Grammar}

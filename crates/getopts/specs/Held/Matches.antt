@@ -1,5 +1,5 @@
--- What words gave, as it is stored: a command line that was read, with the table of names that it
--- was read by and its occurrences by group; and groups with their occurrences.
+-- What the code stores after parsing: the command line that was read, with the table of names and
+-- the index of its occurrences by group; and the groups with their occurrences.
 use Rattle.std.specs.Prelude.{◌≡◌, List, length}
 use Rattle.getopts.specs.Names.{Text}
 use Rattle.getopts.specs.Options.{Signature, Declared, MayBeDeclared, signatures_of, grammar_of}

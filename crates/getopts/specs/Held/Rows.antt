@@ -28,7 +28,7 @@ AddsLine limit separator line before after old new =
 abbrev pub AddsTheOnly : (Text → Type 0) → Text → Text → Type 0
 AddsTheOnly Fact old new = (added : Text) × IsTheOnly Fact added × (new ≡ old ++ added)
 
--- These are the only rows of the options.
+-- No other list of rows is the options' rows.
 -- The text grows by the options' rows, separated by line ends.
 abbrev pub AddsRows : Declared → Text → Text → Type 0
 AddsRows options old new =

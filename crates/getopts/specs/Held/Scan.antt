@@ -44,7 +44,7 @@ pub record ReadsLine (grammar : Grammar) (words : List Text) (line : Line) : Typ
   pub free : map string_bytes line.free.items ≡ free_words reading
   pub trailing : line.trailing_start ≡ trailing_start reading
 
--- The line gives nothing.
+-- The line has no occurrence, no free word and no trailing start.
 pub record IsEmptyLine (line : Line) : Type 0 where
   pub found : line.found ≡ []
   pub free : line.free.items ≡ []

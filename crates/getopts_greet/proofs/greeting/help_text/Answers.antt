@@ -1,4 +1,4 @@
--- The usage text of the greeter's options computes.
+-- The checker computes the usage text of the greeter's options.
 use Rattle.std.proofs.Common.{codes, refl}
 use Rattle.getopts.proofs.MainTheorem.HelpText.{help_is}
 use Rattle.getopts.proofs.OnLiterals.{usage_on_literals}

@@ -1,4 +1,4 @@
--- The help is the text written out, by computation.
+-- The checker computes the program's help, which is the text written out.
 use Rattle.std.proofs.Common.{◌≡◌, ap, refl, string_bytes, sym, ◌∙◌}
 use Rattle.getopts.proofs.MainTheorem.UsageComputed.{usage_computed, usage_result}
 use Rattle.getopts.proofs.OnLiterals.{usage_on_literals}

@@ -1,4 +1,4 @@
--- The usage text of the program's options computes.
+-- The checker computes the usage text of the program's options.
 use Rattle.std.proofs.Common.{◌≡◌, ◌∙◌, refl}
 use Rattle.std.proofs.lemmas.Result.{IfOk-weaker}
 use Rattle.std.specs.String.{string_bytes}

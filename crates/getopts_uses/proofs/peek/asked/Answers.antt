@@ -1,4 +1,4 @@
--- A line that asks for neither gives what it is accepted with.
+-- If the command line asks for neither help nor the version, its result is that of `parse_words`.
 use Rattle.std.proofs.Common.{◌≡◌, ◌||◌, false, refl, sym, ap, ◌∙◌, codes, map}
 use Rattle.std.proofs.Math.Bool.{or-false}
 use Rattle.getopts.specs.Results.{parse_result}

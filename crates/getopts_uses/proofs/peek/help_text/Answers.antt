@@ -1,4 +1,4 @@
--- The options are the tool's, the brief is their short usage, and the text computes.
+-- The options are the tool's, the brief is their short usage, and the checker computes the text.
 use Rattle.std.proofs.Common.{◌≡◌, ◌∙◌, ap, codes, refl}
 use Rattle.getopts.proofs.MainTheorem.HelpText.{help_is}
 use Rattle.getopts.proofs.MainTheorem.UsageComputed.{usage_result}

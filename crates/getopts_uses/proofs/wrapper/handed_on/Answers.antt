@@ -1,4 +1,4 @@
--- The words from the trailing start on are the texts that are handed on.
+-- The words that are passed on are the free words from the trailing start on.
 use Rattle.std.proofs.Common.{◌≡◌, ap, map, refl}
 use Rattle.std.specs.String.{string_bytes}
 use Rattle.std.proofs.lemmas.List.{drop-map}

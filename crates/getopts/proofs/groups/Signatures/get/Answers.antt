@@ -1,4 +1,4 @@
--- Reading needs a group's names and kinds.
+-- The borrowed names and kinds are those of the group at the place.
 use Rattle.std.proofs.Common.{◌≡◌, Some, ap, ◌∙◌}
 use Rattle.std.proofs.lemmas.Option.{same_Some}
 use Rattle.std.specs.Option.{option_map}

@@ -1,4 +1,4 @@
--- One more group has its signature, and its texts at the end of the common text.
+-- The appended group has its signature, and its texts at the end of the common text.
 use Rattle.std.proofs.Common.{◌≡◌, ◌+◌, List, [], ◌∷◌, ◌++◌, map, length, ap, ◌∙◌, sym, arith}
 use Rattle.std.proofs.Common.{refl, length-append}
 use Rattle.std.proofs.lemmas.Grind.{common_steps}

@@ -1,4 +1,5 @@
--- A name resolves among the stored groups as among their names, which are valid.
+-- A name resolves among the groups of the matches as in the table of the stored signatures, whose
+-- names are valid.
 use Rattle.getopts.specs.Names.{IsLawfullyNamed}
 use Rattle.getopts.specs.Options.{Signature}
 use Rattle.getopts.proofs.Held.Matches.{AreHeldLawfully-matched, place_of-matched}

@@ -1,4 +1,4 @@
--- The borrowed signatures are those of the groups that are seen.
+-- The stored signatures are those of the groups of the matches.
 use Rattle.getopts.proofs.Held.Matches.{signatures-matched}
 use Rattle.getopts.proofs.matches.MatchedGroups.signatures.Goals as goal
 

@@ -1,4 +1,4 @@
--- The group's occurrence at a place is the line's occurrence at its place there.
+-- A group's nth occurrence is the line's occurrence at the nth of the group's places.
 use Rattle.std.proofs.Common.{get_or, ap, arith, ◌∙◌}
 use Rattle.std.specs.Option.{option_map}
 use Rattle.getopts.specs.Matches.{found_part}

@@ -1,4 +1,4 @@
--- Occurrences are equal if they read as equal.
+-- Two lists of occurrences are equal if `get` returns equal values for each index.
 use Rattle.std.proofs.Common.{sym}
 use Rattle.std.proofs.lemmas.Bool.{not-true, not-false}
 use Rattle.getopts.proofs.Held.Occurrences.{founds-differ, founds-same}
