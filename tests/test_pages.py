@@ -82,10 +82,9 @@ def minutes(command):
 
 
 @functools.cache
-def toolchain():
-    """The toolchain's name, and the checksum of its logic."""
-    name, _, logic = run("rt", "version")[0].split() if shutil.which("rt") else ["unknown"] * 3
-    return [name, logic]
+def logic():
+    """The checksum of the toolchain's logic. Toolchains with different names may have the same logic."""
+    return [run("rt", "version")[0].split()[-1] if shutil.which("rt") else "unknown"]
 
 
 HELD = "Bytes that matches take"
@@ -94,7 +93,7 @@ AHEAD = {"Rust crate": "the Rust crate", "lexopt": "`lexopt`", "pico-args": "`pi
 # Figures outside the tables of jobs: the page, a pattern whose groups are the figures, and the expected values.
 FIGURES = [
     ("README.md", r"\| ([\d,]+) mutants, written by hand", lambda: [str(len(edits))]),
-    ("README.md", r"toolchain \(([\w-]+), logic `(\w+)`", toolchain),
+    ("README.md", r"toolchain \(checksum of its logic: `(\w+)`", logic),
     ("README.md", r"`\(cd crates/getopts && rt lib\)` .* \| ([^|]*) \| ([^|]*) \|", lambda: minutes("rt lib")),
     ("README.md", r"`bash test.sh` .* \| ([^|]*) \| ([^|]*) \|", lambda: minutes("bash test.sh")),
     ("README.md", r"takes (\d+) % of that crate's instructions [^%]* (\d+) % on [^%]* (\d+) %\s",
@@ -338,7 +337,7 @@ OTHERS = """Send Sync unicode-width x86-64-v2 POSIXLY_CORRECT optind IFS BASH_EN
 @functools.cache
 def words():
     """The words in the sources, and the file names."""
-    found = set(OTHERS.split()) | set(toolchain()) | {part for name in tracked for part in re.split(r"[/.]", name)}
+    found = set(OTHERS.split()) | set(logic()) | {part for name in tracked for part in re.split(r"[/.]", name)}
     for name in tracked:
         if re.search(r"\.(rt|antt|rs|c|h|cpp|sh|py|edit|toml|txt|ini|rows)$|/stdin$|^crates.txt$|^HANDLES$", name):
             text = read(name)
