@@ -1,5 +1,5 @@
 #!/usr/bin/env bash
-# Tests this repository: proves every crate and, at the same time, runs tests/ with pytest.
+# Tests this repository: proves every crate, tries its mutants and, at the same time, runs tests/ with pytest.
 # usage: test.sh [--quick] [CRATE]
 #        test.sh [--quick] -k NAME [FLAG ..]
 #

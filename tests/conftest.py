@@ -27,30 +27,28 @@ LINES = ["--output=x.txt --verbose in.txt", "-vvLd -La -Lb -c auto -o x.txt f --
 
 def pytest_addoption(parser):
     parser.addoption("--quick", action="store_true", help="fewer random cases, no other targets, no proofs")
-    parser.addoption("--many", action="store_true", help="ten times as many random cases, and more mutants")
+    parser.addoption("--many", action="store_true", help="ten times as many random cases")
     parser.addoption("--fix", action="store_true", help="update figures, tables and contracts on the pages")
     parser.addoption("--getopts", help="a folder with the Rust crate getopts 0.2.24")
 
 
 # Programs built by `rt ci`, and other fixtures that need the toolchain.
 PROGRAMS = {"show", "shell", "vectors", "bench", "built"}
-BY_RT = PROGRAMS | {"failing_malloc", "preload", "verdicts"}
+BY_RT = PROGRAMS | {"failing_malloc", "preload"}
 
 
 def pytest_collection_modifyitems(config, items):
     """Marks tests by the programs that they use, and deselects those that this run leaves out."""
-    # Mutants take longest, and wait only for libraries, so they come first.
-    items.sort(key=lambda item: not item.name.startswith("test_edit["))
     for item in items:
         names, built = set(item.fixturenames), item.get_closest_marker("built") is not None
         marks = {"built": built or PROGRAMS & names, "rt": built or BY_RT & names}
         for mark in (mark for mark, has in marks.items() if has):
             item.add_marker(mark)
         # These wait for proofs.
-        if "verdicts" in names or "CI_LOG" in os.environ and item.get_closest_marker("built"):
+        if "CI_LOG" in os.environ and item.get_closest_marker("built"):
             item.add_marker(pytest.mark.timeout(7200))
-    quick, many = config.getoption("--quick"), config.getoption("--many")
-    absent = {"full": quick, "quick": not quick, "many": not many, "rt": not shutil.which("rt")}
+    quick = config.getoption("--quick")
+    absent = {"full": quick, "quick": not quick, "rt": not shutil.which("rt")}
     out = {item for item in items if any(absent.get(mark.name) for mark in item.iter_markers())}
     config.hook.pytest_deselected(items=list(out))
     items[:] = [item for item in items if item not in out]
@@ -187,15 +185,11 @@ def tracked():
     return [name for name in names if (ROOT / name).is_file()]
 
 
-def copy_tree(to, *libraries):
-    """Copies the repository's files to a folder, and the proofs of these libraries."""
+def copy_tree(to):
+    """Copies the repository's files to a folder."""
     for name in tracked():
         (to / name).parent.mkdir(parents=True, exist_ok=True)
         shutil.copy2(ROOT / name, to / name)
-    for library in libraries:
-        proved = f"crates/{library}/out/rlib"
-        if (ROOT / proved).exists():
-            shutil.copytree(ROOT / proved, to / proved, symlinks=True)
     return to
 
 

@@ -28,7 +28,7 @@ pages = {name: read(name) for name in tracked if name.endswith(".md")}
 sources = {name: read(name) for name in tracked if re.match(r"crates/\w*/src/.*\.rt$", name)}
 modules = sources | {name: read(name) for name in tracked if re.match(r"bindings/.*\.rs$", name)}
 CALLING, CONTRACTS = (next(name for name in pages if name.endswith(end)) for end in ("CALLING.md", "CONTRACTS.md"))
-edits = [name for name in tracked if name.endswith(".edit") and "/private/" not in name]
+mutants = [name for name in tracked if re.match(r"crates/\w*/must-fail/.*\.edit$", name)]
 OUTDATED = "out of date: run 'bash test.sh -k pages --fix'"
 
 
@@ -92,7 +92,7 @@ HELD = "Bytes that matches take"
 AHEAD = {"Rust crate": "the Rust crate", "lexopt": "`lexopt`", "pico-args": "`pico-args`"}
 # Figures outside the tables of jobs: the page, a pattern whose groups are the figures, and the expected values.
 FIGURES = [
-    ("README.md", r"\| ([\d,]+) mutants, written by hand", lambda: [str(len(edits))]),
+    ("README.md", r"\| ([\d,]+) mutants, written by hand", lambda: [str(len(mutants))]),
     ("README.md", r"toolchain \(checksum of its logic: `(\w+)`", logic),
     ("README.md", r"`\(cd crates/getopts && rt lib\)` .* \| ([^|]*) \| ([^|]*) \|", lambda: minutes("rt lib")),
     ("README.md", r"`bash test.sh` .* \| ([^|]*) \| ([^|]*) \|", lambda: minutes("bash test.sh")),
