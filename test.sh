@@ -1,34 +1,44 @@
 #!/usr/bin/env bash
 # Tests this repository: proves every crate, tries its mutants and, at the same time, runs tests/ with pytest.
-# usage: test.sh [--quick] [CRATE]
-#        test.sh [--quick] -k NAME [FLAG ..]
+# usage: test.sh [--quick] [--no-install] [CRATE]
+#        test.sh [--quick] [--no-install] -k NAME [FLAG ..]
+#
+# As root, it first installs the packages of tests/packages.txt that are missing. If there is no pytest, pip installs it
+# into tests/out/venv. --no-install leaves both out.
 #
 # CRATE is a folder with the Rust crate getopts 0.2.24, to compare with. --quick proves nothing: programs run unproved,
 # tests of built programs run only if these exist, other targets are left out, and there are fewer random cases. Without
 # rt, --quick leaves out the tests that need it. -k runs only the tests that match NAME, and accepts pytest's flags.
 set -uo pipefail
-start=$SECONDS quick=()
-[ "${1:-}" != --quick ] || { quick=(--quick); shift; }
+start=$SECONDS quick=() install=1 own=tests/out/venv
+for flag; do case $flag in --quick) quick=(--quick) ;; --no-install) install='' ;; *) break ;; esac; shift; done
 stop() { echo "test.sh: $1" >&2; exit 2; }
 [ ! -d "${1:-}" ] || set -- "$(cd "$1" && pwd)"
 cd "$(dirname "$0")" || exit
 command -v rt >/dev/null || [ ${#quick[@]} = 1 ] || [ "${1:-}" = -k ] ||
     stop "rt not found: put the toolchain's bin folder on the path, or run 'test.sh --quick', which doesn't need it"
 [ $# = 0 ] || [ "$1" = -k ] || [ -f "$1/Cargo.toml" ] ||
-    stop "$1 doesn't contain the crate getopts (usage: test.sh [--quick] [CRATE])"
+    stop "$1 doesn't contain the crate getopts (usage: test.sh [--quick] [--no-install] [CRATE])"
 
-# pytest: from a Python that has it, from Debian's packages, or from the public registry.
-packages=(python3-pytest python3-pytest-xdist python3-pytest-timeout) own=tests/out/venv
-apt_get() { apt-get install -y "${packages[@]}" || { apt-get update && apt-get install -y "${packages[@]}"; }; }
-pip() { python3 -m venv $own && $own/bin/pip install --quiet pytest pytest-xdist pytest-timeout; }
-for get in true apt_get pip; do
-    [ $get = true ] || echo "test.sh: pytest not found: trying to install it with ${get/_/-}"
-    $get >/dev/null 2>&1
-    for python in python3 /usr/bin/python3 $own/bin/python none; do
-        "$python" -c 'import pytest, pytest_timeout, xdist' 2>/dev/null && break 2
+# The packages of tests/packages.txt that aren't installed.
+lacking() {
+    dpkg-query -W -f '${db:Status-Status} ${Package}\n' | sed -n 's/^installed //p' |
+        grep -vxFf - <(sed 's/#.*//' tests/packages.txt | xargs -n 1)
+}
+find_pytest() {
+    for python in python3 /usr/bin/python3 $own/bin/python; do
+        "$python" -c 'import pytest, pytest_timeout, xdist' 2>/dev/null && return
     done
-done
-[ "$python" != none ] || stop "neither apt-get nor pip could install pytest; these packages are needed: ${packages[*]}"
+}
+if [ "$install" ] && [ "$(id -u)" = 0 ] && lacking >/dev/null 2>&1; then
+    echo "test.sh: installing what is missing of tests/packages.txt (--no-install leaves that out)"
+    { apt-get update && apt-cache pkgnames | grep -xFf <(lacking) |
+        DEBIAN_FRONTEND=noninteractive xargs apt-get install -y --no-install-recommends
+    } 2>&1 | sed -n 's/^E: /test.sh: apt-get: /p' | tail -1
+fi
+find_pytest || [ -z "$install" ] ||
+    { python3 -m venv $own && $own/bin/pip install pytest pytest-xdist pytest-timeout; } >/dev/null 2>&1
+find_pytest || stop "pytest not found: apt-get install python3-pytest python3-pytest-xdist python3-pytest-timeout"
 command -v rt >/dev/null || echo "test.sh: rt not found: tests that need it are left out"
 [ "${1:-}" != -k ] || exec "$python" -m pytest tests "${quick[@]}" "$@"
 
@@ -58,12 +68,8 @@ else
     wait $plain; status=$?; cat "$room/said.plain"; ended tests $status
     wait $built; status=$?; cat "$room/said.built"; ended "tests of what is built" $status
 fi
-if grep -q '^SKIPPED' "$room"/said.*; then
-    read -r -a all <<<"$(sed -n 's/^ *apt-get install //p' CONTRIBUTING.md)"
-    lacking=$(dpkg-query -W -f '${Package} ${Status}\n' 2>/dev/null | awk '$NF == "installed" { print $1 }' |
-        grep -vxFf - <(printf '%s\n' "${all[@]}") | tr '\n' ' ')
-    [ -z "$lacking" ] || echo "most of the skipped tests would run after: apt-get install $lacking"
-fi
+! grep -q '^SKIPPED' "$room"/said.* || ! packages=$(lacking 2>/dev/null) ||
+    echo "most of the skipped tests would run after: apt-get install --no-install-recommends ${packages//$'\n'/ }"
 [ ${#quick[@]} = 0 ] || echo "Nothing was proved: 'bash test.sh' proves everything."
 [ -z "$failed" ] || { echo "failed: ${failed#; }"; exit 1; }
 times >"$room/times"

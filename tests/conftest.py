@@ -1,5 +1,6 @@
 """What the tests share: how to require tools, how to run programs, and the programs that `rt ci` builds."""
 
+import collections
 import functools
 import os
 import platform
@@ -7,6 +8,7 @@ import re
 import shutil
 import subprocess
 import sys
+import tempfile
 import time
 from pathlib import Path
 
@@ -54,6 +56,13 @@ def pytest_collection_modifyitems(config, items):
     items[:] = [item for item in items if item not in out]
 
 
+def pytest_terminal_summary(terminalreporter):
+    """Reports skipped tests with one line per reason; pytest would write one for each reason and place."""
+    skipped = terminalreporter.stats.get("skipped", [])
+    for reason, count in sorted(collections.Counter(report.longrepr[2] for report in skipped).items()):
+        terminalreporter.write_line(f"SKIPPED [{count}] {reason.removeprefix('Skipped: ')}")
+
+
 @pytest.fixture(scope="session")
 def cases(request):
     """cases(N, MANY) returns how many random cases to try: N, with --many N * MANY, with --quick N / 10."""
@@ -73,8 +82,32 @@ def crate(request):
 def need(*tools):
     """Skips the test if one of these tools is missing."""
     for tool in tools:
-        if not shutil.which(str(tool)):
-            pytest.skip(f"{tool} not found: see CONTRIBUTING.md")
+        # rustup links its tools to itself. They fail if they aren't installed.
+        if not shutil.which(tool) or re.match("rustc|rustfmt|cargo", tool) and not succeeds(tool, "--version"):
+            pytest.skip(f"{tool} not found: see tests/packages.txt")
+
+
+def need_rustfmt():
+    """Skips the test if rustfmt is missing, or too old for the style that the sources have."""
+    need("rustc", "rustfmt", "cargo-fmt")
+    if not succeeds("rustfmt", "--config", "style_edition=2024", "a.rs", **{"a.rs": "\n"}):
+        pytest.skip("rustfmt is too old: install a newer one from https://rustup.rs")
+
+
+def need_compiler(*command):
+    """Skips the test if this compiler, with these flags, makes no programs, for example because it has no libc."""
+    need(command[0])
+    if not succeeds(*command, "a.c", "-o", "a", **{"a.c": "#include <stdlib.h>\nint main(void) { return 0; }\n"}):
+        pytest.skip(f"'{' '.join(command)}' makes no programs: see tests/packages.txt")
+
+
+@functools.cache
+def succeeds(*command, **files):
+    """Whether a command succeeds in a folder with these files."""
+    with tempfile.TemporaryDirectory() as room:
+        for name, text in files.items():
+            (Path(room) / name).write_text(text)
+        return answer(*command, cwd=room)[1] == 0
 
 
 def run(*words, status=0, env=None, **how):
@@ -177,7 +210,7 @@ def kit():
 
 def tracked():
     """All files of the repository except those that git ignores."""
-    if not (ROOT / ".git").exists():
+    if not (ROOT / ".git").exists() or not shutil.which("git"):
         # An unpacked release contains only tracked files, until something is built.
         names = [str(path.relative_to(ROOT)) for path in sorted(ROOT.rglob("*"))]
         return [name for name in names if (ROOT / name).is_file() and not re.search(r"(^|/)(out|target|__pycache__)/", name)]

@@ -4,11 +4,12 @@ Debian can't install libstd-rust-dev and libstd-rust-1.63 for arm64 and i386 nex
 (dpkg --add-architecture, apt-get download, dpkg -x), and copy their usr/lib/rustlib/TARGET to /usr/lib/rustlib."""
 
 import os
+import re
 import shutil
 from pathlib import Path
 
 import pytest
-from conftest import ROOT, need, run
+from conftest import ROOT, need, need_compiler, run, succeeds
 
 # Cargo has to build in the folders of the tests.
 os.environ.pop("CARGO_TARGET_DIR", None)
@@ -23,6 +24,12 @@ const wasi = new WASI({ version: "preview1", args: argv.slice(2), env, preopens:
 const module = await WebAssembly.compile(await readFile(argv[2]));
 process.exitCode = wasi.start(await WebAssembly.instantiate(module, { wasi_snapshot_preview1: wasi.wasiImport }));
 """
+# A program that uses the crate unicode-width.
+USES_WIDTH = {"main.rs": "fn main() { unicode_width::UnicodeWidthStr::width(\"\"); }\n", "Cargo.toml": """
+package = { name = "program", version = "0.0.0", edition = "2021" }
+bin = [{ name = "program", path = "main.rs" }]
+dependencies.unicode-width = ">=0.1.5, <0.3"
+"""}
 # For each target, the compiler that links its programs (None: rustc does), and the command that runs them.
 TARGETS = {
     "x86_64-unknown-linux-gnu": ("cc", []),
@@ -43,9 +50,22 @@ def offline(registry=REGISTRY):
             "--config", f'source.debian.directory="{registry}"']
 
 
+def need_cargo(folder):
+    """Skips the test if cargo can't build the crate in this folder."""
+    need("cargo", "rustc", "cc")
+    least = re.search(r'rust-version = "1\.(\d+)"', (folder / "Cargo.toml").read_text()) or (0, 63)
+    if int(re.search(r"1\.(\d+)", run("rustc", "--version")[0])[1]) < int(least[1]):
+        pytest.skip(f"rustc is older than 1.{least[1]}: install a newer one from https://rustup.rs")
+    flags = ["--config", "net.retry=0", "--config", "http.timeout=10", *offline()]
+    if not succeeds("cargo", "build", *flags, **USES_WIDTH):
+        pytest.skip("cargo can't build with unicode-width: apt-get install librust-unicode-width-dev libc6-dev")
+
+
 def cargo(folder, *words, env=None, registry=REGISTRY):
     """Runs cargo in a folder, and returns its output."""
-    need("cargo", "cc")
+    need_cargo(folder)
+    if words[0] == "clippy":
+        need("cargo-clippy")
     return run("cargo", words[0], *offline(registry), *words[1:], cwd=folder, env=env)
 
 
@@ -68,18 +88,20 @@ def runner(target, room):
     return words
 
 
-def need_std(target):
+def need_target(target):
+    """Skips the test if Debian's cargo can't build for a target."""
+    if not Path("/usr/bin/cargo").exists() or not offline():
+        pytest.skip("/usr/bin/cargo or unicode-width not found: apt-get install cargo librust-unicode-width-dev")
     if not Path(run(OLD["RUSTC"], "--print", "target-libdir", "--target", target)[0].strip()).exists():
         pytest.skip(f"/usr/bin/rustc has no std for {target}: see tests/targets.py")
+    linker = TARGETS[target][0]
+    need_compiler(linker) if linker else need("rust-lld")
 
 
 def cargo_for(target, folder, *words, env=None):
     """Runs Debian's cargo for a target in the folder of a copied crate, and returns its output."""
     linker, by = TARGETS[target]
-    if not Path("/usr/bin/cargo").exists() or not offline():
-        pytest.skip("/usr/bin/cargo or unicode-width not found: apt-get install cargo librust-unicode-width-dev")
-    need(*[linker] if linker else [])
-    need_std(target)
+    need_target(target)
     name = f"CARGO_TARGET_{target.upper().replace('-', '_')}"
     settings = {f"{name}_LINKER": linker, f"{name}_RUNNER": " ".join(runner(target, folder)) if by else None}
     env = {**{key: word for key, word in settings.items() if word}, **(env or {})}

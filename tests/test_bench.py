@@ -39,7 +39,7 @@ def test_charts(tmp_path):
     pythons = [python for python in (sys.executable, "/usr/bin/python3")
                if shutil.which(python) and answer(python, "-c", "import matplotlib")[1] == 0]
     if not pythons:
-        pytest.skip("matplotlib not found: install python3-matplotlib, see CONTRIBUTING.md")
+        pytest.skip("matplotlib not found: apt-get install python3-matplotlib")
     run(pythons[0], ROOT / "bench/chart.py", tmp_path, env={"PYTHONDONTWRITEBYTECODE": "1"})
     for chart in ("chart.svg", "growth.svg"):
         drawn, stored = ((folder / chart).read_text(encoding="utf-8") for folder in (tmp_path, ROOT / "bench"))

@@ -7,8 +7,8 @@ import shlex
 import shutil
 
 import pytest
-from conftest import LINES, ROOT, answer, need, fail_each_allocation, run, script
-from targets import OLD, cargo, cargo_for, copy_folders, need_std, runner
+from conftest import LINES, ROOT, answer, need, need_compiler, fail_each_allocation, run, script
+from targets import OLD, cargo, cargo_for, copy_folders, need_cargo, need_target, runner
 
 C = ROOT / "bindings/c"
 WARNINGS = "-std=c11 -Wall -Wextra -Wpedantic -Wshadow -Wconversion -Wno-sign-conversion -Werror".split()
@@ -62,7 +62,8 @@ def builds(*names):
 def build(request, tmp_path, library):
     """Builds a program with one of the compilers, and returns the command that runs it."""
     compiler, target, by = BUILDS[request.param]
-    need(compiler[0], *(by or [])[:1])
+    need_compiler(*compiler)
+    need(*(by or [])[:1])
     by = runner(target, tmp_path) if by is None else by
     archive = library(target)
 
@@ -107,7 +108,7 @@ def test_lints(tmp_path):
 
 @pytest.fixture(scope="module")
 def show_c(tmp_path_factory, library):
-    need("cc")
+    need_compiler("cc")
     program = tmp_path_factory.mktemp("show") / "show"
     run("cc", "-O2", *WARNINGS, C / "show.c", library(None), "-o", program)
     return program
@@ -166,9 +167,17 @@ HEAD = [  # status, output, errors, arguments
 ]
 
 
+def need_install(compiler="cc"):
+    """Skips the test if a tool of install.sh is missing."""
+    need_compiler(compiler)
+    need("ld", "objcopy", "ar")
+    need_cargo(C)
+
+
 @pytest.fixture(scope="module")
 def prefix(tmp_path_factory):
-    need("cargo", "cc", "ld", "objcopy", "ar", "pkg-config")
+    need_install()
+    need("pkg-config")
     prefix = tmp_path_factory.mktemp("c") / "a prefix"
     run("sh", C / "install.sh", prefix)
     return prefix
@@ -189,7 +198,7 @@ def flags(request, prefix, monkeypatch):
 @pytest.mark.parametrize("compiler", ["gcc", "clang", "gcc-san", "clang-san"])
 def test_example(compiler, flags, tmp_path):
     command = BUILDS[compiler][0]
-    need(command[0])
+    need_compiler(*command)
     run(*command, *WARNINGS, C / "head.c", *flags, "-o", tmp_path / "head")
     for name in ("FILE", "\udcff.txt"):
         (tmp_path / name).write_text("1\n2\n3\n")
@@ -219,7 +228,7 @@ def test_cmake(module, prefix, tmp_path):
 
 @pytest.mark.parametrize("compiler", ["g++", "clang++"])
 def test_installed_for_cpp(compiler, flags, tmp_path):
-    need(compiler)
+    need_compiler(compiler)
     run(compiler, *PLUS_WARNINGS, C / "tests/installed.cpp", *flags, "-o", tmp_path / "plus")
     assert run(tmp_path / "plus", *"--verbose -ox --verbose a --verbose".split())[0] == "2 x a --verbose\n"
 
@@ -264,7 +273,7 @@ def test_program_size(prefix, tmp_path):
 
 @pytest.fixture(scope="module", params=["clang", pytest.param("musl-gcc", marks=pytest.mark.full)])
 def installed(request, tmp_path_factory):
-    need(request.param)
+    need_install(request.param)
     to = tmp_path_factory.mktemp("installed")
     run("sh", C / "install.sh", to, env={"CC": request.param})
     return request.param, to
@@ -282,8 +291,7 @@ def test_install_for_other_target(show_c, tmp_path):
     """Installs with Debian's cargo and rustc, with the flags that these old versions need."""
     target, compiler = "aarch64-unknown-linux-gnu", "aarch64-linux-gnu-gcc"
     by = runner(target, tmp_path)
-    need("/usr/bin/cargo", compiler)
-    need_std(target)
+    need_target(target)
     env = {**OLD, "CARGO": "/usr/bin/cargo", "CARGO_FLAGS": "--ignore-rust-version", "RUSTFLAGS": "--cfg old_rustc",
            "CARGO_BUILD_TARGET": target}
     _, errors = run("sh", C / "install.sh", tmp_path / "to", env=env, status=1)
@@ -298,13 +306,13 @@ def test_install_for_other_target(show_c, tmp_path):
 def test_missing_tools(tmp_path):
     _, errors = run("sh", C / "install.sh", tmp_path / "to", status=1, env={"CARGO": "no-cargo"})
     assert "no-cargo not found: install Rust 1.68 or later (Debian's package cargo" in errors
-    _, errors = run("sh", C / "install.sh", tmp_path / "to", status=1, env={"CC": "no-cc"})
+    env = {"CARGO": str(script(tmp_path / "cargo", "#!/bin/sh\nexit 101\n")), "CC": "true"}
+    _, errors = run("sh", C / "install.sh", tmp_path / "to", status=1, env={**env, "CC": "no-cc"})
     assert "no-cc not found: install a C compiler (Debian's package gcc)" in errors
-    failing = script(tmp_path / "cargo", "#!/bin/sh\nexit 101\n")
-    _, errors = run("sh", C / "install.sh", tmp_path / "to", status=1, env={"CARGO": str(failing)})
+    _, errors = run("sh", C / "install.sh", tmp_path / "to", status=1, env=env)
     assert "librust-unicode-width-dev" in errors and not (tmp_path / "to").exists()
     (tmp_path / "cargo").write_text("#!/bin/sh\n")
-    _, errors = run("sh", C / "install.sh", tmp_path / "to", status=1, env={"CARGO": str(tmp_path / "cargo")})
+    _, errors = run("sh", C / "install.sh", tmp_path / "to", status=1, env=env)
     assert "cargo built no libgetopts.a. If cargo's configuration" in errors and not (tmp_path / "to").exists()
 
 
@@ -319,7 +327,8 @@ def copies(library, tmp_path):
 @pytest.mark.parametrize("relative", [False, True])
 def test_destdir_and_uninstall(shell, relative, copies, tmp_path):
     """With dash, and with nothing but busybox's shell and tools."""
-    need(shell, "cargo", "cc")
+    need_install()
+    need(shell)
     env, words = {**copies, "DESTDIR": "stage" if relative else f"{tmp_path}/stage/"}, ["dash"]
     if shell == "busybox":
         tools, words = tmp_path / "tools", ["busybox", "sh"]
@@ -336,7 +345,7 @@ def test_destdir_and_uninstall(shell, relative, copies, tmp_path):
 
 def test_uninstall_keeps_other_files(copies, tmp_path):
     """Other files stay, also the target of a link that is replaced; a folder in the place of a file is an error."""
-    need("cargo", "cc")
+    need_install()
     to, others = tmp_path / "to", ["share/doc/getopts/others", "lib/libgetopts.so.2.others", "others.h"]
     for other in others:
         (to / other).parent.mkdir(parents=True, exist_ok=True)

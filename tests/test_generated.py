@@ -1,7 +1,7 @@
 """Generated files that are checked in are up to date, judging by checksums of them, their sources and the toolchain."""
 
 import pytest
-from conftest import ROOT, answer, copy_tree, need, run
+from conftest import ROOT, answer, copy_tree, need_rustfmt, run
 
 BUILD = "bindings/build.py"
 
@@ -25,7 +25,7 @@ def test_change_is_found(file, text, found, tmp_path):
 
 
 def test_erased_rust_matches_source():
-    need("rustfmt")
+    need_rustfmt()
     run(ROOT / BUILD, "--check", "rust")
 
 

@@ -15,7 +15,7 @@ import textwrap
 
 import bench as bench_py
 import pytest
-from conftest import ROOT, answer, kit, need, run
+from conftest import ROOT, answer, kit, need, need_rustfmt, run
 from conftest import tracked as all_tracked
 
 
@@ -87,6 +87,11 @@ def logic():
     return [run("rt", "version")[0].split()[-1] if shutil.which("rt") else "unknown"]
 
 
+def oldest_rust(*folders):
+    """The oldest version of Rust that builds each of these folders of bindings."""
+    return [re.search(r'rust-version = "(.*)"', read(f"bindings/{folder}/Cargo.toml"))[1] for folder in folders]
+
+
 HELD = "Bytes that matches take"
 # The libraries in README's list of those that need fewer instructions than the drop-in on some jobs.
 AHEAD = {"Rust crate": "the Rust crate", "lexopt": "`lexopt`", "pico-args": "`pico-args`"}
@@ -98,8 +103,8 @@ FIGURES = [
     ("README.md", r"`bash test.sh` .* \| ([^|]*) \| ([^|]*) \|", lambda: minutes("bash test.sh")),
     ("README.md", r"takes (\d+) % of that crate's instructions [^%]* (\d+) % on [^%]* (\d+) %\s",
      lambda: [share("copied-small"), share("copied-long"), share("files")]),
-    *((f"bindings/{folder}/README.md", r"Rust ([\d.]+) or later",
-       lambda folder=folder: re.findall(r'rust-version = "(.*)"', read(f"bindings/{folder}/Cargo.toml")))
+    ("README.md", r"\| Rust ([\d.]+) .*\n.*\| Rust ([\d.]+), .*\n.* Rust ([\d.]+) ", lambda: oldest_rust("rust", "c", "shell")),
+    *((f"bindings/{folder}/README.md", r"Rust ([\d.]+) or later", lambda folder=folder: oldest_rust(folder))
       for folder in ("rust", "c", "shell")),
     ("bindings/c/README.md", r"grows by (\d+) KB", lambda: re.findall(r"grows by (\d+) KB", read("bindings/c/getopts.h"))),
     *(("bindings/c/README.md", rf"\| {line} \| ([\d,]+) \| ([\d,]+) \| ([\d,]+) \|", lambda job=job: [
@@ -329,9 +334,8 @@ def test_definitions_are_in_the_grammar(crate):
     assert_none(missing)
 
 
-# Names of the toolchain, of Rust and of Debian's packages.
-OTHERS = """Send Sync unicode-width x86-64-v2 POSIXLY_CORRECT optind IFS BASH_ENV copied-
-    librust-clap-dev librust-lexopt-dev librust-pico-args-dev librust-unicode-width-dev"""
+# Names of the toolchain, of Rust and of shells.
+OTHERS = """Send Sync unicode-width x86-64-v2 POSIXLY_CORRECT optind IFS BASH_ENV copied-"""
 
 
 @functools.cache
@@ -342,7 +346,7 @@ def words():
         if re.search(r"\.(rt|antt|rs|c|h|cpp|sh|py|edit|toml|txt|ini|rows)$|/stdin$|^crates.txt$|^HANDLES$", name):
             text = read(name)
             found |= set(re.findall(r"[\w+-]+", text)) | set(re.findall(r"\w+", text))
-    return found if shutil.which("rt") else found | set(re.findall(r"logic `(\w+)`", pages["README.md"]))
+    return found if shutil.which("rt") else found | set(re.findall(r"logic: `(\w+)`", pages["README.md"]))
 
 
 @pytest.mark.parametrize("page", pages)
@@ -404,7 +408,8 @@ def test_shell_scripts():
 
 @pytest.mark.parametrize("manifest", [name for name in tracked if name.endswith("/Cargo.toml")])
 def test_rust_format(manifest):
-    need("cargo", "rustfmt")
+    need("cargo")
+    need_rustfmt()
     run("cargo", "fmt", "--check", cwd=(ROOT / manifest).parent)
 
 

@@ -10,8 +10,8 @@ import sys
 from pathlib import Path
 
 import pytest
-from conftest import LINES, ROOT, ROWS, VECTORS, answer, need, run
-from targets import REGISTRY, TARGETS, UNWINDS, cargo, cargo_for, commit_repository, copy_folders, offline, runner
+from conftest import LINES, ROOT, ROWS, VECTORS, answer, need_rustfmt, run
+from targets import REGISTRY, TARGETS, UNWINDS, cargo, cargo_for, commit_repository, copy_folders, need_cargo, offline, runner
 
 RUST = ROOT / "bindings/rust"
 REFERENCE = ROOT / "tests/differential/reference"
@@ -64,7 +64,7 @@ REJECTED = sorted(path.stem for path in (ROOT / "tests/eraser").glob("*.rejected
 
 def compile_over_types(tmp_path, proved=ERASED["getopts"], program=ERASED["getopts_shell"]):
     """Compiles the erased crates over `core` and the types of tests/eraser/types. Returns rustc's messages."""
-    need("rustc", "rustfmt")
+    need_rustfmt()
     folder = shutil.copytree(ROOT / "tests/eraser/types", tmp_path / "types")
     files = {"ALLOC": RUST / "src/alloc.rs", "PROVED": proved / "mod.rs", "BYTES": ERASED["getopts_bytes"] / "mod.rs",
              "PROGRAM": program / "mod.rs"}
@@ -95,7 +95,7 @@ def source_and_error(name):
 def test_types_reject_sources(name, reader, tmp_path):
     """Source that calls a function of Rust that doesn't report failed allocations. The eraser accepts the call, because
     the source defines a function of the same name."""
-    need("rustc", "rustfmt")
+    need_rustfmt()
     (eraser, source), (text, error) = reader, source_and_error(name)
     (source / "lib.rt").write_text(text)
     run(sys.executable, eraser)
@@ -187,6 +187,7 @@ def test_package(folder, tmp_path):
 
 def test_git_dependency(tmp_path):
     """From a git URL: `proved-getopts` as a dependency, and `getopts` as a patch of the crate getopts."""
+    need_cargo(RUST)
     url = commit_repository(copy_folders(tmp_path / "clone", "bindings") / "bindings")
     (tmp_path / "src").mkdir()
     (tmp_path / "src/main.rs").write_text("fn main() { let _: proved::Options = getopts::Options::new(); }\n")

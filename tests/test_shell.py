@@ -12,9 +12,9 @@ import tempfile
 from pathlib import Path
 
 import pytest
-from conftest import MACHINE, ROOT, answer, need, rows_in, run, script
+from conftest import MACHINE, ROOT, answer, need, need_compiler, rows_in, run, script
 from shell import lines, tables
-from targets import cargo, cargo_for, commit_repository, copy_folders, offline, runner
+from targets import cargo, cargo_for, commit_repository, copy_folders, need_cargo, offline, runner
 
 SHELL = ROOT / "bindings/shell"
 SHELLS = ["dash", "bash", "bash --posix", "zsh", "ksh93", "mksh", "yash", "busybox sh"]
@@ -46,7 +46,7 @@ def by_qemu(tmp_path_factory):
 @pytest.fixture(scope="session")
 def by_cargo(tmp_path_factory):
     """The program as cargo installs it from a clone."""
-    need("cargo", "cc")
+    need_cargo(SHELL)
     room = tmp_path_factory.mktemp("cargo")
     clone = commit_repository(copy_folders(room, "bindings/rust", "bindings/shell") / "bindings")
     run("cargo", "install", *offline()[1:], "--quiet", "--git", clone, "--root", room / "root", "getopts_shell")
@@ -332,7 +332,8 @@ def test_start(compiler, tmp_path):
     """The functions of start.c do what their declarations say."""
     flags = ["-static", "-O2"] if "-gcc" in compiler else ["-fsanitize=undefined", "-fno-sanitize-recover=all", "-g"]
     by = ["qemu-aarch64"] if compiler.startswith("aarch64") and MACHINE != "aarch64" else []
-    need(compiler, *by)
+    need_compiler(compiler, *flags)
+    need(*by)
     run(compiler, *flags, *START, tmp_path / "start")
     run(*by, tmp_path / "start", "", "three")
 

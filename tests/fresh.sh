@@ -1,0 +1,41 @@
+#!/usr/bin/env bash
+# Runs a command in a clone of the current commit, on a bare Debian 12 with only Python, git and Rattle's toolchain, as on
+# a new user's machine: this shows what a page or a script forgets to install. It needs root, debootstrap and rt.
+# usage: tests/fresh.sh [--with PACKAGE,..] [COMMAND]
+#   tests/fresh.sh                                   README's first command, then 'bash test.sh --quick'
+#   tests/fresh.sh --with gcc,libc6-dev,cargo,python3-pytest,python3-pytest-xdist,python3-pytest-timeout \
+#       'bash test.sh --quick --no-install'          the tests with cargo, but without a registry
+#
+# The bare system is kept in tests/out, as a file for each list of packages.
+set -euo pipefail
+with=''
+[ "${1:-}" != --with ] || { with=,$2; shift 2; }
+cd "$(dirname "$0")/.."
+stop() { echo "tests/fresh.sh: $1" >&2; exit 2; }
+[ "$(id -u)" = 0 ] || stop "needs root, for chroot"
+command -v debootstrap >/dev/null || stop "debootstrap not found: apt-get install debootstrap"
+command -v rt >/dev/null || stop "rt not found: put the toolchain's bin folder on the path"
+kit=$(dirname "$(rt doc)") base=tests/out/fresh$with.tar root=$(mktemp -d)
+trap 'rm -rf "$root"' EXIT
+command=${1:-$(sed -n '/^ *(cd .*rt try/{s/^ *//p;q;}' README.md) && bash test.sh --quick}
+if [ ! -f "$base" ]; then
+    mkdir -p tests/out
+    debootstrap --variant=minbase --include="python3,ca-certificates,git$with" bookworm "$root" >"$base.log" 2>&1 ||
+        stop "debootstrap failed: see $base.log"
+    cp -r /etc/apt/apt.conf.d "$root/etc/apt/"
+    tar -C "$root" -cf "$base.part" . && mv "$base.part" "$base"
+else
+    tar -C "$root" -xf "$base"
+fi
+cp /etc/resolv.conf /etc/hosts "$root/etc/"
+echo force-unsafe-io >"$root/etc/dpkg/dpkg.cfg.d/fresh"
+chmod 755 "$root"
+mkdir -p "$root$kit"
+git -c advice.detachedHead=false clone -q . "$root/srv/repo"
+echo "tests/fresh.sh: $command"
+# shellcheck disable=SC2016
+KIT=$kit ROOT=$root COMMAND=$command unshare --mount --pid --fork --kill-child bash -c '
+    mount --make-rprivate / && mount --bind "$KIT" "$ROOT$KIT" && mount -t proc proc "$ROOT/proc" &&
+        mount --rbind /dev "$ROOT/dev" || exit 2
+    exec chroot "$ROOT" env -i PATH="$KIT/bin:/usr/local/sbin:/usr/local/bin:/usr/sbin:/usr/bin:/sbin:/bin" \
+        HOME=/root LANG=C.UTF-8 bash -c "cd /srv/repo && $COMMAND"' </dev/null
