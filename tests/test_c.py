@@ -1,4 +1,4 @@
-"""The C library: its functions on six targets, built by each C compiler on this machine, and its installation."""
+"""The C library: its functions on five targets, built by each C compiler on this machine, and its installation."""
 
 import functools
 import os

@@ -1,4 +1,5 @@
-"""Generated files that are checked in are up to date, judging by checksums of them, their sources and the toolchain."""
+"""Generated files that are checked in are up to date: the shell binaries, judging by checksums of them, their sources
+and the toolchain, and the erased Rust, which is generated again."""
 
 import pytest
 from conftest import ROOT, answer, copy_tree, need_rustfmt, run

@@ -1,8 +1,8 @@
 """The pages: their names, quotations and figures match the sources, the proofs and the records. Also: no circular
 imports, and well-formed scripts, Rust and manual pages.
 
-Every figure of ten or more on a page is counted, measured or recorded (FIGURES). --fix updates the figures and
-CONTRACTS.md.
+Every figure of ten or more on a page is counted, measured or recorded (FIGURES), except those in NO_FIGURES. --fix
+updates the figures and CONTRACTS.md.
 """
 
 import functools

@@ -93,8 +93,8 @@ def source_and_error(name):
 
 @pytest.mark.parametrize("name", [name for name in REJECTED if name.endswith("by_type")])
 def test_types_reject_sources(name, reader, tmp_path):
-    """Source that calls a function of Rust that doesn't report failed allocations. The eraser accepts the call, because
-    the source defines a function of the same name."""
+    """Source that calls a function of Rust that doesn't report failed allocations. The eraser accepts the call, mostly
+    because the source defines a function of the same name."""
     need_rustfmt()
     (eraser, source), (text, error) = reader, source_and_error(name)
     (source / "lib.rt").write_text(text)

@@ -1,8 +1,9 @@
 """The built programs under unusual conditions: with arguments that aren't UTF-8, with none at all, and with long ones;
 with output that accepts nothing, little, or fails midway; with little memory and little stack.
 
-Every run exits with the status that the README documents, is never killed by a signal that the system didn't send, and
-writes what the README says. The program for shell scripts is the static one in bindings/shell for this machine.
+Every run exits with the documented status, is never killed by a signal that the system didn't send, and writes the
+documented text. The program for shell scripts is the static one in bindings/shell for this machine or, in runs with a
+preloaded library, the one that `rt ci` built.
 """
 
 import errno

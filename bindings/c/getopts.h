@@ -57,8 +57,8 @@ enum {
 /* The kind of an option: whether it takes an argument, plus how often it may be given. GETOPTS_NO
  * and GETOPTS_OPTIONAL may be omitted: a kind of 0 is a plain flag. With GETOPTS_MAYBE, a short
  * option also takes the next word if that is `-` or doesn't begin with a dash: `-O f` gives O the
- * argument f. With getopt_long, only `-Of` does. A long option takes an optional argument only
- * after `=`. */
+ * argument f, except in the mode GETOPTS_LONG_ONLY. With getopt_long, only `-Of` does. A long
+ * option takes an optional argument only after `=`. */
 enum getopts_kind {
     GETOPTS_NO = 0,       /* takes no argument */
     GETOPTS_YES = 1,      /* needs an argument, in the same word or the next */

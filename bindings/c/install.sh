@@ -3,8 +3,8 @@
 #
 #     bindings/c/install.sh [--uninstall] PREFIX
 #
-# - PREFIX/lib: libgetopts.a, also as libgetopts-static.a, and on Linux libgetopts.so; both export only the functions
-#   of getopts.h
+# - PREFIX/lib: libgetopts.a, also as libgetopts-static.a, and on Linux libgetopts.so. On Linux, both export only the
+#   functions of getopts.h
 # - PREFIX/include: getopts.h
 # - PREFIX/lib/pkgconfig: getopts-static.pc, for programs that contain the library, and on Linux getopts.pc
 # - PREFIX/share/man/man3: getopts.3, generated from getopts.h, also under the name of each function

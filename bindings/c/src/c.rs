@@ -1,5 +1,5 @@
-//! The boundary to C: its heap, texts, tables and words, and the functions of `getopts.h`. The
-//! comment above each `unsafe` block names the requirement of that header that justifies it.
+//! The boundary to C: its heap, texts, tables and words, and the functions of `getopts.h`. Comments
+//! justify the `unsafe` blocks, mostly by requirements of that header.
 #![allow(unsafe_code)]
 #![deny(unsafe_op_in_unsafe_fn)]
 

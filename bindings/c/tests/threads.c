@@ -1,4 +1,4 @@
-/* Threads that query one struct getopts at the same time, and others that read with their own. */
+/* Threads that query one struct getopts at the same time, and in between read with their own. */
 #include "../getopts.h"
 
 #include <pthread.h>

@@ -1,4 +1,5 @@
-//! The `Debug` output of options and matches, which is the same as in the crate getopts.
+//! The `Debug` output of options and matches, which is the same as in the crate getopts, except for
+//! positions.
 
 use crate::proved::matches::MatchedGroups;
 use crate::{HasArg, Occur, proved};

@@ -1,5 +1,5 @@
-//! The trait of Rattle's `std::error`: Rust's or, without the feature `std`, a placeholder that
-//! nothing uses.
+//! The trait of Rattle's `std::error`: Rust's or, without the feature `std`, a placeholder without
+//! methods.
 
 #[cfg(feature = "std")]
 pub use std::error::Error;

@@ -155,7 +155,7 @@ fn sort_matches_rust() {
     }
 }
 
-/// Options with four groups and `more`, enough to have their names sorted in an index.
+/// Options with four groups and `more` others. Only sorting more than 20 names allocates.
 fn options(more: usize) -> Options {
     let mut options = Options::new(Global);
     let mut add = |short: &str, long: &str, hasarg, occur| {

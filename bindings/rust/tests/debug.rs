@@ -1,4 +1,4 @@
-//! `{:?}` of options and matches prints the same as in the crate getopts.
+//! `{:?}` of options and matches prints the same as in the crate getopts, except for positions.
 
 use getopts::{Options, ParsingStyle};
 

@@ -1,8 +1,9 @@
--- Lemmas, by subject. Beside them is a folder for each module of `src`, with a folder for each
--- function whose proof needs a file: `Answers.antt` proves goals that the checker asks for, and
--- `Invariants.antt` states the invariants of loops. A loop's label, such as `'items`, names its
--- goals. In most names of lemmas, the part before `-` is the definition that the lemma is about
--- (`IsAccepted-line`); a name that ends in `_lem` proves a law of readings or lines.
+-- Lemmas, by subject. Beside them are folders for modules of `src`, with a folder for each function
+-- whose proof needs a file; a method is in the folder of the module that defines its type.
+-- `Answers.antt` proves goals that the checker asks for, and `Invariants.antt` states the
+-- invariants of loops. A loop's label, such as `'items`, names its goals. In most names of lemmas,
+-- the part before `-` is the definition that the lemma is about (`IsAccepted-line`); a name that
+-- ends in `_lem` proves a law of readings or lines.
 
 -- facts about lists of any elements
 pub mod Lists

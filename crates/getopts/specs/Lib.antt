@@ -29,7 +29,7 @@ pub mod CanonAnswers
 pub mod Results
 -- what accepted matches say about declared names
 pub mod Holds
--- what those functions have to compute, and what calls return
+-- what the functions of `Results` have to compute, and what calls return
 pub mod Gives
 -- the main theorem
 pub mod Theorem

@@ -1,4 +1,5 @@
--- The results of `parse`: for any words, exactly one of three cases applies.
+-- The results of `parse`: if options may be declared and words are UTF-8, exactly one of three
+-- cases applies.
 use Rattle.std.specs.Prelude.{◌≡◌, ◌⊎◌, List}
 use Rattle.getopts.specs.Only.{IsTheOnly}
 use Rattle.getopts.specs.Names.{Text}

@@ -127,7 +127,8 @@ impl PartialEq for SignatureRecord {
 
     ghost laws = { Prim.search (comparing, rules) depth 12 };
 
-    /// Whether the names are at the same places and the kinds are equal.
+    /// Whether the short names are equal, the long names are at the same places, and the kinds are
+    /// equal.
     #[inline(always)]
     fn eq(&self, other: &SignatureRecord) -> bool {
         self.long == other.long

@@ -106,8 +106,8 @@ pub fn held_names_resolve(matches: &Matches)
     let _place = matches.opt_place("");
 }
 
-/// Equal input gives equal results: for given options and words, there is one result of `parse` and
-/// one of `canonical`. Running out of memory, which may happen instead, doesn't count as a result.
+/// Equal input gives equal results: for given options and words, there is at most one result of
+/// `parse` and one of `canonical`. Running out of memory doesn't count as a result.
 ///
 /// This is a lemma for proofs, which does nothing.
 pub fn equal_input_equal_answers()

@@ -51,7 +51,8 @@ const VALUE_BYTES: usize = 8;
 /// The most bytes that `VALUE_BYTES` reserves.
 const MOST_BYTES: usize = 2048;
 
-/// Appends a value, and returns where it is. The first value reserves memory for `room` values.
+/// Appends a value, and returns where it is. The first value that isn't empty reserves memory for
+/// `room` values, at most `MOST_BYTES`.
 #[inline(always)]
 fn push_value(values: &mut String, value: &str, room: usize) -> Result<Span, AllocError>
     ensures ok { IfOk result (λ span.

@@ -199,11 +199,11 @@ impl Options {
     /// Adds an option with an optional argument that may occur once.
     ///
     /// `options.optflagopt("c", "color", "colour the output", "WHEN")?` accepts `--color`,
-    /// `--color=auto`, `-cauto` and `-c auto`. A long name takes an argument only after `=`: in
-    /// `--color auto`, `auto` is a free word. A short name doesn't take the next word if that
-    /// begins with a dash and is longer than `-`: `-c -v` gives `c` no argument and is followed by
-    /// the option `-v`, and `-c -` gives it the argument `-`. Requirements, result and errors are
-    /// the same as for `opt`.
+    /// `--color=auto` and, in ordinary mode, `-cauto` and `-c auto`. A long name takes an argument
+    /// only after `=`: in `--color auto`, `auto` is a free word. A short name doesn't take the next
+    /// word if that begins with a dash and is longer than `-`: `-c -v` gives `c` no argument and is
+    /// followed by the option `-v`, and `-c -` gives it the argument `-`. Requirements, result and
+    /// errors are the same as for `opt`.
     pub fn optflagopt(
         &mut self,
         short_name: &str,

@@ -60,8 +60,8 @@ impl Line {
         })
     }
 
-    /// Makes room for the results of more than `FIRST_ROOM` words; those of fewer words fit
-    /// already.
+    /// Makes room for the results of more than `FIRST_ROOM` words. For fewer words, `with_capacity`
+    /// made room.
     #[inline(always)]
     fn reserve<S: AsStr>(&mut self, words: &[S], stops: bool) -> Result<(), AllocError>
         requires { IsEmptyLine self.old }

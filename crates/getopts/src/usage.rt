@@ -109,8 +109,7 @@ impl Options {
     /// Fails only if an allocation fails.
     ///
     /// In the Rust crate this method can't fail. That crate leaves out a short name that takes no
-    /// column, and panics if one takes more than one column. Here every short name that isn't empty
-    /// is written.
+    /// column, such as a tab in old width tables. Here every short name that isn't empty is shown.
     pub fn usage(&self, alloc: Global, brief: &str) -> Result<String, AllocError>
         // This is the only usage text, byte for byte.
         ensures text { IfOk result (λ text.

@@ -53,7 +53,7 @@ pub struct Input<'t> {
     pub words: Vec<&'t str>,
 }
 
-/// Reads the rows of a text: the number of words, then an option or a word each.
+/// Reads the rows of a text: each is an option, the number of words, or a word.
 pub fn input_of(alloc: Global, text: &str) -> Result<Input<'_>, Trouble> {
     let mut input = Input {
         options: Vec::new(alloc),

@@ -157,7 +157,7 @@ fn held(alloc: Global, options: &Options, words: &[&str], times: usize) -> Resul
     Ok(sum)
 }
 
-/// Options with these names, all repeatable.
+/// Options with these names, all repeatable except those of `optflagopt`.
 fn declared(alloc: Global, named: &[Named<'_>]) -> Result<Options, AllocError> {
     let mut options = Options::new(alloc);
     for option in named {

@@ -20,12 +20,12 @@
 //! - `canonical` writes the canonical line. It adds the lengths of its words.
 //! - `equal` compares the matches of both halves of the words. It adds 1 if they are equal.
 //! - `usage` writes the usage text. It adds its length.
-//! - `defined` asks whether each name is defined, and `asked` whether each option was given. They
-//!   add the number that are.
+//! - `defined` asks whether each main name is defined, and `asked` whether each option was given.
+//!   They add the number that are.
 //! - `held` parses the words and keeps the matches. It adds the number of free words.
 //!
 //! The status is 0 if all sums were printed, 1 if a line was rejected, 2 if the arguments aren't
-//! such triples, 3 if an allocation failed, and 4 if a write failed.
+//! such triples or a file has no such rows, 3 if an allocation failed, and 4 if a write failed.
 #![tactic(auto)]
 
 mod input;

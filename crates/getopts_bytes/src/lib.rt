@@ -5,9 +5,9 @@
 //! does each byte of a mark that occurs in an argument. Valid UTF-8 without marks stays as it is,
 //! and so does ASCII, with `-`, `=` and the names.
 //!
-//! The marks are the last 128 characters, U+10FF80 for byte 128 to U+10FFFF for byte 255. They are
-//! private-use characters at the end of the last plane, and two of them are noncharacters. Each has
-//! four bytes, and takes one column in a help text, like a byte that a terminal can't show.
+//! The marks are the last 128 characters, U+10FF80 for byte 128 to U+10FFFF for byte 255. The last
+//! two of them are noncharacters, and the others are for private use. Each has four bytes, and
+//! takes one column in a help text, like a byte that a terminal can't show.
 #![tactic(auto)]
 
 ghost use Rattle.std.specs.Prelude.{◌≡◌, ◌<◌, ◌≤◌, ◌∷◌, ◌++◌, ℕ, suc, drop, length, true, List};

@@ -31,7 +31,7 @@ use std::io::Write;
 const SHOWN: u8 = 0;
 /// The status if the words were rejected and their error was shown.
 const REFUSED: u8 = 2;
-/// The status if an allocation failed.
+/// The status if an allocation failed, or the system's words can't be read.
 pub(crate) const NO_MEMORY: u8 = 3;
 /// The status if writing or flushing failed.
 const NOT_WRITTEN: u8 = 4;

@@ -1,4 +1,4 @@
-//! The subcommand `log`, which needs a number unless its help is asked for.
+//! The subcommand `log`, which requires `-n` unless its help is asked for.
 
 ghost use Rattle.std.specs.Prelude.{◌≡◌, codes, map, IfOk};
 ghost use Rattle.std.specs.String.{string_bytes};

@@ -29,8 +29,9 @@
 //! - `keep`: keeps a copy of the options and of the result of the last `words`
 //! - `anew`: returns to the state after `case`, except for what is kept
 //!
-//! These are answered with a line that begins with their word. An OPTIONAL is `-` if there is no
-//! value, else `=` and the value.
+//! These are answered with a line that begins with their word, except that lines that parse words
+//! are answered with `accepted` or `refused`. An OPTIONAL is `-` if there is no value, else `=` and
+//! the value.
 //!
 //! - `words WORD..`: `accepted START FREE..`, where START is `-` or the trailing start, or
 //!   `refused FAULT NAME TEXT`, where TEXT is the error's text
@@ -109,9 +110,9 @@
 //!
 //! # Exit status
 //!
-//! 0 if no answer differs, 1 if one does, 2 if a line or a file is invalid, which standard error
-//! names, 3 if an allocation failed, and 4 if a write failed. The last case of `data/large.rows`
-//! differs on purpose, to show that differences are found.
+//! 0 if no answer differs, 1 if one does, 2 if a line is invalid or a file can't be read (standard
+//! error says which), 3 if an allocation failed, and 4 if a write failed. The last case of
+//! `data/large.rows` differs on purpose, to show that differences are found.
 #![tactic(auto)]
 
 mod accessors;

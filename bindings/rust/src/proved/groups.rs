@@ -99,7 +99,8 @@ pub(crate) struct SignatureRecord {
 }
 
 impl PartialEq for SignatureRecord {
-    /// Whether the names are at the same places and the kinds are equal.
+    /// Whether the short names are equal, the long names are at the same places, and the kinds are
+    /// equal.
     #[inline(always)]
     fn eq(&self, other: &SignatureRecord) -> bool {
         self.long == other.long

@@ -84,8 +84,7 @@ impl Options {
     /// Fails only if an allocation fails.
     ///
     /// In the Rust crate this method can't fail. That crate leaves out a short name that takes no
-    /// column, and panics if one takes more than one column. Here every short name that isn't empty
-    /// is written.
+    /// column, such as a tab in old width tables. Here every short name that isn't empty is shown.
     pub fn usage(&self, alloc: Global, brief: &str) -> Result<String, AllocError> {
         let room = room_for(brief, self.groups().len(), ROW_ROOM);
         let mut text = String::of_capacity(alloc, room)?;

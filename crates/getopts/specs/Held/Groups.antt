@@ -48,7 +48,7 @@ ends_of group = record {
   second = group.end;
 }
 
--- whether two records' names are at the same places, and their kinds are the same
+-- whether two records have the same short name, long names at the same places, and the same kinds
 abbrev pub same_record : SignatureRecord → SignatureRecord → Bool
 same_record = eq_of_both (on (λ group. group.long) ◌==◌)
     (eq_of_both (on (λ group. group.end) ◌==◌)

@@ -1,5 +1,6 @@
-//! Random texts. All versions of Unicode's width tables agree on their characters: ASCII, letters,
-//! CJK, combining marks; no control characters, emoji sequences or joining letters.
+//! Random texts. All versions of Unicode's width tables agree on the characters of those that are
+//! measured: ASCII, letters, CJK, combining marks; no control characters, emoji sequences or
+//! joining letters.
 
 use crate::random::Random;
 
