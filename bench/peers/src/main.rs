@@ -2,10 +2,10 @@
 //!
 //! usage: peers PEER JOB ROWS READY TIMES
 //!
-//! PEER is `getopts` (the Rust crate, or its replacement), `lexopt`, `pico-args` or `clap`. Jobs
-//! and rows are those of `getopts_bench`: all peers do `whole`; `getopts` does the others too,
-//! except `canonical`, which the crate lacks. The replacement also does `os`, which is `whole` with
-//! `parse_os`.
+//! PEER is `getopts` (the Rust crate, or its replacement), `lexopt`, `pico-args` or `clap`. The top
+//! of `crates/getopts_bench/src/main.rt` describes jobs and rows. All peers do `whole`. `getopts`
+//! also does the other jobs, except `canonical`, which the crate lacks. The replacement also does
+//! `os`, which is `whole` with `parse_os`.
 //!
 //! Iterations consume the words that they parse. READY copies of the words, at least TIMES, are
 //! made before the first iteration. Only `held` makes its words in each iteration: copies that wait

@@ -45,8 +45,8 @@ pub(crate) struct Occurrence<'l> {
     pub value: Option<&'l str>,
 }
 
-/// Bytes reserved for the value of each option when the first value is stored, so that short values
-/// fit without reallocating.
+/// When the first value is stored, this many bytes are reserved for each option that there is room
+/// for, so that short values fit without reallocating.
 const VALUE_BYTES: usize = 8;
 /// The most bytes that `VALUE_BYTES` reserves.
 const MOST_BYTES: usize = 2048;

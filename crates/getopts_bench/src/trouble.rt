@@ -31,7 +31,7 @@ impl Trouble {
 impl fmt::Display for Trouble {
     fn fmt<W: fmt::Write>(&self, f: &mut fmt::Formatter<W>) -> fmt::Result {
         f.write_str(match self {
-            Trouble::NoJob => "arguments are JOB ROWS TIMES, and more of the same",
+            Trouble::NoJob => "arguments must be JOB ROWS TIMES, once or more (see main.rt)",
             Trouble::Rejected => "a command line was rejected",
             Trouble::NoMemory => "out of memory",
             Trouble::NotWritten => "a sum can't be written",

@@ -9,7 +9,7 @@ use getopts::{Fail, Options};
 use std::alloc::Global;
 use std::cell::Cell;
 
-/// Words, some of which were taken. How many is also kept in a cell, which others can read.
+/// Words, and how many of them were taken: also in a cell, which others can read.
 #[derive(Drop)]
 struct Counted<'a, 'c> {
     words: &'a [String],
@@ -59,7 +59,7 @@ fn error(error: &Option<Fail>, answer: &mut Answer) {
     }
 }
 
-/// Words, with a promise of the largest number of them.
+/// Words, from an iterator that promises as many as a `usize` can count.
 #[derive(Drop)]
 pub struct Promising<'a> {
     words: &'a [String],
@@ -82,7 +82,7 @@ impl<'a> Iterator for Promising<'a> {
     }
 }
 
-/// Words, with a promise of more than there are.
+/// Words, from an iterator that promises more than there are.
 pub fn promised(words: &[String]) -> Promising<'_> {
     Promising { words, taken: 0 }
 }

@@ -51,7 +51,7 @@
 //!   `opts_str` and `opts_str_first`, or `any PRESENT undefined` if one of the names is undefined
 //! - `lawful SHORT LONG`: `lawful true` or `lawful false`
 //! - `same options` and `same answers`: `same options true` if the options equal the kept ones,
-//!   else `false`; likewise for the results of the last `words`
+//!   else `same options false`; `same answers` compares the results of the last `words`
 //! - `short PROGRAM` and `usage BRIEF`: the text
 //! - `rows`: the result of the closure of `usage_with_format`, which counts its rows, then the rows
 //! - `usage_rows`: the rows

@@ -14,17 +14,17 @@ pub enum Stop {
     NotWritten,
 }
 
-/// It isn't UTF-8.
+/// The line isn't UTF-8.
 pub const NOT_TEXT: Stop = Stop::Line(0, "not UTF-8");
-/// Its word is unknown.
+/// The line's word is unknown.
 pub const UNKNOWN_WORD: Stop = Stop::Line(0, "unknown word");
-/// Its word doesn't take these fields.
+/// The line's word doesn't take these fields.
 pub const WRONG_FIELDS: Stop = Stop::Line(0, "wrong fields");
-/// It has an unknown escape, or an unescaped carriage return.
+/// The line has an unknown escape, or an unescaped carriage return.
 pub const WRONG_ESCAPE: Stop = Stop::Line(0, "wrong escape");
 /// A group can't have these names.
 pub const UNLAWFUL_NAMES: Stop = Stop::Line(0, "unlawful names");
-/// It comes before the first case.
+/// The line precedes the first case.
 pub const NO_CASE: Stop = Stop::Line(0, "before the first case");
 
 impl From<AllocError> for Stop {

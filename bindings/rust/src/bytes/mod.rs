@@ -4,7 +4,7 @@
 //! The system's arguments are bytes, but `getopts` reads texts. Each byte that isn't part of valid
 //! UTF-8 becomes a character, its *mark*, and turns back into the byte when the text is written. So
 //! does each byte of a mark that occurs in an argument. Valid UTF-8 without marks stays as it is,
-//! and so does ASCII, with `-`, `=` and the names.
+//! and so does all ASCII, such as `-` and `=`.
 //!
 //! The marks are the last 128 characters, U+10FF80 for byte 128 to U+10FFFF for byte 255. The last
 //! two of them are noncharacters, and the others are for private use. Each has four bytes, and

@@ -23,8 +23,8 @@ impl<'g> PartialEq for Group<'g> {
     }
 }
 
-/// Validly named groups: their names and kinds, one text with all hints and descriptions, and where
-/// those of each group are.
+/// Validly named groups: their names and kinds, one text with all hints and descriptions, and the
+/// places of each group's hint and description in that text.
 #[derive(Debug)]
 pub(crate) struct Groups {
     signatures: Signatures,

@@ -20,7 +20,7 @@ mod occurrences;
 mod scan;
 // Which occurrences belong to which group.
 mod index;
-// The result of parsing: copies and comparisons.
+// The result of parsing, and how it is copied and compared.
 pub(crate) mod matches;
 // What matches return for a name.
 mod accessors;

@@ -80,8 +80,8 @@ impl Options {
     }
 }
 
-/// The words that an iterator yields, in order. It reports every failed allocation; std's `collect`
-/// ignores one.
+/// The words that an iterator yields, in order. Unlike std's `collect`, this reports every failed
+/// allocation.
 pub(crate) fn words_from<'a, I: Iterator<Item = &'a str>>(
     alloc: Global,
     args: I,

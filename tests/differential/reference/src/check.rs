@@ -24,8 +24,8 @@ fn answer_beside(lines: &mut Peekable<Lines>) -> String {
     answer
 }
 
-/// Prints each difference and the number of equal answers, and returns whether there are some and
-/// none differ. Skips lines that begin with one of these words.
+/// Prints each difference and the number of equal answers. Returns whether there are answers and
+/// none of them differs. Skips lines that begin with one of these words.
 pub fn check(rows: &str, words: &[String]) -> bool {
     let rows = rows.replace("{Z}", "\u{300}");
     let mut lines = rows.lines().peekable();
