@@ -114,6 +114,8 @@ FIGURES = [
     *(("README.md", rf"`{line}`: ([\d,]+) options, ([\d,]+) ", lambda line=line: [f"{len(part):,}" for part in bench_py.parts(line)])
       for line in ("small", "typical", "long", "files")),
     ("bench/README.md", r"`files`: ([\d,]+) file names", lambda: [f"{len(bench_py.parts('files')[1]):,}"]),
+    ("bench/README.md", r"takes ([\d,]+) instructions for each word, ([\d.]+) times",
+     lambda: [f"{int(cell(INSTRUCTIONS, 'files', 'bindings/rust')) / len(bench_py.parts('files')[1]):.0f}", f"{int(share('files')) / 100:.1f}"]),
     ("bench/README.md", r"`sub60`: ([\d,]+) options", lambda: [str(len(bench_py.parts("sub60")[0]))]),
     ("bench/README.md", r"`many`: ([\d,]+) options", lambda: [str(len(bench_py.parts("many")[0]))]),
     *(("README.md", rf"\n- {name}(?:, .*,)? on (.*)\n", lambda column=column: [ahead(column)])
@@ -334,8 +336,8 @@ def test_definitions_are_in_the_grammar(crate):
     assert_none(missing)
 
 
-# Names of the toolchain, of Rust and of shells.
-OTHERS = """Send Sync unicode-width x86-64-v2 POSIXLY_CORRECT optind IFS BASH_ENV copied-"""
+# Names of the toolchain, of Rust, of glibc and of shells.
+OTHERS = """Send Sync unicode-width x86-64-v2 malloc_consolidate _int_malloc POSIXLY_CORRECT optind IFS BASH_ENV copied-"""
 
 
 @functools.cache
