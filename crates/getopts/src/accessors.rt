@@ -48,7 +48,7 @@ impl Matches {
     /// 0 has one occurrence, with position 1 and the value `x`. The Rust crate has no such method.
     #[inline]
     pub fn occurrences_at(&self, place: usize) -> Occurrences<'_>
-        ensures { result ≡ found_in self.now.groups place }
+        ensures occurrences { result ≡ found_in self.now.groups place }
     {
         self.held.occurrences_at(place)
     }
@@ -76,7 +76,7 @@ impl Matches {
     /// Requires a defined name (see `opt_defined`); the Rust crate panics on others.
     pub fn opt_count(&self, name: &str) -> usize
         requires { IsDefined self.now.groups name.now }
-        ensures { result ≡ length (found_of self.now.groups name.now) }
+        ensures count { result ≡ length (found_of self.now.groups name.now) }
     {
         self.held.occurrences_of(name).len()
     }
@@ -117,7 +117,7 @@ impl Matches {
     /// given. Requires a defined name (see `opt_defined`). Fails only if an allocation fails.
     pub fn opt_strs(&self, alloc: Global, name: &str) -> Result<Vec<String>, AllocError>
         requires { IsDefined self.now.groups name.now }
-        ensures { IfOk result (λ values. map string_bytes values.items
+        ensures values { IfOk result (λ values. map string_bytes values.items
             ≡ values_of (found_of self.now.groups name.now)) }
     {
         self.held.occurrences_of(name).values(alloc)
@@ -151,7 +151,7 @@ impl Matches {
     /// `opt_defined`). Fails only if an allocation fails.
     pub fn opt_str(&self, alloc: Global, name: &str) -> Result<Option<String>, AllocError>
         requires { IsDefined self.now.groups name.now }
-        ensures { IfOk result (λ value. option_map string_bytes value
+        ensures value { IfOk result (λ value. option_map string_bytes value
             ≡ first_value (found_of self.now.groups name.now)) }
     {
         copied(alloc, self.held.occurrences_of(name).first_value())
@@ -169,7 +169,7 @@ impl Matches {
         def: &str,
     ) -> Result<Option<String>, AllocError>
         requires { IsDefined self.now.groups name.now }
-        ensures { IfOk result (λ value. option_map string_bytes value
+        ensures value { IfOk result (λ value. option_map string_bytes value
             ≡ first_value_or (found_of self.now.groups name.now) def.now) }
     {
         copied(alloc, self.held.occurrences_of(name).first_value_or(def))
@@ -183,7 +183,7 @@ impl Matches {
     /// it first.
     pub fn opt_get<T: FromStr>(&self, name: &str) -> Result<Option<T>, T::Err>
         requires { IsDefined self.now.groups name.now }
-        ensures { IsReadAs T.from_str_gives
+        ensures parsed { IsReadAs T.from_str_gives
             (first_value (found_of self.now.groups name.now)) result }
     {
         match self.held.occurrences_of(name).first_value() {
@@ -200,7 +200,7 @@ impl Matches {
     /// crate copies it first.
     pub fn opt_get_default<T: FromStr + Drop>(&self, name: &str, def: T) -> Result<T, T::Err>
         requires { IsDefined self.now.groups name.now }
-        ensures { MatchOption (first_value (found_of self.now.groups name.now))
+        ensures parsed { MatchOption (first_value (found_of self.now.groups name.now))
             (result ≡ Ok def) (λ text. T.from_str_gives text result) }
     {
         match self.held.occurrences_of(name).first_value() {
@@ -215,7 +215,7 @@ impl Matches {
     /// options. The index is that of the parsed command line: later changes to `free` don't affect
     /// it.
     pub fn free_trailing_start(&self) -> Option<usize>
-        ensures { result ≡ self.now.trailing_start }
+        ensures start { result ≡ self.now.trailing_start }
     {
         self.trailing_start
     }
@@ -224,7 +224,7 @@ impl Matches {
     ///
     /// Accepts any names; undefined names count as not given.
     pub fn opts_present(&self, names: &[String]) -> bool
-        ensures { result
+        ensures present { result
             ≡ list_any (λ name. is_present self.now.groups (string_bytes name)) names.now }
     {
         names.iter().any(|name| self.has(name.as_str()))
@@ -236,7 +236,7 @@ impl Matches {
     /// texts, and stops at the first option that was given.
     pub fn opts_present_any(&self, names: &[&str]) -> bool
         requires { AreDefined self.now.groups (texts names.now) }
-        ensures { result ≡ list_any (λ name. is_present self.now.groups name.now) names.now }
+        ensures present { result ≡ list_any (λ name. is_present self.now.groups name.now) names.now }
     {
         names.iter().any(|name| self.has(name))
     }
@@ -261,7 +261,7 @@ impl Matches {
     /// only if an allocation fails.
     pub fn opts_str(&self, alloc: Global, names: &[String]) -> Result<Option<String>, AllocError>
         requires { AreDefined self.now.groups (map string_bytes names.now) }
-        ensures { IfOk result (λ value. option_map string_bytes value
+        ensures value { IfOk result (λ value. option_map string_bytes value
             ≡ first_value_among self.now.groups (map string_bytes names.now)) }
     {
         copied(alloc, self.first_among(names))
@@ -279,7 +279,7 @@ impl Matches {
         names: &[&str],
     ) -> Result<Option<String>, AllocError>
         requires { AreDefined self.now.groups (texts names.now) }
-        ensures { IfOk result (λ value. option_map string_bytes value
+        ensures value { IfOk result (λ value. option_map string_bytes value
             ≡ first_value_among self.now.groups (texts names.now)) }
     {
         copied(alloc, self.first_among(names))

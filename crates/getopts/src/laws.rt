@@ -120,6 +120,6 @@ pub fn equal_input_equal_answers()
 /// The results of the calls are those that functions such as `parse_result` compute. This is a
 /// lemma for proofs, which does nothing.
 pub fn results_are_computed()
-    ensures { (options : Declared) (words : List Text) → MayBeDeclared options.groups
+    ensures results { (options : Declared) (words : List Text) → MayBeDeclared options.groups
         → AreTexts words → HasResults options words }
 {}

@@ -20,7 +20,7 @@ pub(crate) const NO_BYTE: u16 = 256;
 ///
 /// `names_lawful("o", "output")` is true, `names_lawful("", "o")` is false.
 pub fn names_lawful(short: &str, long: &str) -> bool
-    ensures { IsTrue result ↔ AreLawful short.now long.now }
+    ensures lawful { IsTrue result ↔ AreLawful short.now long.now }
 {
     short.len() <= 1 && long.len() != 1 && !(short.is_empty() && long.is_empty())
 }

@@ -220,7 +220,7 @@ impl<'m> Occurrences<'m> {
     /// The number of occurrences.
     #[inline]
     pub fn len(&self) -> usize
-        ensures { result ≡ length self.now }
+        ensures count { result ≡ length self.now }
     {
         self.places.len()
     }
@@ -228,7 +228,7 @@ impl<'m> Occurrences<'m> {
     /// Whether there are no occurrences.
     #[inline]
     pub fn is_empty(&self) -> bool
-        ensures { IsTrue result ↔ (self.now ≡ []) }
+        ensures empty { IsTrue result ↔ (self.now ≡ []) }
     {
         self.len() == 0
     }
@@ -236,7 +236,7 @@ impl<'m> Occurrences<'m> {
     /// Returns the position of an occurrence and its value, if it has one, or `None` past the last.
     #[inline]
     pub fn get(&self, nth: usize) -> Option<(usize, Option<&'m str>)>
-        ensures { option_map held_found result ≡ slice_get self.now nth }
+        ensures occurrence { option_map held_found result ≡ slice_get self.now nth }
     {
         if nth >= self.len() {
             return None;

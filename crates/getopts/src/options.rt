@@ -51,7 +51,7 @@ impl Options {
     ///
     /// Allocates nothing. Methods that add a group use `alloc`, which the Rust crate doesn't take.
     pub fn new(alloc: Global) -> Options
-        ensures { result ≡ record {
+        ensures empty { result ≡ record {
           groups = [];
           style = ParsingStyle.FloatingFrees;
           long_only = false;

@@ -30,7 +30,7 @@ fn is_text(word: &str)
 
 /// A lemma for proofs, which compiles to nothing: each word is UTF-8, as its type says.
 pub fn are_texts<S: AsStr>(words: &[S])
-    ensures { AreTexts (map S.text words.now) }
+    ensures texts { AreTexts (map S.text words.now) }
 {
     for word in words {
         is_text(word.as_str());

@@ -159,7 +159,7 @@ impl Options {
     /// Returns the rows of the usage text as separate texts, as `usage_with_format` passes them to
     /// its closure. Fails only if an allocation fails. The Rust crate has no such method.
     pub fn usage_rows(&self, alloc: Global) -> Result<Vec<String>, AllocError>
-        ensures { IfOk result (λ rows.
+        ensures rows { IfOk result (λ rows.
             IsTheOnly (AreUsageRows self.now) (map string_bytes rows.items)) }
     {
         let layout = self.layout();

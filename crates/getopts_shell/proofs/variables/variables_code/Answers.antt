@@ -17,7 +17,7 @@ loop-place-preserved c =
     let more =
     given_more place rows held c.index-rows-place.result c.occurrences_at.result
     c.loop-place-test.true
-    c.index-rows-place.is c.occurrences_at.ensures in
+    c.index-rows-place.is c.occurrences_at.ensures.occurrences in
     let texts = λ (option : Given). AreTextValues option.entry.kind
     (holds_all option.entry.often) option.found in (
       c.in_ok-push_option.ensures.text

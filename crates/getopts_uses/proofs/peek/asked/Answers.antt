@@ -13,6 +13,6 @@ returns-clause-asked g c =
     let none : (gives matches (codes "help") || gives matches (codes "version")) ≡ false =
     ap (λ version. gives matches (codes "help") || version)
     (sym (or-false (gives matches (codes "version"))))
-    ∙ sym c.opts_present_any.ensures ∙ c.if-opts_present_any.false in
+    ∙ sym c.opts_present_any.ensures.present ∙ c.if-opts_present_any.false in
     let asked : asked_result words ≡ parse_result peek_options words = rw (read, none) refl in
     rw asked (rw c.in_ok-options.ensures at c.parse_words.ensures.result)

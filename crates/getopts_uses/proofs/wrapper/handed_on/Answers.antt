@@ -13,6 +13,6 @@ returns-in-Some-clause-handed g c =
     (record {
       matches = c.in_ok-matches.matches;
       accepted = rw c.in_ok-options.ensures at c.in_ok-matches.ensures.accepted;
-      after_stop = rw (← c.in-Some.ensures)
-          (rw (← c.in-Some.ensures) at c.in_ok-matches.ensures.trailing, refl);
+      after_stop = rw (← c.in-Some.ensures.start)
+          (rw (← c.in-Some.ensures.start) at c.in_ok-matches.ensures.trailing, refl);
     })

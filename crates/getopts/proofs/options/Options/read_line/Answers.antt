@@ -15,7 +15,7 @@ scan-requires g c = record {
       names-signatures_of c.args.self.now.groups,
     ) at c.in_ok-table.ensures;
   };
-  texts = c.are_texts.ensures;
+  texts = c.are_texts.ensures.texts;
 }
 
 pub returns-in_err-line-clause-refused : goal.returns-in_err-line-clause-refused
@@ -24,7 +24,7 @@ returns-in_err-line-clause-refused g c =
     c.from_residual-in_err-line.ensures.1 in
     rw (left.1, left.2)
     (Tells-weaker c.in_err-line.field-0.0 _ _ c.in_err-line.ensures.err
-    (HasNoReading-fault _ c.signatures-signatures.ensures.declared _ c.are_texts.ensures))
+    (HasNoReading-fault _ c.signatures-signatures.ensures.declared _ c.are_texts.ensures.texts))
 
 pub returns-clause-read : goal.returns-clause-read
 returns-clause-read g c = record {
@@ -39,16 +39,16 @@ returns-clause-read g c = record {
 
 pub returns-in_err-table-clause-results : goal.returns-in_err-table-clause-results
 returns-in_err-table-clause-results g c =
-    HasResults-declared _ c.signatures-signatures.ensures.declared _ c.are_texts.ensures
+    HasResults-declared _ c.signatures-signatures.ensures.declared _ c.are_texts.ensures.texts
 
 pub returns-in_err-line-clause-results : goal.returns-in_err-line-clause-results
 returns-in_err-line-clause-results g c =
-    HasResults-declared _ c.signatures-signatures.ensures.declared _ c.are_texts.ensures
+    HasResults-declared _ c.signatures-signatures.ensures.declared _ c.are_texts.ensures.texts
 
 pub returns-in_err-index-clause-results : goal.returns-in_err-index-clause-results
 returns-in_err-index-clause-results g c =
-    HasResults-declared _ c.signatures-signatures.ensures.declared _ c.are_texts.ensures
+    HasResults-declared _ c.signatures-signatures.ensures.declared _ c.are_texts.ensures.texts
 
 pub returns-clause-results : goal.returns-clause-results
 returns-clause-results g c =
-    HasResults-declared _ c.signatures-signatures.ensures.declared _ c.are_texts.ensures
+    HasResults-declared _ c.signatures-signatures.ensures.declared _ c.are_texts.ensures.texts

@@ -36,4 +36,4 @@ pub returns : goal.returns
 returns c =
     let all : length c.args.self.now.groups ≤ c.loop-place.place =
     omega (arith, ap (λ (groups : List Group). length groups) c.groups-groups.ensures) in
-    rows_all c.args.self.now c.loop-place.place _ all c.loop-place.invariant
+    record { rows = rows_all c.args.self.now c.loop-place.place _ all c.loop-place.invariant }

@@ -8,7 +8,7 @@ pub returns : goal.returns
 returns g c = record {
   called = on_ok c.formatter.result (
     map string_bytes (into_iter_items c.into_iter-rows.result),
-    rw c.into_iter-rows.ensures.rest c.in_ok-usage_rows.ensures,
+    rw c.into_iter-rows.ensures.rest c.in_ok-usage_rows.ensures.rows,
     search rules,
   );
 }
