@@ -232,9 +232,8 @@ impl<'o> Scanner<'o> {
         if !byte.is_ascii() {
             return None;
         }
-        let signatures = self.options.signatures();
-        let place = self.table.resolve_byte(signatures, byte)?;
-        let kind = signatures.record(place).kinds.kind;
+        let place = self.table.resolve_byte(byte)?;
+        let kind = self.options.signatures().record(place).kinds.kind;
         Some(Named { place, kind })
     }
 

@@ -1,9 +1,10 @@
 -- The table finds what a byte resolves to; a byte that isn't ASCII names no option.
-use Rattle.std.proofs.Common.{◌≤◌, ◌∷◌, [], sym, ap, ◌∙◌, refl, arith}
+use Rattle.std.proofs.Common.{◌≤◌, ◌∷◌, [], List, sym, ap, ◌∙◌, refl, arith}
 use Rattle.std.proofs.lemmas.Grind.{common_steps}
 use Rattle.std.proofs.lemmas.List.{length-map}
 use Rattle.std.specs.Option.{option_map}
 use Rattle.getopts.specs.Held.Groups.{names_in}
+use Rattle.getopts.specs.Names.{Names, resolution}
 use Rattle.getopts.specs.Options.{Signature}
 use Rattle.getopts.specs.declared.groups.Kinds.{Kinds}
 use Rattle.getopts.proofs.Held.Groups.{names-signatures_of, kinds-signatures_of, kind_of-kinds}
@@ -16,32 +17,29 @@ returns-then-not-is_ascii-clause-option c =
     wide_unknown c.args.self.now.options.now c.requires.declared c.args.byte wide
 
 pub resolve_byte-requires : goal.resolve_byte-requires
-resolve_byte-requires c = rw (
-  c.signatures-signatures.ensures.signatures,
-  names-signatures_of c.args.self.now.options.now.groups,
-) c.requires.table
+resolve_byte-requires c = c.requires.table.are_letters.in_order
 
 pub returns-in_err-place-clause-option : goal.returns-in_err-place-clause-option
 returns-in_err-place-clause-option c =
-    let none = rw (
-      c.signatures-signatures.ensures.signatures,
-      names-signatures_of c.args.self.now.options.now.groups,
-    ) at c.in_err-place.ensures in
+    let none = c.in_err-place.ensures ∙ c.requires.table.are_letters.finds c.args.byte in
     rw (c.from_residual.ensures, ← none) refl
 
 pub record-requires : goal.record-requires
 record-requires c =
-    let signatures = c.signatures-signatures.result.now in
+    let signatures = c.signatures.result.now in
+    let there = c.in_ok-place.ensures ∙ c.requires.table.are_letters.finds c.args.byte
+    ∙ ap (λ (names : List Names). resolution names (c.args.byte ∷ []))
+    (sym (names-signatures_of c.args.self.now.options.now.groups)
+    ∙ ap names_in (sym c.signatures.ensures.signatures)) in
     let within = resolution_within (names_in signatures) (c.args.byte ∷ []) c.in_ok-place.place
-    (sym c.in_ok-place.ensures) in
+    (sym there) in
     omega (arith, within, length-map signatures (λ (s : Signature). s.names))
 
 pub returns-clause-option : goal.returns-clause-option
 returns-clause-option c =
     let groups = c.args.self.now.options.now.groups in
-    let there = rw (c.signatures-signatures.ensures.signatures, names-signatures_of groups) at
-    c.in_ok-place.ensures in
-    let kinds = (rw c.signatures-signatures.ensures.signatures at c.record.ensures.kinds)
+    let there = c.in_ok-place.ensures ∙ c.requires.table.are_letters.finds c.args.byte in
+    let kinds = (rw c.signatures.ensures.signatures at c.record.ensures.kinds)
     ∙ sym (kinds-signatures_of groups c.in_ok-place.place) in
     record {
       place = sym there;
