@@ -25,6 +25,15 @@ def test_calls_of_the_library(vectors, failing_malloc):
     assert fail_each_allocation(failing_malloc, [vectors, rows], (done.stdout, 3), marks=True) > 600
 
 
+def test_long_word(vectors, failing_malloc, tmp_path):
+    """100,000 options in one word. Lists grow while the word is read, and `words` reports out of memory for each failed
+    allocation: the status is 3."""
+    rows = tmp_path / "word.rows"
+    rows.write_text(f"case\tlong word\noptflagmulti\tv\t\td\n! words\t-{'v' * 100_000}\n> accepted\t-\n")
+    done = subprocess.run([vectors, rows], stdout=subprocess.PIPE, check=True)
+    assert fail_each_allocation(failing_malloc, [vectors, rows], (done.stdout, 3), marks=True) > 40
+
+
 @pytest.mark.parametrize("line", LINES[:4])
 def test_getopts_show(show, failing_malloc, line):
     assert fail_each_allocation(failing_malloc, [show, *line.split()])
