@@ -3,14 +3,16 @@
 # usage: test.sh [--quick] [--no-install] [CRATE]
 #        test.sh [--quick] [--no-install] -k NAME [FLAG ..]
 #
-# As root, it first installs the packages of tests/packages.txt that are missing. If there is no pytest, pip installs it
-# into tests/out/venv. --no-install leaves both out.
+# As root, it first installs the packages of tests/packages.txt that are missing, and unpacks a newer Rust if Debian 12 has
+# only rustc 1.63. If there is no pytest, pip installs it. Both are put into ~/.cache/proved-getopts, since `rt ci` refuses
+# a repository that contains links. --no-install leaves all this out.
 #
 # CRATE is a folder with the Rust crate getopts 0.2.24, to compare with. --quick proves nothing: programs run unproved,
 # tests of built programs run only if these exist, other targets are left out, and there are fewer random cases. Without
 # rt, --quick leaves out the tests that need it. -k runs only the tests that match NAME, and accepts pytest's flags.
 set -uo pipefail
-start=$SECONDS quick=() install=1 own=tests/out/venv
+start=$SECONDS quick=() install=1 absent=tests/out/absent cache=${XDG_CACHE_HOME:-${HOME:-/tmp}/.cache}/proved-getopts
+own=$cache/venv rust=$cache/rust
 for flag; do case $flag in --quick) quick=(--quick) ;; --no-install) install='' ;; *) break ;; esac; shift; done
 stop() { echo "test.sh: $1" >&2; exit 2; }
 [ ! -d "${1:-}" ] || set -- "$(cd "$1" && pwd)"
@@ -20,24 +22,52 @@ command -v rt >/dev/null || [ ${#quick[@]} = 1 ] || [ "${1:-}" = -k ] ||
 [ $# = 0 ] || [ "$1" = -k ] || [ -f "$1/Cargo.toml" ] ||
     stop "$1 doesn't contain the crate getopts (usage: test.sh [--quick] [--no-install] [CRATE])"
 
-# The packages of tests/packages.txt that aren't installed.
+# The packages of tests/packages.txt that aren't installed, except those that this release doesn't have.
 lacking() {
-    dpkg-query -W -f '${db:Status-Status} ${Package}\n' | sed -n 's/^installed //p' |
-        grep -vxFf - <(sed 's/#.*//' tests/packages.txt | xargs -n 1)
+    { cat $absent 2>/dev/null; dpkg-query -W -f '${db:Status-Status} ${Package}\n' | sed -n 's/^installed //p'; } |
+        grep -vxFf - <(sed 's/#.*//; /^unpack:/d' tests/packages.txt | xargs -n 1)
+}
+# Installs those packages. $absent stores the ones that the release doesn't have, so that later runs don't look again.
+install_packages() {
+    local known
+    mkdir -p tests/out
+    apt-get -o APT::Update::Error-Mode=any update && known=1
+    apt-cache pkgnames | grep -xFf <(lacking) |
+        DEBIAN_FRONTEND=noninteractive xargs -r apt-get install -y --no-install-recommends
+    [ -z "${known:-}" ] || lacking | grep -vxFf <(apt-cache pkgnames) >>$absent
+}
+# Whether the first rustc in $PATH is older than this version 1.N, or missing.
+rust_older() { [ "$(rustc --version 2>/dev/null | sed -n 's/^rustc 1\.\([0-9]*\).*/\1/p' | grep . || echo 0)" -lt "$1" ]; }
+# Unpacks Rust from Debian 12 itself: the cargo of its security updates is newer, but fails to clone git repositories.
+unpack_rust() {
+    local packages package part=$rust.part
+    packages=$(sed -n 's/^unpack: *//p' tests/packages.txt)
+    rm -rf "$rust" "$part" && mkdir -p "$part/partial"
+    # shellcheck disable=SC2086
+    apt-get install -y -t bookworm --no-install-recommends --download-only -o "Dir::Cache::Archives=$part" $packages &&
+        for package in "$part"/*.deb; do dpkg -x "$package" "$part" && rm "$package" || return; done && mv "$part" "$rust"
 }
 find_pytest() {
-    for python in python3 /usr/bin/python3 $own/bin/python; do
+    for python in python3 /usr/bin/python3 "$own/bin/python"; do
         "$python" -c 'import pytest, pytest_timeout, xdist' 2>/dev/null && return
     done
 }
-if [ "$install" ] && [ "$(id -u)" = 0 ] && lacking >/dev/null 2>&1; then
-    echo "test.sh: installing what is missing of tests/packages.txt (--no-install leaves that out)"
-    { apt-get update && apt-cache pkgnames | grep -xFf <(lacking) |
-        DEBIAN_FRONTEND=noninteractive xargs apt-get install -y --no-install-recommends
-    } 2>&1 | sed -n 's/^E: /test.sh: apt-get: /p' | tail -1
+if [ "$install" ] && [ "$(id -u)" = 0 ] && command -v apt-get >/dev/null; then
+    if lacking >/dev/null 2>&1; then
+        echo "test.sh: installing what is missing of tests/packages.txt (--no-install leaves that out)"
+        install_packages 2>&1 | sed -n 's/^E: /test.sh: apt-get: /p' | tail -1
+    fi
+    if rust_older 85 && [ ! -x "$rust/usr/bin/rustc" ] && grep -qs '^VERSION_CODENAME=bookworm' /etc/os-release; then
+        echo "test.sh: unpacking Rust 1.85 into $rust (--no-install leaves that out)"
+        { unpack_rust || { apt-get update && unpack_rust; }; } 2>&1 | sed -n 's/^E: /test.sh: apt-get: /p' | tail -1
+    fi
+fi
+if rust_older 85 && [ -x "$rust/usr/bin/rustc" ]; then
+    libraries=$rust/usr/lib/$(uname -m)-linux-gnu:$rust/lib/$(uname -m)-linux-gnu
+    export PATH=$rust/usr/bin:$PATH LD_LIBRARY_PATH=$libraries${LD_LIBRARY_PATH:+:$LD_LIBRARY_PATH}
 fi
 find_pytest || [ -z "$install" ] ||
-    { python3 -m venv $own && $own/bin/pip install pytest pytest-xdist pytest-timeout; } >/dev/null 2>&1
+    { python3 -m venv "$own" && "$own/bin/pip" install pytest pytest-xdist pytest-timeout; } >/dev/null 2>&1
 find_pytest || stop "pytest not found: apt-get install python3-pytest python3-pytest-xdist python3-pytest-timeout"
 command -v rt >/dev/null || echo "test.sh: rt not found: tests that need it are left out"
 [ "${1:-}" != -k ] || exec "$python" -m pytest tests "${quick[@]}" "$@"
@@ -56,9 +86,8 @@ if [ ${#quick[@]} -gt 0 ]; then
     ended tests "${PIPESTATUS[0]}"
 else
     export CI_LOG=$room/ci
-    # `rt ci` would restore libraries that are there already. Tests store the checksums noted here with those it proves.
+    # Otherwise `rt ci` would end by restoring older libraries, and bindings/build.py would use them.
     rm -rf crates/*/out/rlib
-    PYTHONPATH=tests "$python" -c "import conftest; conftest.note_sums('$CI_LOG')"
     touch "$CI_LOG"
     tests -n 3 -m 'not built' >"$room/said.plain" 2>&1 & plain=$!
     tests -n 3 -m built >"$room/said.built" 2>&1 & built=$!

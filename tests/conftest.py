@@ -131,26 +131,13 @@ def script(path, text):
     return path
 
 
-def note_sums(log):
-    """Stores the checksum of each library's sources: `rt check` needs it, and `rt ci` doesn't write it."""
-    sys.path.insert(0, str(kit() / "bin"))
-    import rtlib
-    for crate in rtlib.crates_below(str(ROOT)):
-        Path(f"{log}.{crate.name}").write_text(crate.stamp())
-
-
-def wait_for(*crates):
-    """If test.sh is running `rt ci`, waits until these crates are proved or restored. Stores its checksum with each
-    library that `rt ci` built, so that no later check proves the library again."""
+def wait_for(crate):
+    """If test.sh is running `rt ci`, waits until this crate is proved or restored."""
     log = Path(os.environ.get("CI_LOG", "/nowhere"))
-    for crate in crates:
-        while log.exists() and not re.search(rf"^rt: {crate} (proved$|is kept: )", log.read_text(errors="replace"), re.M):
-            if Path(f"{log}.ended").exists():
-                pytest.fail(f"{crate} wasn't proved")
-            time.sleep(1)
-        noted, library = Path(f"{log}.{crate}"), ROOT / f"crates/{crate}/out/rlib"
-        if noted.exists() and library.exists() and library.stat().st_mtime > noted.stat().st_mtime:
-            shutil.copy(noted, library / "stamp")
+    while log.exists() and not re.search(rf"^rt: {crate} (proved$|is kept: )", log.read_text(errors="replace"), re.M):
+        if Path(f"{log}.ended").exists():
+            pytest.fail(f"{crate} wasn't proved")
+        time.sleep(1)
 
 
 def program(crate):

@@ -1,6 +1,7 @@
 #!/usr/bin/env bash
 # Runs a command in a clone of the current commit, on a bare Debian 12 with only Python, git and Rattle's toolchain, as on
-# a new user's machine: this shows what a page or a script forgets to install. It needs root, debootstrap and rt.
+# a new user's machine: this shows what a page or a script forgets to install. It needs root, debootstrap and rt. Packages
+# come from the mirror of this machine's apt, or else from deb.debian.org.
 # usage: tests/fresh.sh [--with PACKAGE,..] [COMMAND]
 #   tests/fresh.sh                                   README's first command, then 'bash test.sh --quick'
 #   tests/fresh.sh --with gcc,libc6-dev,cargo,python3-pytest,python3-pytest-xdist,python3-pytest-timeout \
@@ -20,8 +21,15 @@ trap 'rm -rf "$root"' EXIT
 command=${1:-$(sed -n '/^ *(cd .*rt try/{s/^ *//p;q;}' README.md) && bash test.sh --quick}
 if [ ! -f "$base" ]; then
     mkdir -p tests/out
-    debootstrap --variant=minbase --include="python3,ca-certificates,git$with" bookworm "$root" >"$base.log" 2>&1 ||
+    # One URL per line, in either format of apt's sources.
+    urls=$(cat /etc/apt/sources.list /etc/apt/sources.list.d/*.list /etc/apt/sources.list.d/*.sources 2>/dev/null |
+        sed -nE 's,^(URIs:|deb( \[[^]]*\])?) *(http[^ ]*).*,\3,p') || :
+    mirror=$(grep -m1 '/debian/*$' <<<"$urls" || echo http://deb.debian.org/debian)
+    security=$(grep -m1 'debian-security/*$' <<<"$urls" || echo http://deb.debian.org/debian-security)
+    debootstrap --variant=minbase --include="python3,ca-certificates,git$with" bookworm "$root" "$mirror" >"$base.log" 2>&1 ||
         stop "debootstrap failed: see $base.log"
+    printf 'deb %s main\n' "$mirror bookworm" "$mirror bookworm-updates" "$security bookworm-security" \
+        >"$root/etc/apt/sources.list"
     cp -r /etc/apt/apt.conf.d "$root/etc/apt/"
     tar -C "$root" -cf "$base.part" . && mv "$base.part" "$base"
 else

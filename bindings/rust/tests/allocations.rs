@@ -240,7 +240,7 @@ fn failed_declarations_leave_options_unchanged() {
         assert_eq!(add(&mut after), Ok(()));
         let failures = fail_each(
             || before.try_clone().unwrap(),
-            |o| add(o),
+            add,
             |seen, failed| {
                 *seen
                     == if failed { before.try_clone().unwrap() } else { after.try_clone().unwrap() }
