@@ -13,8 +13,9 @@ pytestmark = [pytest.mark.quick, pytest.mark.rt]
 
 
 def rt_try(crate, *words, status=0, root=ROOT):
-    """The output of `rt try` in a crate."""
-    return run("nice", "rt", "try", *words, status=status, cwd=root / "crates" / crate, stdin=subprocess.DEVNULL)
+    """The output of `rt try` in a crate. On a busy machine, the default limit of 60 seconds is too short."""
+    command = ["nice", "rt", "try", "--seconds", "300", *words]
+    return run(*command, status=status, cwd=root / "crates" / crate, stdin=subprocess.DEVNULL)
 
 
 @pytest.mark.parametrize("crate", PROGRAMS)
