@@ -98,6 +98,7 @@ AHEAD = {"Rust crate": "the Rust crate", "lexopt": "`lexopt`", "pico-args": "`pi
 # Figures outside the tables of jobs: the page, a pattern whose groups are the figures, and the expected values.
 FIGURES = [
     ("README.md", r"\| ([\d,]+) mutants, written by hand", lambda: [str(len(mutants))]),
+    ("docs/PROOFS.md", r"the ([\d,]+) mutants", lambda: [str(len(mutants))]),
     ("README.md", r"toolchain \(checksum of its logic: `(\w+)`", logic),
     ("README.md", r"`\(cd crates/getopts && rt lib\)` .* \| ([^|]*) \| ([^|]*) \|", lambda: minutes("rt lib")),
     ("README.md", r"`bash test.sh` .* \| ([^|]*) \| ([^|]*) \|", lambda: minutes("bash test.sh")),

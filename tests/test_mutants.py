@@ -1,0 +1,59 @@
+"""Mutants: each applies to the sources, and each public function of getopts has one. `rt ci` tries them."""
+
+import re
+
+from conftest import ROOT, tracked
+
+MUTANTS = [ROOT / name for name in tracked() if re.match(r"crates/\w+/must-fail/.*\.edit$", name)]
+# Public functions that can't return anything else.
+ONLY_RESULT = {"Fail::from"}
+
+
+def changes(mutant):
+    """Each file that a mutant changes, with each old text and its replacement."""
+    name = None
+    for line in mutant.read_text(encoding="utf-8").split("\n"):
+        kind, _, text = line.partition(":")
+        if kind == "file":
+            name = text.strip()
+        elif kind == "old":
+            old = text[1:]
+        elif kind == "new":
+            yield mutant.parents[1] / name, old, text[1:]
+
+
+def test_mutants_apply():
+    failures = []
+    for mutant in MUTANTS:
+        texts = {}
+        for path, old, new in changes(mutant):
+            text = texts.get(path) or path.read_text(encoding="utf-8")
+            if text.count(old) != 1:
+                failures.append(f"{mutant.name}: found {text.count(old)} times in {path.name}, not once: {old}")
+            texts[path] = text.replace(old, new)
+    assert MUTANTS and not failures, "\n".join(failures)
+
+
+def public_functions(text, types):
+    """The names of public functions that return something, with the start and the end of each."""
+    for it in re.finditer(r"^( *)(pub )?fn (\w+)(.*?)^\1\{?\}$", text, re.M | re.S):
+        impl = re.findall(r"^impl.*", text[: it.start()], re.M)[-1] if it[1] else ""
+        of = re.search(r"^impl(?:<.*?>)? (?:.* for )?(\w+)", impl)
+        if (it[2] or " for " in impl and of[1] in types) and "->" in re.split(r"\n *(?:ensures|requires|\{)", it[4])[0]:
+            yield f"{of[1]}::{it[3]}" if of else it[3], it.start(), it.end()
+
+
+def test_public_functions_have_mutants():
+    crate = ROOT / "crates/getopts"
+    uses = re.findall(r"^pub use.*", (crate / "src/lib.rt").read_text(encoding="utf-8"), re.M)
+    types = set(re.findall(r"\b[A-Z]\w+", "".join(uses)))
+    olds = [(path, old) for mutant in MUTANTS for path, old, _ in changes(mutant)]
+    names, without = [], []
+    for path in sorted(crate.glob("src/*.rt")):
+        text = path.read_text(encoding="utf-8")
+        places = [text.find(old) for of, old in olds if of == path]
+        for name, start, end in public_functions(text, types):
+            names.append(name)
+            if not any(start <= place < end for place in places) and name not in ONLY_RESULT:
+                without.append(name)
+    assert len(names) > 50 and not without, f"no mutant of their own: {without}"
