@@ -33,7 +33,6 @@ impl Matches {
     /// Names that resolve to the same group give the same index. Returns `None` if `opt_defined` is
     /// false. After `optopt("o",..)` and `optflag("v",..)`, `v` gives `Some(1)`. The Rust crate has
     /// no such method.
-    #[inline]
     pub fn opt_place(&self, name: &str) -> Option<usize>
         ensures place { result ≡ place_of self.now.groups name.now }
         ensures lawful { AreHeldLawfully self.now.groups }

@@ -11,13 +11,10 @@ ghost use Rattle.getopts.specs.Canon.{main_at};
 ghost use Rattle.getopts.specs.Held.Groups.{AreLawfulSignatures};
 
 use crate::groups::{
-    Ends, FIRST_GROUPS, Kinds, Signature, Signatures, first_at, push_two, second_at,
+    Ends, FIRST_GROUPS, FIRST_TEXT, Kinds, Signature, Signatures, first_at, push_two, second_at,
 };
 use std::alloc::{AllocError, Global};
 use std::marker::Model;
-
-/// Initial capacity for hints and descriptions, in bytes.
-const FIRST_HELP: usize = 1024;
 
 /// A group with its hint and description, borrowed.
 #[derive(Clone, Copy)]
@@ -138,7 +135,7 @@ impl Groups {
         let bytes = hint.len().saturating_add(desc.len());
         if self.ends.is_empty() {
             self.ends.reserve(FIRST_GROUPS)?;
-            self.help.reserve(bytes.max(FIRST_HELP))?;
+            self.help.reserve(bytes.max(FIRST_TEXT))?;
         } else {
             self.ends.reserve(1)?;
             self.help.reserve(bytes)?;

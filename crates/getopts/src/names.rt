@@ -51,6 +51,7 @@ impl<'g> Names<'g> {
 /// Packs the first seven bytes of a name into a key, and its length (8 if longer) into the lowest
 /// byte. So keys sort like the names' bytes, and names under eight bytes are equal if their keys
 /// are.
+// Without `inline`, the job `asked-front` takes 6 % more instructions.
 #[inline]
 pub(crate) fn key_of(name: &[u8]) -> u64
     ensures { result ≡ key_of name.now }
@@ -65,7 +66,6 @@ pub(crate) fn key_of(name: &[u8]) -> u64
 }
 
 /// The key of what follows the first seven bytes of a name.
-#[inline]
 pub(crate) fn rest_key(name: &[u8]) -> u64
     ensures { result ≡ key_of (drop 7 name.now) }
 {
@@ -104,7 +104,6 @@ fn short_key(bytes: &[u8]) -> u64
 }
 
 /// The byte of a short name, or `NO_BYTE` if it is empty.
-#[inline(always)]
 pub(crate) fn short_byte(short: &str) -> u16
     ensures { result ≡ short_code short.now }
 {

@@ -45,16 +45,16 @@ pub(crate) struct Occurrence<'l> {
     pub value: Option<&'l str>,
 }
 
-/// When the first value is stored, this many bytes are reserved for each option that there is room
-/// for, so that short values fit without reallocating.
-const VALUE_BYTES: usize = 8;
-/// The most bytes that `VALUE_BYTES` reserves.
-const MOST_BYTES: usize = 2048;
+/// Bytes reserved for all values when the first one is stored. If none were reserved, the job
+/// `typical` would take 3.5 % more instructions.
+const FIRST_VALUES: usize = 64;
 
-/// Appends a value, and returns where it is. The first value that isn't empty reserves memory for
-/// `room` values, at most `MOST_BYTES`.
+/// Appends a value, and returns where it is. The first value that isn't empty reserves
+/// `FIRST_VALUES` bytes.
+// Without `inline` here and at `LineOccurrences::at` and `push`, the job `long` takes 9.5 % more
+// instructions.
 #[inline(always)]
-fn push_value(values: &mut String, value: &str, room: usize) -> Result<Span, AllocError>
+fn push_value(values: &mut String, value: &str) -> Result<Span, AllocError>
     ensures ok { IfOk result (λ span.
         (string_bytes values.new ≡ string_bytes values.old ++ value.now)
         × StandsAt (string_bytes values.new) span value.now) }
@@ -63,7 +63,7 @@ fn push_value(values: &mut String, value: &str, room: usize) -> Result<Span, All
 {
     let start = values.len();
     if start == 0 && !value.is_empty() {
-        values.reserve(room.saturating_mul(VALUE_BYTES).min(MOST_BYTES))?;
+        values.reserve(FIRST_VALUES)?;
     }
     values.push_str(value)?;
     Ok(Span {
@@ -156,9 +156,8 @@ impl LineOccurrences {
             (record { group = group; value = option_copied value.entry }) ∷ []) }
     {
         self.records.reserve(1)?;
-        let room = self.records.capacity();
         let value = match value {
-            Some(text) => push_value(&mut self.values, text, room)?,
+            Some(text) => push_value(&mut self.values, text)?,
             None => NO_TEXT,
         };
         self.records.push_reserved(OccurrenceRecord {
@@ -209,7 +208,6 @@ impl<'m> Model for Occurrences<'m> {
 
 impl<'m> Occurrences<'m> {
     /// The occurrences at these places of a command line.
-    #[inline]
     pub(crate) fn of(found: &'m LineOccurrences, places: &'m [usize]) -> Occurrences<'m>
         requires { ArePlacesOf found.now places.now }
         ensures { result ≡ founds_at found.now places.now }
@@ -218,7 +216,6 @@ impl<'m> Occurrences<'m> {
     }
 
     /// The number of occurrences.
-    #[inline]
     pub fn len(&self) -> usize
         ensures count { result ≡ length self.now }
     {
@@ -226,7 +223,6 @@ impl<'m> Occurrences<'m> {
     }
 
     /// Whether there are no occurrences.
-    #[inline]
     pub fn is_empty(&self) -> bool
         ensures empty { IsTrue result ↔ (self.now ≡ []) }
     {
@@ -234,6 +230,7 @@ impl<'m> Occurrences<'m> {
     }
 
     /// Returns the position of an occurrence and its value, if it has one, or `None` past the last.
+    // Without `inline` here and at `at`, the job `equal` takes 80 % more instructions.
     #[inline]
     pub fn get(&self, nth: usize) -> Option<(usize, Option<&'m str>)>
         ensures occurrence { option_map held_found result ≡ slice_get self.now nth }
@@ -306,6 +303,7 @@ impl<'m> Occurrences<'m> {
     }
 
     /// Whether both have the same positions and values, in the same order.
+    // Without `inline`, the job `equal` takes 20 % more instructions.
     #[inline]
     pub(crate) fn same(&self, other: &Occurrences<'_>) -> bool
         ensures { result ≡ pointwise same_found self.now other.now }
@@ -329,6 +327,7 @@ impl<'m> IntoIterator for Occurrences<'m> {
 
     ghost into_iter_gives = { λ occurrences iterator. iterator ≡ occurrences };
 
+    // Without `inline` here and at `next`, the job `long` takes 5 % more instructions.
     #[inline]
     fn into_iter(self) -> OccurrencesIter<'m> {
         OccurrencesIter {

@@ -110,6 +110,7 @@ impl Options {
     }
 
     /// Reads a command line, and checks its counts.
+    // Without `inline` here and at `read_line`, the job `none` takes 6.5 % more instructions.
     #[inline(always)]
     pub(crate) fn accepted_line<S: AsStr>(
         &self,
@@ -166,6 +167,7 @@ pub(crate) fn words_from<'a, I: Iterator<Item = &'a str> + Drop>(
 }
 
 /// Checks how often each option of a command line occurs, in order of declaration.
+// Without `inline`, the job `none` takes 1.5 % more instructions.
 #[inline(always)]
 fn check_counts(alloc: Global, signatures: &Signatures, read: &ReadLine) -> Result<(), Fail>
     requires { IsOfSignatures signatures.now read.now }
@@ -184,7 +186,6 @@ fn check_counts(alloc: Global, signatures: &Signatures, read: &ReadLine) -> Resu
 }
 
 /// Whether an option may occur this often.
-#[inline(always)]
 fn fits_count(occurrence: Occur, count: usize) -> bool
     ensures { IsTrue result ↔ FitsCount occurrence count }
 {

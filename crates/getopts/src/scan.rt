@@ -19,8 +19,9 @@ use std::alloc::{AllocError, Global};
 use std::convert::AsStr;
 
 /// The most words, options and free words for which memory is reserved without looking at the
-/// words: an iterator may yield fewer words than it promises. For more words, `reserve_many` counts
-/// the dashed ones first.
+/// words: an iterator may yield fewer words than it promises. For more words, `reserve` counts
+/// the dashed ones first. If it counted those of every line, the job `small` would take 2.6 % more
+/// instructions.
 pub(crate) const FIRST_ROOM: usize = 32;
 
 /// A lemma for proofs, which compiles to nothing: a `&str` is UTF-8.
@@ -60,9 +61,9 @@ impl Line {
         })
     }
 
-    /// Makes room for the results of more than `FIRST_ROOM` words. For fewer words, `with_capacity`
-    /// made room.
-    #[inline(always)]
+    /// Makes room for the results of more than `FIRST_ROOM` words: for as many options as there are
+    /// dashed words, and for as many free words as there are others. For fewer words,
+    /// `with_capacity` made room.
     fn reserve<S: AsStr>(&mut self, words: &[S], stops: bool) -> Result<(), AllocError>
         requires { IsEmptyLine self.old }
         ensures { OnOk result (IsEmptyLine self.new) }
@@ -70,17 +71,6 @@ impl Line {
         if words.len() <= FIRST_ROOM {
             return Ok(());
         }
-        self.reserve_many(words, stops)
-    }
-
-    /// Makes room for as many options as there are dashed words, and for as many free words as
-    /// there are others.
-    // Inlining it would slow down the scan.
-    #[inline(never)]
-    fn reserve_many<S: AsStr>(&mut self, words: &[S], stops: bool) -> Result<(), AllocError>
-        requires { IsEmptyLine self.old }
-        ensures { OnOk result (IsEmptyLine self.new) }
-    {
         let dashed = dashed_words(words, stops);
         self.found.reserve(dashed)?;
         self.free.reserve_exact(words.len().saturating_sub(dashed))
@@ -288,7 +278,6 @@ impl<'o> Scanner<'o> {
     }
 
     /// The option that a byte in a cluster names. A byte that isn't ASCII is never a name.
-    #[inline(always)]
     fn option_at(&self, byte: u8) -> Option<Named>
         requires { IsLawfulScanner self.now }
         ensures option { let grammar = scanner_grammar self.now in

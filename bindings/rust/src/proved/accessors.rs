@@ -23,7 +23,6 @@ impl Matches {
     /// Names that resolve to the same group give the same index. Returns `None` if `opt_defined` is
     /// false. After `optopt("o",..)` and `optflag("v",..)`, `v` gives `Some(1)`. The Rust crate has
     /// no such method.
-    #[inline]
     pub fn opt_place(&self, name: &str) -> Option<usize> {
         self.held.place_of(name)
     }

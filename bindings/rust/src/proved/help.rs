@@ -3,11 +3,10 @@
 
 use crate::fallible::*;
 
-use super::groups::{Ends, FIRST_GROUPS, Kinds, Signature, Signatures, first_at, push_two, second_at};
+use super::groups::{
+    Ends, FIRST_GROUPS, FIRST_TEXT, Kinds, Signature, Signatures, first_at, push_two, second_at,
+};
 use crate::alloc::{AllocError, Global};
-
-/// Initial capacity for hints and descriptions, in bytes.
-const FIRST_HELP: usize = 1024;
 
 /// A group with its hint and description, borrowed.
 #[derive(Clone, Copy)]
@@ -79,7 +78,7 @@ impl Groups {
         let bytes = hint.len().saturating_add(desc.len());
         if self.ends.is_empty() {
             self.ends.try_grow(FIRST_GROUPS)?;
-            self.help.try_grow(bytes.max(FIRST_HELP))?;
+            self.help.try_grow(bytes.max(FIRST_TEXT))?;
         } else {
             self.ends.try_grow(1)?;
             self.help.try_grow(bytes)?;

@@ -33,7 +33,6 @@ pub struct Matches {
 
 impl Matches {
     /// The matches of a command line, for groups with these names and kinds.
-    #[inline(always)]
     pub(crate) fn of_line(signatures: Signatures, read: ReadLine) -> Matches {
         let ReadLine { table, line, index } = read;
         let Line {
@@ -102,12 +101,13 @@ impl MatchedGroups {
     }
 
     /// The place of the group that a name resolves to.
-    #[inline]
     pub(crate) fn place_of(&self, name: &str) -> Option<usize> {
         self.table.resolve(&self.signatures, name)
     }
 
     /// The occurrences of the group at `place`.
+    // Without `inline` here and at `Matches::occurrences_at` and `Index::places`, the job `typical`
+    // takes 2.4 % more instructions.
     #[inline]
     pub(crate) fn occurrences_at(&self, place: usize) -> Occurrences<'_> {
         Occurrences::of(&self.found, self.index.places(place))
@@ -122,6 +122,7 @@ impl MatchedGroups {
     }
 
     /// Whether the groups are the same, and so are their occurrences.
+    // Inlined, it would cost the job `equal` 14 % more instructions.
     #[inline(never)]
     pub(crate) fn same(&self, other: &MatchedGroups) -> bool {
         if self.signatures != other.signatures {

@@ -33,19 +33,19 @@ pub(crate) struct Occurrence<'l> {
     pub value: Option<&'l str>,
 }
 
-/// When the first value is stored, this many bytes are reserved for each option that there is room
-/// for, so that short values fit without reallocating.
-const VALUE_BYTES: usize = 8;
-/// The most bytes that `VALUE_BYTES` reserves.
-const MOST_BYTES: usize = 2048;
+/// Bytes reserved for all values when the first one is stored. If none were reserved, the job
+/// `typical` would take 3.5 % more instructions.
+const FIRST_VALUES: usize = 64;
 
-/// Appends a value, and returns where it is. The first value that isn't empty reserves memory for
-/// `room` values, at most `MOST_BYTES`.
+/// Appends a value, and returns where it is. The first value that isn't empty reserves
+/// `FIRST_VALUES` bytes.
+// Without `inline` here and at `LineOccurrences::at` and `push`, the job `long` takes 9.5 % more
+// instructions.
 #[inline(always)]
-fn push_value(values: &mut String, value: &str, room: usize) -> Result<Span, AllocError> {
+fn push_value(values: &mut String, value: &str) -> Result<Span, AllocError> {
     let start = values.len();
     if start == 0 && !value.is_empty() {
-        values.try_grow(room.saturating_mul(VALUE_BYTES).min(MOST_BYTES))?;
+        values.try_grow(FIRST_VALUES)?;
     }
     values.try_push_str(value)?;
     Ok(Span {
@@ -104,9 +104,8 @@ impl LineOccurrences {
         value: Option<&str>,
     ) -> Result<(), AllocError> {
         self.records.try_grow(1)?;
-        let room = self.records.capacity();
         let value = match value {
-            Some(text) => push_value(&mut self.values, text, room)?,
+            Some(text) => push_value(&mut self.values, text)?,
             None => NO_TEXT,
         };
         self.records.push_reserved(OccurrenceRecord {
@@ -143,24 +142,22 @@ pub struct Occurrences<'m> {
 
 impl<'m> Occurrences<'m> {
     /// The occurrences at these places of a command line.
-    #[inline]
     pub(crate) fn of(found: &'m LineOccurrences, places: &'m [usize]) -> Occurrences<'m> {
         Occurrences { found, places }
     }
 
     /// The number of occurrences.
-    #[inline]
     pub fn len(&self) -> usize {
         self.places.len()
     }
 
     /// Whether there are no occurrences.
-    #[inline]
     pub fn is_empty(&self) -> bool {
         self.len() == 0
     }
 
     /// Returns the position of an occurrence and its value, if it has one, or `None` past the last.
+    // Without `inline` here and at `at`, the job `equal` takes 80 % more instructions.
     #[inline]
     pub fn get(&self, nth: usize) -> Option<(usize, Option<&'m str>)> {
         if nth >= self.len() {
@@ -218,6 +215,7 @@ impl<'m> Occurrences<'m> {
     }
 
     /// Whether both have the same positions and values, in the same order.
+    // Without `inline`, the job `equal` takes 20 % more instructions.
     #[inline]
     pub(crate) fn same(&self, other: &Occurrences<'_>) -> bool {
         if self.len() != other.len() {
@@ -237,6 +235,7 @@ impl<'m> IntoIterator for Occurrences<'m> {
 
     type IntoIter = OccurrencesIter<'m>;
 
+    // Without `inline` here and at `next`, the job `long` takes 5 % more instructions.
     #[inline]
     fn into_iter(self) -> OccurrencesIter<'m> {
         OccurrencesIter {

@@ -12,11 +12,8 @@ use super::wrap::push_parting;
 use crate::alloc::{AllocError, Global};
 use crate::heap::vec;
 
-/// The bytes that most rows need.
+/// The bytes that most rows need. Without this guess, the job `usage` takes 15 % more instructions.
 const ROW_ROOM: usize = 80;
-
-/// The bytes that most options need in the short usage, with the space before them.
-const OPTION_ROOM: usize = 16;
 
 /// The rows of a usage text, one for each option group, in order of declaration.
 ///
@@ -53,8 +50,7 @@ impl Options {
     ///
     /// Fails only if an allocation fails. In the Rust crate this method can't fail.
     pub fn short_usage(&self, alloc: Global, program_name: &str) -> Result<String, AllocError> {
-        let room = room_for(program_name, self.groups().len(), OPTION_ROOM);
-        let mut text = String::of_capacity(alloc, room)?;
+        let mut text = String::empty(alloc);
         text.try_push_str("Usage: ")?;
         text.try_push_str(program_name)?;
         text.try_push(' ')?;
@@ -86,8 +82,9 @@ impl Options {
     /// In the Rust crate this method can't fail. That crate leaves out a short name that takes no
     /// column, such as a tab in old width tables. Here every short name that isn't empty is shown.
     pub fn usage(&self, alloc: Global, brief: &str) -> Result<String, AllocError> {
-        let room = room_for(brief, self.groups().len(), ROW_ROOM);
-        let mut text = String::of_capacity(alloc, room)?;
+        // This is a guess: if it is too small, the text grows.
+        let rows = self.groups().len().saturating_mul(ROW_ROOM);
+        let mut text = String::of_capacity(alloc, brief.len().saturating_add(rows))?;
         text.try_push_str(brief)?;
         text.try_push_str("\n\nOptions:\n")?;
         self.push_rows(&mut text)?;
@@ -167,12 +164,6 @@ impl Options {
             any_short,
         }
     }
-}
-
-/// The capacity for a text that begins with `start`, followed by `count` parts of `each` bytes. It
-/// is a guess: if it is too small, the text grows.
-fn room_for(start: &str, count: usize, each: usize) -> usize {
-    start.len().saturating_add(count.saturating_mul(each))
 }
 
 /// Appends one option of the short usage.
