@@ -14,7 +14,7 @@ OPERAND = re.compile(r"(?:[A-Z][A-Z0-9_-]*|(\[)[A-Z][A-Z0-9_-]*\])(\.{2,3})?")
 OPERAND_FORM = "write an operand as FILE, [FILE], FILE.. or [FILE].."
 DASHES = "write a short name as -s, a long name as --long, and an operand in capital letters"
 APART = "write names as -s|--long, without spaces or commas"
-GAP = "put a tab or two spaces before the description"
+GAP = "write each option or operand on its own line, and put a tab or two spaces before a description"
 LETTER = "a short name must be an ASCII letter or digit, or one of ?@#%+_^,./:"
 BRACKETS = "put brackets around the whole option or its argument, and '..' or '...' only after ']'"
 
@@ -62,9 +62,12 @@ def table_error(table):
         item = re.split("\t|  ", line)[0].strip(" \t\r")
         if operand := OPERAND.fullmatch(item):
             optional, again = operand.groups()
-            if any(dots or opened and not optional for opened, dots in before):
-                return f"line {number} of the table: {item}: an operand with dots must be last, and required operands must be first"
-            before.append((optional, again))
+            for earlier, opened, dots in before:
+                if dots:
+                    return f"line {number} of the table: {item}: no operand may follow '{earlier}', which has dots"
+                if opened and not optional:
+                    return f"line {number} of the table: {item}: no required operand may follow '{earlier}', which is optional"
+            before.append((item, optional, again))
             continue
         brackets = re.fullmatch(r"\[(.*)\](|\.\.\.?|!)", item)
         inside, mark = brackets.groups() if brackets else (item, "")

@@ -4,7 +4,7 @@ use Rattle.std.proofs.Common.{Option, Some, None, refl, sym, ap, ◌∙◌, suc,
 use Rattle.std.proofs.Common.{map, append_assoc, append-nil, add-one, arith, get_or, ◌+◌, ◌-◌, ◌<◌}
 use Rattle.std.specs.Prelude.{nat_lt, not, slice_get, ◌&&◌}
 use Rattle.std.specs.Char.{is_ascii_digit}
-use Rattle.std.specs.List.{AllByRecursion, flat_map, last_or, list_all, list_any}
+use Rattle.std.specs.List.{AllByRecursion, find, flat_map, last_or, list_all}
 use Rattle.std.specs.Option.{option_map_or, option_or, unwrap_or}
 use Rattle.std.specs.Str.{bytes_eq}
 use Rattle.std.proofs.lemmas.Bool.{eq-eqb}
@@ -19,11 +19,11 @@ use Rattle.getopts.specs.Wrap.{parting}
 use Rattle.getopts_shell.specs.Held.{entries_of, entry_of_row}
 use Rattle.getopts_shell.specs.Quote.{quoted, quoted_words, replaced, spaced}
 use Rattle.getopts_shell.specs.Table.{Entry}
-use Rattle.getopts_shell.specs.Variables.{any_has_variable, first_fault, given_from, is_variable}
+use Rattle.getopts_shell.specs.Variables.{first_fault, given_from, is_variable, with_same_variable}
 use Rattle.getopts_shell.specs.Variables.{is_variable_byte, texts_found, variable, variable_byte}
 use Rattle.getopts_shell.specs.Variables.{variable_fault, VariableFault, variable_of}
 use Rattle.getopts_shell.specs.declared.row.Row.{Row}
-use Rattle.getopts_shell.proofs.Alone.{rows_from}
+use Rattle.getopts_shell.proofs.First.{elements_from}
 
 some_lt : (n : ℕ) → true ≡ nat_lt 0 (suc n)
 some_lt n = grind (arith, nat_tests)
@@ -145,16 +145,16 @@ same_front [] name other = refl
 same_front (byte ∷ front) name other =
     rw (eq-eqb byte byte refl) (same_front front name other)
 
--- whether a row makes the variable of an entry
-pub any_variable : (prefix : Text) (rows : List Row) (entry : Entry)
-    → any_has_variable prefix (entries_of rows) entry
-    ≡ list_any (λ row. bytes_eq (map variable_byte (main_name (entry_of_row row).names))
-    (map variable_byte (main_name entry.names))) rows
-any_variable prefix [] entry = refl
-any_variable prefix (row ∷ rows) entry =
+-- the first row that makes the variable of an entry
+pub found_variable : (prefix : Text) (rows : List Row) (entry : Entry)
+    → with_same_variable prefix (entries_of rows) entry
+    ≡ find (λ (other : Entry). bytes_eq (map variable_byte (main_name other.names))
+    (map variable_byte (main_name entry.names))) (entries_of rows)
+found_variable prefix [] entry = refl
+found_variable prefix (row ∷ rows) entry =
     rw (
       same_front prefix _ (map variable_byte (main_name entry.names)),
-      any_variable prefix rows entry,
+      found_variable prefix rows entry,
     ) refl
 
 -- the error from a row on: its own, or else the error from the next row on
@@ -168,15 +168,15 @@ fault_from prefix rows place row below row_is =
     let more : entries_of (take (place + 1) rows)
     ≡ entries_of (take place rows) ++ entry_of_row row ∷ [] =
     rw (take_more rows place row below, ← row_is) (simp map-append) in
-    rw (rows_from rows place row below row_is, more) refl
+    rw (elements_from rows place row row below row_is, more) refl
 
 -- an entry without an error makes a variable
-no_fault : (made again : Bool) (one two : VariableFault) (rest : Option VariableFault)
-    → option_or (cond made (cond again (Some two) None) (Some one)) rest ≡ None
+no_fault : (made : Bool) (twice : Option VariableFault) (one : VariableFault)
+    (rest : Option VariableFault) → option_or (cond made twice (Some one)) rest ≡ None
     → (made ≡ true) × (rest ≡ None)
-no_fault false again one two rest is = absurd cc
-no_fault true true one two rest is = absurd cc
-no_fault true false one two rest is = (refl, is)
+no_fault false twice one rest is = absurd cc
+no_fault true (Some two) one rest is = absurd cc
+no_fault true None one rest is = (refl, is)
 
 -- if no error is found, each entry makes a variable
 pub each_makes : (prefix : Text) (before entries : List Entry)
@@ -184,6 +184,5 @@ pub each_makes : (prefix : Text) (before entries : List Entry)
     → AllByRecursion (λ entry. is_variable (variable_of prefix entry) ≡ true) entries
 each_makes prefix before [] is = tt
 each_makes prefix before (entry ∷ more) is =
-    let parts = no_fault (is_variable (variable_of prefix entry))
-    (any_has_variable prefix before entry) _ _ _ is in
+    let parts = no_fault (is_variable (variable_of prefix entry)) _ _ _ is in
     (parts.0, each_makes prefix (before ++ entry ∷ []) more parts.1)

@@ -34,7 +34,7 @@ mod Written
 mod Assignments
 -- the variables that are asked for, and counts
 mod Asked
--- the first option that stands alone
-mod Alone
+-- the first element that passes a test
+mod First
 -- facts about values whose variant is known
 mod Chosen

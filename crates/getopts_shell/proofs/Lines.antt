@@ -20,7 +20,7 @@ use Rattle.getopts_shell.specs.Table.{after_blanks, trimmed, before_gap, from_ga
 use Rattle.getopts_shell.specs.Table.{IsItem, DeclaresEntry, Declares, Operand, is_operand}
 use Rattle.getopts_shell.specs.Table.{is_skipped, item_of, operand_at, operands_among}
 use Rattle.getopts_shell.specs.Table.{DeclareEntries, DeclareOptions, EachAfter, IsLineFault}
-use Rattle.getopts_shell.specs.Table.{IsTableFault, TableFault, line_number, may_follow, name_again}
+use Rattle.getopts_shell.specs.Table.{IsTableFault, TableFault, conflicting_operand, line_number, name_again}
 use Rattle.getopts_shell.specs.Table.{no_option, none}
 use Rattle.getopts_shell.specs.declared.row.Often.{Often}
 
@@ -209,7 +209,7 @@ no_lines = record {
   declared = record {
     declared = refl;
     once = each_none (λ before entry. name_again before entry ≡ None);
-    in_order = each_none (λ before operand. may_follow before operand ≡ true);
+    in_order = each_none (λ before operand. conflicting_operand before operand ≡ None);
   };
 }
 
@@ -230,7 +230,7 @@ pub next_line : (lines : List Text) (line : Text) (number next : ℕ) (entries m
     → Declares next line declared → more ≡ entries ++ option_to_list declared
     → IfSome declared (λ entry. name_again entries entry ≡ None)
     → operands ≡ operands_among lines
-    → IfSome (operand_at line) (λ operand. may_follow operands operand ≡ true)
+    → IfSome (operand_at line) (λ operand. conflicting_operand operands operand ≡ None)
     → LinesSoFar (lines ++ line ∷ []) next more
 next_line lines line number next entries more operands declared so_far next_is is more_is new
     operands_are follows = record {
@@ -240,9 +240,9 @@ next_line lines line number next entries more operands declared so_far next_is i
             (omega (arith, next_is, so_far.number_is)) is;
         once = each_append (λ before entry. name_again before entry ≡ None) entries declared
             so_far.declared.once new;
-        in_order = subst (EachAfter (λ before operand. may_follow before operand ≡ true))
+        in_order = subst (EachAfter (λ before operand. conflicting_operand before operand ≡ None))
             (next_operands lines line (operands_among lines) _ refl refl)
-            (each_append (λ before operand. may_follow before operand ≡ true) (operands_among lines)
+            (each_append (λ before operand. conflicting_operand before operand ≡ None) (operands_among lines)
             (operand_at line) so_far.declared.in_order (rw operands_are at follows));
       });
     }
@@ -288,5 +288,5 @@ pub tells_weaker : (error : TableError) (P Q : TableFault → Type 0) → TellsF
     → ((fault : TableFault) → P fault → Q fault) → TellsFault error Q
 tells_weaker (error.NoOption number item) P Q tells weaker = weaker _ tells
 tells_weaker (error.NameTwice number name) P Q tells weaker = weaker _ tells
-tells_weaker (error.LateOperand number item) P Q tells weaker = weaker _ tells
+tells_weaker (error.LateOperand number operand other) P Q tells weaker = weaker _ tells
 tells_weaker error.OutOfMemory P Q tells weaker = tells

@@ -10,7 +10,7 @@ use Rattle.getopts_shell.specs.Table.{AreNames, Entry, IsItem, HasParts, IsArgum
 use Rattle.getopts_shell.specs.Table.{is_passed, is_skipped, item_of, Declares, DeclareEntries}
 use Rattle.getopts_shell.specs.Table.{DeclaresOptions, OneTableOneList, DeclareOptions, name_again}
 use Rattle.getopts_shell.specs.Table.{TableFault, name_twice, IsLineFault, IsTableFault, Operand}
-use Rattle.getopts_shell.specs.Table.{late, line_number, late_operand, none, operand_at}
+use Rattle.getopts_shell.specs.Table.{conflicting_operand, late, line_number, late_operand, none, operand_at}
 use Rattle.getopts_shell.specs.Table.{operands_among, twice}
 use Rattle.getopts_shell.specs.declared.row.Often.{Often}
 use Rattle.getopts_shell.proofs.Lines.{Places, here, later, earlier, operands_around, places}
@@ -135,8 +135,8 @@ no_fault_at before after line entries all fault so_far whole =
         let entry_is : entry ≡ other = cc in
         let both : Some name ≡ None = sym again ∙ ap (name_again entries) entry_is
         ∙ whole.once entries others other all_is in cc
-    by_line _ (late operand is not_so) =
-        let both : false ≡ true = sym not_so ∙ whole.in_order (operands_among before)
+    by_line _ (late operand blocking is conflicts) =
+        let both : Some blocking ≡ None = sym conflicts ∙ whole.in_order (operands_among before)
         (operands_among after) operand (operands_around before line after
         ∙ ap (λ (declared : Option Operand). operands_among before
         ++ (option_to_list declared ++ operands_among after)) is) in cc
@@ -178,20 +178,24 @@ one_line_fault number entries operands line fault other (twice entry name of aga
     ∙ again in
     let name_is : another ≡ name = cc in
     ap (name_twice number) name_is
-one_line_fault number entries operands line fault other (late operand is not_so)
-    (late also at_also not_also) =
+one_line_fault number entries operands line fault other (late operand blocking is conflicts)
+    (late also another at_also conflicts_also) =
     let same : Some also ≡ Some operand = sym at_also ∙ is in
     let operand_is : also ≡ operand = cc in
-    ap (λ (o : Operand). late_operand number o.item) operand_is
-one_line_fault number entries operands line fault other (late operand is not_so) (none also) =
+    let found : Some another ≡ Some blocking = sym conflicts_also
+    ∙ ap (conflicting_operand operands) operand_is ∙ conflicts in
+    let other_is : another ≡ blocking = cc in
+    ap (late_operand number also) other_is
+    ∙ ap (λ (o : Operand). late_operand number o blocking) operand_is
+one_line_fault number entries operands line fault other (late operand blocking is conflicts) (none also) =
     absurd (also None (operand_passed line operand is))
-one_line_fault number entries operands line fault other (none is) (late operand at not_so) =
+one_line_fault number entries operands line fault other (none is) (late operand blocking at conflicts) =
     absurd (is None (operand_passed line operand at))
-one_line_fault number entries operands line fault other (late operand is not_so)
+one_line_fault number entries operands line fault other (late operand blocking is conflicts)
     (twice entry name of again) =
     let both : true ≡ false = sym (operand_passed line operand is) ∙ of.there in cc
 one_line_fault number entries operands line fault other (twice entry name of again)
-    (late operand at not_so) =
+    (late operand blocking at conflicts) =
     let both : true ≡ false = sym (operand_passed line operand at) ∙ of.there in cc
 
 -- a table has at most one error

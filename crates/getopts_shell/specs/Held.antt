@@ -52,7 +52,8 @@ groups_of rows = groups_as false (entries_of rows)
 abbrev pub fault_told : TableError → Option TableFault
 fault_told (error.NoOption number item) = Some (no_option number item.now)
 fault_told (error.NameTwice number name) = Some (name_twice number name.now)
-fault_told (error.LateOperand number item) = Some (late_operand number item.now)
+fault_told (error.LateOperand number operand earlier) =
+    Some (late_operand number (operand_of operand) (operand_of earlier))
 fault_told error.OutOfMemory = None
 
 -- The error that a `TableError` reports has this property, unless it is out of memory.
@@ -95,7 +96,8 @@ abbrev pub variable_fault_told : VariableError → VariableFault
 variable_fault_told variable.ArraysOnly = arrays_only
 variable_fault_told (variable.NoPrefix prefix) = no_prefix prefix.now
 variable_fault_told (variable.NoVariable number name) = no_variable number name.now
-variable_fault_told (variable.VariableTwice number name) = variable_twice number name.now
+variable_fault_told (variable.VariableTwice number earlier name) =
+    variable_twice number earlier.now name.now
 
 -- the error that an `OperandError` reports
 abbrev pub operand_fault_told : OperandError → OperandFault

@@ -147,14 +147,22 @@ abbrev pub of_line : ℕ → Text → Text
 of_line number text =
     codes "getopts_shell: line " ++ (decimal number ++ (codes " of the table: " ++ text))
 
+-- why another operand can't follow this one
+abbrev pub order_rule : Operand → Text
+order_rule earlier =
+    if may_repeat earlier
+    then codes ": no operand may follow '" ++ (earlier.item ++ codes "', which has dots\n")
+    else codes ": no required operand may follow '" ++ (earlier.item
+    ++ codes "', which is optional\n")
+
 -- the line for an error in a table
 abbrev pub table_fault_line : TableFault → Text
 table_fault_line (no_option number item) =
     of_line number (item ++ (codes ": " ++ (reason_of item ++ codes "\n")))
 table_fault_line (name_twice number name) =
     of_line number (codes "the name '" ++ (name ++ codes "' is already used on an earlier line\n"))
-table_fault_line (late_operand number item) = of_line number
-    (item ++ codes ": an operand with dots must be last, and required operands must be first\n")
+table_fault_line (late_operand number operand earlier) =
+    of_line number (operand.item ++ order_rule earlier)
 
 -- ---- a script
 
@@ -282,20 +290,16 @@ is_alone matches entry =
 abbrev pub alone_line : Entry → List Text
 alone_line entry = (codes "--" ++ main_name entry.names) ∷ stop_word ∷ []
 
--- why a name or a prefix doesn't make a variable
-abbrev pub not_in_variables : Text
-not_in_variables =
-    codes "' doesn't make a valid variable name (ASCII letters, digits and '_', no digit first)\n"
-
 -- the line for an error about variables
 abbrev pub variable_fault_line : VariableFault → Text
 variable_fault_line arrays_only = codes "getopts_shell: --arrays requires --variables\n"
-variable_fault_line (no_prefix prefix) =
-    codes "getopts_shell: '" ++ (prefix ++ not_in_variables)
-variable_fault_line (no_variable number name) =
-    of_line number (codes "'" ++ (name ++ not_in_variables))
-variable_fault_line (variable_twice number name) =
-    of_line number (codes "'" ++ (name ++ codes "' would share its variable with another option\n"))
+variable_fault_line (no_prefix prefix) = codes "getopts_shell: the prefix '" ++ (prefix
+    ++ codes "' can't begin a variable name (ASCII letters, digits and '_', no digit first)\n")
+variable_fault_line (no_variable number name) = of_line number (codes "the option '" ++ (name
+    ++ codes "' doesn't make a valid variable name (ASCII letters, digits and '_', no digit first)\n"))
+variable_fault_line (variable_twice number earlier name) = of_line number
+    (codes "the options '" ++ (earlier ++ (codes "' and '" ++ (name
+    ++ codes "' would have the same variable\n"))))
 
 -- the error of the variables or arrays that are asked for, with a table of these entries
 abbrev pub asked_fault : Asked → List Entry → Option VariableFault

@@ -308,8 +308,9 @@ operands_in table = operands_among (lines_of table)
 abbrev pub comes_before : Operand → Operand → Bool
 comes_before operand other = not (may_repeat other) && (is_needed other || not (is_needed operand))
 
-abbrev pub may_follow : List Operand → Operand → Bool
-may_follow before operand = list_all (comes_before operand) before
+-- the first of these operands that another one can't follow
+abbrev pub conflicting_operand : List Operand → Operand → Option Operand
+conflicting_operand before operand = find (λ other. not (comes_before operand other)) before
 
 -- whether one of these entries has this name
 abbrev pub any_has_name : List Entry → Text → Bool
@@ -329,7 +330,7 @@ EachAfter {X} Is xs = (before after : List X) (x : X) → xs ≡ before ++ x ∷
 pub record DeclareOptions (lines : List Text) (entries : List Entry) : Type 0 where
   pub declared : DeclareEntries 0 lines entries
   pub once : EachAfter (λ before entry. name_again before entry ≡ None) entries
-  pub in_order : EachAfter (λ before operand. may_follow before operand ≡ true)
+  pub in_order : EachAfter (λ before operand. conflicting_operand before operand ≡ None)
       (operands_among lines)
 
 -- The table declares these options.
@@ -395,15 +396,16 @@ reason_of item = option_map_or (λ reason. reason.1) (find (λ reason. reason.0)
 
 -- ---- errors
 
--- an error in a table: the number of a line, and its item or a name
+-- an error in a table: the number of a line, and its item, a name, or its operand and the earlier
+-- one that it can't follow
 pub data TableFault : Type 0 where
   no_option : ℕ → Text → TableFault
   name_twice : ℕ → Text → TableFault
-  late_operand : ℕ → Text → TableFault
+  late_operand : ℕ → Operand → Operand → TableFault
 
 -- The earlier lines declare these entries and operands. This line is neither empty, a comment, an
 -- option nor an operand (`none`); or an option with a name that they declare (`twice`); or an
--- operand that can't follow theirs (`late`).
+-- operand that can't follow one of theirs (`late`).
 -- This is the error of the line with this number.
 pub data IsLineFault (number : ℕ) (entries : List Entry) (operands : List Operand) (line : Text)
     : TableFault → Type 0 where
@@ -412,9 +414,9 @@ pub data IsLineFault (number : ℕ) (entries : List Entry) (operands : List Oper
   twice : (entry : Entry) (name : Text) → DeclaresEntry number line entry
       → name_again entries entry ≡ Some name
       → IsLineFault number entries operands line (name_twice number name)
-  late : (operand : Operand) → operand_at line ≡ Some operand
-      → may_follow operands operand ≡ false
-      → IsLineFault number entries operands line (late_operand number operand.item)
+  late : (operand earlier : Operand) → operand_at line ≡ Some operand
+      → conflicting_operand operands operand ≡ Some earlier
+      → IsLineFault number entries operands line (late_operand number operand earlier)
 
 -- This is the error of the table: that of the first line that has one.
 pub record IsTableFault (table : Text) (fault : TableFault) : Type 0 where

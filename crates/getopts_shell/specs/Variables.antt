@@ -3,7 +3,7 @@ use Rattle.std.specs.Prelude.{◌≡◌, ◌==◌, ◌||◌, ◌&&◌, not, ⊤,
 use Rattle.std.specs.Prelude.{◌∷◌, ◌++◌, Option, Some, None, codes, decimal, fold, if◌then◌else◌}
 use Rattle.std.specs.Prelude.{length, map, MatchOption}
 use Rattle.std.specs.Char.{is_ascii_alphanumeric, is_ascii_digit}
-use Rattle.std.specs.List.{AllByRecursion, flat_map, last_or, list_all, list_any}
+use Rattle.std.specs.List.{AllByRecursion, find, flat_map, last_or, list_all}
 use Rattle.std.specs.Option.{option_map, option_or, unwrap_or}
 use Rattle.std.specs.Str.{IsUtf8, bytes_eq}
 use Rattle.getopts.specs.Accessors.{each_value, found_in}
@@ -101,25 +101,27 @@ variable prefix name = prefix ++ map variable_byte name
 abbrev pub variable_of : Text → Entry → Text
 variable_of prefix entry = variable prefix (main_name entry.names)
 
--- whether one of these entries makes the same variable as another
-abbrev pub any_has_variable : Text → List Entry → Entry → Bool
-any_has_variable prefix before entry =
-    list_any (λ other. bytes_eq (variable_of prefix other) (variable_of prefix entry)) before
+-- the first of these entries that makes the same variable as another
+abbrev pub with_same_variable : Text → List Entry → Entry → Option Entry
+with_same_variable prefix before entry =
+    find (λ other. bytes_eq (variable_of prefix other) (variable_of prefix entry)) before
 
 -- an error about variables: arrays without variables; a prefix that can't begin a variable; or, in
--- the line with this number, a name that makes no variable, or the variable of an earlier name
+-- the line with this number, a name that makes no variable, or makes that of an earlier name, which
+-- comes first
 pub data VariableFault : Type 0 where
   arrays_only : VariableFault
   no_prefix : Text → VariableFault
   no_variable : ℕ → Text → VariableFault
-  variable_twice : ℕ → Text → VariableFault
+  variable_twice : ℕ → Text → Text → VariableFault
 
 -- the error of an entry after others, if it has one
 abbrev pub variable_fault : Text → List Entry → Entry → Option VariableFault
 variable_fault prefix before entry =
-    if is_variable (variable_of prefix entry) then
-    (if any_has_variable prefix before entry then Some
-    (variable_twice entry.line (main_name entry.names)) else None)
+    if is_variable (variable_of prefix entry)
+    then option_map
+    (λ other. variable_twice entry.line (main_name other.names) (main_name entry.names))
+    (with_same_variable prefix before entry)
     else Some (no_variable entry.line (main_name entry.names))
 
 -- the first error of entries after others

@@ -14,7 +14,8 @@ ghost use Rattle.getopts.specs.Results.{first_count_fault, fits_count, parse_res
 ghost use Rattle.getopts_shell.specs.Completion.{offer, takes_argument};
 ghost use Rattle.getopts_shell.specs.Held.{HasOwnGroups, answer_of, asked_of, entries_of};
 ghost use Rattle.getopts_shell.specs.Held.{entry_of_row, fault_told, groups_of, held_signatures};
-ghost use Rattle.getopts_shell.specs.Held.{operand_fault_told, operands_of, variable_fault_told};
+ghost use Rattle.getopts_shell.specs.Held.{operand_fault_told, operand_of, operands_of};
+ghost use Rattle.getopts_shell.specs.Held.{variable_fault_told};
 ghost use Rattle.getopts_shell.specs.Held.{with_groups};
 ghost use Rattle.getopts_shell.specs.HeldScript.{script_of};
 ghost use Rattle.getopts_shell.specs.Program.{AnswersAccepted, AnswersAlone, AnswersCounted};
@@ -30,12 +31,12 @@ ghost use Rattle.getopts_shell.specs.Program.{last_word, misused, no_completion,
 ghost use Rattle.getopts_shell.specs.Program.{own_groups, own_options, read_options, refused};
 ghost use Rattle.getopts_shell.specs.Program.{shown_options, stands_alone, table_fault_line};
 ghost use Rattle.getopts_shell.specs.Program.{variable_fault_line};
-ghost use Rattle.getopts_shell.specs.Table.{TableFault, groups_as, occurrence_of};
+ghost use Rattle.getopts_shell.specs.Table.{TableFault, groups_as, late_operand, occurrence_of};
 ghost use Rattle.getopts_shell.specs.Variables.{given_from, line_code};
 
 use crate::complete::{functions, is_given, offers, stub, takes_argument};
 use crate::item::reason_of;
-use crate::operand::{OperandError, free_error, push_operands, rows_of};
+use crate::operand::{Operand, OperandError, free_error, may_repeat, push_operands, rows_of};
 use crate::quote::{push_joined, push_line, push_quoted};
 use crate::row::{Often, Row};
 use crate::script::{Asked, Script};
@@ -392,11 +393,35 @@ fn table_refusal(alloc: Global, error: TableError<'_>) -> Result<String, AllocEr
             "getopts_shell: line {number} of the table: \
              the name '{name}' is already used on an earlier line\n"
         ),
-        TableError::LateOperand(number, item) => format!(in alloc;
-            "getopts_shell: line {number} of the table: \
-             {item}: an operand with dots must be last, and required operands must be first\n"
-        ),
+        TableError::LateOperand(number, operand, earlier) => {
+            late_operand_line(alloc, number, operand, earlier)
+        }
         TableError::OutOfMemory => Err(AllocError),
+    }
+}
+
+/// The line for an operand that can't follow an earlier one.
+fn late_operand_line(
+    alloc: Global,
+    number: usize,
+    operand: Operand<'_>,
+    earlier: Operand<'_>,
+) -> Result<String, AllocError>
+    ensures { IfOk result (λ text. string_bytes text ≡ table_fault_line
+        (late_operand number (operand_of operand.entry) (operand_of earlier.entry))) }
+{
+    let item = operand.item;
+    let other = earlier.item;
+    if may_repeat(earlier) {
+        format!(in alloc;
+            "getopts_shell: line {number} of the table: \
+             {item}: no operand may follow '{other}', which has dots\n"
+        )
+    } else {
+        format!(in alloc;
+            "getopts_shell: line {number} of the table: \
+             {item}: no required operand may follow '{other}', which is optional\n"
+        )
     }
 }
 
@@ -422,15 +447,17 @@ fn variable_refusal(alloc: Global, error: VariableError<'_>) -> Result<String, A
             format!(in alloc; "getopts_shell: --arrays requires --variables\n")
         }
         VariableError::NoPrefix(prefix) => format!(in alloc;
-            "getopts_shell: '{prefix}' doesn't make a valid variable name \
+            "getopts_shell: the prefix '{prefix}' can't begin a variable name \
              (ASCII letters, digits and '_', no digit first)\n"
         ),
         VariableError::NoVariable(number, name) => format!(in alloc;
-            "getopts_shell: line {number} of the table: '{name}' doesn't make a valid variable name \
+            "getopts_shell: line {number} of the table: \
+             the option '{name}' doesn't make a valid variable name \
              (ASCII letters, digits and '_', no digit first)\n"
         ),
-        VariableError::VariableTwice(number, name) => format!(in alloc;
-            "getopts_shell: line {number} of the table: '{name}' would share its variable with another option\n"
+        VariableError::VariableTwice(number, earlier, name) => format!(in alloc;
+            "getopts_shell: line {number} of the table: \
+             the options '{earlier}' and '{name}' would have the same variable\n"
         ),
     }
 }

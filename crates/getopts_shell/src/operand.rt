@@ -9,7 +9,8 @@ ghost use Rattle.getopts.specs.Wrap.{continued};
 ghost use Rattle.getopts_shell.specs.Held.{operand_fault_told, operand_of, operands_of};
 ghost use Rattle.getopts_shell.specs.Program.{IsOperandRow, free_fault, operand_fault};
 ghost use Rattle.getopts_shell.specs.Program.{operand_head, operand_padding};
-ghost use Rattle.getopts_shell.specs.Table.{before, comes_before, has_brackets, has_dots};
+ghost use Rattle.getopts_shell.specs.Table.{before, comes_before, conflicting_operand, has_brackets};
+ghost use Rattle.getopts_shell.specs.Table.{has_dots};
 ghost use Rattle.getopts_shell.specs.Table.{is_needed, is_operand, is_operand_byte, may_repeat};
 
 use crate::item::{begins_capital, cut_at, unopened};
@@ -88,7 +89,7 @@ fn is_needed(operand: Operand<'_>) -> bool
 }
 
 /// Whether an operand may be repeated.
-fn may_repeat(operand: Operand<'_>) -> bool
+pub(crate) fn may_repeat(operand: Operand<'_>) -> bool
     ensures { result ≡ may_repeat (operand_of operand.entry) }
 {
     operand.item.as_bytes().contains(&b'.')
@@ -104,12 +105,21 @@ fn undotted(item: &str) -> &str
     }
 }
 
-/// Whether an operand may follow these.
-pub(crate) fn may_follow(before: &[Operand<'_>], operand: Operand<'_>) -> bool
-    ensures { result ≡ list_all
-        (λ other. comes_before (operand_of operand.entry) (operand_of other)) before.now }
+/// The first of these operands that another one can't follow, if any.
+pub(crate) fn conflicting_operand<'t>(
+    before: &[Operand<'t>],
+    operand: Operand<'_>,
+) -> Option<Operand<'t>>
+    ensures { option_map operand_of result
+        ≡ conflicting_operand (operands_of before.now) (operand_of operand.entry) }
 {
-    before.iter().all(|other| comes_before(*other, operand))
+    for at in 0..before.len() {
+        let other = before[at];
+        if !comes_before(other, operand) {
+            return Some(other);
+        }
+    }
+    None
 }
 
 /// Whether an operand may precede another.

@@ -1,7 +1,7 @@
 //! Tables of options: their lines, and the options that these declare.
 
 ghost use Rattle.std.specs.Prelude.{◌≡◌, ◌++◌, Option, ◌||◌, ◌==◌, slice_index, ◌∷◌, []};
-ghost use Rattle.std.specs.Prelude.{MatchResult, IfErr, IfSome, OnOk, Some, None, true, false};
+ghost use Rattle.std.specs.Prelude.{MatchResult, IfErr, IfSome, OnOk, Some, None};
 ghost use Rattle.std.specs.List.{list_any};
 ghost use Rattle.std.specs.Option.{option_copied, option_to_list};
 ghost use Rattle.std.specs.Str.{bytes_eq};
@@ -11,11 +11,11 @@ ghost use Rattle.getopts_shell.specs.Held.{TellsFault};
 ghost use Rattle.getopts_shell.specs.Table.{trimmed, begins_gap, before_gap, from_gap};
 ghost use Rattle.getopts_shell.specs.Table.{any_has_name, name_again, Entry, OneTableOneList};
 ghost use Rattle.getopts_shell.specs.Table.{Declares, DeclaresOptions, IsLineFault, IsTableFault};
-ghost use Rattle.getopts_shell.specs.Table.{late_operand, may_follow, name_twice, operand_at};
-ghost use Rattle.getopts_shell.specs.Table.{operands_in};
+ghost use Rattle.getopts_shell.specs.Table.{conflicting_operand, late_operand, name_twice};
+ghost use Rattle.getopts_shell.specs.Table.{operand_at, operands_in, Operand as OperandOfTable};
 
 use crate::item::row_of;
-use crate::operand::{Operand, is_operand, may_follow};
+use crate::operand::{Operand, conflicting_operand, is_operand};
 use crate::row::Row;
 use std::alloc::{AllocError, Global};
 
@@ -33,8 +33,8 @@ pub(crate) enum TableError<'t> {
     NoOption(usize, &'t str),
     /// The line with this number has a name that an earlier line has. Holds the name.
     NameTwice(usize, &'t str),
-    /// The operand in the line with this number can't follow those before it. Holds its item.
-    LateOperand(usize, &'t str),
+    /// The operand in the line with this number can't follow an earlier one. Holds both.
+    LateOperand(usize, Operand<'t>, Operand<'t>),
     /// An allocation failed.
     OutOfMemory,
 }
@@ -72,7 +72,7 @@ fn push_line<'t>(table: &mut Table<'t>, number: usize, line: &'t str) -> Result<
     ensures operands { OnOk result (operands_of table.new.operands.items
         ≡ operands_of table.old.operands.items ++ option_to_list (operand_at line.now)) }
     ensures in_order { OnOk result (IfSome (operand_at line.now)
-        (λ operand. may_follow (operands_of table.old.operands.items) operand ≡ true)) }
+        (λ operand. conflicting_operand (operands_of table.old.operands.items) operand ≡ None)) }
     ensures fault { IfErr result (λ error. TellsFault error (IsLineFault number
         (entries_of table.old.rows.items) (operands_of table.old.operands.items) line.now)) }
 {
@@ -102,13 +102,14 @@ fn push_operand<'t>(
     ensures added { OnOk result (operands_of operands.new.items
         ≡ operands_of operands.old.items ++ operand_of operand.entry ∷ []) }
     ensures in_order { OnOk result
-        (may_follow (operands_of operands.old.items) (operand_of operand.entry) ≡ true) }
-    ensures fault { IfErr result (λ error. TellsFault error (λ fault.
-        (fault ≡ late_operand number operand.entry.item.now)
-        × (may_follow (operands_of operands.old.items) (operand_of operand.entry) ≡ false))) }
+        (conflicting_operand (operands_of operands.old.items) (operand_of operand.entry) ≡ None) }
+    ensures fault { IfErr result (λ error. TellsFault error (λ fault. (earlier : OperandOfTable)
+        × (fault ≡ late_operand number (operand_of operand.entry) earlier)
+        × (conflicting_operand (operands_of operands.old.items) (operand_of operand.entry)
+        ≡ Some earlier))) }
 {
-    if !may_follow(operands, operand) {
-        return Err(TableError::LateOperand(number, operand.item));
+    if let Some(earlier) = conflicting_operand(operands, operand) {
+        return Err(TableError::LateOperand(number, operand, earlier));
     }
     match operands.push(operand) {
         Ok(()) => Ok(()),

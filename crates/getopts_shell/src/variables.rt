@@ -5,13 +5,14 @@ ghost use Rattle.std.specs.Prelude.{◌≡◌, ◌++◌, [], length, map, IfOk, 
 ghost use Rattle.std.specs.Prelude.{get_or, None, Some, MatchOption, codes, true, ⊤};
 ghost use Rattle.std.specs.Char.{is_ascii_digit};
 ghost use Rattle.std.specs.Option.{option_map, option_map_or};
-ghost use Rattle.std.specs.List.{last_or, list_all, list_any};
+ghost use Rattle.std.specs.List.{find, last_or, list_all};
 ghost use Rattle.std.specs.String.{string_bytes};
 ghost use Rattle.std.specs.Str.{IsUtf8, bytes_eq};
 ghost use Rattle.getopts.specs.Names.{AreTexts, main_name};
 ghost use Rattle.getopts_shell.specs.Completion.{holds_all};
 ghost use Rattle.getopts_shell.specs.Held.{entries_of, entry_of_row, variable_fault_told};
 ghost use Rattle.getopts_shell.specs.Quote.{quoted_words};
+ghost use Rattle.getopts_shell.specs.Table.{Entry};
 ghost use Rattle.getopts_shell.specs.Variables.{AreTextValues, CodeSetsVariables, HoldTexts};
 ghost use Rattle.getopts_shell.specs.Variables.{all_values, count_text, found_alone, founds_of};
 ghost use Rattle.getopts_shell.specs.Variables.{given_alone, given_from, is_prefix, is_variable};
@@ -52,9 +53,9 @@ pub(crate) enum VariableError<'t> {
     NoPrefix(&'t str),
     /// The option in the line with this number doesn't make a variable. Holds its main name.
     NoVariable(usize, &'t str),
-    /// The option in the line with this number makes the same variable as an earlier one. Holds its
-    /// main name.
-    VariableTwice(usize, &'t str),
+    /// The option in the line with this number makes the same variable as an earlier one. Holds the
+    /// main names of the earlier one and of this one.
+    VariableTwice(usize, &'t str, &'t str),
 }
 
 /// A lemma for proofs, which does nothing: a shell that runs the code then has the options' values
@@ -331,11 +332,11 @@ fn row_error<'t>(prefix: &str, before: &[Row<'t>], row: Row<'t>) -> Option<Varia
 {
     let name = main_name(row);
     if !makes_variable(prefix, name) {
-        Some(VariableError::NoVariable(row.line, name))
-    } else if any_has_variable(before, name) {
-        Some(VariableError::VariableTwice(row.line, name))
-    } else {
-        None
+        return Some(VariableError::NoVariable(row.line, name));
+    }
+    match row_with_variable(before, name) {
+        Some(earlier) => Some(VariableError::VariableTwice(row.line, main_name(earlier), name)),
+        None => None,
     }
 }
 
@@ -387,13 +388,19 @@ fn is_variable_byte(byte: u8) -> bool
     byte.is_ascii_alphanumeric() || byte == b'_'
 }
 
-/// Whether one of the rows makes the same variable as a main name.
-fn any_has_variable(rows: &[Row<'_>], name: &str) -> bool
-    ensures { result ≡ list_any (λ row. bytes_eq
-        (map variable_byte (main_name (entry_of_row row).names))
-        (map variable_byte name.now)) rows.now }
+/// The first of the rows that makes the same variable as a main name, if any.
+fn row_with_variable<'t>(rows: &[Row<'t>], name: &str) -> Option<Row<'t>>
+    ensures { option_map entry_of_row result ≡ find (λ (entry : Entry). bytes_eq
+        (map variable_byte (main_name entry.names)) (map variable_byte name.now))
+        (entries_of rows.now) }
 {
-    rows.iter().any(|row| same_variable(main_name(*row), name))
+    for at in 0..rows.len() {
+        let row = rows[at];
+        if same_variable(main_name(row), name) {
+            return Some(row);
+        }
+    }
+    None
 }
 
 /// Whether two main names make the same variable.

@@ -5,7 +5,7 @@ use crate::host::*;
 
 use super::complete::{functions, is_given, offers, stub, takes_argument};
 use super::item::reason_of;
-use super::operand::{OperandError, free_error, push_operands, rows_of};
+use super::operand::{Operand, OperandError, free_error, may_repeat, push_operands, rows_of};
 use super::quote::{push_joined, push_line, push_quoted};
 use super::row::{Often, Row};
 use super::script::{Asked, Script};
@@ -290,11 +290,32 @@ fn table_refusal(alloc: Global, error: TableError<'_>) -> Result<String, AllocEr
             "getopts_shell: line {number} of the table: \
              the name '{name}' is already used on an earlier line\n"
         ),
-        TableError::LateOperand(number, item) => text!(in alloc;
-            "getopts_shell: line {number} of the table: \
-             {item}: an operand with dots must be last, and required operands must be first\n"
-        ),
+        TableError::LateOperand(number, operand, earlier) => {
+            late_operand_line(alloc, number, operand, earlier)
+        }
         TableError::OutOfMemory => Err(AllocError),
+    }
+}
+
+/// The line for an operand that can't follow an earlier one.
+fn late_operand_line(
+    alloc: Global,
+    number: usize,
+    operand: Operand<'_>,
+    earlier: Operand<'_>,
+) -> Result<String, AllocError> {
+    let item = operand.item;
+    let other = earlier.item;
+    if may_repeat(earlier) {
+        text!(in alloc;
+            "getopts_shell: line {number} of the table: \
+             {item}: no operand may follow '{other}', which has dots\n"
+        )
+    } else {
+        text!(in alloc;
+            "getopts_shell: line {number} of the table: \
+             {item}: no required operand may follow '{other}', which is optional\n"
+        )
     }
 }
 
@@ -314,15 +335,17 @@ fn variable_refusal(alloc: Global, error: VariableError<'_>) -> Result<String, A
             text!(in alloc; "getopts_shell: --arrays requires --variables\n")
         }
         VariableError::NoPrefix(prefix) => text!(in alloc;
-            "getopts_shell: '{prefix}' doesn't make a valid variable name \
+            "getopts_shell: the prefix '{prefix}' can't begin a variable name \
              (ASCII letters, digits and '_', no digit first)\n"
         ),
         VariableError::NoVariable(number, name) => text!(in alloc;
-            "getopts_shell: line {number} of the table: '{name}' doesn't make a valid variable name \
+            "getopts_shell: line {number} of the table: \
+             the option '{name}' doesn't make a valid variable name \
              (ASCII letters, digits and '_', no digit first)\n"
         ),
-        VariableError::VariableTwice(number, name) => text!(in alloc;
-            "getopts_shell: line {number} of the table: '{name}' would share its variable with another option\n"
+        VariableError::VariableTwice(number, earlier, name) => text!(in alloc;
+            "getopts_shell: line {number} of the table: \
+             the options '{earlier}' and '{name}' would have the same variable\n"
         ),
     }
 }

@@ -182,7 +182,8 @@ const OPEN: &str = "missing ']'";
 /// The reason if a dash, `|` or `]` follows the first space, or the names contain a comma.
 const APART: &str = "write names as -s|--long, without spaces or commas";
 /// The reason if a space follows the first `]`, or an operand.
-const GAP: &str = "put a tab or two spaces before the description";
+const GAP: &str = "write each option or operand on its own line, \
+    and put a tab or two spaces before a description";
 /// The reason if it has a second space elsewhere.
 const SPACE: &str =
     "an argument can't contain spaces, and a description needs a tab or two spaces before it";

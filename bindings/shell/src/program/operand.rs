@@ -67,7 +67,7 @@ fn is_needed(operand: Operand<'_>) -> bool {
 }
 
 /// Whether an operand may be repeated.
-fn may_repeat(operand: Operand<'_>) -> bool {
+pub(crate) fn may_repeat(operand: Operand<'_>) -> bool {
     operand.item.as_bytes().contains(&b'.')
 }
 
@@ -79,9 +79,18 @@ fn undotted(item: &str) -> &str {
     }
 }
 
-/// Whether an operand may follow these.
-pub(crate) fn may_follow(before: &[Operand<'_>], operand: Operand<'_>) -> bool {
-    before.iter().all(|other| comes_before(*other, operand))
+/// The first of these operands that another one can't follow, if any.
+pub(crate) fn conflicting_operand<'t>(
+    before: &[Operand<'t>],
+    operand: Operand<'_>,
+) -> Option<Operand<'t>> {
+    for at in 0..before.len() {
+        let other = before[at];
+        if !comes_before(other, operand) {
+            return Some(other);
+        }
+    }
+    None
 }
 
 /// Whether an operand may precede another.

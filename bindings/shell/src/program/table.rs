@@ -4,7 +4,7 @@
 use crate::host::*;
 
 use super::item::row_of;
-use super::operand::{Operand, is_operand, may_follow};
+use super::operand::{Operand, conflicting_operand, is_operand};
 use super::row::Row;
 use crate::host::alloc::{AllocError, Global};
 
@@ -20,8 +20,8 @@ pub(crate) enum TableError<'t> {
     NoOption(usize, &'t str),
     /// The line with this number has a name that an earlier line has. Holds the name.
     NameTwice(usize, &'t str),
-    /// The operand in the line with this number can't follow those before it. Holds its item.
-    LateOperand(usize, &'t str),
+    /// The operand in the line with this number can't follow an earlier one. Holds both.
+    LateOperand(usize, Operand<'t>, Operand<'t>),
     /// An allocation failed.
     OutOfMemory,
 }
@@ -72,8 +72,8 @@ fn push_operand<'t>(
     number: usize,
     operand: Operand<'t>,
 ) -> Result<(), TableError<'t>> {
-    if !may_follow(operands, operand) {
-        return Err(TableError::LateOperand(number, operand.item));
+    if let Some(earlier) = conflicting_operand(operands, operand) {
+        return Err(TableError::LateOperand(number, operand, earlier));
     }
     match operands.try_push(operand) {
         Ok(()) => Ok(()),

@@ -36,9 +36,9 @@ pub(crate) enum VariableError<'t> {
     NoPrefix(&'t str),
     /// The option in the line with this number doesn't make a variable. Holds its main name.
     NoVariable(usize, &'t str),
-    /// The option in the line with this number makes the same variable as an earlier one. Holds its
-    /// main name.
-    VariableTwice(usize, &'t str),
+    /// The option in the line with this number makes the same variable as an earlier one. Holds the
+    /// main names of the earlier one and of this one.
+    VariableTwice(usize, &'t str, &'t str),
 }
 
 /// A lemma for proofs, which does nothing: a shell that runs the code then has the options' values
@@ -250,11 +250,15 @@ pub(crate) fn variable_error<'t>(prefix: &'t str, rows: &[Row<'t>]) -> Option<Va
 fn row_error<'t>(prefix: &str, before: &[Row<'t>], row: Row<'t>) -> Option<VariableError<'t>> {
     let name = main_name(row);
     if !makes_variable(prefix, name) {
-        Some(VariableError::NoVariable(row.line, name))
-    } else if any_has_variable(before, name) {
-        Some(VariableError::VariableTwice(row.line, name))
-    } else {
-        None
+        return Some(VariableError::NoVariable(row.line, name));
+    }
+    match row_with_variable(before, name) {
+        Some(earlier) => Some(VariableError::VariableTwice(
+            row.line,
+            main_name(earlier),
+            name,
+        )),
+        None => None,
     }
 }
 
@@ -292,9 +296,15 @@ fn is_variable_byte(byte: u8) -> bool {
     byte.is_ascii_alphanumeric() || byte == b'_'
 }
 
-/// Whether one of the rows makes the same variable as a main name.
-fn any_has_variable(rows: &[Row<'_>], name: &str) -> bool {
-    rows.iter().any(|row| same_variable(main_name(*row), name))
+/// The first of the rows that makes the same variable as a main name, if any.
+fn row_with_variable<'t>(rows: &[Row<'t>], name: &str) -> Option<Row<'t>> {
+    for at in 0..rows.len() {
+        let row = rows[at];
+        if same_variable(main_name(row), name) {
+            return Some(row);
+        }
+    }
+    None
 }
 
 /// Whether two main names make the same variable.

@@ -2,7 +2,7 @@ use Rattle.std.proofs.Common.{◌≡◌, ◌++◌, ◌∙◌, ap, string_bytes}
 use Rattle.std.specs.Prelude.{codes, decimal}
 use Rattle.getopts.specs.Names.{Text}
 use Rattle.std.proofs.lemmas.Result.{IfOk-weaker}
-use Rattle.getopts_shell.specs.Held.{fault_told}
+use Rattle.getopts_shell.specs.Held.{fault_told, operand_of}
 use Rattle.getopts_shell.specs.Table.{late_operand, name_twice, no_option}
 use Rattle.getopts_shell.proofs.answer.table_refusal.Goals as goal
 
@@ -32,10 +32,11 @@ returns-in-NameTwice c =
 
 pub returns-in-LateOperand : goal.returns-in-LateOperand
 returns-in-LateOperand c =
-    IfOk-weaker c.format-in-LateOperand.result _ _
+    IfOk-weaker c.late_operand_line.result _ _
     (λ text is. (
-      late_operand c.in-LateOperand.number c.in-LateOperand.item.now,
+      late_operand c.in-LateOperand.number (operand_of c.in-LateOperand.operand)
+          (operand_of c.in-LateOperand.earlier),
       ap fault_told c.in-LateOperand.is,
       is,
     ))
-    c.format-in-LateOperand.ensures.ok
+    c.late_operand_line.ensures

@@ -1,8 +1,8 @@
-use Rattle.std.proofs.Common.{◌≡◌, Some, ap, sym, true, ◌∙◌}
+use Rattle.std.proofs.Common.{◌≡◌, None, Some, ap, sym, ◌∙◌}
 use Rattle.std.specs.Prelude.{IfSome}
 use Rattle.std.proofs.lemmas.Result.{IfErr-weaker}
 use Rattle.getopts_shell.specs.Held.{entry_of_row, operands_of}
-use Rattle.getopts_shell.specs.Table.{late, may_follow, operand_at, trimmed, twice}
+use Rattle.getopts_shell.specs.Table.{conflicting_operand, late, operand_at, trimmed, twice}
 use Rattle.getopts_shell.proofs.Fronts.{on_ok}
 use Rattle.getopts_shell.proofs.Lines.{declares_entry, declares_operand, faulty_line, no_operand_at}
 use Rattle.getopts_shell.proofs.Lines.{ok_of_both, tells_weaker}
@@ -16,7 +16,7 @@ returns-then-is_operand-clause-fault c =
     (c.trimmed-item.ensures ∙ ap trimmed c.cut_at_gap.ensures.before) c.cut_at_gap.ensures.after
     c.trimmed-description.ensures (sym c.is_operand.ensures ∙ c.if-is_operand.true) in
     IfErr-weaker c.push_operand.result _ _
-    (λ error tells. tells_weaker error _ _ tells (λ fault of. rw of.0 (late _ is.1 of.1)))
+    (λ error tells. tells_weaker error _ _ tells (λ fault of. rw of.1 (late _ of.0 is.1 of.2)))
     c.push_operand.ensures.fault
 
 pub returns-in-Some-clause-declared : goal.returns-in-Some-clause-declared
@@ -39,7 +39,7 @@ returns-in-Some-clause-in_order c =
     (c.trimmed-item.ensures ∙ ap trimmed c.cut_at_gap.ensures.before)
     (sym c.is_operand.ensures ∙ c.if-is_operand.false) in
     on_ok c.push_row.result (IfSome (operand_at c.args.line.now)
-    (λ operand. may_follow (operands_of c.args.table.now.operands.items) operand ≡ true))
+    (λ operand. conflicting_operand (operands_of c.args.table.now.operands.items) operand ≡ None))
     (rw none tt)
 
 pub returns-in-Some-clause-fault : goal.returns-in-Some-clause-fault
