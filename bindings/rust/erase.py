@@ -3,8 +3,8 @@
 
     bindings/rust/erase.py [--check]
 
-Writes the Rust of each crate to its folder (see CRATES). With --check it writes nothing; status 1 means that a folder
-is out of date. It needs `rustfmt`, which formats the result.
+Writes the Rust of each crate to its folder (see CRATES), and a README.md that says so. With --check it writes nothing;
+status 1 means that a folder is out of date. It needs `rustfmt`, which formats the result.
 
 It parses a crate's tokens by this grammar, and rejects everything else, naming file, line and token. What is marked
 with * has no meaning at run time, and is deleted.
@@ -609,11 +609,12 @@ def main(arguments):
         return 2
     status, crates = 0, sources()
     for name, (folder, module, names) in CRATES.items():
-        folder, files = TOP / folder, {}
+        folder = TOP / folder
+        files = {"README.md": f"`bindings/rust/erase.py` generates this folder from `crates/{name}/src`. Don't edit it.\n"}
         for path, eraser in crates[name].items():
             file = "mod.rs" if path.stem in ("lib", "main") else path.stem + ".rs"
             files[file] = rust_of(path, eraser, module, names)
-        there = {path.name: path.read_text(encoding="utf-8") for path in folder.glob("*.rs")}
+        there = {path.name: path.read_text(encoding="utf-8") for end in ("rs", "md") for path in folder.glob(f"*.{end}")}
         for file in sorted(files.keys() | there.keys()):
             if files.get(file) == there.get(file):
                 continue
