@@ -102,27 +102,27 @@ pub counts_from : (groups : List MatchedGroup) (rows : List Row) (place : ℕ) (
     → held_signatures groups ≡ signatures_of (groups_of rows) → place < length rows → row
     ≡ get_or rows place row
     → is_none (first_count_fault (drop place groups))
-    ≡ (fits_count (occurrence_of false row.often) (length (found_in groups place))
+    ≡ (fits_count (occurrence_of false row.frequency) (length (found_in groups place))
     && is_none (first_count_fault (drop (place + 1) groups)))
 counts_from groups rows place row same below row_is =
     by_place groups rows place same below row_is
-    ∙ ap (λ (n : ℕ). fits_count (occurrence_of false row.often) (length (found_in groups place))
+    ∙ ap (λ (n : ℕ). fits_count (occurrence_of false row.frequency) (length (found_in groups place))
     && is_none (first_count_fault (drop n groups))) (sym (add-one place))
   where
     by_place : (groups : List MatchedGroup) (rows : List Row) (place : ℕ)
         → held_signatures groups ≡ signatures_of (groups_of rows) → place < length rows → row
         ≡ get_or rows place row
         → is_none (first_count_fault (drop place groups))
-        ≡ (fits_count (occurrence_of false row.often) (length (found_in groups place))
+        ≡ (fits_count (occurrence_of false row.frequency) (length (found_in groups place))
         && is_none (first_count_fault (drop (suc place) groups)))
     by_place groups [] place same below row_is = absurd (omega arith)
     by_place [] (other ∷ rows) place same below row_is = cc
     by_place (group ∷ groups) (other ∷ rows) zero same below row_is =
         let is : group.signature ≡ (group_of_entry false (entry_of_row other)).signature = cc in
         let same_row : row ≡ other = row_is in
-        let occurrence : group.signature.occurrence ≡ occurrence_of false row.often =
+        let occurrence : group.signature.occurrence ≡ occurrence_of false row.frequency =
         ap (λ (s : Signature). s.occurrence) is
-        ∙ sym (ap (λ (r : Row). occurrence_of false r.often) same_row) in
+        ∙ sym (ap (λ (r : Row). occurrence_of false r.frequency) same_row) in
         by_test (fits_count group.signature.occurrence (length group.found))
         ∙ ap (λ (o : Occur). fits_count o (length group.found)
         && is_none (first_count_fault groups)) occurrence

@@ -18,7 +18,7 @@ use Rattle.getopts.specs.Results.{made_of, read_result, reading_result}
 use Rattle.getopts.proofs.Lists.{AllByRecursion-append}
 use Rattle.getopts.proofs.MainTheorem.Results.{HasResults-declared}
 use Rattle.getopts.proofs.Reading.Readings.{EndsOrIsDashed-spelled, spelled_all-append}
-use Rattle.getopts_shell.specs.Completion.{goes_on, groups_at_end}
+use Rattle.getopts_shell.specs.Completion.{groups_before_option, groups_at_end}
 use Rattle.getopts_shell.specs.Held.{is_last_after_stop}
 use Rattle.getopts_shell.proofs.Written.{strings_are_texts}
 
@@ -109,7 +109,7 @@ module _ (options : Declared) (declared : MayBeDeclared options.groups) where
 
   -- no option may follow words that have no such reading
   none_after : (words : List Text) → AreTexts words
-      → goes_on options words ≡ None → (outcome : Result Reading Fault)
+      → groups_before_option options words ≡ None → (outcome : Result Reading Fault)
       → IsReadingOf options (with_stop words) outcome
       → groups_after (made_of (matches_of options) outcome) ≡ None
   none_after words are unread (Err fault) is = refl
@@ -129,9 +129,9 @@ module _ (options : Declared) (declared : MayBeDeclared options.groups) where
         rw (more_after items (word ∷ other ∷ more) (omega arith)) refl
 
   -- what the words with the stop give
-  pub goes_on-stop : (words : List Text) → AreTexts words
-      → groups_after (read_result options (with_stop words)) ≡ goes_on options words
-  goes_on-stop words are = by (reading_result options words) refl (result_of words are) where
+  pub groups_before_option-stop : (words : List Text) → AreTexts words
+      → groups_after (read_result options (with_stop words)) ≡ groups_before_option options words
+  groups_before_option-stop words are = by (reading_result options words) refl (result_of words are) where
     unread : (outcome : Result Reading Fault) → reading_result options words ≡ outcome
         → groups_at_end options outcome ≡ None
         → groups_after (read_result options (with_stop words)) ≡ None
@@ -162,14 +162,14 @@ module _ (options : Declared) (declared : MayBeDeclared options.groups) where
     by (Ok reading) is reads = by_tail reading.items reading.tail is reads
 
   -- the same for what was found for these words
-  pub goes_on-found : (before : List (String Global)) (words : List (Bor Text))
+  pub groups_before_option-found : (before : List (String Global)) (words : List (Bor Text))
       → texts words ≡ with_stop (map string_bytes before) → (found : Option Matched)
       → MatchResult (read_result options (texts words)) (λ matches. found ≡ Some matches)
       (λ fault. found ≡ None)
-      → groups_found found ≡ goes_on options (map string_bytes before)
-  goes_on-found before words words_are found is =
+      → groups_found found ≡ groups_before_option options (map string_bytes before)
+  groups_before_option-found before words words_are found is =
       by (read_result options (with_stop (map string_bytes before))) (rw words_are at is)
-      ∙ goes_on-stop (map string_bytes before) (strings_are_texts before)
+      ∙ groups_before_option-stop (map string_bytes before) (strings_are_texts before)
     where
       by : (result : Result Matched Fault)
           → MatchResult result (λ matches. found ≡ Some matches) (λ fault. found ≡ None)

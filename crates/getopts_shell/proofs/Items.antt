@@ -13,7 +13,7 @@ use Rattle.getopts.specs.declared.groups.HasArg.TheVariants.{Yes, No, Maybe}
 use Rattle.getopts_shell.specs.Table.{is_name, is_hint, names_text, MayBeNames, AreNames}
 use Rattle.getopts_shell.specs.Table.{IsArgument, HasParts, IsBracketed, bare, bracketed, IsItem}
 use Rattle.getopts_shell.specs.Table.{end_means, begins_name, fits, is_hint_byte}
-use Rattle.getopts_shell.specs.declared.row.Often.{Often}
+use Rattle.getopts_shell.specs.declared.row.Frequency.{Frequency}
 use Rattle.std.specs.Str.Pattern.{RFindsChar}
 use Rattle.std.proofs.lemmas.List.Elements.{All-from_get_or, recursion_from_All}
 use Rattle.std.proofs.lemmas.Str.Pattern.{NoCharPasses-char, drop_at_char}
@@ -34,14 +34,14 @@ never : {X : Type 0} (x : X) → None ≡ Some x → ⊥
 never x is = cc
 
 -- an end contains no `]`
-closed : (end : Text) (often : Often) → end_means end ≡ Some often
+closed : (end : Text) (frequency : Frequency) → end_means end ≡ Some frequency
     → AllByRecursion (λ (byte : ℕ). byte ≢ 93) end
-closed [] often means = tt
-closed (a ∷ []) often means = (grind (arith, nat_tests), tt)
-closed (a ∷ b ∷ []) often means = (grind (arith, nat_tests), (grind (arith, nat_tests), tt))
-closed (a ∷ b ∷ c ∷ []) often means =
+closed [] frequency means = tt
+closed (a ∷ []) frequency means = (grind (arith, nat_tests), tt)
+closed (a ∷ b ∷ []) frequency means = (grind (arith, nat_tests), (grind (arith, nat_tests), tt))
+closed (a ∷ b ∷ c ∷ []) frequency means =
     (grind (arith, nat_tests), (grind (arith, nat_tests), (grind (arith, nat_tests), tt)))
-closed (a ∷ b ∷ c ∷ d ∷ more) often means = absurd (grind (arith, nat_tests))
+closed (a ∷ b ∷ c ∷ d ∷ more) frequency means = absurd (grind (arith, nat_tests))
 
 -- a text is cut at its last `]`
 pub last_close : (text : Text) (result : Option (Bor Text × Bor Text))
@@ -89,42 +89,42 @@ one_cut (byte ∷ front) (first ∷ other) back after none also same =
 -- a text that begins with `[` and has no `]` after it has no brackets
 pub none_closed : (text opened : Text) → text ≡ 91 ∷ opened
     → AllByRecursion (λ (byte : ℕ). byte ≢ 93) opened
-    → (inside : Text) (often : Often) → ¬ (IsBracketed text inside often)
-none_closed text opened opens none inside often (bare is plain) =
+    → (inside : Text) (frequency : Frequency) → ¬ (IsBracketed text inside frequency)
+none_closed text opened opens none inside frequency (bare is plain) =
     plain (ap (λ (t : Text). slice_index t 0) opens)
-none_closed text opened opens none inside often (bracketed end _ is means) =
+none_closed text opened opens none inside frequency (bracketed end _ is means) =
     let same : 91 ∷ opened ≡ 91 ∷ (inside ++ 93 ∷ end) = sym opens ∙ is in
     no_close opened inside end none cc
 
 -- nor has a text whose end means nothing
 pub none_meant : (text opened before end : Text) → text ≡ 91 ∷ opened → opened ≡ before ++ 93 ∷ end
     → AllByRecursion (λ (byte : ℕ). byte ≢ 93) end → end_means end ≡ None
-    → (inside : Text) (often : Often) → ¬ (IsBracketed text inside often)
-none_meant text opened before end opens parts none means inside often (bare is plain) =
+    → (inside : Text) (frequency : Frequency) → ¬ (IsBracketed text inside frequency)
+none_meant text opened before end opens parts none means inside frequency (bare is plain) =
     plain (ap (λ (t : Text). slice_index t 0) opens)
-none_meant text opened before end opens parts none means inside often (bracketed other _ is also) =
+none_meant text opened before end opens parts none means inside frequency (bracketed other _ is also) =
     let whole : 91 ∷ (before ++ 93 ∷ end) ≡ 91 ∷ (inside ++ 93 ∷ other) =
     ap (λ (t : Text). 91 ∷ t) (sym parts) ∙ sym opens ∙ is in
-    let same = one_cut before inside end other none (closed other often also) cc in
-    never often (sym means ∙ ap end_means (sym same.1) ∙ also)
+    let same = one_cut before inside end other none (closed other frequency also) cc in
+    never frequency (sym means ∙ ap end_means (sym same.1) ∙ also)
 
 -- a text has only one inside, and its brackets only one meaning
-pub one_bracketed : (text inside other : Text) (often another : Often)
-    → IsBracketed text inside often → IsBracketed text other another
-    → (other ≡ inside) × (another ≡ often)
-one_bracketed text inside other often another (bare is plain) (bare also simple) =
+pub one_bracketed : (text inside other : Text) (frequency another : Frequency)
+    → IsBracketed text inside frequency → IsBracketed text other another
+    → (other ≡ inside) × (another ≡ frequency)
+one_bracketed text inside other frequency another (bare is plain) (bare also simple) =
     (sym also ∙ is, refl)
-one_bracketed text inside other often another (bare is plain) (bracketed end _ also means) =
+one_bracketed text inside other frequency another (bare is plain) (bracketed end _ also means) =
     absurd (plain (ap (λ (t : Text). slice_index t 0) also))
-one_bracketed text inside other often another (bracketed end _ is means) (bare also plain) =
+one_bracketed text inside other frequency another (bracketed end _ is means) (bare also plain) =
     absurd (plain (ap (λ (t : Text). slice_index t 0) is))
-one_bracketed text inside other often another (bracketed end _ is means)
+one_bracketed text inside other frequency another (bracketed end _ is means)
     (bracketed after _ also other_means) =
     let whole : 91 ∷ (inside ++ 93 ∷ end) ≡ 91 ∷ (other ++ 93 ∷ after) = sym is ∙ also in
-    let same = one_cut inside other end after (closed end often means)
+    let same = one_cut inside other end after (closed end frequency means)
     (closed after another other_means) cc in (
       same.0,
-      ap (λ (o : Option Often). unwrap_or o often)
+      ap (λ (o : Option Frequency). unwrap_or o frequency)
           (sym other_means ∙ ap end_means same.1 ∙ means),
     )
 
@@ -349,53 +349,53 @@ one_argument Maybe Yes hint other (Some text) is also =
 -- ---- items
 
 -- the parts of an item, and how often it may occur, are those that are found
-same_parts_found : (text inside names : Text) (often : Often) (argument : Option Text)
-    → IsBracketed text inside often → HasParts inside names argument
-    → (own : Names) (kind : HasArg) (another : Often) (hint : Text)
+same_parts_found : (text inside names : Text) (frequency : Frequency) (argument : Option Text)
+    → IsBracketed text inside frequency → HasParts inside names argument
+    → (own : Names) (kind : HasArg) (another : Frequency) (hint : Text)
     (is : IsItem text own kind another hint)
-    → (is.names ≡ names) × (is.argument ≡ argument) × (another ≡ often)
-same_parts_found text inside names often argument brackets parts own kind another hint is =
-    let same = one_bracketed text inside is.inside often another brackets is.brackets in
+    → (is.names ≡ names) × (is.argument ≡ argument) × (another ≡ frequency)
+same_parts_found text inside names frequency argument brackets parts own kind another hint is =
+    let same = one_bracketed text inside is.inside frequency another brackets is.brackets in
     let pair = one_pair inside names is.names argument is.argument parts
     (subst (λ (t : Text). HasParts t is.names is.argument) same.0 is.parts) in
     (pair.0, pair.1, same.1)
 
 -- without names there is no item
-pub no_names_none : (text inside names : Text) (often : Often) (argument : Option Text)
-    → IsBracketed text inside often → HasParts inside names argument
+pub no_names_none : (text inside names : Text) (frequency : Frequency) (argument : Option Text)
+    → IsBracketed text inside frequency → HasParts inside names argument
     → ((are : Names) → ¬ (AreNames are names))
-    → (own : Names) (kind : HasArg) (another : Often) (hint : Text)
+    → (own : Names) (kind : HasArg) (another : Frequency) (hint : Text)
     → ¬ (IsItem text own kind another hint)
-no_names_none text inside names often argument brackets parts none own kind another hint is =
-    let same = same_parts_found text inside names often argument brackets parts own kind another
+no_names_none text inside names frequency argument brackets parts none own kind another hint is =
+    let same = same_parts_found text inside names frequency argument brackets parts own kind another
     hint is in
     none own (subst (AreNames own) same.0 is.names_are)
 
 -- nor if it has no valid argument
-pub no_argument_none : (text inside names : Text) (often : Often) (argument : Option Text)
-    → IsBracketed text inside often → HasParts inside names argument
+pub no_argument_none : (text inside names : Text) (frequency : Frequency) (argument : Option Text)
+    → IsBracketed text inside frequency → HasParts inside names argument
     → ((kind : HasArg) (hint : Text) → ¬ (IsArgument kind hint argument))
-    → (own : Names) (kind : HasArg) (another : Often) (hint : Text)
+    → (own : Names) (kind : HasArg) (another : Frequency) (hint : Text)
     → ¬ (IsItem text own kind another hint)
-no_argument_none text inside names often argument brackets parts none own kind another hint is =
-    let same = same_parts_found text inside names often argument brackets parts own kind another
+no_argument_none text inside names frequency argument brackets parts none own kind another hint is =
+    let same = same_parts_found text inside names frequency argument brackets parts own kind another
     hint is in
     none kind hint (subst (IsArgument kind hint) same.1 is.argument_is)
 
 -- nor if its argument doesn't fit how often it may occur
-pub no_fit_none : (text inside names : Text) (often : Often) (argument : Option Text)
-    (kind : HasArg) (its_hint : Text) → IsBracketed text inside often
-    → HasParts inside names argument → IsArgument kind its_hint argument → fits often kind ≡ false
-    → (own : Names) (other : HasArg) (another : Often) (hint : Text)
+pub no_fit_none : (text inside names : Text) (frequency : Frequency) (argument : Option Text)
+    (kind : HasArg) (its_hint : Text) → IsBracketed text inside frequency
+    → HasParts inside names argument → IsArgument kind its_hint argument → fits frequency kind ≡ false
+    → (own : Names) (other : HasArg) (another : Frequency) (hint : Text)
     → ¬ (IsItem text own other another hint)
-no_fit_none text inside names often argument kind its_hint brackets parts argument_is no_fit own
+no_fit_none text inside names frequency argument kind its_hint brackets parts argument_is no_fit own
     other another hint is =
-    let same = same_parts_found text inside names often argument brackets parts own other another
+    let same = same_parts_found text inside names frequency argument brackets parts own other another
     hint is in
     let one = one_argument kind other its_hint hint argument argument_is
     (subst (IsArgument other hint) same.1 is.argument_is) in
-    let both : false ≡ true = sym no_fit ∙ ap (λ (k : HasArg). fits often k) (sym one.0)
-    ∙ ap (λ (o : Often). fits o other) (sym same.2) ∙ is.fits_kind in
+    let both : false ≡ true = sym no_fit ∙ ap (λ (k : HasArg). fits frequency k) (sym one.0)
+    ∙ ap (λ (o : Frequency). fits o other) (sym same.2) ∙ is.fits_kind in
     cc
 
 -- a kind and a hint that are found are the argument's

@@ -16,13 +16,13 @@ use Rattle.getopts_shell.specs.declared.table.TableError.{TableError}
 use Rattle.getopts_shell.specs.declared.table.TableError.TheVariants as error
 use Rattle.std.specs.Str.{IsTrimAscii}
 use Rattle.std.proofs.lemmas.Str.Ascii.{trim_ascii_is}
-use Rattle.getopts_shell.specs.Table.{after_blanks, trimmed, before_gap, from_gap, Entry, is_passed}
+use Rattle.getopts_shell.specs.Table.{after_blanks, trimmed, before_gap, from_gap, Entry, declares_no_option}
 use Rattle.getopts_shell.specs.Table.{IsItem, DeclaresEntry, Declares, Operand, is_operand}
 use Rattle.getopts_shell.specs.Table.{is_skipped, item_of, operand_at, operands_among}
 use Rattle.getopts_shell.specs.Table.{DeclareEntries, DeclareOptions, EachAfter, IsLineFault}
 use Rattle.getopts_shell.specs.Table.{IsTableFault, TableFault, conflicting_operand, line_number, name_again}
 use Rattle.getopts_shell.specs.Table.{no_option, none}
-use Rattle.getopts_shell.specs.declared.row.Often.{Often}
+use Rattle.getopts_shell.specs.declared.row.Frequency.{Frequency}
 
 -- a test of what is made of elements
 pub list_any_map : {X Y : Type 0} (p : Y → Bool) (f : X → Y) (xs : List X)
@@ -41,9 +41,9 @@ abbrev skips : Text → Bool
 skips text = is_empty text || (slice_index text 0 == 35)
 
 -- a line that declares something other than an operand isn't passed over
-passed_not : (line text item : Text) → text ≡ trimmed line → skips text ≡ false
-    → item ≡ trimmed (before_gap text) → is_operand item ≡ false → is_passed line ≡ false
-passed_not line text item text_is there item_is plain =
+declares_option : (line text item : Text) → text ≡ trimmed line → skips text ≡ false
+    → item ≡ trimmed (before_gap text) → is_operand item ≡ false → declares_no_option line ≡ false
+declares_option line text item text_is there item_is plain =
     ap (λ (b : Bool). b || is_operand (item_of line)) (rw text_is at there)
     ∙ rw (item_is, text_is) at plain
 
@@ -71,7 +71,7 @@ no_operand_at line text item text_is there item_is plain =
 pub declares_operand : (line text item rest description : Text) → text ≡ trimmed line
     → skips text ≡ false → item ≡ trimmed (before_gap text) → rest ≡ from_gap text
     → description ≡ trimmed rest → is_operand item ≡ true
-    → (is_passed line ≡ true)
+    → (declares_no_option line ≡ true)
     × (operand_at line ≡ Some (record { item = item; description = description }))
 declares_operand line text item rest description text_is there item_is rest_is description_is
     operand =
@@ -95,13 +95,13 @@ pub declares_entry : (number : ℕ) (line text item rest description : Text) (en
     → item ≡ trimmed (before_gap text) → is_operand item ≡ false → rest ≡ from_gap text
     → description ≡ trimmed rest
     → entry.description ≡ description
-    → IsItem item entry.names entry.kind entry.often entry.hint
+    → IsItem item entry.names entry.kind entry.frequency entry.hint
     → DeclaresEntry number line entry
 declares_entry number line text item rest description entry number_is text_is there item_is plain
     rest_is description_is is of_item =
     record {
       number_is = number_is;
-      there = passed_not line text item text_is there item_is plain;
+      there = declares_option line text item text_is there item_is plain;
       item = rw (item_is, text_is) at of_item;
       description = is ∙ description_is ∙ rw (rest_is, text_is) refl;
     }
@@ -110,16 +110,16 @@ declares_entry number line text item rest description entry number_is text_is th
 pub faulty_line : (line text item : Text) (number : ℕ) (entries : List Entry)
     (operands : List Operand) → text ≡ trimmed line
     → skips text ≡ false → item ≡ trimmed (before_gap text) → is_operand item ≡ false
-    → ((names : Names) (kind : HasArg) (often : Often) (hint : Text)
-    → ¬ (IsItem item names kind often hint))
+    → ((names : Names) (kind : HasArg) (frequency : Frequency) (hint : Text)
+    → ¬ (IsItem item names kind frequency hint))
     → IsLineFault number entries operands line (no_option number item)
 faulty_line line text item number entries operands text_is there item_is plain none_of =
     rw (item_is, text_is) (none declares_not)
   where
     declares_not : (declared : Option Entry) → ¬ (Declares number line declared)
     declares_not None is = let both : true ≡ false =
-        sym is ∙ passed_not line text item text_is there item_is plain in cc
-    declares_not (Some entry) is = none_of entry.names entry.kind entry.often entry.hint
+        sym is ∙ declares_option line text item text_is there item_is plain in cc
+    declares_not (Some entry) is = none_of entry.names entry.kind entry.frequency entry.hint
         (rw (item_is, text_is) is.item)
 
 -- ---- lines, one after the other

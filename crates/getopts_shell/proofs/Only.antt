@@ -7,21 +7,21 @@ use Rattle.getopts.specs.Names.{Names, Text}
 use Rattle.getopts.specs.declared.groups.HasArg.{HasArg}
 use Rattle.getopts.specs.Wrap.{lines_of}
 use Rattle.getopts_shell.specs.Table.{AreNames, Entry, IsItem, HasParts, IsArgument, is_operand}
-use Rattle.getopts_shell.specs.Table.{is_passed, is_skipped, item_of, Declares, DeclareEntries}
+use Rattle.getopts_shell.specs.Table.{declares_no_option, is_skipped, item_of, Declares, DeclareEntries}
 use Rattle.getopts_shell.specs.Table.{DeclaresOptions, OneTableOneList, DeclareOptions, name_again}
 use Rattle.getopts_shell.specs.Table.{TableFault, name_twice, IsLineFault, IsTableFault, Operand}
 use Rattle.getopts_shell.specs.Table.{conflicting_operand, late, line_number, late_operand, none, operand_at}
 use Rattle.getopts_shell.specs.Table.{operands_among, twice}
-use Rattle.getopts_shell.specs.declared.row.Often.{Often}
+use Rattle.getopts_shell.specs.declared.row.Frequency.{Frequency}
 use Rattle.getopts_shell.proofs.Lines.{Places, here, later, earlier, operands_around, places}
 use Rattle.getopts_shell.proofs.Items.{one_bracketed, one_pair, one_names, one_argument}
 
 -- an item has only one meaning
-one_item : (text : Text) (own others : Names) (kind other : HasArg) (often another : Often)
-    (hint behind : Text) → IsItem text own kind often hint → IsItem text others other another behind
-    → (others ≡ own) × (other ≡ kind) × (another ≡ often) × (behind ≡ hint)
-one_item text own others kind other often another hint behind is also =
-    let same = one_bracketed text is.inside also.inside often another is.brackets also.brackets in
+one_item : (text : Text) (own others : Names) (kind other : HasArg) (frequency another : Frequency)
+    (hint behind : Text) → IsItem text own kind frequency hint → IsItem text others other another behind
+    → (others ≡ own) × (other ≡ kind) × (another ≡ frequency) × (behind ≡ hint)
+one_item text own others kind other frequency another hint behind is also =
+    let same = one_bracketed text is.inside also.inside frequency another is.brackets also.brackets in
     let pair = one_pair is.inside is.names also.names is.argument also.argument is.parts
     (subst (λ (t : Text). HasParts t also.names also.argument) same.0 also.parts) in
     let names = one_names own others is.names is.names_are
@@ -31,12 +31,12 @@ one_item text own others kind other often another hint behind is also =
     (names, argument.0, same.1, argument.1)
 
 -- an entry with these parts
-abbrev made : ℕ → Names → HasArg → Often → Text → Text → Entry
-made line names kind often hint description = record {
+abbrev made : ℕ → Names → HasArg → Frequency → Text → Text → Entry
+made line names kind frequency hint description = record {
   line = line;
   names = names;
   kind = kind;
-  often = often;
+  frequency = frequency;
   hint = hint;
   description = description;
 }
@@ -50,25 +50,25 @@ one_declared number line None (Some entry) is also =
 one_declared number line (Some entry) None is also =
     let both : true ≡ false = sym also ∙ is.there in cc
 one_declared number line (Some entry) (Some other) is also =
-    let same = one_item _ entry.names other.names entry.kind other.kind entry.often other.often
+    let same = one_item _ entry.names other.names entry.kind other.kind entry.frequency other.frequency
     entry.hint other.hint is.item also.item in
     ap Some (one_entry entry other (also.number_is ∙ sym is.number_is) same.0 same.1 same.2 same.3
     (also.description ∙ sym is.description))
   where
     one_entry : (entry other : Entry) → other.line ≡ entry.line → other.names ≡ entry.names
-        → other.kind ≡ entry.kind → other.often ≡ entry.often → other.hint ≡ entry.hint
+        → other.kind ≡ entry.kind → other.frequency ≡ entry.frequency → other.hint ≡ entry.hint
         → other.description ≡ entry.description → other ≡ entry
-    one_entry entry other line names kind often hint description =
-        ap (λ (l : ℕ). made l other.names other.kind other.often other.hint other.description) line
-        ∙ ap (λ (n : Names). made entry.line n other.kind other.often other.hint other.description)
+    one_entry entry other line names kind frequency hint description =
+        ap (λ (l : ℕ). made l other.names other.kind other.frequency other.hint other.description) line
+        ∙ ap (λ (n : Names). made entry.line n other.kind other.frequency other.hint other.description)
         names
-        ∙ ap (λ (k : HasArg). made entry.line entry.names k other.often other.hint
+        ∙ ap (λ (k : HasArg). made entry.line entry.names k other.frequency other.hint
         other.description) kind
-        ∙ ap (λ (o : Often). made entry.line entry.names entry.kind o other.hint other.description)
-        often
-        ∙ ap (λ (h : Text). made entry.line entry.names entry.kind entry.often h other.description)
+        ∙ ap (λ (o : Frequency). made entry.line entry.names entry.kind o other.hint other.description)
+        frequency
+        ∙ ap (λ (h : Text). made entry.line entry.names entry.kind entry.frequency h other.description)
         hint
-        ∙ ap (made entry.line entry.names entry.kind entry.often entry.hint) description
+        ∙ ap (made entry.line entry.names entry.kind entry.frequency entry.hint) description
 
 -- lines declare only one list of entries
 one_entries : (before : ℕ) (lines : List Text) (entries others : List Entry)
@@ -150,9 +150,9 @@ no_fault table entries fault declares is =
     (rw is.lines_are at declares) is.fault_at
 
 -- the line of an operand declares no option
-operand_passed : (line : Text) (operand : Operand)
-    → operand_at line ≡ Some operand → is_passed line ≡ true
-operand_passed line operand is = by_tests _ (is_skipped line) (is_operand (item_of line)) is
+operand_declares_no_option : (line : Text) (operand : Operand)
+    → operand_at line ≡ Some operand → declares_no_option line ≡ true
+operand_declares_no_option line operand is = by_tests _ (is_skipped line) (is_operand (item_of line)) is
   where
     by_tests : (there : Operand) (skipped of_operand : Bool)
         → (if not skipped && of_operand then Some there else None) ≡ Some operand
@@ -188,15 +188,15 @@ one_line_fault number entries operands line fault other (late operand blocking i
     ap (late_operand number also) other_is
     ∙ ap (λ (o : Operand). late_operand number o blocking) operand_is
 one_line_fault number entries operands line fault other (late operand blocking is conflicts) (none also) =
-    absurd (also None (operand_passed line operand is))
+    absurd (also None (operand_declares_no_option line operand is))
 one_line_fault number entries operands line fault other (none is) (late operand blocking at conflicts) =
-    absurd (is None (operand_passed line operand at))
+    absurd (is None (operand_declares_no_option line operand at))
 one_line_fault number entries operands line fault other (late operand blocking is conflicts)
     (twice entry name of again) =
-    let both : true ≡ false = sym (operand_passed line operand is) ∙ of.there in cc
+    let both : true ≡ false = sym (operand_declares_no_option line operand is) ∙ of.there in cc
 one_line_fault number entries operands line fault other (twice entry name of again)
     (late operand blocking at conflicts) =
-    let both : true ≡ false = sym (operand_passed line operand at) ∙ of.there in cc
+    let both : true ≡ false = sym (operand_declares_no_option line operand at) ∙ of.there in cc
 
 -- a table has at most one error
 pub one_fault : (table : Text) (fault other : TableFault) → IsTableFault table fault

@@ -170,7 +170,7 @@ codes_give prefix arrays (option ∷ options) make hold =
     let named = variable_gives name make.0 in
     append_gives (append_gives (ascii_gives (codes "\\unset -v ") refl)
     (append_gives named (append_gives (ascii_gives (codes "\n") refl)
-    (value_gives name arrays (holds_all option.entry.often) option.entry.kind option.found
+    (value_gives name arrays (holds_all option.entry.frequency) option.entry.kind option.found
     named hold.0))))
     (codes_give prefix arrays options make.1 hold.1)
 
@@ -226,7 +226,7 @@ pub alone_holds_texts : (entries : List Entry) (alone : Entry)
     → HoldTexts (given_alone entries alone)
 alone_holds_texts [] alone = tt
 alone_holds_texts (entry ∷ entries) alone = (
-  bare_texts entry.kind (holds_all entry.often) _,
+  bare_texts entry.kind (holds_all entry.frequency) _,
   alone_holds_texts entries alone,
 )
 

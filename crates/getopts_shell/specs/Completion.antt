@@ -16,8 +16,8 @@ use Rattle.getopts.specs.declared.groups.HasArg.TheVariants.{No}
 use Rattle.getopts_shell.specs.declared.complete.TheConstants.{BASH, ZSH, FISH}
 use Rattle.getopts_shell.specs.Quote.{quoted_byte}
 use Rattle.getopts_shell.specs.Table.{Entry, is_long_name}
-use Rattle.getopts_shell.specs.declared.row.Often.{Often}
-use Rattle.getopts_shell.specs.declared.row.Often.TheVariants.{All}
+use Rattle.getopts_shell.specs.declared.row.Frequency.{Frequency}
+use Rattle.getopts_shell.specs.declared.row.Frequency.TheVariants.{All}
 
 -- ---- which options may follow
 
@@ -33,17 +33,17 @@ groups_at_end options (Ok reading) =
 groups_at_end options (Err fault) = None
 
 -- the groups of words whose reading ends with the line, so that an option may follow them
-abbrev pub goes_on : Declared → List Text → Option (List MatchedGroup)
-goes_on options before = groups_at_end options (reading_result options before)
+abbrev pub groups_before_option : Declared → List Text → Option (List MatchedGroup)
+groups_before_option options before = groups_at_end options (reading_result options before)
 
 -- whether all values of an option count
-abbrev pub holds_all : Often → Bool
+abbrev pub holds_all : Frequency → Bool
 holds_all All = true
-holds_all often = false
+holds_all frequency = false
 
 -- whether an option is offered: it wasn't given, or all its values count
 abbrev pub may_come : List MatchedGroup → Entry → Bool
-may_come groups entry = holds_all entry.often || not (is_present groups (main_name entry.names))
+may_come groups entry = holds_all entry.frequency || not (is_present groups (main_name entry.names))
 
 -- ---- what is offered
 
@@ -85,7 +85,7 @@ options_lines groups long_only word entries =
 abbrev pub offer : Declared → List Entry → List Text → Text → Text
 offer options entries before word =
     option_map_or (λ groups. options_lines groups options.long_only word entries)
-    (if starts_with nat_eq word (codes "-") then goes_on options before else None)
+    (if starts_with nat_eq word (codes "-") then groups_before_option options before else None)
     (codes "files\n")
 
 -- ---- the code for a shell

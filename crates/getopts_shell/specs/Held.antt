@@ -29,7 +29,7 @@ entry_of_row row = record {
   line = row.line;
   names = record { short = row.short.now; long = row.long.now };
   kind = row.kind;
-  often = row.often;
+  frequency = row.frequency;
   hint = row.hint.now;
   description = row.description.now;
 }

@@ -32,8 +32,8 @@ use Rattle.getopts_shell.specs.Variables.{HoldTexts, SetsVariables, SetsWords, G
 use Rattle.getopts_shell.specs.Variables.{given_alone, line_code, variables_code, VariableFault}
 use Rattle.getopts_shell.specs.Variables.{arrays_only, no_prefix, no_variable, prefix_fault}
 use Rattle.getopts_shell.specs.Variables.{variable_twice}
-use Rattle.getopts_shell.specs.declared.row.Often.{Often}
-use Rattle.getopts_shell.specs.declared.row.Often.TheVariants.{Alone}
+use Rattle.getopts_shell.specs.declared.row.Frequency.{Frequency}
+use Rattle.getopts_shell.specs.declared.row.Frequency.TheVariants.{Alone}
 
 -- ---- the program's own options
 
@@ -277,14 +277,14 @@ abbrev pub asks_help : List Entry → Matched → Bool
 asks_help entries matches = list_any is_help entries && is_given matches (codes "help")
 
 -- whether an option stands alone
-abbrev pub stands_alone : Often → Bool
+abbrev pub stands_alone : Frequency → Bool
 stands_alone Alone = true
-stands_alone often = false
+stands_alone frequency = false
 
 -- whether an entry's option stands alone, and the matches contain it
 abbrev pub is_alone : Matched → Entry → Bool
 is_alone matches entry =
-    stands_alone entry.often && is_given matches (main_name entry.names)
+    stands_alone entry.frequency && is_given matches (main_name entry.names)
 
 -- the line of an option that stands alone: its word, by its main name, and the stop
 abbrev pub alone_line : Entry → List Text

@@ -16,12 +16,12 @@ use Rattle.getopts.specs.declared.groups.HasArg.{HasArg}
 use Rattle.getopts.specs.declared.groups.HasArg.TheVariants.{Yes, No, Maybe}
 use Rattle.getopts.specs.declared.groups.Occur.{Occur}
 use Rattle.getopts.specs.declared.groups.Occur.TheVariants.{Req, Optional, Multi}
-use Rattle.getopts_shell.specs.declared.item.TheConstants.{APART, BAR, BRACKETS, BYTES, COLON}
-use Rattle.getopts_shell.specs.declared.item.TheConstants.{DASHES, END, EQUALS, GAP, LETTER, LONG}
-use Rattle.getopts_shell.specs.declared.item.TheConstants.{MARK, ONE, OPEN, OPERAND, ORDER, SHORT}
-use Rattle.getopts_shell.specs.declared.item.TheConstants.{SPACE}
-use Rattle.getopts_shell.specs.declared.row.Often.{Often}
-use Rattle.getopts_shell.specs.declared.row.Often.TheVariants.{Once, Last, All, Alone}
+use Rattle.getopts_shell.specs.declared.item.TheConstants.{NAMES_TOGETHER, TWO_DASHES_AFTER_BAR, BRACKETS_AROUND_WHOLE, LONG_NAME_BYTES, LONG_NAME_END}
+use Rattle.getopts_shell.specs.declared.item.TheConstants.{NAME_FORMS, AFTER_BRACKET, ARGUMENT_AFTER_SPACE, DESCRIPTION_AFTER_GAP, SHORT_NAME_BYTES, LONG_NAME_LENGTH}
+use Rattle.getopts_shell.specs.declared.item.TheConstants.{MARK_WITHOUT_ARGUMENT, ONE_OPTION_A_LINE, MISSING_BRACKET, OPERAND_FORMS, SHORT_NAME_FIRST, SHORT_NAME_LENGTH}
+use Rattle.getopts_shell.specs.declared.item.TheConstants.{NO_SPACE_IN_ARGUMENT}
+use Rattle.getopts_shell.specs.declared.row.Frequency.{Frequency}
+use Rattle.getopts_shell.specs.declared.row.Frequency.TheVariants.{Once, Last, All, Alone}
 
 -- ---- texts in parts
 
@@ -113,7 +113,7 @@ HasParts text names argument = AllByRecursion (λ byte. byte ≢ 32) names
     × (text ≡ names ++ option_map_or (λ argument. codes " " ++ argument) argument [])
 
 -- what the text after `]` means: none, the last value counts; dots, all do; `!`, it stands alone
-abbrev pub end_means : Text → Option Often
+abbrev pub end_means : Text → Option Frequency
 end_means end =
     if is_empty end then Some Last
     else (if bytes_eq end (codes "!") then Some Alone
@@ -121,28 +121,28 @@ end_means end =
 
 -- An option without brackets has to occur once. After `[` and `]`, the end says how often.
 -- The text has this inside, and brackets that mean this occurrence.
-pub data IsBracketed (text inside : Text) : Often → Type 0 where
+pub data IsBracketed (text inside : Text) : Frequency → Type 0 where
   bare : text ≡ inside → slice_index text 0 ≢ 91 → IsBracketed text inside Once
-  bracketed : (end : Text) (often : Often) → text ≡ codes "[" ++ (inside ++ (codes "]" ++ end))
-      → end_means end ≡ Some often → IsBracketed text inside often
+  bracketed : (end : Text) (frequency : Frequency) → text ≡ codes "[" ++ (inside ++ (codes "]" ++ end))
+      → end_means end ≡ Some frequency → IsBracketed text inside frequency
 
 -- whether an occurrence fits a kind: an option that stands alone takes no argument
-abbrev pub fits : Often → HasArg → Bool
+abbrev pub fits : Frequency → HasArg → Bool
 fits Alone Yes = false
 fits Alone Maybe = false
-fits often kind = true
+fits frequency kind = true
 
 -- The text is an item: names, and perhaps an argument, in brackets that mean this occurrence.
-pub record IsItem (text : Text) (own : Names) (kind : HasArg) (often : Often) (hint : Text)
+pub record IsItem (text : Text) (own : Names) (kind : HasArg) (frequency : Frequency) (hint : Text)
     : Type 0 where
   pub inside : Text
-  pub brackets : IsBracketed text inside often
+  pub brackets : IsBracketed text inside frequency
   pub names : Text
   pub argument : Option Text
   pub parts : HasParts inside names argument
   pub names_are : AreNames own names
   pub argument_is : IsArgument kind hint argument
-  pub fits_kind : fits often kind ≡ true
+  pub fits_kind : fits frequency kind ≡ true
 
 -- ---- operands
 
@@ -195,13 +195,13 @@ pub record Entry : Type 0 where
   pub line : ℕ
   pub names : Names
   pub kind : HasArg
-  pub often : Often
+  pub frequency : Frequency
   pub hint : Text
   pub description : Text
 
 -- In a help, an option whose last value counts may occur once.
 -- how often words may give an option, or how often a help says they may
-abbrev pub occurrence_of : Bool → Often → Occur
+abbrev pub occurrence_of : Bool → Frequency → Occur
 occurrence_of shown Once = Req
 occurrence_of shown All = Multi
 occurrence_of shown Alone = Optional
@@ -213,7 +213,7 @@ group_of_entry shown entry = record {
   signature = record {
     names = entry.names;
     kind = entry.kind;
-    occurrence = occurrence_of shown entry.often;
+    occurrence = occurrence_of shown entry.frequency;
   };
   hint = entry.hint;
   description = entry.description;
@@ -262,19 +262,19 @@ abbrev pub is_skipped : Text → Bool
 is_skipped line = is_empty (trimmed line) || slice_index (trimmed line) 0 == 35
 
 -- whether a line declares no option: it declares nothing at all, or its item is an operand
-abbrev pub is_passed : Text → Bool
-is_passed line = is_skipped line || is_operand (item_of line)
+abbrev pub declares_no_option : Text → Bool
+declares_no_option line = is_skipped line || is_operand (item_of line)
 
 -- The line with this number declares this entry: its option and, after a gap, its description.
 pub record DeclaresEntry (number : ℕ) (line : Text) (entry : Entry) : Type 0 where
   pub number_is : entry.line ≡ number
-  pub there : is_passed line ≡ false
-  pub item : IsItem (item_of line) entry.names entry.kind entry.often entry.hint
+  pub there : declares_no_option line ≡ false
+  pub item : IsItem (item_of line) entry.names entry.kind entry.frequency entry.hint
   pub description : entry.description ≡ trimmed (from_gap (trimmed line))
 
 -- The line with this number declares this: nothing, or an entry.
 abbrev pub Declares : ℕ → Text → Option Entry → Type 0
-Declares number line None = is_passed line ≡ true
+Declares number line None = declares_no_option line ≡ true
 Declares number line (Some entry) = DeclaresEntry number line entry
 
 -- ---- tables
@@ -365,34 +365,34 @@ reasons item =
     let names = names_in item in
     let short = (dashed names).short in
     let long = (dashed names).long in
-    (holds 91 item && not (holds 93 item), OPEN.now)
-    ∷ (starts_with ◌==◌ (after 93 item) (codes " [-"), ONE.now)
-    ∷ (begins_name (unopened (after 32 item)) || starts_with ◌==◌ (after 32 item) (codes "]"), APART.now)
-    ∷ (holds 32 (after 93 item), GAP.now)
-    ∷ (holds 32 (after 32 item), SPACE.now)
-    ∷ (begins_capital names && holds 32 item, GAP.now)
-    ∷ (begins_capital names, OPERAND.now)
-    ∷ (holds 61 names, EQUALS.now)
-    ∷ (holds 44 (drop 1 (drop 1 names)), APART.now)
-    ∷ (holds 91 names, BRACKETS.now)
-    ∷ (not (begins_with_dash names) || length short == 1, DASHES.now)
-    ∷ (holds 124 names && not (starts_with ◌==◌ long (codes "--")), BAR.now)
-    ∷ (starts_with ◌==◌ long (codes "---"), DASHES.now)
-    ∷ (holds 124 long, ORDER.now)
-    ∷ (nat_lt 127 (slice_index short 1), LETTER.now)
-    ∷ (nat_lt 2 (length short), SHORT.now)
-    ∷ (not (is_name (drop 1 short)), LETTER.now)
-    ∷ (not (is_empty long) && nat_lt (length long) 4, LONG.now)
-    ∷ (not (list_all is_long_byte long), BYTES.now)
-    ∷ (not (ends_as_name long), COLON.now)
-    ∷ (ends_with ◌==◌ item (codes "!"), MARK.now)
-    ∷ (ends_behind item, END.now)
+    (holds 91 item && not (holds 93 item), MISSING_BRACKET.now)
+    ∷ (starts_with ◌==◌ (after 93 item) (codes " [-"), ONE_OPTION_A_LINE.now)
+    ∷ (begins_name (unopened (after 32 item)) || starts_with ◌==◌ (after 32 item) (codes "]"), NAMES_TOGETHER.now)
+    ∷ (holds 32 (after 93 item), DESCRIPTION_AFTER_GAP.now)
+    ∷ (holds 32 (after 32 item), NO_SPACE_IN_ARGUMENT.now)
+    ∷ (begins_capital names && holds 32 item, DESCRIPTION_AFTER_GAP.now)
+    ∷ (begins_capital names, OPERAND_FORMS.now)
+    ∷ (holds 61 names, ARGUMENT_AFTER_SPACE.now)
+    ∷ (holds 44 (drop 1 (drop 1 names)), NAMES_TOGETHER.now)
+    ∷ (holds 91 names, BRACKETS_AROUND_WHOLE.now)
+    ∷ (not (begins_with_dash names) || length short == 1, NAME_FORMS.now)
+    ∷ (holds 124 names && not (starts_with ◌==◌ long (codes "--")), TWO_DASHES_AFTER_BAR.now)
+    ∷ (starts_with ◌==◌ long (codes "---"), NAME_FORMS.now)
+    ∷ (holds 124 long, SHORT_NAME_FIRST.now)
+    ∷ (nat_lt 127 (slice_index short 1), SHORT_NAME_BYTES.now)
+    ∷ (nat_lt 2 (length short), SHORT_NAME_LENGTH.now)
+    ∷ (not (is_name (drop 1 short)), SHORT_NAME_BYTES.now)
+    ∷ (not (is_empty long) && nat_lt (length long) 4, LONG_NAME_LENGTH.now)
+    ∷ (not (list_all is_long_byte long), LONG_NAME_BYTES.now)
+    ∷ (not (ends_as_name long), LONG_NAME_END.now)
+    ∷ (ends_with ◌==◌ item (codes "!"), MARK_WITHOUT_ARGUMENT.now)
+    ∷ (ends_behind item, AFTER_BRACKET.now)
     ∷ []
 
--- why an item is invalid: the first reason that applies, or else BRACKETS
+-- why an item is invalid: the first reason that applies, or else BRACKETS_AROUND_WHOLE
 abbrev pub reason_of : Text → Text
 reason_of item = option_map_or (λ reason. reason.1) (find (λ reason. reason.0) (reasons item))
-    BRACKETS.now
+    BRACKETS_AROUND_WHOLE.now
 
 -- ---- errors
 

@@ -15,8 +15,8 @@ use Rattle.getopts_bytes.specs.Marks.{bytes_of}
 use Rattle.getopts_shell.specs.Completion.{holds_all}
 use Rattle.getopts_shell.specs.Quote.{quoted, quoted_words, shell_words}
 use Rattle.getopts_shell.specs.Table.{Entry}
-use Rattle.getopts_shell.specs.declared.variables.Came.{Came}
-use Rattle.getopts_shell.specs.declared.variables.Came.TheVariants as came
+use Rattle.getopts_shell.specs.declared.variables.OptionOccurrences.{OptionOccurrences}
+use Rattle.getopts_shell.specs.declared.variables.OptionOccurrences.TheVariants as option_occurrences
 
 -- ---- what a shell does
 
@@ -171,10 +171,10 @@ given_alone entries alone =
     map (λ entry. record { entry = entry; found = found_alone entry alone }) entries
 
 -- the occurrences of an option, as the code stores them
-abbrev pub founds_of : Came → List Found
-founds_of (came.Held held) = held.now
-founds_of came.Once = once
-founds_of came.Never = []
+abbrev pub founds_of : OptionOccurrences → List Found
+founds_of (option_occurrences.InMatches held) = held.now
+founds_of option_occurrences.Once = once
+founds_of option_occurrences.Never = []
 
 -- the values of occurrences, with an empty text for one that has none
 abbrev pub texts_found : List Found → List Text
@@ -199,7 +199,7 @@ held_value arrays kind false founds = option_map one (last_or None (texts_found 
 -- what the variable of an option holds
 abbrev pub own_value : Bool → Given → Option Value
 own_value arrays option =
-    held_value arrays option.entry.kind (holds_all option.entry.often) option.found
+    held_value arrays option.entry.kind (holds_all option.entry.frequency) option.found
 
 -- a shell that holds these options: the variable of each has its value or none, all others are
 -- unchanged, and the words are the free words
@@ -248,7 +248,7 @@ AreTextValues kind false founds = MatchOption (last_or None (texts_found founds)
 
 abbrev pub HoldTexts : List Given → Type 0
 HoldTexts options = AllByRecursion
-    (λ option. AreTextValues option.entry.kind (holds_all option.entry.often) option.found) options
+    (λ option. AreTextValues option.entry.kind (holds_all option.entry.frequency) option.found) options
 
 -- A shell that runs the command holds these words, and one that runs its bytes holds their bytes.
 pub record SetsWords (words : List Text) : Type 0 where

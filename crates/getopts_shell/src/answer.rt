@@ -38,7 +38,7 @@ use crate::complete::{functions, is_given, offers, stub, takes_argument};
 use crate::item::reason_of;
 use crate::operand::{Operand, OperandError, free_error, may_repeat, push_operands, rows_of};
 use crate::quote::{push_joined, push_line, push_quoted};
-use crate::row::{Often, Row};
+use crate::row::{Frequency, Row};
 use crate::script::{Asked, Script};
 use crate::table::{Table, TableError, declared_in};
 use crate::variables::{
@@ -496,21 +496,21 @@ fn add_rows(options: &mut Options, rows: &[Row<'_>], shown: bool) -> Result<(), 
             row.description,
             row.hint,
             row.kind,
-            occurrence_of(shown, row.often),
+            occurrence_of(shown, row.frequency),
         )?;
     }
     Ok(())
 }
 
 /// How often words may give an option, or how often its help says they may.
-fn occurrence_of(shown: bool, often: Often) -> Occur
-    ensures { result ≡ occurrence_of shown often }
+fn occurrence_of(shown: bool, frequency: Frequency) -> Occur
+    ensures { result ≡ occurrence_of shown frequency }
 {
-    match often {
-        Often::Once => Occur::Req,
-        Often::All => Occur::Multi,
-        Often::Alone => Occur::Optional,
-        Often::Last => { if shown { Occur::Optional } else { Occur::Multi } }
+    match frequency {
+        Frequency::Once => Occur::Req,
+        Frequency::All => Occur::Multi,
+        Frequency::Alone => Occur::Optional,
+        Frequency::Last => { if shown { Occur::Optional } else { Occur::Multi } }
     }
 }
 
@@ -701,10 +701,10 @@ fn offers_help(rows: &[Row<'_>]) -> bool
 }
 
 /// Whether an option with this occurrence stands alone.
-fn stands_alone(often: Often) -> bool
-    ensures { result ≡ stands_alone often }
+fn stands_alone(frequency: Frequency) -> bool
+    ensures { result ≡ stands_alone frequency }
 {
-    matches!(often, Often::Alone)
+    matches!(frequency, Frequency::Alone)
 }
 
 /// The first row that stands alone and that the matches give.
@@ -724,7 +724,7 @@ fn first_alone<'t>(rows: &[Row<'t>], matches: &Matches) -> Option<Row<'t>>
 fn is_alone(row: Row<'_>, matches: &Matches) -> bool
     ensures { result ≡ is_alone matches.now (entry_of_row row.entry) }
 {
-    stands_alone(row.often) && is_given(matches, main_name(row))
+    stands_alone(row.frequency) && is_given(matches, main_name(row))
 }
 
 /// The answer to words that give an option that stands alone: its line, or variables as if only it
@@ -831,7 +831,7 @@ fn keep_counts(rows: &[Row<'_>], matches: &Matches) -> bool
     for place in 0..rows.len() {
         let row = rows[place];
         let count = matches.occurrences_at(place).len();
-        if !keeps_count(occurrence_of(false, row.often), count) {
+        if !keeps_count(occurrence_of(false, row.frequency), count) {
             return false;
         }
     }

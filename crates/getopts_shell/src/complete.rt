@@ -11,7 +11,7 @@ ghost use Rattle.getopts.specs.Fail.{Fault, fault_of};
 ghost use Rattle.getopts.specs.Names.{texts};
 ghost use Rattle.getopts.specs.Results.{read_result};
 ghost use Rattle.getopts.specs.Reading.{stop_word};
-ghost use Rattle.getopts_shell.specs.Completion.{goes_on, holds_all, may_come, name_line, offer};
+ghost use Rattle.getopts_shell.specs.Completion.{groups_before_option, holds_all, may_come, name_line, offer};
 ghost use Rattle.getopts_shell.specs.Completion.{option_lines, options_lines, takes_argument};
 ghost use Rattle.getopts_shell.specs.Completion.{first_line, functions, modes, stub, stub_call};
 ghost use Rattle.getopts_shell.specs.Completion.{stub_quoted};
@@ -19,7 +19,7 @@ ghost use Rattle.getopts_shell.specs.Held.{entries_of, entry_of_row, is_last_aft
 
 use crate::item::is_long_name;
 use crate::quote::{push_parting, push_replaced};
-use crate::row::{Often, Row};
+use crate::row::{Frequency, Row};
 use crate::variables::main_name;
 use getopts::{Fail, HasArg, Matches, Options, names_resolve};
 use std::alloc::{AllocError, Global};
@@ -202,7 +202,7 @@ pub(crate) fn offers(
     if !begins_with(word, "-") {
         return String::from_str(alloc, "files\n");
     }
-    match goes_on(alloc, options, before)? {
+    match matches_before_option(alloc, options, before)? {
         Some(matches) => options_lines(alloc, &matches, long_only, word, rows),
         None => String::from_str(alloc, "files\n"),
     }
@@ -210,13 +210,13 @@ pub(crate) fn offers(
 
 /// The matches of words, if an option may follow them. To find out, it appends `--` and an empty
 /// word: an option may follow if these are the stop and the only word after it.
-fn goes_on(
+fn matches_before_option(
     alloc: Global,
     options: &Options,
     before: &[String],
 ) -> Result<Option<Matches>, AllocError>
     ensures { IfOk result (λ found. option_map (λ matches. matches.groups) found
-        ≡ goes_on options.now (map string_bytes before.now)) }
+        ≡ groups_before_option options.now (map string_bytes before.now)) }
 {
     names_resolve(options);
     let words = with_stop(alloc, before)?;
@@ -307,14 +307,14 @@ fn options_lines(
 fn may_come(matches: &Matches, row: &Row<'_>) -> bool
     ensures { result ≡ may_come matches.now.groups (entry_of_row row.now) }
 {
-    holds_all(row.often) || !is_given(matches, main_name(*row))
+    holds_all(row.frequency) || !is_given(matches, main_name(*row))
 }
 
 /// Whether all values of an option count.
-pub(crate) fn holds_all(often: Often) -> bool
-    ensures { result ≡ holds_all often }
+pub(crate) fn holds_all(frequency: Frequency) -> bool
+    ensures { result ≡ holds_all frequency }
 {
-    matches!(often, Often::All)
+    matches!(frequency, Frequency::All)
 }
 
 /// Whether matches contain an option of this name.

@@ -14,27 +14,27 @@ ghost use Rattle.getopts_shell.specs.Table.{HasParts, IsBracketed, IsItem, end_m
 ghost use Rattle.getopts_shell.specs.Table.{begins_capital, begins_name, ends_as_name, ends_behind};
 ghost use Rattle.getopts_shell.specs.Table.{fits, unopened, after, before, dashed, holds, names_in};
 ghost use Rattle.getopts_shell.specs.Table.{reason_of};
-ghost use Rattle.getopts_shell.specs.declared.row.Often.{Often as Frequency};
+ghost use Rattle.getopts_shell.specs.declared.row.Frequency.{Frequency as HowOften};
 
-use crate::row::{Often, Row};
+use crate::row::{Frequency, Row};
 use getopts::{HasArg, names_lawful};
 
 /// The option that an item declares, with the number of its line and its description, if the item
 /// is an option.
 pub(crate) fn row_of<'t>(line: usize, item: &'t str, description: &'t str) -> Option<Row<'t>>
     ensures option { MatchOption result
-        ((names : Names) (kind : Kind) (often : Frequency) (hint : Text)
-        → ¬ (IsItem item.now names kind often hint))
+        ((names : Names) (kind : Kind) (frequency : HowOften) (hint : Text)
+        → ¬ (IsItem item.now names kind frequency hint))
         (λ row. IsItem item.now (record { short = row.short.now; long = row.long.now }) row.kind
-        row.often row.hint.now) }
+        row.frequency row.hint.now) }
     ensures place { MatchOption result (Unit {0})
         (λ row. (row.line ≡ line) × (row.description.now ≡ description.now)) }
 {
-    let (inside, often) = unbracketed(item)?;
+    let (inside, frequency) = unbracketed(item)?;
     let (names, argument) = parts_of(inside);
     let (short, long) = names_of(names)?;
     let (kind, hint) = argument_of(argument)?;
-    if !fits(often, kind) {
+    if !fits(frequency, kind) {
         return None;
     }
     Some(Row {
@@ -42,7 +42,7 @@ pub(crate) fn row_of<'t>(line: usize, item: &'t str, description: &'t str) -> Op
         short,
         long,
         kind,
-        often,
+        frequency,
         hint,
         description,
     })
@@ -50,27 +50,27 @@ pub(crate) fn row_of<'t>(line: usize, item: &'t str, description: &'t str) -> Op
 
 /// Whether an option with this occurrence may have this kind: one that stands alone takes no
 /// argument.
-fn fits(often: Often, kind: HasArg) -> bool
-    ensures { result ≡ fits often kind }
+fn fits(frequency: Frequency, kind: HasArg) -> bool
+    ensures { result ≡ fits frequency kind }
 {
-    match (often, kind) {
-        (Often::Alone, HasArg::Yes | HasArg::Maybe) => false,
+    match (frequency, kind) {
+        (Frequency::Alone, HasArg::Yes | HasArg::Maybe) => false,
         _ => true,
     }
 }
 
 /// A text without its brackets, and how often they say that the option may occur.
-fn unbracketed(text: &str) -> Option<(&str, Often)>
-    ensures { MatchOption result ((inside : Text) (often : Frequency)
-        → ¬ (IsBracketed text.now inside often))
+fn unbracketed(text: &str) -> Option<(&str, Frequency)>
+    ensures { MatchOption result ((inside : Text) (frequency : HowOften)
+        → ¬ (IsBracketed text.now inside frequency))
         (λ found. IsBracketed text.now found.0.now found.1) }
 {
     let Some(opened) = text.strip_prefix('[') else {
-        return Some((text, Often::Once));
+        return Some((text, Frequency::Once));
     };
     let (inside, end) = cut_at_bracket(opened)?;
-    let often = end_means(end)?;
-    Some((inside, often))
+    let frequency = end_means(end)?;
+    Some((inside, frequency))
 }
 
 /// A text split at its last `]`: what precedes it, and what follows it.
@@ -83,15 +83,15 @@ fn cut_at_bracket(text: &str) -> Option<(&str, &str)>
 }
 
 /// What the text after `]` means.
-fn end_means(end: &str) -> Option<Often>
+fn end_means(end: &str) -> Option<Frequency>
     ensures { result ≡ end_means end.now }
 {
     if end.is_empty() {
-        Some(Often::Last)
+        Some(Frequency::Last)
     } else if end == "!" {
-        Some(Often::Alone)
+        Some(Frequency::Alone)
     } else if end == ".." || end == "..." {
-        Some(Often::All)
+        Some(Frequency::All)
     } else {
         None
     }
@@ -247,46 +247,47 @@ fn is_hint_byte(byte: u8) -> bool
 }
 
 /// Why an item is invalid: this is the reason if it contains `[` but no `]`.
-const OPEN: &str = "missing ']'";
+const MISSING_BRACKET: &str = "missing ']'";
 /// The reason if a dash, `|` or `]` follows the first space, or the names contain a comma.
-const APART: &str = "write names as -s|--long, without spaces or commas";
+const NAMES_TOGETHER: &str = "write names as -s|--long, without spaces or commas";
 /// The reason if a space follows the first `]`, or an operand.
-const GAP: &str = "write each option or operand on its own line, \
+const DESCRIPTION_AFTER_GAP: &str = "write each option or operand on its own line, \
     and put a tab or two spaces before a description";
 /// The reason if it has a second space elsewhere.
-const SPACE: &str =
+const NO_SPACE_IN_ARGUMENT: &str =
     "an argument can't contain spaces, and a description needs a tab or two spaces before it";
 /// The reason if its names begin with a capital letter, like an operand.
-const OPERAND: &str = "write an operand as FILE, [FILE], FILE.. or [FILE]..";
+const OPERAND_FORMS: &str = "write an operand as FILE, [FILE], FILE.. or [FILE]..";
 /// The reason if its names contain `=`.
-const EQUALS: &str = "write the argument after a space, as in '--long ARG'";
+const ARGUMENT_AFTER_SPACE: &str = "write the argument after a space, as in '--long ARG'";
 /// The reason if its names contain `[`, or no other reason applies.
-const BRACKETS: &str =
+const BRACKETS_AROUND_WHOLE: &str =
     "put brackets around the whole option or its argument, and '..' or '...' only after ']'";
 /// The reason if a name has the wrong dashes.
-const DASHES: &str =
+const NAME_FORMS: &str =
     "write a short name as -s, a long name as --long, and an operand in capital letters";
 /// The reason if no two dashes follow `|`.
-const BAR: &str = "write two dashes after '|', as in -s|--long";
+const TWO_DASHES_AFTER_BAR: &str = "write two dashes after '|', as in -s|--long";
 /// The reason if a second `|` follows, or one follows a long name.
-const ORDER: &str = "write the short name first, then a single long name";
+const SHORT_NAME_FIRST: &str = "write the short name first, then a single long name";
 /// The reason if its short name has more than one byte.
-const SHORT: &str = "a short name has one character, and a long name needs two dashes";
+const SHORT_NAME_LENGTH: &str = "a short name has one character, and a long name needs two dashes";
 /// The reason if its short name is a byte that isn't allowed, or begins with one that isn't ASCII.
-const LETTER: &str = "a short name must be an ASCII letter or digit, or one of ?@#%+_^,./:";
+const SHORT_NAME_BYTES: &str =
+    "a short name must be an ASCII letter or digit, or one of ?@#%+_^,./:";
 /// The reason if its long name has fewer than two bytes.
-const LONG: &str = "a long name must have at least two bytes";
+const LONG_NAME_LENGTH: &str = "a long name must have at least two bytes";
 /// The reason if its long name contains a byte that isn't allowed.
-const BYTES: &str =
+const LONG_NAME_BYTES: &str =
     "a long name may contain letters, digits, '-', '_', '.', '+', ':' and non-ASCII characters";
 /// The reason if its long name ends in `:` or `.`.
-const COLON: &str = "a long name can't end in ':' or '.'; write dots after ']'";
+const LONG_NAME_END: &str = "a long name can't end in ':' or '.'; write dots after ']'";
 /// The reason if another option follows the first `]`.
-const ONE: &str = "write each option on its own line";
+const ONE_OPTION_A_LINE: &str = "write each option on its own line";
 /// The reason if it ends in anything else after `]`.
-const END: &str = "only '..', '...' or '!' may follow ']'";
+const AFTER_BRACKET: &str = "only '..', '...' or '!' may follow ']'";
 /// The reason if it ends in `!`.
-const MARK: &str = "'!' may only follow the ']' of an option without an argument";
+const MARK_WITHOUT_ARGUMENT: &str = "'!' may only follow the ']' of an option without an argument";
 
 /// Why an item isn't valid.
 pub(crate) fn reason_of(item: &str) -> &'static str
@@ -298,34 +299,37 @@ pub(crate) fn reason_of(item: &str) -> &'static str
     let names = names_in(item);
     let (short, long) = dashed(names);
     let reasons = [
-        (is_open(item), OPEN),
-        (end.starts_with(b" [-"), ONE),
-        (stands_apart(argument), APART),
-        (end.contains(&b' '), GAP),
-        (argument.contains(&b' '), SPACE),
-        (is_described(names, item), GAP),
-        (begins_capital(names), OPERAND),
-        (names.contains(&b'='), EQUALS),
-        (without_first(without_first(names)).contains(&b','), APART),
-        (names.contains(&b'['), BRACKETS),
-        (lack_dash(names, short), DASHES),
-        (lack_two_dashes(names, long), BAR),
-        (long.starts_with(b"---"), DASHES),
-        (long.contains(&b'|'), ORDER),
-        (is_beyond_ascii(short), LETTER),
-        (short.len() > 2, SHORT),
-        (!is_name(without_first(short)), LETTER),
-        (is_too_short(long), LONG),
-        (!are_long_bytes(long), BYTES),
-        (!ends_as_name(long), COLON),
-        (item.ends_with(b"!"), MARK),
-        (ends_behind(item), END),
+        (is_open(item), MISSING_BRACKET),
+        (end.starts_with(b" [-"), ONE_OPTION_A_LINE),
+        (stands_apart(argument), NAMES_TOGETHER),
+        (end.contains(&b' '), DESCRIPTION_AFTER_GAP),
+        (argument.contains(&b' '), NO_SPACE_IN_ARGUMENT),
+        (is_described(names, item), DESCRIPTION_AFTER_GAP),
+        (begins_capital(names), OPERAND_FORMS),
+        (names.contains(&b'='), ARGUMENT_AFTER_SPACE),
+        (
+            without_first(without_first(names)).contains(&b','),
+            NAMES_TOGETHER,
+        ),
+        (names.contains(&b'['), BRACKETS_AROUND_WHOLE),
+        (lack_dash(names, short), NAME_FORMS),
+        (lack_two_dashes(names, long), TWO_DASHES_AFTER_BAR),
+        (long.starts_with(b"---"), NAME_FORMS),
+        (long.contains(&b'|'), SHORT_NAME_FIRST),
+        (is_beyond_ascii(short), SHORT_NAME_BYTES),
+        (short.len() > 2, SHORT_NAME_LENGTH),
+        (!is_name(without_first(short)), SHORT_NAME_BYTES),
+        (is_too_short(long), LONG_NAME_LENGTH),
+        (!are_long_bytes(long), LONG_NAME_BYTES),
+        (!ends_as_name(long), LONG_NAME_END),
+        (item.ends_with(b"!"), MARK_WITHOUT_ARGUMENT),
+        (ends_behind(item), AFTER_BRACKET),
     ];
-    first_so(&reasons, BRACKETS)
+    first_reason(&reasons, BRACKETS_AROUND_WHOLE)
 }
 
 /// The first reason that applies, or `other`.
-fn first_so(reasons: &[(bool, &'static str)], other: &'static str) -> &'static str
+fn first_reason(reasons: &[(bool, &'static str)], other: &'static str) -> &'static str
     ensures { result.now ≡ option_map_or (λ (reason : Bool × Text). reason.1)
         (find (λ (reason : Bool × Text). reason.0)
         (map (λ reason. (reason.0, reason.1.now)) reasons.now)) other.now }

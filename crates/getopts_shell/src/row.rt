@@ -6,7 +6,7 @@ use getopts::HasArg;
 
 /// How often an option may occur, and which of its values count.
 #[derive(Clone, Copy)]
-pub enum Often {
+pub enum Frequency {
     /// Exactly once: no brackets.
     Once,
     /// Any number of times; the last value counts: brackets.
@@ -24,7 +24,7 @@ pub struct Row<'t> {
     pub short: &'t str,
     pub long: &'t str,
     pub kind: HasArg,
-    pub often: Often,
+    pub frequency: Frequency,
     pub hint: &'t str,
     pub description: &'t str,
     ghost may_be: { MayBeNames short.now long.now },

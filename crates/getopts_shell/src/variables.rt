@@ -22,7 +22,7 @@ ghost use Rattle.getopts_shell.specs.Variables.{variable_byte, variable_fault, v
 ghost use Rattle.getopts_shell.specs.Variables.{variables_code, many, one};
 
 use crate::quote::{push_line, push_parting, push_quoted, push_replaced};
-use crate::row::{Often, Row};
+use crate::row::{Frequency, Row};
 use getopts::{HasArg, Matches, Occurrences};
 use std::alloc::{AllocError, Global};
 
@@ -35,9 +35,9 @@ pub(crate) struct Variables<'p> {
 
 /// How an option was given.
 #[derive(Clone, Copy)]
-enum Came<'m> {
+enum OptionOccurrences<'m> {
     /// As in the matches.
-    Held(&'m Occurrences<'m>),
+    InMatches(&'m Occurrences<'m>),
     /// Once, without a value.
     Once,
     /// Not at all.
@@ -86,7 +86,7 @@ pub(crate) fn variables_code(
             &mut text,
             variables,
             *row,
-            Came::Held(&matches.occurrences_at(place)),
+            OptionOccurrences::InMatches(&matches.occurrences_at(place)),
         )?;
     }
     push_line(&mut text, &matches.free)?;
@@ -106,21 +106,27 @@ pub(crate) fn alone_code(
 {
     let mut text = String::new(alloc);
     for row in rows {
-        push_option(alloc, &mut text, variables, *row, came_alone(*row, alone))?;
+        push_option(
+            alloc,
+            &mut text,
+            variables,
+            *row,
+            occurrences_alone(*row, alone),
+        )?;
     }
     push_line(&mut text, &[])?;
     Ok(text)
 }
 
 /// How an option was given if only this one is.
-fn came_alone(row: Row<'_>, alone: Row<'_>) -> Came<'static>
+fn occurrences_alone(row: Row<'_>, alone: Row<'_>) -> OptionOccurrences<'static>
     ensures { founds_of result
         ≡ found_alone (entry_of_row row.entry) (entry_of_row alone.entry) }
 {
     if main_name(row) == main_name(alone) {
-        Came::Once
+        OptionOccurrences::Once
     } else {
-        Came::Never
+        OptionOccurrences::Never
     }
 }
 
@@ -130,13 +136,13 @@ fn push_option(
     text: &mut String,
     variables: Variables<'_>,
     row: Row<'_>,
-    given: Came<'_>,
+    given: OptionOccurrences<'_>,
 ) -> Result<(), AllocError>
     ensures text { OnOk result (string_bytes text.new ≡ string_bytes text.old
         ++ option_code variables.entry.prefix.now variables.entry.arrays
         record { entry = entry_of_row row.entry; found = founds_of given.entry }) }
     ensures values { OnOk result
-        (AreTextValues row.entry.kind (holds_all row.entry.often) (founds_of given.entry)) }
+        (AreTextValues row.entry.kind (holds_all row.entry.frequency) (founds_of given.entry)) }
 {
     push_unset(text, variables.prefix, main_name(row))?;
     push_option_value(alloc, text, variables, row, given)
@@ -158,19 +164,19 @@ fn push_option_value(
     text: &mut String,
     variables: Variables<'_>,
     row: Row<'_>,
-    given: Came<'_>,
+    given: OptionOccurrences<'_>,
 ) -> Result<(), AllocError>
     ensures text { OnOk result (string_bytes text.new ≡ string_bytes text.old
         ++ value_line (variable_of variables.entry.prefix.now (entry_of_row row.entry))
         (own_value variables.entry.arrays
         record { entry = entry_of_row row.entry; found = founds_of given.entry })) }
     ensures values { OnOk result
-        (AreTextValues row.entry.kind (holds_all row.entry.often) (founds_of given.entry)) }
+        (AreTextValues row.entry.kind (holds_all row.entry.frequency) (founds_of given.entry)) }
 {
     let name = main_name(row);
-    match (row.kind, row.often) {
+    match (row.kind, row.frequency) {
         (HasArg::No, _) => push_count(alloc, text, variables.prefix, name, count(given)),
-        (_, Often::All) => push_all(alloc, text, variables, name, given),
+        (_, Frequency::All) => push_all(alloc, text, variables, name, given),
         _ => push_last(text, variables.prefix, name, given),
     }
 }
@@ -208,7 +214,12 @@ fn push_count(
 /// Appends the command that sets a variable to the value of an option's last occurrence, if it has
 /// one.
 #[tactic(auto, using(crate::proofs::Assignments::last_found))]
-fn push_last(text: &mut String, prefix: &str, name: &str, given: Came<'_>) -> Result<(), AllocError>
+fn push_last(
+    text: &mut String,
+    prefix: &str,
+    name: &str,
+    given: OptionOccurrences<'_>,
+) -> Result<(), AllocError>
     ensures text { OnOk result (string_bytes text.new ≡ string_bytes text.old
         ++ value_line (variable prefix.now name.now)
         (option_map one (last_or None (texts_found (founds_of given.entry))))) }
@@ -241,7 +252,7 @@ fn push_all(
     text: &mut String,
     variables: Variables<'_>,
     name: &str,
-    given: Came<'_>,
+    given: OptionOccurrences<'_>,
 ) -> Result<(), AllocError>
     ensures text { OnOk result (string_bytes text.new ≡ string_bytes text.old
         ++ value_line (variable variables.entry.prefix.now name.now)
@@ -262,7 +273,7 @@ fn push_all(
 }
 
 /// Appends the values of occurrences as words in quotes, with an empty text for one that has none.
-fn push_texts(text: &mut String, given: Came<'_>) -> Result<(), AllocError>
+fn push_texts(text: &mut String, given: OptionOccurrences<'_>) -> Result<(), AllocError>
     ensures text { OnOk result (string_bytes text.new ≡ string_bytes text.old
         ++ quoted_words (texts_found (founds_of given.entry))) }
     ensures values { OnOk result (AreTexts (texts_found (founds_of given.entry))) }
@@ -275,23 +286,23 @@ fn push_texts(text: &mut String, given: Came<'_>) -> Result<(), AllocError>
 }
 
 /// How many occurrences there are.
-fn count(given: Came<'_>) -> usize
+fn count(given: OptionOccurrences<'_>) -> usize
     ensures { result ≡ length (founds_of given.entry) }
 {
     match given {
-        Came::Held(found) => found.len(),
-        Came::Once => 1,
-        Came::Never => 0,
+        OptionOccurrences::InMatches(found) => found.len(),
+        OptionOccurrences::Once => 1,
+        OptionOccurrences::Never => 0,
     }
 }
 
 /// The value of one of the occurrences, or an empty text if it has none.
 #[tactic(auto, using(crate::proofs::Assignments::text_of))]
-fn text_at<'m>(given: Came<'m>, nth: usize) -> &'m str
+fn text_at<'m>(given: OptionOccurrences<'m>, nth: usize) -> &'m str
     ensures { result.now ≡ get_or (texts_found (founds_of given.entry)) nth [] }
 {
     match given {
-        Came::Held(found) => match found.get(nth) {
+        OptionOccurrences::InMatches(found) => match found.get(nth) {
             Some((_, Some(value))) => value,
             _ => "",
         },

@@ -7,7 +7,7 @@ use super::complete::{functions, is_given, offers, stub, takes_argument};
 use super::item::reason_of;
 use super::operand::{Operand, OperandError, free_error, may_repeat, push_operands, rows_of};
 use super::quote::{push_joined, push_line, push_quoted};
-use super::row::{Often, Row};
+use super::row::{Frequency, Row};
 use super::script::{Asked, Script};
 use super::table::{Table, TableError, declared_in};
 use super::variables::{
@@ -376,19 +376,19 @@ fn add_rows(options: &mut Options, rows: &[Row<'_>], shown: bool) -> Result<(), 
             row.description,
             row.hint,
             row.kind,
-            occurrence_of(shown, row.often),
+            occurrence_of(shown, row.frequency),
         )?;
     }
     Ok(())
 }
 
 /// How often words may give an option, or how often its help says they may.
-fn occurrence_of(shown: bool, often: Often) -> Occur {
-    match often {
-        Often::Once => Occur::Req,
-        Often::All => Occur::Multi,
-        Often::Alone => Occur::Optional,
-        Often::Last => {
+fn occurrence_of(shown: bool, frequency: Frequency) -> Occur {
+    match frequency {
+        Frequency::Once => Occur::Req,
+        Frequency::All => Occur::Multi,
+        Frequency::Alone => Occur::Optional,
+        Frequency::Last => {
             if shown {
                 Occur::Optional
             } else {
@@ -553,8 +553,8 @@ fn offers_help(rows: &[Row<'_>]) -> bool {
 }
 
 /// Whether an option with this occurrence stands alone.
-fn stands_alone(often: Often) -> bool {
-    matches!(often, Often::Alone)
+fn stands_alone(frequency: Frequency) -> bool {
+    matches!(frequency, Frequency::Alone)
 }
 
 /// The first row that stands alone and that the matches give.
@@ -570,7 +570,7 @@ fn first_alone<'t>(rows: &[Row<'t>], matches: &Matches) -> Option<Row<'t>> {
 
 /// Whether a row stands alone and the matches give it.
 fn is_alone(row: Row<'_>, matches: &Matches) -> bool {
-    stands_alone(row.often) && is_given(matches, main_name(row))
+    stands_alone(row.frequency) && is_given(matches, main_name(row))
 }
 
 /// The answer to words that give an option that stands alone: its line, or variables as if only it
@@ -652,7 +652,7 @@ fn keep_counts(rows: &[Row<'_>], matches: &Matches) -> bool {
     for place in 0..rows.len() {
         let row = rows[place];
         let count = matches.occurrences_at(place).len();
-        if !keeps_count(occurrence_of(false, row.often), count) {
+        if !keeps_count(occurrence_of(false, row.frequency), count) {
             return false;
         }
     }

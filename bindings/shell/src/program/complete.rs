@@ -6,7 +6,7 @@ use crate::host::*;
 
 use super::item::is_long_name;
 use super::quote::{push_parting, push_replaced};
-use super::row::{Often, Row};
+use super::row::{Frequency, Row};
 use super::variables::main_name;
 use crate::getopts::{Fail, HasArg, Matches, Options, names_resolve};
 use crate::host::alloc::{AllocError, Global};
@@ -170,7 +170,7 @@ pub(crate) fn offers(
     if !begins_with(word, "-") {
         return String::copy_of(alloc, "files\n");
     }
-    match goes_on(alloc, options, before)? {
+    match matches_before_option(alloc, options, before)? {
         Some(matches) => options_lines(alloc, &matches, long_only, word, rows),
         None => String::copy_of(alloc, "files\n"),
     }
@@ -178,7 +178,7 @@ pub(crate) fn offers(
 
 /// The matches of words, if an option may follow them. To find out, it appends `--` and an empty
 /// word: an option may follow if these are the stop and the only word after it.
-fn goes_on(
+fn matches_before_option(
     alloc: Global,
     options: &Options,
     before: &[String],
@@ -256,12 +256,12 @@ fn options_lines(
 
 /// Whether an option is offered: it wasn't given, or all its values count.
 fn may_come(matches: &Matches, row: &Row<'_>) -> bool {
-    holds_all(row.often) || !is_given(matches, main_name(*row))
+    holds_all(row.frequency) || !is_given(matches, main_name(*row))
 }
 
 /// Whether all values of an option count.
-pub(crate) fn holds_all(often: Often) -> bool {
-    matches!(often, Often::All)
+pub(crate) fn holds_all(frequency: Frequency) -> bool {
+    matches!(frequency, Frequency::All)
 }
 
 /// Whether matches contain an option of this name.

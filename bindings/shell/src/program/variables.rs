@@ -5,7 +5,7 @@
 use crate::host::*;
 
 use super::quote::{push_line, push_parting, push_quoted, push_replaced};
-use super::row::{Often, Row};
+use super::row::{Frequency, Row};
 use crate::getopts::{HasArg, Matches, Occurrences};
 use crate::host::alloc::{AllocError, Global};
 
@@ -18,9 +18,9 @@ pub(crate) struct Variables<'p> {
 
 /// How an option was given.
 #[derive(Clone, Copy)]
-enum Came<'m> {
+enum OptionOccurrences<'m> {
     /// As in the matches.
-    Held(&'m Occurrences<'m>),
+    InMatches(&'m Occurrences<'m>),
     /// Once, without a value.
     Once,
     /// Not at all.
@@ -60,7 +60,7 @@ pub(crate) fn variables_code(
             &mut text,
             variables,
             *row,
-            Came::Held(&matches.occurrences_at(place)),
+            OptionOccurrences::InMatches(&matches.occurrences_at(place)),
         )?;
     }
     push_line(&mut text, &matches.free)?;
@@ -76,18 +76,24 @@ pub(crate) fn alone_code(
 ) -> Result<String, AllocError> {
     let mut text = String::empty(alloc);
     for row in rows {
-        push_option(alloc, &mut text, variables, *row, came_alone(*row, alone))?;
+        push_option(
+            alloc,
+            &mut text,
+            variables,
+            *row,
+            occurrences_alone(*row, alone),
+        )?;
     }
     push_line(&mut text, &[])?;
     Ok(text)
 }
 
 /// How an option was given if only this one is.
-fn came_alone(row: Row<'_>, alone: Row<'_>) -> Came<'static> {
+fn occurrences_alone(row: Row<'_>, alone: Row<'_>) -> OptionOccurrences<'static> {
     if main_name(row) == main_name(alone) {
-        Came::Once
+        OptionOccurrences::Once
     } else {
-        Came::Never
+        OptionOccurrences::Never
     }
 }
 
@@ -97,7 +103,7 @@ fn push_option(
     text: &mut String,
     variables: Variables<'_>,
     row: Row<'_>,
-    given: Came<'_>,
+    given: OptionOccurrences<'_>,
 ) -> Result<(), AllocError> {
     push_unset(text, variables.prefix, main_name(row))?;
     push_option_value(alloc, text, variables, row, given)
@@ -116,12 +122,12 @@ fn push_option_value(
     text: &mut String,
     variables: Variables<'_>,
     row: Row<'_>,
-    given: Came<'_>,
+    given: OptionOccurrences<'_>,
 ) -> Result<(), AllocError> {
     let name = main_name(row);
-    match (row.kind, row.often) {
+    match (row.kind, row.frequency) {
         (HasArg::No, _) => push_count(alloc, text, variables.prefix, name, count(given)),
-        (_, Often::All) => push_all(alloc, text, variables, name, given),
+        (_, Frequency::All) => push_all(alloc, text, variables, name, given),
         _ => push_last(text, variables.prefix, name, given),
     }
 }
@@ -157,7 +163,7 @@ fn push_last(
     text: &mut String,
     prefix: &str,
     name: &str,
-    given: Came<'_>,
+    given: OptionOccurrences<'_>,
 ) -> Result<(), AllocError> {
     let count = count(given);
     if count == 0 {
@@ -182,7 +188,7 @@ fn push_all(
     text: &mut String,
     variables: Variables<'_>,
     name: &str,
-    given: Came<'_>,
+    given: OptionOccurrences<'_>,
 ) -> Result<(), AllocError> {
     let mut words = String::empty(alloc);
     push_texts(&mut words, given)?;
@@ -198,7 +204,7 @@ fn push_all(
 }
 
 /// Appends the values of occurrences as words in quotes, with an empty text for one that has none.
-fn push_texts(text: &mut String, given: Came<'_>) -> Result<(), AllocError> {
+fn push_texts(text: &mut String, given: OptionOccurrences<'_>) -> Result<(), AllocError> {
     for nth in 0..count(given) {
         push_parting(text, nth > 0, " ")?;
         push_quoted(text, text_at(given, nth))?;
@@ -207,18 +213,18 @@ fn push_texts(text: &mut String, given: Came<'_>) -> Result<(), AllocError> {
 }
 
 /// How many occurrences there are.
-fn count(given: Came<'_>) -> usize {
+fn count(given: OptionOccurrences<'_>) -> usize {
     match given {
-        Came::Held(found) => found.len(),
-        Came::Once => 1,
-        Came::Never => 0,
+        OptionOccurrences::InMatches(found) => found.len(),
+        OptionOccurrences::Once => 1,
+        OptionOccurrences::Never => 0,
     }
 }
 
 /// The value of one of the occurrences, or an empty text if it has none.
-fn text_at<'m>(given: Came<'m>, nth: usize) -> &'m str {
+fn text_at<'m>(given: OptionOccurrences<'m>, nth: usize) -> &'m str {
     match given {
-        Came::Held(found) => match found.get(nth) {
+        OptionOccurrences::InMatches(found) => match found.get(nth) {
             Some((_, Some(value))) => value,
             _ => "",
         },

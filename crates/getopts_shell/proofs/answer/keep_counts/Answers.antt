@@ -13,7 +13,7 @@ loop-place-preserved c =
     let row = c.index-rows-place.result in
     let groups = c.args.matches.now.groups in
     let fits = sym (ap (λ (o : Occur). fits_count o c.len-count.result) c.occurrence_of.ensures
-    ∙ ap (fits_count (occurrence_of false row.often)) (c.len-count.ensures.count
+    ∙ ap (fits_count (occurrence_of false row.frequency)) (c.len-count.ensures.count
     ∙ ap length c.occurrences_at.ensures.occurrences))
     ∙ sym c.keeps_count.ensures ∙ c.if-not-keeps_count.false in
     c.loop-place.invariant
@@ -27,7 +27,7 @@ returns-then-not-keeps_count c =
     let row = c.index-rows-place.result in
     let groups = c.args.matches.now.groups in
     let breaks = sym (ap (λ (o : Occur). fits_count o c.len-count.result) c.occurrence_of.ensures
-    ∙ ap (fits_count (occurrence_of false row.often)) (c.len-count.ensures.count
+    ∙ ap (fits_count (occurrence_of false row.frequency)) (c.len-count.ensures.count
     ∙ ap length c.occurrences_at.ensures.occurrences))
     ∙ sym c.keeps_count.ensures ∙ c.if-not-keeps_count.true in
     sym (c.loop-place.invariant

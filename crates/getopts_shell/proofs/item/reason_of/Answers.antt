@@ -2,7 +2,7 @@ use Rattle.std.proofs.Common.{◌≡◌, Bool, List, [], ◌∷◌, length, refl
 use Rattle.std.specs.Prelude.{find, nat_lt, not}
 use Rattle.std.specs.Option.{option_map_or}
 use Rattle.getopts.specs.Names.{Text}
-use Rattle.getopts_shell.specs.declared.item.TheConstants.{BRACKETS}
+use Rattle.getopts_shell.specs.declared.item.TheConstants.{BRACKETS_AROUND_WHOLE}
 use Rattle.getopts_shell.proofs.item.reason_of.Goals as goal
 
 abbrev Reasons : Type 0
@@ -21,9 +21,9 @@ returns c =
     let names = rw value at c.names_in-names.ensures in
     let short = rw names at c.dashed.ensures.short in
     let long = rw names at c.dashed.ensures.long in
-    c.first_so.ensures
+    c.first_reason.ensures
     ∙ ap (λ (reasons : Reasons). option_map_or (λ (reason : Bool × Text). reason.1)
-    (find (λ (reason : Bool × Text). reason.0) reasons) BRACKETS.now)
+    (find (λ (reason : Bool × Text). reason.0) reasons) BRACKETS_AROUND_WHOLE.now)
     (same _ _ _ _ _ (rw value at c.is_open.ensures)
     (same _ _ _ _ _ (rw (c.cut_at-2.ensures.after, value) at c.starts_with.ensures.value)
     (same _ _ _ _ _ (rw argument at c.stands_apart.ensures)

@@ -5,17 +5,17 @@ use Rattle.getopts_shell.proofs.item.row_of.Goals as goal
 pub returns-in_err-short-clause-option : goal.returns-in_err-short-clause-option
 returns-in_err-short-clause-option c =
     rw c.from_residual-in_err-short.ensures
-    (no_names_none c.args.item.now c.in_ok-inside.inside.now _ c.in_ok-inside.often _
+    (no_names_none c.args.item.now c.in_ok-inside.inside.now _ c.in_ok-inside.frequency _
     c.in_ok-inside.ensures c.parts_of.ensures c.in_err-short.ensures)
 
 pub returns-in_err-kind-clause-option : goal.returns-in_err-kind-clause-option
 returns-in_err-kind-clause-option c =
     rw c.from_residual-in_err-kind.ensures
-    (no_argument_none c.args.item.now c.in_ok-inside.inside.now _ c.in_ok-inside.often _
+    (no_argument_none c.args.item.now c.in_ok-inside.inside.now _ c.in_ok-inside.frequency _
     c.in_ok-inside.ensures c.parts_of.ensures c.in_err-kind.ensures)
 
 pub returns-then-not-fits-clause-option : goal.returns-then-not-fits-clause-option
 returns-then-not-fits-clause-option c =
-    no_fit_none c.args.item.now c.in_ok-inside.inside.now _ c.in_ok-inside.often _ _ _
+    no_fit_none c.args.item.now c.in_ok-inside.inside.now _ c.in_ok-inside.frequency _ _ _
     c.in_ok-inside.ensures c.parts_of.ensures c.in_ok-kind.ensures
     (sym c.fits.ensures ∙ c.if-not-fits.true)

@@ -16,16 +16,16 @@ returns-in_err-inside c =
     (strip_prefix_char 91 c.args.text.now (Some c.in-Some.opened) c.in-Some.ensures.cases (lit< tt))
     c.in_err-inside.ensures)
 
-pub returns-in_err-often : goal.returns-in_err-often
-returns-in_err-often c =
-    rw c.from_residual-in_err-often.ensures (none_meant c.args.text.now c.in-Some.opened.now
+pub returns-in_err-frequency : goal.returns-in_err-frequency
+returns-in_err-frequency c =
+    rw c.from_residual-in_err-frequency.ensures (none_meant c.args.text.now c.in-Some.opened.now
     c.in_ok-inside.inside.now c.in_ok-inside.end.now
     (strip_prefix_char 91 c.args.text.now (Some c.in-Some.opened) c.in-Some.ensures.cases (lit< tt))
-    c.in_ok-inside.ensures.0 c.in_ok-inside.ensures.1 (sym c.in_err-often.ensures))
+    c.in_ok-inside.ensures.0 c.in_ok-inside.ensures.1 (sym c.in_err-frequency.ensures))
 
 pub returns : goal.returns
 returns c =
     bracketed c.in_ok-inside.end.now _
     (strip_prefix_char 91 c.args.text.now (Some c.in-Some.opened) c.in-Some.ensures.cases (lit< tt)
     ∙ ap (λ (t : Text). 91 ∷ t) c.in_ok-inside.ensures.0)
-    (sym c.in_ok-often.ensures)
+    (sym c.in_ok-frequency.ensures)

@@ -1,7 +1,7 @@
 use Rattle.std.proofs.Common.{◌≡◌, Bool, drop, map}
 use Rattle.std.specs.Prelude.{find}
 use Rattle.getopts.specs.Names.{Text}
-use Rattle.getopts_shell.proofs.item.first_so.Given as goal
+use Rattle.getopts_shell.proofs.item.first_reason.Given as goal
 
 -- no reason before this place applies
 abbrev pub invariant-loop-reason : goal.invariant-loop-reason
