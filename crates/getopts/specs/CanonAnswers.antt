@@ -47,3 +47,8 @@ pub record IsOrder (options : Declared) (words : List Text) (places : List ℕ) 
   pub content : Content
   pub accepted : IsAcceptedWith options words content
   pub places_are : places ≡ map (λ m. m.group) content.mentions
+
+-- This is the result of `parse_in_order` for these words, unless it is out of memory.
+abbrev pub IsOrderAnswer : Declared → List Text → Result (List ℕ) Fault → Type 0
+IsOrderAnswer options words answer =
+    MatchResult answer (IsOrder options words) (IsRefused options words)

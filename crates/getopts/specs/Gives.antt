@@ -8,9 +8,9 @@ use Rattle.getopts.specs.Reading.{Reading}
 use Rattle.getopts.specs.Matches.{Matched}
 use Rattle.getopts.specs.Parse.{Reads, HasReading, HasNoReading, IsRefused}
 use Rattle.getopts.specs.Canon.{IsCountKeeping}
-use Rattle.getopts.specs.CanonAnswers.{IsParseAnswer, IsCanonicalAnswer}
+use Rattle.getopts.specs.CanonAnswers.{IsParseAnswer, IsCanonicalAnswer, IsOrderAnswer}
 use Rattle.getopts.specs.Results.{reading_result, line_result, read_result, parse_result}
-use Rattle.getopts.specs.Results.{canonical_result}
+use Rattle.getopts.specs.Results.{canonical_result, parse_in_order_result}
 use Rattle.getopts.specs.declared.fail.Fail.{Fail}
 
 -- This is the reading of the words, or why there is none.
@@ -35,6 +35,7 @@ pub record HasResults (options : Declared) (words : List Text) : Type 0 where
   pub parse : IsTheOnly (IsParseAnswer options words) (parse_result options words)
   pub read : IsTheOnly (IsReadAnswer options words) (read_result options words)
   pub canonical : IsTheOnly (IsCanonicalAnswer options words) (canonical_result options words)
+  pub order : IsTheOnly (IsOrderAnswer options words) (parse_in_order_result options words)
 
 -- The call's answer is out of memory or, with its value converted by `see`, has the property `Is`.
 abbrev pub GivesAs : {A X : Type 0} → (A → X) → Result A Fail → (Result X Fault → Type 0) → Type 0

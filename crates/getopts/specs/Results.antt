@@ -2,7 +2,7 @@
 -- function gives what a relation of `Gives` or `CanonAnswers` describes. An *outcome* is a reading
 -- or an error.
 use Rattle.std.specs.Prelude.{◌==◌, if◌then◌else◌, ℕ, Bool, true, nat_lt, not, List, [], ◌∷◌, ◌++◌}
-use Rattle.std.specs.Prelude.{length, Option, Some, None, Result, Ok, Err}
+use Rattle.std.specs.Prelude.{length, map, Option, Some, None, Result, Ok, Err}
 use Rattle.std.specs.List.{list_all}
 use Rattle.getopts.specs.Names.{Text, main_name}
 use Rattle.getopts.specs.Options.{Group, Grammar, Declared, grammar_of}
@@ -128,4 +128,10 @@ parse_result options words = made_of (matches_of options) (line_result options w
 abbrev pub canonical_result : Declared → List Text → Result (Option (List Text)) Fault
 canonical_result options words =
     made_of (λ reading. written_line options.groups (content_of options reading))
+    (line_result options words)
+
+-- the result of `parse_in_order`: the place of each option, in command-line order
+abbrev pub parse_in_order_result : Declared → List Text → Result (List ℕ) Fault
+parse_in_order_result options words =
+    made_of (λ reading. map (λ m. m.group) (content_of options reading).mentions)
     (line_result options words)

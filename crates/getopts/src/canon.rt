@@ -114,7 +114,7 @@ impl Options {
     ghost use Rattle.std.specs.Iterator.Runs.{WholeRun};
     ghost use Rattle.getopts.specs.Parse.{IsRefused};
     ghost use Rattle.getopts.specs.Gives.{GivesAs};
-    ghost use Rattle.getopts.specs.Results.{canonical_result};
+    ghost use Rattle.getopts.specs.Results.{canonical_result, parse_in_order_result};
     ghost use Rattle.getopts.specs.CanonAnswers.{IsWritten, IsUnwritable, IsOrder, KeepsLineLaws};
     ghost use Rattle.getopts.specs.Theorem.{LinesReadAgain};
 
@@ -170,6 +170,8 @@ impl Options {
     ///
     /// Fails exactly as `parse_words` does. The Rust crate has no such method.
     pub fn parse_in_order<S: AsStr>(&self, alloc: Global, words: &[S]) -> Result<Vec<usize>, Fail>
+        ensures result { GivesAs (λ places. places.items) result
+            (λ answer. parse_in_order_result self.now (map S.text words.now) ≡ answer) }
         ensures order { IfOk result (λ places.
             IsOrder self.now (map S.text words.now) places.items) }
         ensures refused { IfErr result (λ fail. Tells fail

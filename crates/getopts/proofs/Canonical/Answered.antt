@@ -9,7 +9,8 @@ use Rattle.std.specs.String.{string_bytes}
 use Rattle.getopts.specs.Names.{Text}
 use Rattle.getopts.specs.Options.{Group, Declared, MayBeDeclared, grammar_of, signatures_of}
 use Rattle.getopts.specs.Fail.{Fault}
-use Rattle.getopts.specs.Reading.{equals_sign, holds_equals, Reading, IsScanFault, Occurrence}
+use Rattle.getopts.specs.Reading.{equals_sign, holds_equals, Reading, IsScanFault, Mention}
+use Rattle.getopts.specs.Reading.{Occurrence}
 use Rattle.getopts.specs.Reading.{occurrences_of}
 use Rattle.getopts.specs.ReadingLaws.{mentions_of}
 use Rattle.getopts.specs.Held.Scan.{line_content}
@@ -20,7 +21,7 @@ use Rattle.getopts.specs.Canon.{Content, IsCountKeeping, content_of, main_at, Is
 use Rattle.getopts.specs.Canon.{canonical_line, IsAcceptedWith, Says}
 use Rattle.getopts.specs.Held.Matches.{IsReadLine, IsAcceptedLine}
 use Rattle.getopts.specs.CanonAnswers.{IsWritten, IsUnwritable, IsParseAnswer}
-use Rattle.getopts.specs.CanonAnswers.{IsCanonicalAnswer, KeepsLineLaws}
+use Rattle.getopts.specs.CanonAnswers.{IsCanonicalAnswer, IsOrderAnswer, KeepsLineLaws}
 use Rattle.getopts.specs.declared.matches.ReadLine.{ReadLine}
 use Rattle.getopts.proofs.Canonical.Lines.{is_plain-true, is_plain-false, HasCanonicalLine-says}
 use Rattle.getopts.proofs.Canonical.Lines.{Says-accepted, IsSound-says, HasUnwritable-content}
@@ -279,6 +280,22 @@ module _ (options : Declared) (words : List Text) where
       is.line_is ∙ ap (canonical_line options.groups)
       (only_content is.content is_other.content is.accepted is_other.accepted)
       ∙ sym is_other.line_is
+
+  -- words have one result of `parse_in_order`
+  pub only_order_answer : (answer other : Result (List ℕ) Fault)
+      → IsOrderAnswer options words answer → IsOrderAnswer options words other → answer ≡ other
+  only_order_answer (Ok places) (Ok others) is is_other = ap Ok
+      (is.places_are ∙ ap (λ (content : Content). map (λ (m : Mention). m.group) content.mentions)
+      (only_content is.content is_other.content is.accepted is_other.accepted)
+      ∙ sym is_other.places_are)
+  only_order_answer (Ok places) (Err other) is is_other =
+      absurd (not_refused is.accepted.reading other
+      (count_keeping options words is.content is.accepted) is_other)
+  only_order_answer (Err fault) (Ok others) is is_other =
+      absurd (not_refused is_other.accepted.reading fault
+      (count_keeping options words is_other.content is_other.accepted) is)
+  only_order_answer (Err fault) (Err other) is is_other =
+      ap Err (only_refusal fault other is is_other)
 
   -- words aren't both written and unwritable
   not_both : (line : List Text) → IsWritten options words line → IsUnwritable options words → ⊥

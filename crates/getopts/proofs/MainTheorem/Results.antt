@@ -1,8 +1,10 @@
 -- The functions that compute results return what the relations describe.
-use Rattle.std.proofs.Common.{◌≡◌, Bool, true, false, List, Option, Some, None, Result, Ok, Err}
-use Rattle.std.proofs.Common.{IfOk, IfErr, option_map, refl, ap, sym, inl, inr}
+use Rattle.std.proofs.Common.{◌≡◌, ℕ, Bool, true, false, List, map, Option, Some, None, Result, Ok}
+use Rattle.std.proofs.Common.{Err, IfOk, IfErr, option_map, refl, ap, sym, inl, inr}
 use Rattle.std.specs.List.{list_all}
 use Rattle.std.specs.Prelude.{IfSome, IfNone, not, if◌then◌else◌}
+use Rattle.std.specs.declared.alloc.Global.{Global}
+use Rattle.std.specs.declared.vec.Vec.{Vec}
 use Rattle.getopts.specs.Names.{Text, AreTexts}
 use Rattle.getopts.specs.Options.{Declared, MayBeDeclared, grammar_of}
 use Rattle.getopts.specs.Fail.{Fault, Tells}
@@ -12,13 +14,15 @@ use Rattle.getopts.specs.Matches.{Matched, matches_of}
 use Rattle.getopts.specs.Parse.{HasReading, HasNoReading, BreaksCounts, IsAccepted, IsRefused}
 use Rattle.getopts.specs.Canon.{Content, content_of, main_at, canonical_line, IsAcceptedWith}
 use Rattle.getopts.specs.CanonAnswers.{IsParseAnswer, IsCanonicalAnswer, IsWritten, IsUnwritable}
+use Rattle.getopts.specs.CanonAnswers.{IsOrder, IsOrderAnswer}
 use Rattle.getopts.specs.Results.{read, first_count_fault, unless_fault, with_counts_kept}
 use Rattle.getopts.specs.Results.{reading_result, line_result, made_of, written_line, read_result}
-use Rattle.getopts.specs.Results.{parse_result, canonical_result}
+use Rattle.getopts.specs.Results.{parse_result, canonical_result, parse_in_order_result}
 use Rattle.getopts.specs.Gives.{IsReadingOf, IsLineOf, IsReadAnswer, HasResults, GivesResult, GivesAs}
 use Rattle.getopts.proofs.Canonical.Lines.{is_plain-true, is_plain-false, Says-accepted}
 use Rattle.getopts.proofs.Canonical.Lines.{IsSound-says, HasUnwritable-content}
 use Rattle.getopts.proofs.Canonical.Answered.{only_parse_answer, only_canonical_answer}
+use Rattle.getopts.proofs.Canonical.Answered.{only_order_answer}
 use Rattle.getopts.proofs.Canonical.Answered.{only_matches, reads_of, not_refused}
 use Rattle.getopts.proofs.MainTheorem.FirstFault.{HaveFault, first_count_fault-is}
 use Rattle.getopts.proofs.Parsing.Faults.{Tells-weaker}
@@ -66,17 +70,22 @@ module _ (options : Declared) (declared : MayBeDeclared options.groups) (words :
       × IsCanonicalAnswer options words
       (made_of (λ r. written_line options.groups (content_of options r))
       (unless_fault reading fault))
-  counted reading reads None kept = (
-    record { reads = reads; keeps = kept },
-    record { read = has_reading reading reads; counts = kept },
-    written_answer reading (content_of options reading)
-        (record {
-          reading = reading;
-          only = only_reads options declared words reading reads;
-          counts = kept;
-          content_is = refl;
-        }) refl _ refl,
-  )
+      × IsOrderAnswer options words
+      (made_of (λ r. map (λ m. m.group) (content_of options r).mentions)
+      (unless_fault reading fault))
+  counted reading reads None kept =
+      let with : IsAcceptedWith options words (content_of options reading) =
+      record {
+        reading = reading;
+        only = only_reads options declared words reading reads;
+        counts = kept;
+        content_is = refl;
+      } in (
+        record { reads = reads; keeps = kept },
+        record { read = has_reading reading reads; counts = kept },
+        written_answer reading (content_of options reading) with refl _ refl,
+        record { content = content_of options reading; accepted = with; places_are = refl },
+      )
   counted reading reads (Some fault) breaks =
       let is : BreaksCounts options words fault =
       record {
@@ -84,7 +93,7 @@ module _ (options : Declared) (declared : MayBeDeclared options.groups) (words :
         read = has_reading reading reads;
         breaks = breaks;
       } in
-      (inr is, inr is, inr is)
+      (inr is, inr is, inr is, inr is)
 
   line_answers : AreTexts words → (outcome : Result Reading Fault)
       → IsSoundOutcome (grammar_of options) words outcome
@@ -94,12 +103,15 @@ module _ (options : Declared) (declared : MayBeDeclared options.groups) (words :
       × IsCanonicalAnswer options words
       (made_of (λ r. written_line options.groups (content_of options r))
       (with_counts_kept options outcome))
+      × IsOrderAnswer options words
+      (made_of (λ r. map (λ m. m.group) (content_of options r).mentions)
+      (with_counts_kept options outcome))
   line_answers texts (Ok reading) reads = counted reading reads
       (first_count_fault (matches_of options reading).groups)
       (first_count_fault-is (matches_of options reading).groups)
   line_answers texts (Err fault) fails =
       let is = HasNoReading-fault options declared words texts fault fails in
-      (inl is, inl is, inl is)
+      (inl is, inl is, inl is, inl is)
 
   reading_answer : AreTexts words → (outcome : Result Reading Fault)
       → IsSoundOutcome (grammar_of options) words outcome → IsReadingOf options words outcome
@@ -167,6 +179,10 @@ module _ (options : Declared) (declared : MayBeDeclared options.groups) (words :
             (canonical_result options words) line.2
             (λ other is. only_canonical_answer options words other
             (canonical_result options words) is line.2);
+        order = IsTheOnly-from (IsOrderAnswer options words)
+            (parse_in_order_result options words) line.3
+            (λ other is. only_order_answer options words other
+            (parse_in_order_result options words) is line.3);
       }
 
 -- A call that returns what is accepted, or the error for which words are rejected, is right.
@@ -205,6 +221,27 @@ GivesResult-canonical options words has see (Err fail) is none_is refused =
     Tells-weaker fail (IsRefused options words)
     (λ fault. canonical_result options words ≡ Err fault) refused
     (λ fault why. sym ((has.canonical (Err fault)).0 why))
+
+pub GivesResult-order : (options : Declared) (words : List Text) → HasResults options words
+    → (answer : Result (Vec ℕ Global) Fail)
+    → IfOk answer (λ places. IsOrder options words places.items)
+    → IfErr answer (λ fail. Tells fail (IsRefused options words))
+    → GivesAs (λ (places : Vec ℕ Global). places.items) answer
+    (λ it. parse_in_order_result options words ≡ it)
+GivesResult-order options words has (Ok places) is refused =
+    sym ((has.order (Ok places.items)).0 is)
+GivesResult-order options words has (Err fail) is refused =
+    Tells-weaker fail (IsRefused options words)
+    (λ fault. parse_in_order_result options words ≡ Err fault) refused
+    (λ fault why. sym ((has.order (Err fault)).0 why))
+
+-- The error of rejected words is the computed one.
+pub refused_result : (options : Declared) → MayBeDeclared options.groups → (words : List Text)
+    → AreTexts words → (fail : Fail) → Tells fail (IsRefused options words)
+    → Tells fail (λ fault. parse_result options words ≡ Err fault)
+refused_result options declared words texts fail told =
+    GivesResult-parse options words (HasResults-declared options declared words texts) (Err fail) tt
+    told
 
 -- a result made of an outcome is made of a reading
 pub made_of-ok : {X : Type 0} (make : Reading → X) (outcome : Result Reading Fault) (x : X)
