@@ -58,7 +58,7 @@ LAYOUT = "style_edition=2024,reorder_imports=false,use_small_heuristics=Default"
 RUSTFMT = ["rustfmt", "--edition", "2021", "--config", LAYOUT]
 
 # Rattle's functions that allocate, and the functions of `fallible.rs` that replace them.
-CALLS = {name: f"try_{name}" for name in "push push_str sort_by extend_from_slice clone".split()} | {
+CALLS = {name: f"try_{name}" for name in "push push_str sort_by extend_from_slice split_off clone".split()} | {
     "reserve": "try_grow", "reserve_exact": "try_grow_exact", "with_capacity": "of_capacity",
     "String::new": "String::empty", "String::from_str": "String::copy_of", "Vec::new": "Vec::empty",
     "vec![in alloc; 0; room]": "Vec::filled(alloc, 0, room)", "impl Clone for": "impl TryClone for",
@@ -96,7 +96,7 @@ SAME = set("""all alloc allocator any arg as_bytes as_slice as_str binary_search
     extend_from_slice first flush format get into_iter is_ascii is_ascii_alphanumeric is_ascii_digit is_empty is_eq
     is_some iter iter_mut kind len len_utf8 lines map_or matches max min next ok_or parse position push push_reserved
     push_str reserve reserve_exact resize rsplit_once saturating_add saturating_mul saturating_sub size_hint
-    sort_by split split_at split_at_mut split_once split_whitespace starts_with stderr strip_prefix strip_suffix
+    sort_by split split_at split_at_mut split_off split_once split_whitespace starts_with stderr strip_prefix strip_suffix
     then_some trim_ascii truncate unreachable unwrap_or vec width write writeln Err FnMut Ok Some bytes""".split())
 # Functions that are called by type, as in `u32::from(..)`.
 OF_TYPES = set("""Error::from String::new String::from_str String::with_capacity Vec::new Vec::with_capacity

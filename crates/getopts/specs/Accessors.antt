@@ -1,6 +1,7 @@
 -- What the accessors of matches return, in terms of the groups in the matches.
 use Rattle.std.specs.Prelude.{◌≡◌, ℕ, Bool, List, [], ◌∷◌, map, length, nat_lt, IsSome, Option}
 use Rattle.std.specs.Prelude.{Some, None, MatchOption, IsSomeAnd, Result, Ok, slice_get, unwrap_or}
+use Rattle.std.specs.Prelude.{drop, take}
 use Rattle.std.specs.Result.{result_transpose}
 use Rattle.std.specs.List.{AllByRecursion, filter_map}
 use Rattle.std.specs.Option.{option_copied, option_map, option_map_or, option_or}
@@ -9,7 +10,7 @@ use Rattle.std.specs.String.{string_bytes}
 use Rattle.std.specs.declared.string.String.{String}
 use Rattle.std.specs.declared.alloc.Global.{Global}
 use Rattle.getopts.specs.Names.{Text, Names, IsLawfullyNamed, resolution}
-use Rattle.getopts.specs.Matches.{Found, MatchedGroup}
+use Rattle.getopts.specs.Matches.{Found, Matched, MatchedGroup}
 
 -- the names of each group
 abbrev pub held_names : List MatchedGroup → List Names
@@ -93,3 +94,12 @@ abbrev pub IsReadAs : {T E : Type 0} → (Text → Result T E → Type 0)
     → Option Text → Result (Option T) E → Type 0
 IsReadAs gives value answer =
     MatchOption value (answer ≡ Ok None) (λ text. IsSomeAnd (result_transpose answer) (gives text))
+
+-- the free words before the trailing start, or all if there is none
+abbrev pub free_before_trailing : Matched → List Text
+free_before_trailing matches =
+    option_map_or (λ start. take start matches.free) matches.trailing_start matches.free
+
+-- the free words from the trailing start on, or none if there is none
+abbrev pub trailing_words : Matched → List Text
+trailing_words matches = option_map_or (λ start. drop start matches.free) matches.trailing_start []

@@ -1,14 +1,14 @@
 //! What matches return for an option's name.
 
 ghost use Rattle.std.specs.Prelude.{◌≡◌, ◌↔◌, Some, Ok, IsTrue, map, length, vec_len, ◌<◌, IfOk};
-ghost use Rattle.std.specs.Prelude.{MatchOption};
+ghost use Rattle.std.specs.Prelude.{MatchOption, OnErr, OnOk};
 ghost use Rattle.std.specs.List.{list_any};
 ghost use Rattle.std.specs.Option.{option_copied, option_map};
 ghost use Rattle.std.specs.String.{string_bytes};
 ghost use Rattle.getopts.specs.Accessors.{AreDefined, AreHeldLawfully, IsDefined, IsReadAs};
 ghost use Rattle.getopts.specs.Accessors.{first_value, first_value_among, first_value_or, found_in};
 ghost use Rattle.getopts.specs.Accessors.{found_of, is_present, pair_view, pairs_of, place_of};
-ghost use Rattle.getopts.specs.Accessors.{positions_of, values_of};
+ghost use Rattle.getopts.specs.Accessors.{free_before_trailing, positions_of, trailing_words, values_of};
 ghost use Rattle.getopts.specs.Names.{texts};
 
 use crate::matches::Matches;
@@ -217,6 +217,24 @@ impl Matches {
         ensures start { result ≡ self.now.trailing_start }
     {
         self.trailing_start
+    }
+
+    /// Takes the words after `--` off the free words.
+    ///
+    /// After `a -- b c` it returns `b` and `c`, and leaves `a` in `free`. Returns an empty list if
+    /// no word follows a `--` that ends the options. It splits `free` at `free_trailing_start`, so
+    /// call it before you change `free`. Fails only if an allocation fails; the matches are then
+    /// unchanged. The Rust crate has no such method.
+    pub fn take_trailing(&mut self) -> Result<Vec<String>, AllocError>
+        ensures taken { IfOk result (λ words.
+            map string_bytes words.items ≡ trailing_words self.old) }
+        ensures left { OnOk result
+            (self.new ≡ record self.old { free = free_before_trailing self.old }) }
+        ensures unchanged { OnErr result (self.new ≡ self.old) }
+    {
+        let len = self.free.len();
+        let start = self.trailing_start.unwrap_or(len).min(len);
+        self.free.split_off(start)
     }
 
     /// Whether any of the named options was given.

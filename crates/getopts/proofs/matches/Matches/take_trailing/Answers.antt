@@ -1,0 +1,56 @@
+-- The free words are split at the trailing start or, if there is none, at their end.
+use Rattle.std.proofs.Common.{◌≡◌, ◌∙◌, ℕ, List, [], Option, Some, None, String, Global, Vec}
+use Rattle.std.proofs.Common.{length, map, take, drop, min, ap, refl, sym}
+use Rattle.std.proofs.Math.Seq.{take-length, drop-length}
+use Rattle.std.proofs.lemmas.List.{take-map, drop-map, take_min, drop_min}
+use Rattle.std.proofs.lemmas.Result.{IfOk-weaker, on_ok_weaker}
+use Rattle.std.specs.Option.{option_map_or, unwrap_or}
+use Rattle.std.specs.String.{string_bytes}
+use Rattle.getopts.specs.Accessors.{free_before_trailing, trailing_words}
+use Rattle.getopts.specs.Matches.{Matched}
+use Rattle.getopts.proofs.matches.Matches.take_trailing.Goals as goal
+
+-- where they are split
+abbrev split_at : List (String Global) → Option ℕ → ℕ
+split_at free start = min (unwrap_or start (length free)) (length free)
+
+before : (free : List (String Global)) (start : Option ℕ)
+    → map string_bytes (take (split_at free start) free)
+    ≡ option_map_or (λ s. take s (map string_bytes free)) start (map string_bytes free)
+before free None = rw (take_min (length free) free, take-length free) refl
+before free (Some s) = rw (take_min s free) (sym (take-map string_bytes s free))
+
+after : (free : List (String Global)) (start : Option ℕ)
+    → map string_bytes (drop (split_at free start) free)
+    ≡ option_map_or (λ s. drop s (map string_bytes free)) start []
+after free None = rw (drop_min (length free) free, drop-length free) refl
+after free (Some s) = rw (drop_min s free) (sym (drop-map string_bytes s free))
+
+pub returns-clause-taken : goal.returns-clause-taken
+returns-clause-taken c =
+    let free = c.self.inside.free.items in
+    let len : c.len-len.result ≡ length free = c.len-len.ensures ∙ c.self.inside.free.ok.0 in
+    let start : c.min-start.result ≡ split_at free c.self.inside.trailing_start =
+    rw (c.min-start.ensures, c.unwrap_or.ensures, len) refl in
+    IfOk-weaker c.split_off.result _ _
+    (λ (words : Vec (String Global) Global) is.
+    ap (map string_bytes) (is ∙ ap (λ k. drop k free) start)
+    ∙ after free c.self.inside.trailing_start ∙ ap trailing_words c.self.view_is)
+    c.split_off.ensures.tail
+
+pub returns-clause-left : goal.returns-clause-left
+returns-clause-left c =
+    let free = c.self.inside.free.items in
+    let len : c.len-len.result ≡ length free = c.len-len.ensures ∙ c.self.inside.free.ok.0 in
+    let start : c.min-start.result ≡ split_at free c.self.inside.trailing_start =
+    rw (c.min-start.ensures, c.unwrap_or.ensures, len) refl in
+    on_ok_weaker c.split_off.result
+    (λ is.
+    let left = ap (map string_bytes) (is ∙ ap (λ k. take k free) start)
+    ∙ before free c.self.inside.trailing_start in
+    (λ i. record {
+      groups = c.self.inside.held;
+      free = left i;
+      trailing_start = c.self.inside.trailing_start;
+    }) ∙ ap (λ (m : Matched). record m { free = free_before_trailing m }) c.self.view_is)
+    c.split_off.ensures.items
