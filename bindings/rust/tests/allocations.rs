@@ -4,7 +4,7 @@
 use getopts::alloc::{AllocError, AllocFailed, Global};
 use getopts::fallible::*;
 use getopts::proved::wrap::each_split_within;
-use getopts::proved::{Fail, HasArg, Matches, Occur, Options};
+use getopts::proved::{Fail, HasArg, Matches, Occur, Options, Request};
 use std::alloc::{GlobalAlloc, Layout, System};
 use std::cell::Cell;
 
@@ -202,6 +202,7 @@ fn parse_reports_every_failed_allocation() {
         reports_failures(&options, |o| o.parse_ignoring_counts(Global, &WORDS));
         reports_failures(&options, |o| o.canonical_words(Global, &WORDS));
         reports_failures(&options, |o| o.parse_in_order(Global, &WORDS));
+        reports_failures(&options, |o| o.parse_unless(Global, &WORDS[1..], "v"));
         reports_failures(&options, |o| o.canonical(Global, WORDS.iter().copied()));
     }
     let many = ["-vofile", "free"].repeat(2000);
@@ -284,4 +285,21 @@ fn matches_report_every_failed_allocation() {
     let left = |m: &Matches, failed: bool| m.free.len() == if failed { 3 } else { 1 };
     assert_eq!(fail_each(self::matches, |m| m.take_trailing(), left), 1);
     assert_eq!(self::matches().take_trailing(), Ok(["-x", "y"].map(String::from).to_vec()));
+}
+
+#[test]
+fn help_and_version_come_before_missing_options() {
+    let mut options = options(0);
+    let mut add = |long: &str, hasarg, occur| options.add_group("", long, "", "", hasarg, occur);
+    add("input", HasArg::Yes, Occur::Req).unwrap();
+    add("help", HasArg::No, Occur::Optional).unwrap();
+    add("version", HasArg::No, Occur::Optional).unwrap();
+    let request = |words: &[&str]| options.parse_request(Global, words);
+    assert!(matches!(request(&["--version", "--help"]), Ok(Request::Help)));
+    assert!(matches!(request(&["--version", "x"]), Ok(Request::Version)));
+    assert!(matches!(request(&["--input=x", "y"]), Ok(Request::Parsed(m)) if m.free == ["y"]));
+    assert!(matches!(request(&[]), Err(Fail::OptionMissing(name)) if name == "input"));
+    assert!(matches!(request(&["--help", "--no"]), Err(Fail::UnrecognizedOption(_))));
+    assert!(matches!(options.parse_unless(Global, &["--version"], "version"), Ok(None)));
+    assert!(fail_each_of(&options, |o| o.parse_request(Global, &["--input=x", "--", "y"])) > 8);
 }

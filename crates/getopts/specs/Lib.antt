@@ -27,6 +27,8 @@ pub mod Canon
 pub mod CanonAnswers
 -- the results as functions
 pub mod Results
+-- the results of `parse_unless` and `parse_request`
+pub mod Asked
 -- what accepted matches say about declared names
 pub mod Holds
 -- what the functions of `Results` have to compute, and what calls return
@@ -39,13 +41,11 @@ pub mod Same
 pub mod Wrap
 -- usage texts
 pub mod Usage
+-- the definitions above that most callers import
+pub mod Prelude
 -- Cited by private clauses alone, and by the views of private types.
 
 -- one step of reading: what the first word of a command line gives
 pub mod Turn
 -- what the code stores, and the values that it represents
 pub mod Held
--- Only callers' contracts cite this.
-
--- what a command line asks for if a flag such as `help` stands alone
-pub mod Asked

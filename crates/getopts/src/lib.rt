@@ -26,6 +26,8 @@ mod matches;
 mod accessors;
 // Parsing: words are scanned, then counts are checked.
 mod parse;
+// Parsing, unless help or the version is requested.
+mod request;
 // Rewriting a command line with main names only.
 mod canon;
 // Descriptions in rows.
@@ -47,6 +49,7 @@ pub use matches::Matches;
 pub use names::names_lawful;
 pub use occurrences::{Occurrences, OccurrencesIter};
 pub use options::Options;
+pub use request::Request;
 pub use scan::are_texts;
 pub use usage::UsageRows;
 

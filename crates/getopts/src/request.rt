@@ -1,0 +1,87 @@
+//! Help and the version, which a command line may request even if a required option is missing.
+
+ghost use Rattle.std.specs.Prelude.{codes, map, IfOk, IfSome};
+ghost use Rattle.getopts.specs.Asked.{asked_result, parse_request_result, IfParsed};
+ghost use Rattle.getopts.specs.Gives.{GivesResult};
+ghost use Rattle.getopts.specs.Holds.{EndsInTrailing, HoldDeclared};
+ghost use Rattle.getopts.specs.Options.{Declares};
+
+use crate::fail::Fail;
+use crate::matches::Matches;
+use crate::options::Options;
+use std::alloc::Global;
+use std::convert::AsStr;
+
+/// What a command line requests: help, the version, or what was parsed.
+#[derive(Debug, Drop)]
+pub enum Request<T> {
+    Help,
+    Version,
+    Parsed(T),
+}
+
+impl Options {
+    /// Parses a command line like `parse_words`, unless it requests help or the version.
+    ///
+    /// Requires options with the names `help` and `version`, which are usually flags. If a command
+    /// line gives one of them, the counts of options aren't checked, so required options may be
+    /// missing. If it gives both, help takes precedence. Every word must be readable: with the
+    /// options above and the required option `n`/`name`, `["--help"]` is `Request::Help`,
+    /// `["--help", "--nope"]` is rejected, and `[]` is rejected because `name` is missing.
+    ///
+    /// Parses twice, unless help or the version is requested or a word can't be read. The Rust
+    /// crate has no such method.
+    pub fn parse_request<S: AsStr>(
+        &self,
+        alloc: Global,
+        words: &[S],
+    ) -> Result<Request<Matches>, Fail>
+        requires help { Declares self.now (codes "help") }
+        requires version { Declares self.now (codes "version") }
+        ensures result { GivesResult result
+            (parse_request_result self.now (map S.text words.now)) }
+        ensures declared { IfOk result (λ request. IfParsed request (λ matches.
+            HoldDeclared self.now matches.groups)) }
+        ensures trailing { IfOk result (λ request. IfParsed request (λ matches.
+            IfSome matches.trailing_start (EndsInTrailing (map S.text words.now) matches))) }
+    {
+        let read = self.parse_ignoring_counts(alloc, words)?;
+        if read.opt_present("help") {
+            return Ok(Request::Help);
+        }
+        if read.opt_present("version") {
+            return Ok(Request::Version);
+        }
+        Ok(Request::Parsed(self.parse_words(alloc, words)?))
+    }
+
+    /// Parses a command line like `parse_words`, or returns `None` if it gives the option `flag`.
+    ///
+    /// Use it for programs and subcommands that have help, but no version: after
+    /// `options.optflag("h", "help", "print this help")?`,
+    /// `options.parse_unless(alloc, words, "help")` is `Ok(None)` if the words request help, even
+    /// if a required option is missing. Every word must be readable.
+    ///
+    /// Requires a declared name. Parses twice, unless the option is given or a word can't be read.
+    /// The Rust crate has no such method.
+    pub fn parse_unless<S: AsStr>(
+        &self,
+        alloc: Global,
+        words: &[S],
+        flag: &str,
+    ) -> Result<Option<Matches>, Fail>
+        requires { Declares self.now flag.now }
+        ensures result { GivesResult result
+            (asked_result self.now flag.now (map S.text words.now)) }
+        ensures declared { IfOk result (λ answer. IfSome answer (λ matches.
+            HoldDeclared self.now matches.groups)) }
+        ensures trailing { IfOk result (λ answer. IfSome answer (λ matches.
+            IfSome matches.trailing_start (EndsInTrailing (map S.text words.now) matches))) }
+    {
+        let read = self.parse_ignoring_counts(alloc, words)?;
+        if read.opt_present(flag) {
+            return Ok(None);
+        }
+        Ok(Some(self.parse_words(alloc, words)?))
+    }
+}
