@@ -3,12 +3,10 @@ use Rattle.std.specs.Prelude.{◌≡◌, ℕ, List, ◌++◌, codes, Option, Res
 use Rattle.std.specs.List.{repeat}
 use Rattle.std.specs.Io.KnownBytes.{Appends}
 use Rattle.std.specs.String.{string_bytes}
-use Rattle.getopts.specs.Asked.{asked_result}
-use Rattle.getopts.specs.Fail.{fail_text}
-use Rattle.getopts.specs.Names.{Text}
-use Rattle.getopts_greet.specs.Greeting.{IsAskedBy, greeter_help, greeter_options}
-use Rattle.getopts_greet.specs.declared.greeting.Asked.{Asked}
-use Rattle.getopts_greet.specs.declared.greeting.Asked.TheVariants.{Greet, Help}
+use Rattle.getopts.specs.Prelude.{Text, fail_text, parse_request_result}
+use Rattle.getopts.specs.declared.request.Request.{Request}
+use Rattle.getopts.specs.declared.request.Request.TheVariants.{Help, Parsed, Version}
+use Rattle.getopts_greet.specs.Greeting.{IsAskedBy, greeter_help, greeter_options, greeter_version}
 use Rattle.getopts_greet.specs.declared.greeting.Greeting.{Greeting}
 use Rattle.getopts_greet.specs.declared.greeting.Refusal.{Refusal}
 use Rattle.getopts_greet.specs.declared.greeting.Refusal.TheVariants.{Line, Number, OutOfMemory}
@@ -19,14 +17,15 @@ greeting_text greeting = repeat (unwrap_or greeting.times 1)
     (codes "hello " ++ (string_bytes greeting.name ++ codes "\n"))
 
 -- what is printed if the words are accepted
-abbrev pub asked_text : Asked → Text
+abbrev pub asked_text : Request Greeting → Text
 asked_text Help = greeter_help
-asked_text (Greet greeting) = greeting_text greeting
+asked_text Version = greeter_version
+asked_text (Parsed greeting) = greeting_text greeting
 
 -- The status is 0 if the command line asks for something, and 2 if it is rejected. Out of memory
 -- has neither a text nor a status.
 -- This is the text and the status for what a command line asks for, or for why it asks for nothing.
-abbrev pub IsAnswerOf : Result Asked Refusal → Text → ℕ → Type 0
+abbrev pub IsAnswerOf : Result (Request Greeting) Refusal → Text → ℕ → Type 0
 IsAnswerOf (Ok asked) text status = (text ≡ asked_text asked) × (status ≡ 0)
 IsAnswerOf (Err OutOfMemory) text status = ⊥
 IsAnswerOf (Err (Line fail)) text status =
@@ -36,8 +35,8 @@ IsAnswerOf (Err (Number error)) text status =
 
 -- This is the text and the status for these words.
 abbrev pub IsAnswerTo : List Text → Text → ℕ → Type 0
-IsAnswerTo words text status = (asked : Result Asked Refusal)
-    × IsAskedBy (asked_result greeter_options (codes "help") words) asked × IsAnswerOf asked text status
+IsAnswerTo words text status = (asked : Result (Request Greeting) Refusal)
+    × IsAskedBy (parse_request_result greeter_options words) asked × IsAnswerOf asked text status
 
 -- The writer has received the text for these words, which have this status.
 abbrev pub Shows : Option (List ℕ) → Option (List ℕ) → List Text → ℕ → Type 0

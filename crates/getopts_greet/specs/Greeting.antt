@@ -1,22 +1,19 @@
 -- The greeter's options, and what a command line asks for.
 use Rattle.std.specs.Prelude.{◌≡◌, ⊤, ℕ, false, [], ◌∷◌, ◌++◌, codes}
-use Rattle.std.specs.Prelude.{Option, Some, None, Result, Ok, Err}
+use Rattle.std.specs.Prelude.{Some, Result, Ok, Err}
 use Rattle.std.specs.Option.{option_map}
 use Rattle.std.specs.Str.Parse.{ParsesUnsigned}
 use Rattle.std.specs.String.{string_bytes}
 use Rattle.std.specs.declared.num.ParseIntError.{ParseIntError}
-use Rattle.getopts.specs.Accessors.{IsReadAs, first_value, found_of}
-use Rattle.getopts.specs.Fail.{Fault, fault_of}
-use Rattle.getopts.specs.Matches.{Matched}
-use Rattle.getopts.specs.Names.{Text}
-use Rattle.getopts.specs.Options.{Declared, group_of}
+use Rattle.getopts.specs.Prelude.{Declared, Fault, IsReadAs, Matched, Text, fault_of, first_value}
+use Rattle.getopts.specs.Prelude.{found_of, group_of}
 use Rattle.getopts.specs.declared.fail.Fail.{Fail}
 use Rattle.getopts.specs.declared.fail.Fail.TheVariants as fail
 use Rattle.getopts.specs.declared.groups.HasArg.TheVariants.{No, Yes}
 use Rattle.getopts.specs.declared.groups.Occur.TheVariants.{Optional, Req}
 use Rattle.getopts.specs.declared.groups.ParsingStyle.TheVariants.{FloatingFrees}
-use Rattle.getopts_greet.specs.declared.greeting.Asked.{Asked}
-use Rattle.getopts_greet.specs.declared.greeting.Asked.TheVariants.{Greet, Help}
+use Rattle.getopts.specs.declared.request.Request.{Request}
+use Rattle.getopts.specs.declared.request.Request.TheVariants.{Help, Parsed, Version}
 use Rattle.getopts_greet.specs.declared.greeting.Greeting.{Greeting}
 use Rattle.getopts_greet.specs.declared.greeting.Refusal.{Refusal}
 use Rattle.getopts_greet.specs.declared.greeting.Refusal.TheVariants.{Line, Number, OutOfMemory}
@@ -28,6 +25,7 @@ greeter_options = record {
       group_of (codes "n") (codes "name") (codes "greet NAME") (codes "NAME") Yes Req
       ∷ group_of (codes "t") (codes "times") (codes "greet NUMBER times") (codes "NUMBER") Yes Optional
       ∷ group_of (codes "h") (codes "help") (codes "print this help") [] No Optional
+      ∷ group_of (codes "V") (codes "version") (codes "print the version") [] No Optional
       ∷ [];
   style = FloatingFrees;
   long_only = false;
@@ -39,7 +37,12 @@ greeter_help =
     codes "Usage: getopts_greet [options]\n\nOptions:\n"
     ++ (codes "    -n, --name NAME     greet NAME\n"
     ++ (codes "    -t, --times NUMBER  greet NUMBER times\n"
-    ++ codes "    -h, --help          print this help\n"))
+    ++ (codes "    -h, --help          print this help\n"
+    ++ codes "    -V, --version       print the version\n")))
+
+-- the greeter's version
+abbrev pub greeter_version : Text
+greeter_version = codes "getopts_greet 1.0\n"
 
 -- the greeter's error for a `Fail`; out of memory isn't an error of the command line
 abbrev pub refusal_of : Fail → Refusal
@@ -64,10 +67,11 @@ IsGreetingBy matches (Ok greeting) = IsGreetingOf matches greeting
 -- A command line asks for nothing if it has an error, or a number that can't be read. Out of memory
 -- says nothing about the command line.
 -- This is what a command line asks for, or why it asks for nothing.
-abbrev pub IsAskedBy : Result (Option Matched) Fault → Result Asked Refusal → Type 0
+abbrev pub IsAskedBy : Result (Request Matched) Fault → Result (Request Greeting) Refusal → Type 0
 IsAskedBy asked (Err OutOfMemory) = ⊤
 IsAskedBy asked (Err (Line fail)) = option_map Err (fault_of fail) ≡ Some asked
-IsAskedBy (Ok None) (Ok Help) = ⊤
-IsAskedBy (Ok (Some matches)) (Ok (Greet greeting)) = IsGreetingOf matches greeting
-IsAskedBy (Ok (Some matches)) (Err (Number error)) = IsGreetingBy matches (Err (Number error))
+IsAskedBy (Ok Help) (Ok Help) = ⊤
+IsAskedBy (Ok Version) (Ok Version) = ⊤
+IsAskedBy (Ok (Parsed matches)) (Ok (Parsed greeting)) = IsGreetingOf matches greeting
+IsAskedBy (Ok (Parsed matches)) (Err (Number error)) = IsGreetingBy matches (Err (Number error))
 IsAskedBy asked result = ⊥

@@ -5,7 +5,8 @@ ghost use Rattle.std.specs.Io.KnownBytes.{Appends};
 ghost use Rattle.std.specs.String.{string_bytes};
 ghost use Rattle.getopts_greet.specs.Answer.{IsAnswerOf, IsAnswerTo, Shows, asked_text, greeting_text};
 
-use crate::greeting::{Asked, Greeting, Refusal, help_text, read};
+use crate::greeting::{Greeting, Refusal, help_text, read};
+use getopts::Request;
 use std::alloc::{AllocError, Global};
 use std::convert::AsStr;
 use std::io;
@@ -76,13 +77,14 @@ fn answer_to<S: AsStr>(alloc: Global, words: &[S]) -> Result<Output, AllocError>
     }
 }
 
-/// The help, or the greeting, repeated as often as requested.
-fn asked_text(alloc: Global, asked: &Asked) -> Result<String, AllocError>
+/// The help, the version, or the greeting, repeated as often as requested.
+fn asked_text(alloc: Global, asked: &Request<Greeting>) -> Result<String, AllocError>
     ensures { IfOk result (λ text. string_bytes text ≡ asked_text asked.now) }
 {
     match asked {
-        Asked::Help => help_text(alloc),
-        Asked::Greet(greeting) => greeting_text(alloc, greeting),
+        Request::Help => help_text(alloc),
+        Request::Version => String::from_str(alloc, "getopts_greet 1.0\n"),
+        Request::Parsed(greeting) => greeting_text(alloc, greeting),
     }
 }
 

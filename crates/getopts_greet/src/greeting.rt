@@ -1,28 +1,19 @@
 //! What a command line asks of the greeter.
 
-ghost use Rattle.std.specs.Prelude.{◌≡◌, codes, map, IfOk, IfSome};
+ghost use Rattle.std.specs.Prelude.{◌≡◌, [], ◌∷◌, codes, map, IfOk, Ok, Some};
 ghost use Rattle.std.specs.Str.Parse.{ParsesUnsigned};
 ghost use Rattle.std.specs.String.{string_bytes};
-ghost use Rattle.getopts.specs.Accessors.{IsDefined, IsReadAs, first_value, found_of};
-ghost use Rattle.getopts.specs.Asked.{asked_result};
-ghost use Rattle.getopts.specs.Gives.{GivesResult};
-ghost use Rattle.getopts.specs.Holds.{HoldDeclared};
-ghost use Rattle.getopts.specs.Options.{Declares};
+ghost use Rattle.getopts.specs.Prelude.{HoldDeclared, IsDefined, IsReadAs, Matched, first_value};
+ghost use Rattle.getopts.specs.Prelude.{found_of, parse_request_result};
+ghost use Rattle.getopts.specs.declared.request.Request.TheVariants.{Help, Parsed};
 ghost use Rattle.getopts_greet.specs.Greeting.{IsAskedBy, IsGreetingBy, greeter_help};
 ghost use Rattle.getopts_greet.specs.Greeting.{greeter_options, refusal_of};
 ghost use Rattle.getopts_greet.specs.declared.greeting.Refusal.TheVariants.{Number, OutOfMemory};
 
-use getopts::{Fail, Matches, Options};
+use getopts::{Fail, Matches, Options, Request};
 use std::alloc::{AllocError, Global};
 use std::convert::AsStr;
 use std::num::ParseIntError;
-
-/// What a command line asks for.
-#[derive(Debug, Drop)]
-pub enum Asked {
-    Help,
-    Greet(Greeting),
-}
 
 /// Whom to greet, and how often.
 #[derive(Debug, Drop)]
@@ -77,7 +68,8 @@ pub fn options(alloc: Global) -> Result<Options, AllocError>
     options
         .reqopt("n", "name", "greet NAME", "NAME")?
         .optopt("t", "times", "greet NUMBER times", "NUMBER")?
-        .optflag("h", "help", "print this help")?;
+        .optflag("h", "help", "print this help")?
+        .optflag("V", "version", "print the version")?;
     Ok(options)
 }
 
@@ -89,17 +81,28 @@ pub fn help_text(alloc: Global) -> Result<String, AllocError>
     options.usage(alloc, "Usage: getopts_greet [options]")
 }
 
-/// What a command line asks for: help is printed even if an option is missing, but not if a word
-/// can't be read.
-pub fn read<S: AsStr>(alloc: Global, words: &[S]) -> Result<Asked, Refusal>
-    ensures { IsAskedBy (asked_result greeter_options (codes "help") (map S.text words.now)) result }
+/// What a command line asks for: help and the version are printed even if an option is missing, but
+/// not if a word can't be read.
+pub fn read<S: AsStr>(alloc: Global, words: &[S]) -> Result<Request<Greeting>, Refusal>
+    ensures { IsAskedBy (parse_request_result greeter_options (map S.text words.now)) result }
 {
     let options = options(alloc)?;
-    let Some(matches) = matches_of(alloc, &options, words)? else {
-        return Ok(Asked::Help);
-    };
-    Ok(Asked::Greet(greeting_of(alloc, &matches)?))
+    match options.parse_request(alloc, words)? {
+        Request::Help => Ok(Request::Help),
+        Request::Version => Ok(Request::Version),
+        Request::Parsed(matches) => Ok(Request::Parsed(greeting_of(alloc, &matches)?)),
+    }
 }
+
+/// Two command lines written out: whether the contract of `read` is right can be seen before it is
+/// proved.
+fn lines_written_out()
+    ensures greeting { (matches : Matched)
+        × (parse_request_result greeter_options (codes "-nAnn" ∷ codes "-t2" ∷ []) ≡ Ok (Parsed matches))
+        × (first_value (found_of matches.groups (codes "name")) ≡ Some (codes "Ann"))
+        × (first_value (found_of matches.groups (codes "times")) ≡ Some (codes "2")) }
+    ensures help { parse_request_result greeter_options (codes "-Vh" ∷ []) ≡ Ok Help }
+{}
 
 /// The greeting that matches ask for.
 fn greeting_of(alloc: Global, matches: &Matches) -> Result<Greeting, Refusal>
@@ -110,25 +113,6 @@ fn greeting_of(alloc: Global, matches: &Matches) -> Result<Greeting, Refusal>
         name: matches.opt_str(alloc, "name")?.unwrap(),
         times: number(matches, "times")?,
     })
-}
-
-/// The matches of a command line, for any options with `help`, or none if it asks for help. A
-/// required option may then be missing.
-fn matches_of<S: AsStr>(
-    alloc: Global,
-    options: &Options,
-    words: &[S],
-) -> Result<Option<Matches>, Fail>
-    requires { Declares options.now (codes "help") }
-    ensures asked { GivesResult result (asked_result options.now (codes "help") (map S.text words.now)) }
-    ensures declared { IfOk result (λ asked. IfSome asked (λ matches.
-        HoldDeclared options.now matches.groups)) }
-{
-    let read = options.parse_ignoring_counts(alloc, words)?;
-    if read.opt_present("help") {
-        return Ok(None);
-    }
-    Ok(Some(options.parse_words(alloc, words)?))
 }
 
 /// The number of an option, if it was given.
