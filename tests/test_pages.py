@@ -338,7 +338,8 @@ def test_definitions_are_in_the_grammar(crate):
 
 
 # Names of the toolchain, of Rust, of glibc and of shells.
-OTHERS = """Send Sync unicode-width x86-64-v2 malloc_consolidate _int_malloc POSIXLY_CORRECT optind IFS BASH_ENV copied-"""
+OTHERS = """Send Sync unicode-width x86-64-v2 malloc_consolidate _int_malloc POSIXLY_CORRECT optind IFS BASH_ENV copied-
+    clap_on_literals value_parser InvalidValue"""
 
 
 @functools.cache
