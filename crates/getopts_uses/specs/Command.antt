@@ -3,12 +3,8 @@ use Rattle.std.specs.Prelude.{◌≡◌, ◌≢◌, ⊤, List, [], ◌∷◌, fa
 use Rattle.std.specs.Prelude.{Option, Some, None, Result, Ok, Err}
 use Rattle.std.specs.Option.{option_map}
 use Rattle.std.specs.String.{string_bytes}
-use Rattle.getopts.specs.Accessors.{first_value, found_of, is_present}
-use Rattle.getopts.specs.Asked.{asked_result}
-use Rattle.getopts.specs.Fail.{Fault, Tells}
-use Rattle.getopts.specs.Matches.{Matched}
-use Rattle.getopts.specs.Names.{Text}
-use Rattle.getopts.specs.Options.{Declared, group_of}
+use Rattle.getopts.specs.Prelude.{Declared, Fault, Matched, Tells, Text, asked_result, first_value}
+use Rattle.getopts.specs.Prelude.{found_of, group_of, is_present}
 use Rattle.getopts.specs.declared.fail.Fail.{Fail}
 use Rattle.getopts.specs.declared.groups.HasArg.TheVariants.{No, Yes}
 use Rattle.getopts.specs.declared.groups.Occur.TheVariants.{Optional}

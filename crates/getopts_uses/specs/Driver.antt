@@ -3,10 +3,8 @@ use Rattle.std.specs.Prelude.{◌≡◌, ◌==◌, ⊤, Bool, List, [], ◌∷�
 use Rattle.std.specs.Prelude.{length, Result, Ok, Err}
 use Rattle.std.specs.Option.{option_map}
 use Rattle.std.specs.String.{string_bytes}
-use Rattle.getopts.specs.Accessors.{first_value, first_value_or, found_of, is_present, values_of}
-use Rattle.getopts.specs.Fail.{Fault, Tells}
-use Rattle.getopts.specs.Matches.{Matched}
-use Rattle.getopts.specs.Options.{Declared, Group, group_of}
+use Rattle.getopts.specs.Prelude.{Declared, Fault, Group, Matched, Tells, first_value}
+use Rattle.getopts.specs.Prelude.{first_value_or, found_of, group_of, is_present, values_of}
 use Rattle.getopts.specs.declared.groups.HasArg.TheVariants.{No, Yes, Maybe}
 use Rattle.getopts.specs.declared.groups.Occur.TheVariants.{Optional, Multi}
 use Rattle.getopts.specs.declared.groups.ParsingStyle.TheVariants.{FloatingFrees}

@@ -1,11 +1,8 @@
 -- The subcommand `log`: its options and help, and what its words ask for.
 use Rattle.std.specs.Prelude.{◌≡◌, ⊤, [], ◌∷◌, false, map, codes, Option, Some, None, Result, Ok, Err}
 use Rattle.std.specs.String.{string_bytes}
-use Rattle.getopts.specs.Accessors.{first_value, found_of, values_of}
-use Rattle.getopts.specs.Fail.{Fault, Tells}
-use Rattle.getopts.specs.Matches.{Matched}
-use Rattle.getopts.specs.Names.{Text}
-use Rattle.getopts.specs.Options.{Declared, group_of}
+use Rattle.getopts.specs.Prelude.{Declared, Fault, Matched, Tells, Text, first_value, found_of}
+use Rattle.getopts.specs.Prelude.{group_of, values_of}
 use Rattle.getopts.specs.declared.fail.Fail.{Fail}
 use Rattle.getopts.specs.declared.groups.HasArg.TheVariants.{No, Yes}
 use Rattle.getopts.specs.declared.groups.Occur.TheVariants.{Optional, Multi, Req}

@@ -3,12 +3,8 @@ use Rattle.std.specs.Prelude.{ℕ, Bool, List, [], ◌∷◌, false, map, length
 use Rattle.std.specs.Option.{option_map}
 use Rattle.std.specs.Result.{result_map_both}
 use Rattle.std.specs.String.{string_bytes}
-use Rattle.getopts.specs.Accessors.{first_value, found_of, is_present, values_of}
-use Rattle.getopts.specs.Fail.{Fault}
-use Rattle.getopts.specs.Matches.{Matched}
-use Rattle.getopts.specs.Names.{Text}
-use Rattle.getopts.specs.Options.{Declared, group_of}
-use Rattle.getopts.specs.Results.{parse_result}
+use Rattle.getopts.specs.Prelude.{Declared, Fault, Matched, Text, first_value, found_of, group_of}
+use Rattle.getopts.specs.Prelude.{is_present, parse_result, values_of}
 use Rattle.getopts.specs.declared.groups.HasArg.TheVariants.{No, Yes}
 use Rattle.getopts.specs.declared.groups.Occur.TheVariants.{Optional, Multi}
 use Rattle.getopts.specs.declared.groups.ParsingStyle.TheVariants.{FloatingFrees}

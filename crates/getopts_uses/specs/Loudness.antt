@@ -1,11 +1,7 @@
 -- Flags of which the last one wins: the options, and how much output a command line asks for.
 use Rattle.std.specs.Prelude.{◌≡◌, ◌==◌, if◌then◌else◌, false, ℕ, List, [], ◌∷◌, codes}
 use Rattle.std.specs.Prelude.{Option, Some, None, Result, Ok, Err, unwrap_or}
-use Rattle.getopts.specs.CanonAnswers.{IsOrder}
-use Rattle.getopts.specs.Fail.{Tells}
-use Rattle.getopts.specs.Names.{Text}
-use Rattle.getopts.specs.Options.{Declared, group_of}
-use Rattle.getopts.specs.Parse.{IsRefused}
+use Rattle.getopts.specs.Prelude.{Declared, Fault, Tells, group_of}
 use Rattle.getopts.specs.declared.fail.Fail.{Fail}
 use Rattle.getopts.specs.declared.groups.HasArg.TheVariants.{No, Yes}
 use Rattle.getopts.specs.declared.groups.Occur.TheVariants.{Optional, Multi}
@@ -35,9 +31,8 @@ abbrev pub after : Loudness → List ℕ → Loudness
 after loudness [] = loudness
 after loudness (place ∷ places) = after (unwrap_or (asked_by place) loudness) places
 
--- The options count in the order in which they were typed.
--- This is how much output a command line asks for, or its error.
-abbrev pub IsLoudnessOf : List Text → Result Loudness Fail → Type 0
-IsLoudnessOf words (Ok loudness) =
-    (places : List ℕ) × IsOrder loudness_options words places × (loudness ≡ after Normal places)
-IsLoudnessOf words (Err fail) = Tells fail (IsRefused loudness_options words)
+-- This is how much output the places of a command line's options ask for, or its error.
+abbrev pub IsLoudnessBy : Result (List ℕ) Fault → Result Loudness Fail → Type 0
+IsLoudnessBy line (Err fail) = Tells fail (λ fault. line ≡ Err fault)
+IsLoudnessBy (Ok places) (Ok loudness) = loudness ≡ after Normal places
+IsLoudnessBy (Err fault) (Ok loudness) = ⊥

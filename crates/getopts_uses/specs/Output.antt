@@ -1,10 +1,7 @@
 -- The output file that a command line names.
 use Rattle.std.specs.Prelude.{◌≡◌, false, [], ◌∷◌, codes, Option, Result, Ok, Err, String, string_bytes}
 use Rattle.std.specs.Option.{option_map}
-use Rattle.getopts.specs.Accessors.{first_value, found_of}
-use Rattle.getopts.specs.Fail.{Fault, Tells}
-use Rattle.getopts.specs.Matches.{Matched}
-use Rattle.getopts.specs.Options.{Declared, group_of}
+use Rattle.getopts.specs.Prelude.{Declared, Fault, Matched, Tells, first_value, found_of, group_of}
 use Rattle.getopts.specs.declared.fail.Fail.{Fail}
 use Rattle.std.specs.declared.alloc.Global.{Global}
 use Rattle.getopts.specs.declared.groups.HasArg.TheVariants.{No, Yes}

@@ -1,10 +1,7 @@
 -- A wrapper's own options, and the words that it passes on.
-use Rattle.std.specs.Prelude.{◌≡◌, false, List, [], ◌∷◌, drop, codes, MatchOption}
-use Rattle.getopts.specs.Holds.{EndsInTrailing}
-use Rattle.getopts.specs.Matches.{Matched}
-use Rattle.getopts.specs.Names.{Text}
-use Rattle.getopts.specs.Options.{Declared, group_of}
-use Rattle.getopts.specs.Parse.{IsAccepted}
+use Rattle.std.specs.Prelude.{◌≡◌, false, List, [], ◌∷◌, codes, IfSome, Ok}
+use Rattle.getopts.specs.Prelude.{Declared, EndsInTrailing, Matched, Text, group_of, parse_result}
+use Rattle.getopts.specs.Prelude.{trailing_words}
 use Rattle.getopts.specs.declared.groups.HasArg.TheVariants.{No}
 use Rattle.getopts.specs.declared.groups.Occur.TheVariants.{Optional}
 use Rattle.getopts.specs.declared.groups.ParsingStyle.TheVariants.{FloatingFrees}
@@ -21,6 +18,6 @@ wrapper_options = record {
 -- The words are accepted, and those after `--` are passed on.
 pub record HandsOn (words handed : List Text) : Type 0 where
   pub matches : Matched
-  pub accepted : IsAccepted wrapper_options words matches
-  pub after_stop : MatchOption matches.trailing_start (handed ≡ [])
-      (λ start. EndsInTrailing words matches start × (handed ≡ drop start matches.free))
+  pub accepted : parse_result wrapper_options words ≡ Ok matches
+  pub handed_are : handed ≡ trailing_words matches
+  pub after_stop : IfSome matches.trailing_start (EndsInTrailing words matches)

@@ -2,10 +2,9 @@
 
 ghost use Rattle.std.specs.Prelude.{◌≡◌, codes, map, IfOk};
 ghost use Rattle.std.specs.String.{string_bytes};
-ghost use Rattle.getopts.specs.Asked.{asked_result};
+ghost use Rattle.getopts.specs.Prelude.{asked_result};
 ghost use Rattle.getopts_uses.specs.Command.{IsAddBy, add_help, add_options};
 
-use crate::asked::matches_of;
 use getopts::{Fail, Options};
 use std::alloc::{AllocError, Global};
 use std::convert::AsStr;
@@ -41,7 +40,7 @@ pub fn read_add<S: AsStr>(alloc: Global, words: &[S]) -> Result<Option<Add>, Fai
     ensures { IsAddBy (asked_result add_options (codes "help") (map S.text words.now)) result }
 {
     let options = options(alloc)?;
-    let Some(matches) = matches_of(alloc, &options, words)? else {
+    let Some(matches) = options.parse_unless(alloc, words, "help")? else {
         return Ok(None);
     };
     Ok(Some(Add {

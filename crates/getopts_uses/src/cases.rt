@@ -1,7 +1,7 @@
 //! The test cases: what each caller returns for its words.
 
 ghost use Rattle.std.specs.Prelude.{IfOk, codes};
-ghost use Rattle.getopts.specs.Options.{Declares};
+ghost use Rattle.getopts.specs.Prelude.{Declares};
 
 use crate::checked::read_settings;
 use crate::flag::says_more;

@@ -2,9 +2,7 @@
 //! all their values.
 
 ghost use Rattle.std.specs.Prelude.{◌≡◌, map, IfOk, OnOk};
-ghost use Rattle.getopts.specs.Holds.{HoldDeclared};
-ghost use Rattle.getopts.specs.Options.{with_groups};
-ghost use Rattle.getopts.specs.Results.{parse_result};
+ghost use Rattle.getopts.specs.Prelude.{HoldDeclared, parse_result, with_groups};
 ghost use Rattle.getopts_uses.specs.Driver.{IsJobBy, IsJobOf, driver_options, names_none};
 ghost use Rattle.getopts_uses.specs.Driver.{IsSearchOf, AreSourcesOf, AreStagesOf, AreTargetsOf, AreExtrasOf};
 ghost use Rattle.getopts_uses.specs.Driver.{search_groups, stages_groups, targets_groups, extras_groups};

@@ -1,11 +1,7 @@
 //! Whether a command line gives a flag.
 
 ghost use Rattle.std.specs.Prelude.{◌≡◌, codes, map, Err, IfErr, IfOk, Ok};
-ghost use Rattle.getopts.specs.Accessors.{is_present};
-ghost use Rattle.getopts.specs.Fail.{Tells};
-ghost use Rattle.getopts.specs.Matches.{Matched};
-ghost use Rattle.getopts.specs.Options.{Declares};
-ghost use Rattle.getopts.specs.Results.{parse_result};
+ghost use Rattle.getopts.specs.Prelude.{Declares, Matched, Tells, is_present, parse_result};
 
 use getopts::{Fail, Options};
 use std::alloc::Global;

@@ -2,7 +2,8 @@
 
 ghost use Rattle.std.specs.Prelude.{◌≡◌, ◌↔◌, [], None, length, IfSome, IsSome, IsTrue};
 ghost use Rattle.std.specs.List.{list_any};
-ghost use Rattle.getopts.specs.Accessors.{IsDefined, AreDefined, place_of, found_of, is_present};
+ghost use Rattle.getopts.specs.Prelude.{IsDefined, found_of, is_present};
+ghost use Rattle.getopts.specs.Accessors.{AreDefined, place_of};
 ghost use Rattle.getopts.specs.Names.{texts};
 
 use getopts::{Matches, held_names_resolve};

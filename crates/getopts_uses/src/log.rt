@@ -2,11 +2,9 @@
 
 ghost use Rattle.std.specs.Prelude.{◌≡◌, codes, map, IfOk};
 ghost use Rattle.std.specs.String.{string_bytes};
-ghost use Rattle.getopts.specs.Asked.{asked_result};
-ghost use Rattle.getopts.specs.Holds.{HoldDeclared};
+ghost use Rattle.getopts.specs.Prelude.{HoldDeclared, asked_result};
 ghost use Rattle.getopts_uses.specs.Log.{IsLogBy, IsLogOf, log_help, log_options};
 
-use crate::asked::matches_of;
 use getopts::{Fail, Matches, Options};
 use std::alloc::{AllocError, Global};
 use std::convert::AsStr;
@@ -44,7 +42,7 @@ pub fn read_log<S: AsStr>(alloc: Global, words: &[S]) -> Result<Option<Log>, Fai
     ensures { IsLogBy (asked_result log_options (codes "help") (map S.text words.now)) result }
 {
     let options = options(alloc)?;
-    let Some(matches) = matches_of(alloc, &options, words)? else {
+    let Some(matches) = options.parse_unless(alloc, words, "help")? else {
         return Ok(None);
     };
     Ok(Some(log_of(alloc, matches)?))

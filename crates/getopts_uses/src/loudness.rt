@@ -1,9 +1,11 @@
 //! Flags of which the last one wins: how much to print, by `-q` and `-v` in the order in which they
 //! were typed.
 
-ghost use Rattle.std.specs.Prelude.{◌≡◌, map, IfOk};
-ghost use Rattle.getopts_uses.specs.Loudness.{IsLoudnessOf, after, asked_by, loudness_options};
-ghost use Rattle.getopts_uses.specs.declared.loudness.Loudness.TheVariants.{Normal};
+ghost use Rattle.std.specs.Prelude.{◌≡◌, [], ◌∷◌, codes, map, IfOk, Ok};
+ghost use Rattle.std.specs.Result.{result_map_both};
+ghost use Rattle.getopts.specs.Prelude.{parse_in_order_result};
+ghost use Rattle.getopts_uses.specs.Loudness.{IsLoudnessBy, after, asked_by, loudness_options};
+ghost use Rattle.getopts_uses.specs.declared.loudness.Loudness.TheVariants.{Normal, Quiet, Verbose};
 
 use getopts::{Fail, Options};
 use std::alloc::{AllocError, Global};
@@ -29,10 +31,18 @@ fn options(alloc: Global) -> Result<Options, AllocError>
     Ok(options)
 }
 
+/// Two command lines written out: the last flag wins, even within a word.
+fn loudness_of_lines()
+    ensures verbose { result_map_both (after Normal) (λ fault. fault) (parse_in_order_result
+        loudness_options (codes "-qv" ∷ codes "x" ∷ [])) ≡ Ok Verbose }
+    ensures quiet { result_map_both (after Normal) (λ fault. fault) (parse_in_order_result
+        loudness_options (codes "-vq" ∷ codes "-o" ∷ codes "-v" ∷ [])) ≡ Ok Quiet }
+{}
+
 /// How much output a command line asks for: the last of `-q` and `-v` wins, even in `-qv`, in which
 /// both have the same position.
 pub fn loudness_of<S: AsStr>(alloc: Global, words: &[S]) -> Result<Loudness, Fail>
-    ensures { IsLoudnessOf (map S.text words.now) result }
+    ensures { IsLoudnessBy (parse_in_order_result loudness_options (map S.text words.now)) result }
 {
     let places = options(alloc)?.parse_in_order(alloc, words)?;
     Ok(last_of(&places))

@@ -6,7 +6,6 @@
 #![tactic(auto)]
 
 mod add;
-mod asked;
 mod cases;
 mod checked;
 mod driver;

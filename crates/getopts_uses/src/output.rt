@@ -1,7 +1,7 @@
 //! An option that may be left out: its value, or none.
 
 ghost use Rattle.std.specs.Prelude.{◌≡◌, map, IfOk};
-ghost use Rattle.getopts.specs.Results.{parse_result};
+ghost use Rattle.getopts.specs.Prelude.{parse_result};
 ghost use Rattle.getopts_uses.specs.Output.{IsOutputBy, output_options};
 
 use getopts::{Fail, Options};

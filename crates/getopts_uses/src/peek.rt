@@ -1,27 +1,17 @@
 //! A tool that prints some lines of files: a required number, a flag, texts, an optional value,
 //! help, a version.
 
-ghost use Rattle.std.specs.Prelude.{◌≡◌, ◌||◌, false, codes, map, string_bytes, IfErr, IfOk, Ok};
+ghost use Rattle.std.specs.Prelude.{◌≡◌, map, string_bytes, IfOk};
 ghost use Rattle.std.specs.Str.Parse.{ParsesUnsigned};
-ghost use Rattle.getopts.specs.Accessors.{IsDefined, IsReadAs, first_value, found_of};
-ghost use Rattle.getopts.specs.Holds.{HoldDeclared, HoldGiven};
-ghost use Rattle.getopts.specs.Gives.{GivesResult};
+ghost use Rattle.getopts.specs.Prelude.{HoldDeclared, IsDefined, IsReadAs, first_value, found_of};
+ghost use Rattle.getopts.specs.Prelude.{parse_request_result};
 ghost use Rattle.getopts_uses.specs.declared.peek.Refusal.TheVariants.{Line, Number, OutOfMemory};
-ghost use Rattle.getopts_uses.specs.Peek.{IsAskedBy, asked_result};
-ghost use Rattle.getopts_uses.specs.Peek.{gives, peek_help, peek_options};
+ghost use Rattle.getopts_uses.specs.Peek.{IsPeekBy, IsRequestBy, peek_help, peek_options};
 
-use getopts::{Fail, Matches, Options};
+use getopts::{Fail, Matches, Options, Request};
 use std::alloc::{AllocError, Global};
 use std::convert::AsStr;
 use std::num::ParseIntError;
-
-/// What a command line asks for.
-#[derive(Debug, Drop)]
-pub enum Request {
-    Help,
-    Version,
-    Peek(Peek),
-}
 
 /// Which lines to print, and how.
 #[derive(Debug, Drop)]
@@ -82,51 +72,29 @@ pub fn options(alloc: Global) -> Result<Options, AllocError>
 
 /// What a command line asks for. Help takes precedence over the version. Both are printed even if
 /// an option is missing, but not if a word can't be read.
-pub fn read_request<S: AsStr>(alloc: Global, words: &[S]) -> Result<Request, Refusal>
-    ensures { IsAskedBy (asked_result (map S.text words.now)) result }
+pub fn read_request<S: AsStr>(alloc: Global, words: &[S]) -> Result<Request<Peek>, Refusal>
+    ensures { IsRequestBy (parse_request_result peek_options (map S.text words.now)) result }
 {
-    let matches = asked(alloc, words)?;
-    if matches.opt_present("help") {
-        return Ok(Request::Help);
+    let options = options(alloc)?;
+    match options.parse_request(alloc, words)? {
+        Request::Help => Ok(Request::Help),
+        Request::Version => Ok(Request::Version),
+        Request::Parsed(matches) => Ok(Request::Parsed(peek_of(alloc, matches)?)),
     }
-    if matches.opt_present("version") {
-        return Ok(Request::Version);
-    }
-    lines_asked(alloc, matches)
 }
 
-/// The lines that a command line asks for, if it asks for neither help nor the version.
-fn lines_asked(alloc: Global, matches: Matches) -> Result<Request, Refusal>
-    requires declared { HoldDeclared peek_options matches.groups }
-    requires no_help { gives matches (codes "help") ≡ false }
-    requires no_version { gives matches (codes "version") ≡ false }
-    ensures { IsAskedBy (Ok matches) result }
+/// The lines that matches ask for.
+fn peek_of(alloc: Global, matches: Matches) -> Result<Peek, Refusal>
+    requires { HoldDeclared peek_options matches.groups }
+    ensures { IsPeekBy matches result }
 {
-    Ok(Request::Peek(Peek {
+    Ok(Peek {
         lines: number(&matches, "lines")?.unwrap(),
         reverse: matches.opt_present("reverse"),
         wanted: matches.opt_strs(alloc, "match")?,
         color: matches.opt_default(alloc, "color", "always")?,
         files: matches.free,
-    }))
-}
-
-/// The matches of a command line. If it asks for help or the version, a required option may be
-/// missing.
-fn asked<S: AsStr>(alloc: Global, words: &[S]) -> Result<Matches, Fail>
-    ensures asked { GivesResult result (asked_result (map S.text words.now)) }
-    ensures given { IfOk result (λ matches. HoldGiven peek_options matches.groups) }
-    ensures declared { IfOk result (λ matches.
-        gives matches (codes "help") ≡ false → gives matches (codes "version") ≡ false
-        → HoldDeclared peek_options matches.groups) }
-{
-    let options = options(alloc)?;
-    let matches = options.parse_ignoring_counts(alloc, words)?;
-    if matches.opts_present_any(&["help", "version"]) {
-        Ok(matches)
-    } else {
-        options.parse_words(alloc, words)
-    }
+    })
 }
 
 /// The number of an option, if it was given.

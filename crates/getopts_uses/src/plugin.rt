@@ -2,7 +2,8 @@
 
 ghost use Rattle.std.specs.Prelude.{◌≡◌, ◌↔◌, [], if◌then◌else◌, IfOk, IsTrue, OnErr};
 ghost use Rattle.getopts.specs.Names.{AreLawful};
-ghost use Rattle.getopts.specs.Options.{group_of, with_group};
+ghost use Rattle.getopts.specs.Prelude.{group_of};
+ghost use Rattle.getopts.specs.Options.{with_group};
 
 use getopts::{HasArg, Occur, Options, names_lawful};
 use std::alloc::AllocError;

@@ -3,9 +3,8 @@
 
 ghost use Rattle.std.specs.Prelude.{◌≡◌, map, IfOk, Ok, OnOk};
 ghost use Rattle.std.specs.String.{string_bytes};
-ghost use Rattle.getopts.specs.Holds.{HoldGiven, StandBeforeFree};
-ghost use Rattle.getopts.specs.Matches.{Matched};
-ghost use Rattle.getopts.specs.Results.{parse_result};
+ghost use Rattle.getopts.specs.Prelude.{HoldGiven, Matched, parse_result};
+ghost use Rattle.getopts.specs.Holds.{StandBeforeFree};
 ghost use Rattle.getopts_uses.specs.Command.{IsCommandBy, IsRunBy, IsRunOf, global_options};
 ghost use Rattle.getopts_uses.specs.declared.subcommand.Refusal.TheVariants.{Line, OutOfMemory};
 

@@ -1,12 +1,8 @@
 //! A wrapper of another command: its own options, then `--` and the words that it passes on.
 
-ghost use Rattle.std.specs.Prelude.{◌≡◌, [], ◌∷◌, true, codes, map, IfErr, IfOk, Ok};
+ghost use Rattle.std.specs.Prelude.{◌≡◌, [], ◌∷◌, true, codes, map, Err, IfErr, IfOk, Ok};
 ghost use Rattle.std.specs.String.{string_bytes};
-ghost use Rattle.getopts.specs.Accessors.{is_present};
-ghost use Rattle.getopts.specs.Fail.{Tells};
-ghost use Rattle.getopts.specs.Matches.{Matched};
-ghost use Rattle.getopts.specs.Parse.{IsRefused};
-ghost use Rattle.getopts.specs.Results.{parse_result};
+ghost use Rattle.getopts.specs.Prelude.{Matched, Tells, is_present, parse_result};
 ghost use Rattle.getopts_uses.specs.Wrapper.{HandsOn, wrapper_options};
 
 use getopts::{Fail, Options};
@@ -36,12 +32,10 @@ fn matches_of_a_line()
 pub fn handed_on<S: AsStr>(alloc: Global, words: &[S]) -> Result<Vec<String>, Fail>
     ensures handed { IfOk result (λ handed.
         HandsOn (map S.text words.now) (map string_bytes handed.items)) }
-    ensures refused { IfErr result (λ fail. Tells fail (IsRefused wrapper_options (map S.text words.now))) }
+    ensures refused { IfErr result (λ fail. Tells fail (λ fault.
+        parse_result wrapper_options (map S.text words.now) ≡ Err fault)) }
 {
     let options = options(alloc)?;
     let mut matches = options.parse_words(alloc, words)?;
-    match matches.free_trailing_start() {
-        Some(start) => Ok(matches.free.split_off(start)?),
-        None => Ok(Vec::new(alloc)),
-    }
+    Ok(matches.take_trailing()?)
 }
