@@ -1,7 +1,8 @@
--- Checked values: a number within bounds, a choice, and pairs.
-use Rattle.std.specs.Prelude.{◌≡◌, ◌≤◌, ◌==◌, ⊤, ℕ, if◌then◌else◌, nat_lt, false, List, [], ◌∷◌, map}
-use Rattle.std.specs.Prelude.{codes, length, Option, Some, None, Result, Ok, Err}
-use Rattle.std.specs.List.{after_first, before_first, position_or_len}
+-- Checked values: a number within bounds, a choice, a list in one value, and pairs.
+use Rattle.std.specs.Prelude.{◌≡◌, ◌≤◌, ◌<◌, ◌==◌, ⊤, ℕ, if◌then◌else◌, nat_lt, false, List, [], ◌∷◌}
+use Rattle.std.specs.Prelude.{map, codes, length, slice_index_or, take, Option, Some, None}
+use Rattle.std.specs.Prelude.{Result, Ok, Err}
+use Rattle.std.specs.List.{after_first, before_first, position_or_len, slice_split}
 use Rattle.std.specs.Option.{option_map, option_map_or}
 use Rattle.std.specs.Str.{bytes_eq}
 use Rattle.std.specs.Str.Parse.{ParsesUnsigned}
@@ -9,14 +10,11 @@ use Rattle.std.specs.String.{string_bytes}
 use Rattle.std.specs.declared.alloc.Global.{Global}
 use Rattle.std.specs.declared.num.ParseIntError.{ParseIntError}
 use Rattle.std.specs.declared.vec.Vec.{Vec}
-use Rattle.getopts.specs.Accessors.{first_value, found_of, values_of}
-use Rattle.getopts.specs.Fail.{Fault, fault_of}
-use Rattle.getopts.specs.Matches.{Matched}
-use Rattle.getopts.specs.Names.{Text}
-use Rattle.getopts.specs.Options.{Declared, group_of}
+use Rattle.getopts.specs.Prelude.{Declared, Fault, Matched, Text, fault_of, first_value}
+use Rattle.getopts.specs.Prelude.{first_value_or, found_of, group_of, values_of}
 use Rattle.getopts.specs.declared.fail.Fail.{Fail}
 use Rattle.getopts.specs.declared.fail.Fail.TheVariants as fail
-use Rattle.getopts.specs.declared.groups.HasArg.TheVariants.{Yes}
+use Rattle.getopts.specs.declared.groups.HasArg.TheVariants.{Maybe, Yes}
 use Rattle.getopts.specs.declared.groups.Occur.TheVariants.{Optional, Multi}
 use Rattle.getopts.specs.declared.groups.ParsingStyle.TheVariants.{FloatingFrees}
 use Rattle.getopts_uses.specs.declared.checked.Color.{Color}
@@ -31,7 +29,8 @@ abbrev pub checked_options : Declared
 checked_options = record {
   groups =
       group_of (codes "j") (codes "jobs") (codes "run NUMBER jobs at once, from 1 to 64") (codes "NUMBER") Yes Optional
-      ∷ group_of [] (codes "color") (codes "colour: auto, always or never") (codes "WHEN") Yes Optional
+      ∷ group_of [] (codes "color") (codes "colour: auto, always or never") (codes "WHEN") Maybe Optional
+      ∷ group_of (codes "f") (codes "fields") (codes "print the fields of LIST, as 1,3") (codes "LIST") Yes Optional
       ∷ group_of (codes "D") (codes "set") (codes "set KEY to VALUE") (codes "KEY=VALUE") Yes Multi
       ∷ [];
   style = FloatingFrees;
@@ -54,6 +53,40 @@ IsNumberBy option low high default (Some text) (Err (refusal.Number told given l
     × ((number : ℕ) → ¬ (IsWithin low high text number))
 IsNumberBy option low high default text result = ⊥
 
+-- the parts between the commas of a list, if there is one; 44 is the byte `,`
+abbrev pub parts_of : Option Text → List Text
+parts_of list = option_map_or (slice_split (λ b. b == 44)) list []
+
+-- Each text is the number at its place: from 1 to 9999.
+abbrev pub AreFields : List Text → List ℕ → Type 0
+AreFields [] [] = ⊤
+AreFields (text ∷ texts) (field ∷ fields) = IsWithin 1 9999 text field × AreFields texts fields
+AreFields texts fields = ⊥
+
+-- The error contains the option and the text.
+-- This is the field that a text is, or an error.
+abbrev pub IsFieldBy : Text → Text → Result ℕ Refusal → Type 0
+IsFieldBy option text (Err refusal.OutOfMemory) = ⊤
+IsFieldBy option text (Ok field) = IsWithin 1 9999 text field
+IsFieldBy option text (Err (refusal.Field told given)) =
+    (told.now ≡ option) × (string_bytes given ≡ text)
+    × ((field : ℕ) → ¬ (IsWithin 1 9999 text field))
+IsFieldBy option text result = ⊥
+
+-- The text at the index isn't a field, for which this is the error, and those before it are.
+pub record IsFirstBad (option : Text) (texts : List Text) (error : Refusal) : Type 0 where
+  pub index : ℕ
+  pub within : index < length texts
+  pub bad : IsFieldBy option (slice_index_or texts index []) (Err error)
+  pub fields : List ℕ
+  pub before : AreFields (take index texts) fields
+
+-- These are the fields that texts are, or an error with the first text that isn't a field.
+abbrev pub AreFieldsBy : Text → List Text → Result (Vec ℕ Global) Refusal → Type 0
+AreFieldsBy option texts (Err refusal.OutOfMemory) = ⊤
+AreFieldsBy option texts (Ok fields) = AreFields texts fields.items
+AreFieldsBy option texts (Err error) = IsFirstBad option texts error
+
 -- the choice that a word names
 abbrev pub color_named : Text → Option Color
 color_named word =
@@ -62,7 +95,7 @@ color_named word =
     else (if bytes_eq word (codes "never") then Some Never else None))
 
 -- The error contains the option and the text.
--- This is the choice that an option's value names, or `auto`, or an error.
+-- This is the choice that a word names, or `auto` if there is none, or an error.
 abbrev pub IsColorBy : Text → Option Text → Result Color Refusal → Type 0
 IsColorBy option text (Err refusal.OutOfMemory) = ⊤
 IsColorBy option None (Ok color) = color ≡ Auto
@@ -111,9 +144,15 @@ value_of matches name = first_value (found_of matches.groups name)
 abbrev pub AreJobsOf : Matched → Result ℕ Refusal → Type 0
 AreJobsOf matches jobs = IsNumberBy (codes "jobs") 1 64 1 (value_of matches (codes "jobs")) jobs
 
--- This is when the matches ask to colour.
+-- This is when the matches ask to colour: always, if the option has no value.
 abbrev pub IsColorOf : Matched → Result Color Refusal → Type 0
-IsColorOf matches color = IsColorBy (codes "color") (value_of matches (codes "color")) color
+IsColorOf matches color = IsColorBy (codes "color")
+    (first_value_or (found_of matches.groups (codes "color")) (codes "always")) color
+
+-- These are the fields that matches give.
+abbrev pub AreFieldsOf : Matched → Result (Vec ℕ Global) Refusal → Type 0
+AreFieldsOf matches fields =
+    AreFieldsBy (codes "fields") (parts_of (value_of matches (codes "fields"))) fields
 
 -- These are the pairs that matches set.
 abbrev pub AreSetsOf : Matched → Result (Vec Pair Global) Refusal → Type 0
@@ -125,19 +164,25 @@ refusal_of fail.OutOfMemory = refusal.OutOfMemory
 refusal_of fail = refusal.Line fail
 
 -- A command line sets nothing if it has an error; otherwise, if its number is out of bounds;
--- otherwise, if its colour isn't one of the choices; otherwise, if a text isn't a pair.
+-- otherwise, if its colour isn't one of the choices; otherwise, if a field is out of bounds;
+-- otherwise, if a text isn't a pair.
 -- This is what a command line sets, or why it sets nothing.
 abbrev pub IsSettingsBy : Result Matched Fault → Result Settings Refusal → Type 0
 IsSettingsBy line (Err refusal.OutOfMemory) = ⊤
 IsSettingsBy line (Err (refusal.Line fail)) = option_map Err (fault_of fail) ≡ Some line
 IsSettingsBy (Ok matches) (Ok settings) =
     AreJobsOf matches (Ok settings.jobs) × IsColorOf matches (Ok settings.color)
-    × AreSetsOf matches (Ok settings.sets) × (map string_bytes settings.files.items ≡ matches.free)
+    × AreFieldsOf matches (Ok settings.fields) × AreSetsOf matches (Ok settings.sets)
+    × (map string_bytes settings.files.items ≡ matches.free)
 IsSettingsBy (Ok matches) (Err (refusal.Number told given low high)) =
     AreJobsOf matches (Err (refusal.Number told given low high))
 IsSettingsBy (Ok matches) (Err (refusal.Choice told given)) =
     ((jobs : ℕ) × AreJobsOf matches (Ok jobs)) × IsColorOf matches (Err (refusal.Choice told given))
+IsSettingsBy (Ok matches) (Err (refusal.Field told given)) =
+    ((jobs : ℕ) × AreJobsOf matches (Ok jobs)) × ((color : Color) × IsColorOf matches (Ok color))
+    × AreFieldsOf matches (Err (refusal.Field told given))
 IsSettingsBy (Ok matches) (Err (refusal.Pair told given)) =
     ((jobs : ℕ) × AreJobsOf matches (Ok jobs)) × ((color : Color) × IsColorOf matches (Ok color))
+    × ((fields : Vec ℕ Global) × AreFieldsOf matches (Ok fields))
     × AreSetsOf matches (Err (refusal.Pair told given))
 IsSettingsBy (Err fault) result = ⊥

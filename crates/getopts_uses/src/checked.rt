@@ -1,13 +1,17 @@
-//! Checked values: a number within bounds and a choice, each with a default, and pairs.
+//! Checked values: a number within bounds, a choice whose value may be left out, a list in one
+//! value, and pairs.
 
-ghost use Rattle.std.specs.Prelude.{◌≡◌, ◌∷◌, ◌++◌, [], map, IfOk, OnOk};
+ghost use Rattle.std.specs.Prelude.{◌≡◌, ◌==◌, ◌∷◌, ◌++◌, [], codes, map, IfOk, OnOk};
+ghost use Rattle.std.specs.List.{slice_split};
 ghost use Rattle.std.specs.Option.{option_copied, option_map};
 ghost use Rattle.std.specs.Str.Parse.{ParsesUnsigned};
 ghost use Rattle.std.specs.String.{string_bytes};
-ghost use Rattle.getopts.specs.Accessors.{IsDefined, first_value, found_of, values_of};
-ghost use Rattle.getopts.specs.Results.{parse_result};
-ghost use Rattle.getopts_uses.specs.Checked.{IsColorBy, IsNumberBy, IsSettingsBy, checked_options};
-ghost use Rattle.getopts_uses.specs.Checked.{ArePairsBy, IsPairBy, color_named, cut, refusal_of};
+ghost use Rattle.getopts.specs.Prelude.{IsDefined, first_value, first_value_or, found_of};
+ghost use Rattle.getopts.specs.Prelude.{parse_result, values_of};
+ghost use Rattle.getopts.specs.Names.{texts};
+ghost use Rattle.getopts_uses.specs.Checked.{AreFieldsBy, ArePairsBy, IsColorBy, IsNumberBy};
+ghost use Rattle.getopts_uses.specs.Checked.{IsFieldBy, IsPairBy, IsSettingsBy, checked_options};
+ghost use Rattle.getopts_uses.specs.Checked.{color_named, cut, parts_of, refusal_of};
 ghost use Rattle.getopts_uses.specs.declared.checked.Refusal.TheVariants.{OutOfMemory};
 
 use getopts::{Fail, Matches, Options};
@@ -20,6 +24,7 @@ use std::num::ParseIntError;
 pub struct Settings {
     pub jobs: u32,
     pub color: Color,
+    pub fields: Vec<u32>,
     pub sets: Vec<Pair>,
     pub files: Vec<String>,
 }
@@ -52,6 +57,11 @@ pub enum Refusal {
     },
     /// The option's text isn't one of the choices.
     Choice {
+        option: &'static str,
+        text: String,
+    },
+    /// This part of the option's list isn't a field.
+    Field {
         option: &'static str,
         text: String,
     },
@@ -94,7 +104,8 @@ fn options(alloc: Global) -> Result<Options, AllocError>
             "run NUMBER jobs at once, from 1 to 64",
             "NUMBER",
         )?
-        .optopt("", "color", "colour: auto, always or never", "WHEN")?
+        .optflagopt("", "color", "colour: auto, always or never", "WHEN")?
+        .optopt("f", "fields", "print the fields of LIST, as 1,3", "LIST")?
         .optmulti("D", "set", "set KEY to VALUE", "KEY=VALUE")?;
     Ok(options)
 }
@@ -107,6 +118,7 @@ pub fn read_settings<S: AsStr>(alloc: Global, words: &[S]) -> Result<Settings, R
     Ok(Settings {
         jobs: number_of(alloc, &matches, "jobs", 1, 64, 1)?,
         color: color_of(alloc, &matches, "color")?,
+        fields: fields_of(alloc, &matches, "fields")?,
         sets: sets_of(alloc, &matches, "set")?,
         files: matches.free,
     })
@@ -158,20 +170,18 @@ fn read_number(text: &str) -> Result<u32, ParseIntError>
     text.parse()
 }
 
-/// An option's choice, or `auto` if it isn't given.
+/// An option's choice: `always` if it has no value, and `auto` if it isn't given.
 fn color_of(alloc: Global, matches: &Matches, option: &'static str) -> Result<Color, Refusal>
     requires { IsDefined matches.now.groups option.now }
-    ensures { IsColorBy option.now (first_value (found_of matches.now.groups option.now)) result }
+    ensures { IsColorBy option.now
+        (first_value_or (found_of matches.now.groups option.now) (codes "always")) result }
 {
-    let Some(text) = value_of(matches, option) else {
+    let Some(text) = matches.opt_default(alloc, option, "always")? else {
         return Ok(Color::Auto);
     };
-    match color_named(text) {
+    match color_named(text.as_str()) {
         Some(color) => Ok(color),
-        None => Err(Refusal::Choice {
-            option,
-            text: String::from_str(alloc, text)?,
-        }),
+        None => Err(Refusal::Choice { option, text }),
     }
 }
 
@@ -185,6 +195,67 @@ fn color_named(word: &str) -> Option<Color>
         "never" => Some(Color::Never),
         _ => None,
     }
+}
+
+/// The fields in an option's list, or an error with the first part that isn't a field.
+fn fields_of(alloc: Global, matches: &Matches, option: &'static str) -> Result<Vec<u32>, Refusal>
+    requires { IsDefined matches.now.groups option.now }
+    ensures { AreFieldsBy option.now
+        (parts_of (first_value (found_of matches.now.groups option.now))) result }
+{
+    let parts = parts_of(alloc, value_of(matches, option))?;
+    fields_in(alloc, option, &parts)
+}
+
+/// The parts between a list's commas, or none if there is no list.
+fn parts_of<'a>(alloc: Global, list: Option<&'a str>) -> Result<Vec<&'a str>, AllocError>
+    ensures { IfOk result (λ parts. texts parts.items ≡ parts_of (option_copied list.entry)) }
+{
+    match list {
+        Some(list) => parts(alloc, list),
+        None => Ok(Vec::new(alloc)),
+    }
+}
+
+/// The parts between a list's commas.
+fn parts<'a>(alloc: Global, list: &'a str) -> Result<Vec<&'a str>, AllocError>
+    ensures { IfOk result (λ parts. texts parts.items ≡ slice_split (λ b. b == 44) list.now) }
+{
+    list.split(',').collect(alloc)
+}
+
+/// The fields that texts are, or an error with the first text that isn't a field.
+#[tactic(auto, using(crate::proofs::Fields::more))]
+fn fields_in(alloc: Global, option: &'static str, parts: &[&str]) -> Result<Vec<u32>, Refusal>
+    ensures { AreFieldsBy option.now (texts parts.now) result }
+{
+    let mut fields = Vec::new(alloc);
+    for text in parts {
+        let field = field_in(alloc, option, text)?;
+        add_field(&mut fields, field)?;
+    }
+    Ok(fields)
+}
+
+/// The field that a text is: a number from 1 to 9999.
+fn field_in(alloc: Global, option: &'static str, text: &str) -> Result<u32, Refusal>
+    ensures { IsFieldBy option.now text.now result }
+{
+    match read_number(text) {
+        Ok(number) if 1 <= number && number <= 9999 => Ok(number),
+        _ => Err(Refusal::Field {
+            option,
+            text: String::from_str(alloc, text)?,
+        }),
+    }
+}
+
+/// Adds a field. If memory runs out, `push` returns the field in its error, for which `Refusal` has
+/// no `From`.
+fn add_field(fields: &mut Vec<u32>, field: u32) -> Result<(), AllocError>
+    ensures { OnOk result (fields.new.items ≡ fields.old.items ++ field ∷ []) }
+{
+    Ok(fields.push(field)?)
 }
 
 /// An option's pairs, or an error with the first text that isn't a pair.
@@ -208,8 +279,7 @@ fn pairs_of(alloc: Global, option: &'static str, texts: &[String]) -> Result<Vec
     Ok(pairs)
 }
 
-/// Adds a pair. If memory runs out, `push` returns the pair in its error, for which `Refusal` has
-/// no `From`.
+/// Adds a pair: see `add_field`.
 fn add_pair(pairs: &mut Vec<Pair>, pair: Pair) -> Result<(), AllocError>
     ensures { OnOk result (pairs.new.items ≡ pairs.old.items ++ pair ∷ []) }
 {

@@ -1,0 +1,2 @@
+-- the fields that the first texts of a list are
+mod Fields
