@@ -102,7 +102,7 @@ impl<'g> PartialEq for Signature<'g> {
 
 /// Where two adjacent texts are in a longer one: the start of the first, and the end of each.
 #[derive(Debug, Clone, Copy)]
-pub(crate) struct Ends {
+pub(crate) struct PairEnds {
     pub start: usize,
     pub first: usize,
     pub second: usize,
@@ -144,7 +144,7 @@ impl PartialEq for SignatureRecord {
 impl SignatureRecord {
     /// Where its names start and end: a short name has one byte.
     #[inline(always)]
-    fn ends(&self) -> Ends
+    fn ends(&self) -> PairEnds
         ensures { result ≡ ends_of self.now }
     {
         let start = if self.short == NO_BYTE {
@@ -152,7 +152,7 @@ impl SignatureRecord {
         } else {
             self.long.saturating_sub(1)
         };
-        Ends {
+        PairEnds {
             start,
             first: self.long,
             second: self.end,
@@ -179,7 +179,7 @@ pub(crate) fn push_reserved(texts: &mut String, text: &str) -> usize
 
 /// Appends two texts that there is room for, and returns where they are.
 #[inline(always)]
-pub(crate) fn push_two(texts: &mut String, first: &str, second: &str) -> Ends
+pub(crate) fn push_pair(texts: &mut String, first: &str, second: &str) -> PairEnds
     requires { string_len texts.old + (length first.now + length second.now)
         ≤ string_capacity texts.old }
     ensures bytes { string_bytes texts.new ≡ string_bytes texts.old ++ (first.now ++ second.now) }
@@ -189,7 +189,7 @@ pub(crate) fn push_two(texts: &mut String, first: &str, second: &str) -> Ends
     let start = texts.len();
     let first = push_reserved(texts, first);
     let second = push_reserved(texts, second);
-    Ends {
+    PairEnds {
         start,
         first,
         second,
@@ -198,7 +198,7 @@ pub(crate) fn push_two(texts: &mut String, first: &str, second: &str) -> Ends
 
 /// The first of the two texts at `ends`.
 #[inline(always)]
-pub(crate) fn first_at(text: &str, ends: Ends) -> &str
+pub(crate) fn first_at(text: &str, ends: PairEnds) -> &str
     requires { AreEndsOf text.now ends }
     ensures { result.now ≡ (two_at text.now ends).0 }
 {
@@ -207,7 +207,7 @@ pub(crate) fn first_at(text: &str, ends: Ends) -> &str
 
 /// The second of the two texts at `ends`.
 #[inline(always)]
-pub(crate) fn second_at(text: &str, ends: Ends) -> &str
+pub(crate) fn second_at(text: &str, ends: PairEnds) -> &str
     requires { AreEndsOf text.now ends }
     ensures { result.now ≡ (two_at text.now ends).1 }
 {
@@ -359,7 +359,7 @@ impl Signatures {
             self.records.reserve(1)?;
             self.text.reserve(bytes)?;
         }
-        let names = push_two(&mut self.text, short, long);
+        let names = push_pair(&mut self.text, short, long);
         let key = key_of(Names { short, long }.main().as_bytes());
         self.records.push_reserved(SignatureRecord {
             long: names.first,

@@ -11,7 +11,8 @@ ghost use Rattle.getopts.specs.Canon.{main_at};
 ghost use Rattle.getopts.specs.Held.Groups.{AreLawfulSignatures};
 
 use crate::groups::{
-    Ends, FIRST_GROUPS, FIRST_TEXT, Kinds, Signature, Signatures, first_at, push_two, second_at,
+    FIRST_GROUPS, FIRST_TEXT, Kinds, PairEnds, Signature, Signatures, first_at, push_pair,
+    second_at,
 };
 use std::alloc::{AllocError, Global};
 use std::marker::Model;
@@ -42,7 +43,7 @@ impl<'g> PartialEq for Group<'g> {
 pub(crate) struct Groups {
     signatures: Signatures,
     help: String,
-    ends: Vec<Ends>,
+    ends: Vec<PairEnds>,
 }
 
 impl Drop for Groups {
@@ -141,7 +142,7 @@ impl Groups {
             self.help.reserve(bytes)?;
         }
         self.signatures.push(short, long, kinds)?;
-        let help = push_two(&mut self.help, hint, desc);
+        let help = push_pair(&mut self.help, hint, desc);
         self.ends.push_reserved(help);
         Ok(())
     }

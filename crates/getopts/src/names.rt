@@ -83,14 +83,14 @@ fn up_to_seven(bytes: &[u8]) -> u64
 {
     match bytes {
         [a, b, c, d, rest @ ..] => {
-            u32::from_be_bytes([*a, *b, *c, *d]) as u64 * FOUR_BYTES + short_key(rest)
+            u32::from_be_bytes([*a, *b, *c, *d]) as u64 * FOUR_BYTES + up_to_three(rest)
         }
-        bytes => short_key(bytes) * FOUR_BYTES,
+        bytes => up_to_three(bytes) * FOUR_BYTES,
     }
 }
 
 /// Packs up to three bytes into four, zero-padded.
-fn short_key(bytes: &[u8]) -> u64
+fn up_to_three(bytes: &[u8]) -> u64
     requires { length bytes.now < 4 }
     ensures below { result + 8 < 2 ^ 32 }
     ensures worth { result * 2 ^ 32 ≡ from_be_bytes w64 bytes.now }

@@ -80,7 +80,7 @@ impl<'g> PartialEq for Signature<'g> {
 
 /// Where two adjacent texts are in a longer one: the start of the first, and the end of each.
 #[derive(Debug, Clone, Copy)]
-pub(crate) struct Ends {
+pub(crate) struct PairEnds {
     pub start: usize,
     pub first: usize,
     pub second: usize,
@@ -116,13 +116,13 @@ impl PartialEq for SignatureRecord {
 impl SignatureRecord {
     /// Where its names start and end: a short name has one byte.
     #[inline(always)]
-    fn ends(&self) -> Ends {
+    fn ends(&self) -> PairEnds {
         let start = if self.short == NO_BYTE {
             self.long
         } else {
             self.long.saturating_sub(1)
         };
-        Ends {
+        PairEnds {
             start,
             first: self.long,
             second: self.end,
@@ -144,11 +144,11 @@ pub(crate) fn push_reserved(texts: &mut String, text: &str) -> usize {
 
 /// Appends two texts that there is room for, and returns where they are.
 #[inline(always)]
-pub(crate) fn push_two(texts: &mut String, first: &str, second: &str) -> Ends {
+pub(crate) fn push_pair(texts: &mut String, first: &str, second: &str) -> PairEnds {
     let start = texts.len();
     let first = push_reserved(texts, first);
     let second = push_reserved(texts, second);
-    Ends {
+    PairEnds {
         start,
         first,
         second,
@@ -157,13 +157,13 @@ pub(crate) fn push_two(texts: &mut String, first: &str, second: &str) -> Ends {
 
 /// The first of the two texts at `ends`.
 #[inline(always)]
-pub(crate) fn first_at(text: &str, ends: Ends) -> &str {
+pub(crate) fn first_at(text: &str, ends: PairEnds) -> &str {
     &text[ends.start..ends.first]
 }
 
 /// The second of the two texts at `ends`.
 #[inline(always)]
-pub(crate) fn second_at(text: &str, ends: Ends) -> &str {
+pub(crate) fn second_at(text: &str, ends: PairEnds) -> &str {
     &text[ends.first..ends.second]
 }
 
@@ -262,7 +262,7 @@ impl Signatures {
             self.records.try_grow(1)?;
             self.text.try_grow(bytes)?;
         }
-        let names = push_two(&mut self.text, short, long);
+        let names = push_pair(&mut self.text, short, long);
         let key = key_of(Names { short, long }.main().as_bytes());
         self.records.push_reserved(SignatureRecord {
             long: names.first,

@@ -4,7 +4,8 @@
 use crate::fallible::*;
 
 use super::groups::{
-    Ends, FIRST_GROUPS, FIRST_TEXT, Kinds, Signature, Signatures, first_at, push_two, second_at,
+    FIRST_GROUPS, FIRST_TEXT, Kinds, PairEnds, Signature, Signatures, first_at, push_pair,
+    second_at,
 };
 use crate::alloc::{AllocError, Global};
 
@@ -28,7 +29,7 @@ impl<'g> PartialEq for Group<'g> {
 pub(crate) struct Groups {
     signatures: Signatures,
     help: String,
-    ends: Vec<Ends>,
+    ends: Vec<PairEnds>,
 }
 
 impl Groups {
@@ -84,7 +85,7 @@ impl Groups {
             self.help.try_grow(bytes)?;
         }
         self.signatures.try_push(short, long, kinds)?;
-        let help = push_two(&mut self.help, hint, desc);
+        let help = push_pair(&mut self.help, hint, desc);
         self.ends.push_reserved(help);
         Ok(())
     }

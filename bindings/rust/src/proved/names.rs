@@ -64,14 +64,14 @@ pub(crate) fn rest_key(name: &[u8]) -> u64 {
 fn up_to_seven(bytes: &[u8]) -> u64 {
     match bytes {
         [a, b, c, d, rest @ ..] => {
-            u32::from_be_bytes([*a, *b, *c, *d]) as u64 * FOUR_BYTES + short_key(rest)
+            u32::from_be_bytes([*a, *b, *c, *d]) as u64 * FOUR_BYTES + up_to_three(rest)
         }
-        bytes => short_key(bytes) * FOUR_BYTES,
+        bytes => up_to_three(bytes) * FOUR_BYTES,
     }
 }
 
 /// Packs up to three bytes into four, zero-padded.
-fn short_key(bytes: &[u8]) -> u64 {
+fn up_to_three(bytes: &[u8]) -> u64 {
     match bytes {
         [] => 0,
         [a] => u32::from_be_bytes([*a, 0, 0, 0]) as u64,

@@ -165,7 +165,7 @@ fn first_character(text: &str) -> &str {
 
 /// The argument of an option of kind `Yes` or `Maybe` in a cluster: `rest` is the rest of the
 /// cluster's word, `after` the words after it.
-fn ending<'w, S: AsStr>(
+fn last_argument<'w, S: AsStr>(
     alloc: Global,
     kind: HasArg,
     name: &str,
@@ -192,7 +192,7 @@ impl<'o> Scanner<'o> {
 
     /// Reads a long item: `text` follows the dashes in its first word, and `after` is the words
     /// after that. Appends the item's occurrence, and returns how many words of `after` it used.
-    fn long<'w, S: AsStr>(
+    fn read_long<'w, S: AsStr>(
         &self,
         alloc: Global,
         text: &'w str,
@@ -251,7 +251,7 @@ impl<'o> Scanner<'o> {
                 }) => found.try_push(place, position, None)?,
                 Some(Named { place, kind }) => {
                     let name = &text[at..at + 1];
-                    let argument = ending(alloc, kind, name, &text[at + 1..], after)?;
+                    let argument = last_argument(alloc, kind, name, &text[at + 1..], after)?;
                     found.try_push(place, position, argument.value)?;
                     return Ok(argument.used);
                 }
@@ -298,7 +298,9 @@ impl<'o> Scanner<'o> {
                     push_copies(alloc, &mut line.free, after)?;
                     return Ok(line);
                 }
-                Shape::Long(text) => at + 1 + self.long(alloc, text, after, at, &mut line.found)?,
+                Shape::Long(text) => {
+                    at + 1 + self.read_long(alloc, text, after, at, &mut line.found)?
+                }
                 Shape::Cluster(text) => {
                     at + 1 + self.cluster(alloc, text, after, at, &mut line.found)?
                 }

@@ -17,7 +17,7 @@ use Rattle.getopts.specs.Held.Groups.{signature_with, names_in, two_at, AreEndsO
 use Rattle.getopts.specs.Held.Groups.{signature_in, AreLawfulSignatures, HasKeys, IsHeld, kinds_of}
 use Rattle.getopts.specs.Held.Help.{groups_with, groups_view, HoldGroups}
 use Rattle.getopts.specs.declared.help.Groups.TheInside.{Inside}
-use Rattle.getopts.specs.declared.groups.Ends.{Ends}
+use Rattle.getopts.specs.declared.groups.PairEnds.{PairEnds}
 use Rattle.getopts.specs.declared.groups.SignatureRecord.{SignatureRecord}
 use Rattle.getopts.specs.declared.groups.Kinds.{Kinds}
 use Rattle.getopts.proofs.Lists.{AllByRecursion-map, AllByRecursion-unmap, AllByRecursion-at}
@@ -143,8 +143,8 @@ signatures-push text more utf8 records held added last =
     )
 
 -- with more text, the two texts of each group are as before, and two more are the last
-pub twos-push : (text more : Text) → IsUtf8 more → (ends : List Ends)
-    → AllByRecursion (AreEndsOf text) ends → (added : Ends) (two : Text × Text)
+pub twos-push : (text more : Text) → IsUtf8 more → (ends : List PairEnds)
+    → AllByRecursion (AreEndsOf text) ends → (added : PairEnds) (two : Text × Text)
     → StandAt (text ++ more) added two
     → AllByRecursion (AreEndsOf (text ++ more)) (ends ++ added ∷ [])
     × (map (two_at (text ++ more)) (ends ++ added ∷ []) ≡ map (two_at text) ends ++ two ∷ [])

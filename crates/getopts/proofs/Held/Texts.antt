@@ -14,7 +14,7 @@ use Rattle.std.proofs.Math.Utf8.{encode, encodes, scalar, scalars, scalar_cases}
 use Rattle.getopts.specs.Names.{Text}
 use Rattle.getopts.specs.Held.Texts.{between, IsOfBytes}
 use Rattle.getopts.specs.Held.Groups.{two_at, AreEndsOf, StandAt}
-use Rattle.getopts.specs.declared.groups.Ends.{Ends}
+use Rattle.getopts.specs.declared.groups.PairEnds.{PairEnds}
 
 -- a text may still be split at a place with more after it
 pub IsCharBoundary-append : (text more : List ℕ) → IsUtf8 more → (place : ℕ)
@@ -86,7 +86,7 @@ pub IsOfBytes-utf8 : (text : Text) → IsUtf8 text → IsOfBytes text
 IsOfBytes-utf8 text utf8 = subst IsOfBytes utf8.1.1 (encodes-bytes utf8.0 utf8.1.0)
 
 -- two texts are there too
-pub two-append : (text more : Text) → IsUtf8 more → (e : Ends) → AreEndsOf text e
+pub two-append : (text more : Text) → IsUtf8 more → (e : PairEnds) → AreEndsOf text e
     → StandAt (text ++ more) e (two_at text e)
 two-append text more utf8 e ends = record {
   ends = record {
@@ -101,7 +101,7 @@ two-append text more utf8 e ends = record {
 }
 
 -- two texts added one after the other are at the end
-pub two-added : (text first second : Text) → IsUtf8 first → IsUtf8 second → (e : Ends)
+pub two-added : (text first second : Text) → IsUtf8 first → IsUtf8 second → (e : PairEnds)
     → e.start ≡ length text → e.first ≡ length (text ++ first)
     → e.second ≡ length ((text ++ first) ++ second)
     → StandAt ((text ++ first) ++ second) e (first, second)

@@ -11,7 +11,7 @@ use Rattle.getopts.specs.Held.Texts.{between}
 use Rattle.getopts.specs.Held.Names.{key_of, short_code}
 use Rattle.getopts.specs.declared.names.Names.{Names as HeldNames}
 use Rattle.getopts.specs.declared.groups.Kinds.{Kinds}
-use Rattle.getopts.specs.declared.groups.Ends.{Ends}
+use Rattle.getopts.specs.declared.groups.PairEnds.{PairEnds}
 use Rattle.getopts.specs.declared.groups.SignatureRecord.{SignatureRecord}
 use Rattle.getopts.specs.declared.groups.Signature.{Signature as HeldSignature}
 use Rattle.getopts.specs.declared.groups.Signatures.TheInside.{Inside}
@@ -41,7 +41,7 @@ abbrev pub same_kinds : Kinds → Kinds → Bool
 same_kinds = on (λ kinds. signature_with kinds [] []) same_signature
 
 -- where the names of a record are: a short name has one byte
-abbrev pub ends_of : SignatureRecord → Ends
+abbrev pub ends_of : SignatureRecord → PairEnds
 ends_of group = record {
   start = cond (group.short == 256) group.long (group.long - 1);
   first = group.long;
@@ -55,17 +55,17 @@ same_record = eq_of_both (on (λ group. group.long) ◌==◌)
     (eq_of_both (on (λ group. group.short) ◌==◌) (on (λ group. group.kinds) same_kinds)))
 
 -- the two texts at these places
-abbrev pub two_at : Text → Ends → Text × Text
+abbrev pub two_at : Text → PairEnds → Text × Text
 two_at text e = (between text e.start e.first, between text e.first e.second)
 
 -- The places are in order, and between characters.
-pub record AreEndsOf (text : Text) (e : Ends) : Type 0 where
+pub record AreEndsOf (text : Text) (e : PairEnds) : Type 0 where
   pub start : IsCharBoundary text e.start
   pub first : (e.start ≤ e.first) × IsCharBoundary text e.first
   pub second : (e.first ≤ e.second) × IsCharBoundary text e.second
 
 -- These two texts are at these places.
-pub record StandAt (text : Text) (e : Ends) (two : Text × Text) : Type 0 where
+pub record StandAt (text : Text) (e : PairEnds) (two : Text × Text) : Type 0 where
   pub ends : AreEndsOf text e
   pub are : two_at text e ≡ two
 

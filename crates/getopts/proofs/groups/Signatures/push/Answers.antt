@@ -26,8 +26,8 @@ use Rattle.getopts.proofs.groups.Signatures.push.Goals.{
 -- the added record
 abbrev added : goal.After-push_reserved → SignatureRecord
 added c = record {
-  long = c.push_two-names.result.first;
-  end = c.push_two-names.result.second;
+  long = c.push_pair-names.result.first;
+  end = c.push_pair-names.result.second;
   key = c.key_of-key.result;
   short = c.short_byte.result;
   has_long = not c.is_empty-2.result;
@@ -52,9 +52,9 @@ items c = c.push_reserved.ensures.items
 abbrev more : goal.After-push_reserved → Text
 more c = c.args.short.now ++ c.args.long.now
 
-text : (c : goal.After-push_reserved) → string_bytes c.push_two-names.new.texts
+text : (c : goal.After-push_reserved) → string_bytes c.push_pair-names.new.texts
     ≡ string_bytes c.self.inside.text ++ more c
-text c = c.push_two-names.ensures.bytes
+text c = c.push_pair-names.ensures.bytes
     ∙ ap (λ (t : Text). t ++ more c) (elim c.if-is_empty.branch [
       | then-is_empty+in_ok-reserve+in_ok-reserve-2 w ↦
           rw w.self-inside-is (grind (arith, common_steps))
@@ -73,20 +73,20 @@ short_starts (byte ∷ []) bytes small start long is =
 short_starts (byte ∷ other ∷ more) bytes small start long is = absurd (omega (arith, small))
 
 -- the names of the record are where they were put
-ends_are : (c : goal.After-push_reserved) → ends_of (added c) ≡ c.push_two-names.result
+ends_are : (c : goal.After-push_reserved) → ends_of (added c) ≡ c.push_pair-names.result
 ends_are c =
-    let two = c.push_two-names.result in
+    let two = c.push_pair-names.result in
     let start : (ends_of (added c)).start ≡ two.start =
     ap (λ code. cond (code == 256) two.first (two.first - 1)) c.short_byte.ensures
     ∙ short_starts c.args.short.now (IsOfBytes-utf8 c.args.short.now c.utf8.short) c.requires.short_fits two.start
-    two.first c.push_two-names.ensures.first in
+    two.first c.push_pair-names.ensures.first in
     λ i. record { start = start i; first = two.first; second = two.second }
 
 signature_is : (c : goal.After-push_reserved)
-    → signature_in (string_bytes c.push_two-names.new.texts) (added c) ≡ signature c
+    → signature_in (string_bytes c.push_pair-names.new.texts) (added c) ≡ signature c
 signature_is c = ap (λ (names : Text × Text). signature_with c.args.kinds names.0 names.1)
-    (ap (two_at (string_bytes c.push_two-names.new.texts)) (ends_are c)
-    ∙ c.push_two-names.ensures.two.are)
+    (ap (two_at (string_bytes c.push_pair-names.new.texts)) (ends_are c)
+    ∙ c.push_pair-names.ensures.two.are)
 
 has_keys : (c : goal.After-push_reserved) → HasKeys (added c) (signature c).names
 has_keys c = record {
@@ -96,15 +96,15 @@ has_keys c = record {
 }
 
 last : (c : goal.After-push_reserved)
-    → IsHeld (string_bytes c.push_two-names.new.texts) (added c)
+    → IsHeld (string_bytes c.push_pair-names.new.texts) (added c)
 last c = record {
-  ends = subst (AreEndsOf (string_bytes c.push_two-names.new.texts)) (sym (ends_are c))
-      c.push_two-names.ensures.two.ends;
+  ends = subst (AreEndsOf (string_bytes c.push_pair-names.new.texts)) (sym (ends_are c))
+      c.push_pair-names.ensures.two.ends;
   keys = subst (λ (s : Signature). HasKeys (added c) s.names) (sym (signature_is c)) (has_keys c);
 }
 
 pushed : (c : goal.After-push_reserved)
-    → let all = string_bytes c.push_two-names.new.texts in
+    → let all = string_bytes c.push_pair-names.new.texts in
     let records = c.push_reserved.new.self.items in AllByRecursion (IsHeld all) records
     × (map (signature_in all) records ≡ map (signature_in (string_bytes c.self.inside.text))
     c.self.inside.records.items ++ signature c ∷ [])

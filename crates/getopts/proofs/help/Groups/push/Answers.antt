@@ -11,7 +11,7 @@ use Rattle.getopts.specs.Names.{Text, IsLawfullyNamed}
 use Rattle.getopts.specs.Options.{Signature, Group}
 use Rattle.getopts.specs.Held.Groups.{signature_with, two_at, AreEndsOf}
 use Rattle.getopts.specs.Held.Help.{groups_with}
-use Rattle.getopts.specs.declared.groups.Ends.{Ends}
+use Rattle.getopts.specs.declared.groups.PairEnds.{PairEnds}
 use Rattle.getopts.proofs.Held.Groups.{groups_with-push, twos-push}
 use Rattle.getopts.proofs.Lists.{AllByRecursion-append}
 use Rattle.getopts.proofs.help.Groups.push.Goals as goal
@@ -19,9 +19,9 @@ use Rattle.getopts.proofs.help.Groups.push.Goals.{then-is_empty+in_ok-reserve+in
 use Rattle.getopts.proofs.help.Groups.push.Goals.{else-is_empty+in_ok-reserve-3+in_ok-reserve-4}
 
 items : (c : goal.After-push_reserved)
-    → c.push_reserved.new.self.items ≡ c.self.inside.ends.items ++ c.push_two-help.result ∷ []
+    → c.push_reserved.new.self.items ≡ c.self.inside.ends.items ++ c.push_pair-help.result ∷ []
 items c = c.push_reserved.ensures.items
-    ∙ ap (λ (ends : List Ends). ends ++ c.push_two-help.result ∷ []) (elim c.if-is_empty.branch [
+    ∙ ap (λ (ends : List PairEnds). ends ++ c.push_pair-help.result ∷ []) (elim c.if-is_empty.branch [
       | then-is_empty+in_ok-reserve+in_ok-reserve-2 w ↦
           rw w.self-inside-is w.in_ok-reserve.ensures.items
       | else-is_empty+in_ok-reserve-3+in_ok-reserve-4 w ↦
@@ -45,26 +45,26 @@ signatures c = c.in_ok-push.ensures.ok
     ])
 
 pushed : (c : goal.After-push_reserved)
-    → let text = string_bytes c.push_two-help.new.texts in
+    → let text = string_bytes c.push_pair-help.new.texts in
     let ends = c.push_reserved.new.self.items in AllByRecursion (AreEndsOf text) ends
     × (map (two_at text) ends
     ≡ map (two_at (string_bytes c.self.inside.help)) c.self.inside.ends.items
     ++ (c.args.hint.now, c.args.desc.now) ∷ [])
 pushed c =
-    let text : string_bytes c.push_two-help.new.texts
+    let text : string_bytes c.push_pair-help.new.texts
     ≡ string_bytes c.self.inside.help ++ (c.args.hint.now ++ c.args.desc.now) =
-    c.push_two-help.ensures.bytes ∙ ap (λ (t : Text). t ++ (c.args.hint.now ++ c.args.desc.now))
+    c.push_pair-help.ensures.bytes ∙ ap (λ (t : Text). t ++ (c.args.hint.now ++ c.args.desc.now))
     (grind (arith, common_steps)) in
     rw (items c, text) (twos-push (string_bytes c.self.inside.help) (c.args.hint.now
     ++ c.args.desc.now) (IsUtf8-append _ _ c.utf8.hint c.utf8.desc) c.self.inside.ends.items
-    c.self.invariant.held c.push_two-help.result (c.args.hint.now, c.args.desc.now)
-    (rw text at c.push_two-help.ensures.two))
+    c.self.invariant.held c.push_pair-help.result (c.args.hint.now, c.args.desc.now)
+    (rw text at c.push_pair-help.ensures.two))
 
 pub invariant_of-self-2 : goal.invariant_of-self-2
 invariant_of-self-2 c = record {
   held = (pushed c).0;
-  as_many = ap (λ (ends : List Ends). length ends) (items c)
-      ∙ length-append c.self.inside.ends.items (c.push_two-help.result ∷ [])
+  as_many = ap (λ (ends : List PairEnds). length ends) (items c)
+      ∙ length-append c.self.inside.ends.items (c.push_pair-help.result ∷ [])
       ∙ ap (λ n. n + 1) c.self.invariant.as_many
       ∙ sym (length-append c.self.inside.signatures
       (signature_with c.args.kinds c.args.short.now c.args.long.now ∷ []))

@@ -91,15 +91,15 @@ returns-in-Stop-clause-ok g c =
           (drop (c.items.at + 1) c.args.words.now));
     }
 
-pub returns-in_err-long-in-Long-clause-err : goal.returns-in_err-long-in-Long-clause-err
-returns-in_err-long-in-Long-clause-err g c =
-    let left = err_from_is_err_and c.from_residual-in_err-long-in-Long.result
-    c.from_residual-in_err-long-in-Long.ensures.1 in
+pub returns-in_err-read_long-in-Long-clause-err : goal.returns-in_err-read_long-in-Long-clause-err
+returns-in_err-read_long-in-Long-clause-err g c =
+    let left = err_from_is_err_and c.from_residual-in_err-read_long-in-Long.result
+    c.from_residual-in_err-read_long-in-Long.ensures.1 in
     rw (left.1, left.2) (Tells-word (named _ c.requires.lawful) g.S.AsStr.text _ c.requires.texts
     c.items.invariant.read _ (slice_get_read c.args.words.now _ c.items.at _ refl (omega arith)
-    c.index-words-at.is) _ c.in_err-long-in-Long.field-0.0
+    c.index-words-at.is) _ c.in_err-read_long-in-Long.field-0.0
     (turn_long _ _ _ _ _ (rw c.as_str-word.ensures at c.in-Long.ensures.1))
-    (rw (take-drop c.args.words.now (c.items.at + 1)) at c.in_err-long-in-Long.ensures.err
+    (rw (take-drop c.args.words.now (c.items.at + 1)) at c.in_err-read_long-in-Long.ensures.err
     c.in-Long.ensures.0))
 
 pub returns-in_err-at-in-Cluster-clause-err : goal.returns-in_err-at-in-Cluster-clause-err
@@ -116,9 +116,9 @@ pub overflow_add-at-in-Long-2 : goal.overflow_add-at-in-Long-2
 overflow_add-at-in-Long-2 g c =
     let within = used-within (named _ c.requires.lawful) g.S.AsStr.text _ c.requires.texts
     c.items.invariant.read _ (slice_get_read c.args.words.now _ c.items.at _ refl (omega arith)
-    c.index-words-at.is) _ c.in_ok-long-in-Long.field-0 _
+    c.index-words-at.is) _ c.in_ok-read_long-in-Long.field-0 _
     (turn_long _ _ _ _ _ (rw c.as_str-word.ensures at c.in-Long.ensures.1))
-    (rw (take-drop c.args.words.now (c.items.at + 1)) at c.in_ok-long-in-Long.ensures.ok
+    (rw (take-drop c.args.words.now (c.items.at + 1)) at c.in_ok-read_long-in-Long.ensures.ok
     c.in-Long.ensures.0) in omega (arith, within)
 
 pub overflow_add-at-in-Cluster-2 : goal.overflow_add-at-in-Cluster-2
@@ -141,13 +141,13 @@ items-preserved-in_ok-push_copy-in-Free g c =
       trailing = c.items.invariant.trailing;
     }
 
-pub items-preserved-in_ok-long-in-Long : goal.items-preserved-in_ok-long-in-Long
-items-preserved-in_ok-long-in-Long g c = record {
+pub items-preserved-in_ok-read_long-in-Long : goal.items-preserved-in_ok-read_long-in-Long
+items-preserved-in_ok-read_long-in-Long g c = record {
   read = ReadSoFar-added (named _ c.requires.lawful) g.S.AsStr.text _ c.requires.texts c.items.invariant.read _
       (slice_get_read c.args.words.now _ c.items.at _ refl (omega arith)
-      c.index-words-at.is) _ c.in_ok-long-in-Long.field-0 _
+      c.index-words-at.is) _ c.in_ok-read_long-in-Long.field-0 _
       (turn_long _ _ _ _ _ (rw c.as_str-word.ensures at c.in-Long.ensures.1))
-      (rw (take-drop c.args.words.now (c.items.at + 1)) at c.in_ok-long-in-Long.ensures.ok
+      (rw (take-drop c.args.words.now (c.items.at + 1)) at c.in_ok-read_long-in-Long.ensures.ok
       c.in-Long.ensures.0);
   trailing = c.items.invariant.trailing;
 }

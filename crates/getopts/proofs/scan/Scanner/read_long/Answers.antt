@@ -8,9 +8,9 @@ use Rattle.getopts.specs.Turn.{chosen_long, Chooses}
 use Rattle.getopts.specs.declared.groups.HasArg.TheVariants.{Yes, No}
 use Rattle.getopts.proofs.Scanner.Items.{Chooses-ok, Chooses-maybe, Tells-long, AddsItem-long}
 use Rattle.getopts.proofs.Scanner.Items.{texts-first, texts-none}
-use Rattle.getopts.proofs.scan.Scanner.long.Goals as goal
-use Rattle.getopts.proofs.scan.Scanner.long.Goals.{in-No-None, in-Yes-None+in-Some-first}
-use Rattle.getopts.proofs.scan.Scanner.long.Goals.{in-Yes-Some, in-Maybe-default}
+use Rattle.getopts.proofs.scan.Scanner.read_long.Goals as goal
+use Rattle.getopts.proofs.scan.Scanner.read_long.Goals.{in-No-None, in-Yes-None+in-Some-first}
+use Rattle.getopts.proofs.scan.Scanner.read_long.Goals.{in-Yes-Some, in-Maybe-default}
 
 pub returns-clause-ok : goal.returns-clause-ok
 returns-clause-ok g c = λ dashes.

@@ -2,7 +2,7 @@
 use Rattle.std.proofs.Common.{arith}
 use Rattle.std.proofs.lemmas.Grind.{common_steps}
 use Rattle.getopts.proofs.Held.Texts.{two-added}
-use Rattle.getopts.proofs.groups.push_two.Goals as goal
+use Rattle.getopts.proofs.groups.push_pair.Goals as goal
 
 pub returns-clause-two : goal.returns-clause-two
 returns-clause-two c =
