@@ -76,7 +76,7 @@ def build(request, tmp_path, library):
     return built
 
 
-def test_calls(build):
+def test_results_and_errors_of_calls(build):
     run(*build(C / "tests/layer.c"))
 
 
@@ -93,11 +93,11 @@ def test_random_tables_and_words(build, cases):
 
 
 @pytest.mark.parametrize("build", builds("gcc", "clang", "musl"), indirect=True)
-def test_threads(build):
+def test_threads_share_options(build):
     run(*build(C / "tests/threads.c", "-pthread"))
 
 
-def test_lints(tmp_path):
+def test_no_warnings_and_one_unsafe_file(tmp_path):
     """Clippy has no warnings, and only one file has unsafe code."""
     folder = copy_folders(tmp_path, "bindings/c", "bindings/rust") / "bindings/c"
     cargo(folder, "clippy", "--release", "--", "-D", "warnings")
@@ -144,7 +144,7 @@ ORDER = [  # arguments, output lines
 ]
 
 
-def test_order(build):
+def test_options_in_order_of_words(build):
     program = build(C / "order.c", "-I", C)
     for words, said in ORDER:
         assert run(*program, *words.split())[0].splitlines() == said.split(","), words

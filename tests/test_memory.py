@@ -17,7 +17,7 @@ def words_of(line):
     return [TABLE if word == "TABLE" else word for word in line.split()]
 
 
-def test_calls_of_the_library(vectors, failing_malloc):
+def test_library_when_allocations_fail(vectors, failing_malloc):
     """All calls of the library. After a failure, the row is answered again, which shows that borrowed values didn't
     change."""
     rows = VECTORS / "data/allocations.rows"
@@ -35,12 +35,12 @@ def test_long_word(vectors, failing_malloc, tmp_path):
 
 
 @pytest.mark.parametrize("line", LINES[:4])
-def test_getopts_show(show, failing_malloc, line):
+def test_getopts_show_when_allocations_fail(show, failing_malloc, line):
     assert fail_each_allocation(failing_malloc, [show, *line.split()])
 
 
 @pytest.mark.parametrize("line", SHELL_LINES)
-def test_getopts_shell(shell, failing_malloc, line):
+def test_getopts_shell_when_allocations_fail(shell, failing_malloc, line):
     assert fail_each_allocation(failing_malloc, [shell, *words_of(line)])
 
 
@@ -61,6 +61,6 @@ def static(shell, tmp_path_factory):
 
 
 @pytest.mark.parametrize("line", SHELL_LINES)
-def test_static_getopts_shell(static, shell, line):
+def test_static_getopts_shell_when_allocations_fail(static, shell, line):
     words = words_of(line)
     assert fail_each_allocation(None, [static, *words], like=[shell, *words])

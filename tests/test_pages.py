@@ -170,7 +170,7 @@ def unknown_in(page):
 
 
 @pytest.mark.parametrize("page", pages)
-def test_figures(page, request):
+def test_figures_match_measurements(page, request):
     def place(at):
         return f"{page}:{pages[page].count(chr(10), 0, at) + 1}"
 
@@ -274,7 +274,7 @@ def imports(text):
     return "".join(lines)
 
 
-def test_contracts(request):
+def test_contracts_match_sources(request):
     """CONTRACTS.md has the contracts of all public functions, as in the sources."""
     block = f"```text\n{contracts()}\n{imports(contracts())}```"
     wanted = re.sub(r"^```\w+\n.*?^```", lambda _: block, pages[CONTRACTS], flags=re.M | re.S)
@@ -393,7 +393,7 @@ def test_no_circular_imports(crate):
 # ---- form
 
 @pytest.mark.rt
-def test_layout():
+def test_sources_are_formatted():
     files = [name for name in tracked if name.endswith((".rt", ".antt"))]
     said, status = answer(kit() / "bin/rattle", "fmt", "--check", *files, cwd=ROOT)
     assert status == 0, f"'rt fmt' in the crate:\n{said.decode()}"

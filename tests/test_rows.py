@@ -41,11 +41,11 @@ def test_model_matches_stored_rows():
     assert all_rows()
 
 
-def test_rows_of_model(compare):
+def test_library_matches_model(compare):
     assert compare(written(all_rows()))[0].endswith(" 0 differ\n")
 
 
-def test_stored_rows(vectors):
+def test_library_matches_stored_rows(vectors):
     status = int((VECTORS / "status").read_text())
     said, _ = run(vectors, *(VECTORS / "args").read_text().split(), status=status, cwd=VECTORS / "data")
     assert said == (VECTORS / "stdout").read_text()

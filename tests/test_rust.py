@@ -135,12 +135,12 @@ def folder(tmp_path_factory):
 
 
 @pytest.mark.parametrize("features, tests", [("std,unicode,proved", []), ("std", ["--tests"]), ("proved", [])])
-def test_crate(folder, features, tests):
+def test_own_tests_of_the_crate(folder, features, tests):
     cargo(folder, "test", "--no-default-features", "--features", features, *tests)
 
 
 @pytest.mark.parametrize("features", ["", "std", "unicode", "proved", "std,unicode", "std,unicode,proved"])
-def test_lints(folder, features):
+def test_no_clippy_warnings(folder, features):
     cargo(folder, "clippy", "--all-targets", "--no-default-features", "--features", features, "--", "-D", "warnings")
 
 
@@ -242,7 +242,7 @@ def ours(reference):
 
 
 @pytest.mark.parametrize("rows", ROWS, ids=lambda path: path.stem)
-def test_rows(ours, rows):
+def test_stored_answers(ours, rows):
     assert ", 0 differ" in run(ours, "check", rows)[0]
 
 
@@ -256,7 +256,7 @@ def random_rows(reference, generator, seed, count):
     return run(reference, "answer", input=os.fsencode(run(generator, "generate", seed, count)[0]))[0]
 
 
-def test_library(vectors, reference, crate, cases, tmp_path):
+def test_proved_library_matches_rust_crate(vectors, reference, crate, cases, tmp_path):
     """The proved library gives the Rust crate's answers to random cases."""
     (tmp_path / "random.rows").write_bytes(os.fsencode(random_rows(reference(crate), reference(crate), 5, cases(20_000))))
     assert run(vectors, "random.rows", cwd=tmp_path)[0].endswith(" 0 differ\n")
@@ -269,7 +269,7 @@ def differing(ours, theirs, seed, count):
 
 
 @pytest.mark.parametrize("flags, seed", [(("--features", "canonical"), 1), (("--no-default-features",), 3)])
-def test_cases(reference, crate, cases, flags, seed):
+def test_random_cases_match_rust_crate(reference, crate, cases, flags, seed):
     without = flags if "--no-default-features" in flags else ()
     ours, theirs = reference(RUST, *flags), reference(crate, *without)
     for of in (seed, seed + 1):
@@ -286,7 +286,7 @@ def test_difference_is_found(reference, crate):
 
 @pytest.mark.full
 @pytest.mark.parametrize("target", TARGETS)
-def test_target(target, tmp_path, request, ours, example):
+def test_crate_on_target(target, tmp_path, request, ours, example):
     """With Debian's rustc 1.63: getopts' public tests, the rows, the example, arguments of any bytes, and no `std`."""
     reference = reference_over(tmp_path, RUST)
     for file, to in (("examples/show.rs", "src/bin"), ("tests/os.rs", "tests")):

@@ -105,15 +105,15 @@ def one_shell(request):
 
 @EACH
 @pytest.mark.parametrize("at", [at for at in range(len(ROWS)) if at not in LONG])
-def test_row(program, at):
+def test_stored_answer(program, at):
     (status, *words), text = ROWS[at]
     assert run(program, *words, status=int(status)) == ((text, "") if status == "0" else ("", text))
 
 
 @pytest.mark.parametrize("program", [PROVED, "checked_in", BY_CARGO, "by_qemu"], indirect=True)
 @pytest.mark.parametrize("at", LONG)
-def test_long_row(program, at):
-    test_row(program, at)
+def test_stored_answer_to_long_words(program, at):
+    test_stored_answer(program, at)
 
 
 @OTHERS
@@ -276,7 +276,7 @@ SET = [(setting, name) for setting, forking in SETTINGS.items() for name in SHEL
 
 @HERE
 @pytest.mark.parametrize("setting, one_shell", SET, indirect=["one_shell"])
-def test_setting(program, one_shell, open_room, setting):
+def test_same_options_after_a_setting(program, one_shell, open_room, setting):
     """After such a command, a script reads the same options, and starts few processes."""
     (open_room / "script").write_text(f"""{setting}
 code=$(getopts_shell --variables o_ n "[-v]  say more
@@ -328,7 +328,7 @@ def test_root_with_only_busybox(words, checked_in, tmp_path):
 # ---- build and installation
 
 @pytest.mark.parametrize("compiler", ["gcc", "clang", "musl-gcc", "aarch64-linux-gnu-gcc"])
-def test_start(compiler, tmp_path):
+def test_functions_of_start_c(compiler, tmp_path):
     """The functions of start.c do what their declarations say."""
     flags = ["-static", "-O2"] if "-gcc" in compiler else ["-fsanitize=undefined", "-fno-sanitize-recover=all", "-g"]
     by = ["qemu-aarch64"] if compiler.startswith("aarch64") and MACHINE != "aarch64" else []

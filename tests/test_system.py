@@ -89,7 +89,7 @@ def test_many_words():
     check("200 words", run(["free"] * 200), SHOWN, output(free=["free"] * 200))
 
 
-def test_words_not_utf8():
+def test_words_that_are_not_utf8():
     for word in (b"\xff", b"-o\xc3", b"--\xed\xa0\x80", b"--output=\xc0\x80", b"\xf4\x90\x80\x80"):
         for words in ([word], [b"-v", word, b"x"], [b"-v", b"x", word], [b"--", b"x", word], [b"-o", word],
                       [b"--nope", word], [word, b"--help"]):

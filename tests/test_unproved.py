@@ -19,7 +19,7 @@ def rt_try(crate, *words, status=0, root=ROOT):
 
 
 @pytest.mark.parametrize("crate", PROGRAMS)
-def test_program(crate):
+def test_stored_output_without_proofs(crate):
     """The program's output matches the stored one."""
     folder = ROOT / "crates" / crate
     words = (folder / "args").read_text().splitlines() if (folder / "args").exists() else []
@@ -32,7 +32,7 @@ def test_writers_of_getopts_show():
     assert "test result: ok." in rt_try("getopts_show", "--test")[0]
 
 
-def test_rows(tmp_path):
+def test_stored_answers_without_proofs(tmp_path):
     """All rows except the large ones, which would take minutes unproved."""
     (tmp_path / "beyond.rows").write_bytes(written(all_rows()))
     files = tmp_path / "beyond.rows", VECTORS / "data/allocations.rows", VECTORS / "data/calls.rows"

@@ -23,9 +23,9 @@ with * has no meaning at run time, and is deleted.
 
 A module of laws only has functions that return nothing and borrow their arguments immutably. It is left out.
 
-In function bodies it knows no types. It rejects calls and names that aren't listed. SAME, OF_TYPES and IMPORTS list
-those of Rust; each is trusted to do in Rust what its contract in Rattle says. It also rejects code that means something
-else in each language. Rattle's guides list such code, and `tests/eraser` has an example of each:
+In function bodies it knows no types. It rejects calls and names that aren't listed. KNOWN_CALLS, KNOWN_TYPE_CALLS and
+IMPORTS list those of Rust; each is trusted to do in Rust what its contract in Rattle says. It also rejects code that
+means something else in each language. Rattle's guides list such code, and `tests/eraser` has an example of each:
 
     a range without an end, which in Rust goes past the last number; `S { a, ..v[1] }`, for which Rust evaluates `v[1]`;
     sizes of types and capacities of lists; casts to `usize`, which lose bits on 32 bits; sorting by no order;
@@ -83,7 +83,7 @@ CRATES = {
     "getopts_shell": ("bindings/shell/src/program", "host", HOST),
 }
 # Words that may not occur in a signature, body or type.
-STRANGE = set("""requires ensures ghost tactic Model Drop mod use fn impl trait struct enum union static extern
+FORBIDDEN_WORDS = set("""requires ensures ghost tactic Model Drop mod use fn impl trait struct enum union static extern
     unsafe macro_rules async await dyn where crate size_of size_of_val align_of align_of_val""".split())
 ATTRIBUTES = {"inline", "cold", "must_use"}
 DERIVED = {"Clone", "Copy", "Debug", "PartialEq", "Eq", "Drop"}
@@ -91,7 +91,7 @@ DERIVED = {"Clone", "Copy", "Debug", "PartialEq", "Eq", "Drop"}
 IMPORTS = set("""std::alloc std::cmp::Ordering std::convert::AsStr std::env std::error::Error std::fmt std::io
     std::process::ExitCode std::str::FromStr std::vec unicode_width""".split())
 # Functions, methods and macros of Rust, or their replacements.
-SAME = set("""all alloc allocator any arg as_bytes as_slice as_str binary_search_by binary_search_by_key
+KNOWN_CALLS = set("""all alloc allocator any arg as_bytes as_slice as_str binary_search_by binary_search_by_key
     capacity chars clone cmp contains count dedup_by encode_utf8 ends_with enumerate
     extend_from_slice first flush format get into_iter is_ascii is_ascii_alphanumeric is_ascii_digit is_empty is_eq
     is_some iter iter_mut kind len len_utf8 lines map_or matches max min next ok_or parse position push push_reserved
@@ -99,7 +99,7 @@ SAME = set("""all alloc allocator any arg as_bytes as_slice as_str binary_search
     sort_by split split_at split_at_mut split_off split_once split_whitespace starts_with stderr strip_prefix strip_suffix
     then_some trim_ascii truncate unreachable unwrap_or vec width write writeln Err FnMut Ok Some bytes""".split())
 # Functions that are called by type, as in `u32::from(..)`.
-OF_TYPES = set("""Error::from String::new String::from_str String::with_capacity Vec::new Vec::with_capacity
+KNOWN_TYPE_CALLS = set("""Error::from String::new String::from_str String::with_capacity Vec::new Vec::with_capacity
     ExitCode::from char::from_u32 io::writer str::from_utf8 u32::from u32::from_be_bytes
     u64::from_be_bytes""".split())
 
@@ -117,10 +117,11 @@ ABOVE = re.compile(r"(\n *//(?!!)[^\n]*)*\n *\Z")
 KEYWORDS = set("""as break const continue crate else enum fn for if impl in let loop match mod move mut pub ref
     return self struct super type use while""".split())
 # The new names of the tables above, which sources may not contain.
-GIVEN = re.compile(r"try_\w+|of_capacity|copy_of|TryClone|trimmed_ascii")
+NEW_NAMES = re.compile(r"try_\w+|of_capacity|copy_of|TryClone|trimmed_ascii")
 # Types of Rust, which sources may not define, because renaming would affect their functions.
-RUSTS = set("""bool char f32 f64 i8 i16 i32 i64 i128 isize str u8 u16 u32 u64 u128 usize String Vec Option Some None
-    Ok Err Box Clone Copy Default Drop Eq Iterator IntoIterator Ord PartialEq PartialOrd ToString alloc core std""".split())
+RUST_TYPES = set("""bool char f32 f64 i8 i16 i32 i64 i128 isize str u8 u16 u32 u64 u128 usize String Vec Option Some
+    None Ok Err Box Clone Copy Default Drop Eq Iterator IntoIterator Ord PartialEq PartialOrd ToString alloc core
+    std""".split())
 # Types that values may be cast to. `usize` and `isize` would lose bits on 32 bits; `_` and other names may mean these.
 CASTS = {"char", "u8", "u16", "u32", "u64", "u128", "i8", "i16", "i32", "i64", "i128", "f32", "f64"}
 # The closures that lists may be sorted by: these two are orders, as the contract of sorting requires.
@@ -216,7 +217,7 @@ class Eraser:
             self.stop(self.at, f"expected '{pattern}'")
 
     def name(self):
-        if not re.fullmatch(r"[A-Za-z_]\w*", self.text(self.at)) or self.text(self.at) in STRANGE:
+        if not re.fullmatch(r"[A-Za-z_]\w*", self.text(self.at)) or self.text(self.at) in FORBIDDEN_WORDS:
             self.stop(self.at, "expected a name")
         self.at += 1
 
@@ -232,7 +233,7 @@ class Eraser:
             end = self.close(self.at) if self.text(self.at) in BRACKETS else self.at + 1
             for at in range(self.at, end):
                 crate = self.has(at, "crate::") or self.has(at - 2, "pub(crate)")
-                if self.text(at) in STRANGE and not crate or self.text(at) in ("#", ""):
+                if self.text(at) in FORBIDDEN_WORDS and not crate or self.text(at) in ("#", ""):
                     self.stop(at, "it isn't allowed here")
             self.at = end
 
@@ -249,7 +250,7 @@ class Eraser:
             if text == "Drop" and (before == "+" or before == ":" and after in (">", ",")):
                 self.delete(self.at - 1, self.at + 1)
                 self.at -= 1
-            elif text in STRANGE or not text:
+            elif text in FORBIDDEN_WORDS or not text:
                 self.stop(self.at, "it isn't allowed in generics")
             elif text in BRACKETS:
                 self.at = self.close(self.at)
@@ -452,7 +453,7 @@ class Eraser:
         for at, token in enumerate(self.tokens):
             if token.text == "/" and self.text(at + 1) in ("*", "/") and not self.tokens[at + 1].lead:
                 self.stop(at, "block comments aren't allowed")
-            if GIVEN.fullmatch(token.text):
+            if NEW_NAMES.fullmatch(token.text):
                 self.stop(at, "renaming produces this name")
             self.form(at, token.text)
         at = 0
@@ -465,7 +466,7 @@ class Eraser:
     def form(self, at, text):
         """Rejects what has different meanings in Rattle and Rust."""
         before = self.text(at - 1)
-        if text in RUSTS and before in ("struct", "enum", "type", "trait", "mod", "const", "fn"):
+        if text in RUST_TYPES and before in ("struct", "enum", "type", "trait", "mod", "const", "fn"):
             self.stop(at, "Rust has a type of this name")
         if text == "capacity" and not self.has(at - 4, "self.records.capacity()"):
             self.stop(at, "another number in Rust; it may only decide how much to reserve")
@@ -525,9 +526,9 @@ class Eraser:
             if self.has(at - 2, "::") and (called or text[0].islower()) and not self.has(at + 1, "::"):
                 of = self.text(at - 3)
                 ours = text in known and (of in known or of in ("crate", "super"))
-                if not ours and f"{of}::{text}" not in OF_TYPES:
+                if not ours and f"{of}::{text}" not in KNOWN_TYPE_CALLS:
                     self.stop(at, f"{of}::{text} isn't among the known calls")
-            elif called and text not in SAME:
+            elif called and text not in KNOWN_CALLS:
                 by = self.text(at - 1) == "."
                 if macro or text not in (methods if by else known | values):
                     self.stop(at, "it isn't among the known calls")
