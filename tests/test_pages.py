@@ -324,7 +324,7 @@ def test_definitions_are_in_the_grammar(crate):
     here = [name for name in tracked if name.startswith(f"crates/{crate}/specs/")]
     # Definitions that only private clauses cite are explained in comments instead.
     order = read(f"crates/{crate}/specs/Lib.antt") if here else ""
-    private = re.findall(r"mod (\w+)", order.partition("Cited by private clauses alone")[2]) + ["Held"]
+    private = re.findall(r"mod (\w+)", order.partition("Cited by private clauses alone")[2]) + ["Stored"]
     # Definitions that compute results are tools, except those that clauses cite.
     tools = set(re.findall(r"[a-z]\w*", read(f"crates/{crate}/specs/Results.antt"))) if crate == "getopts" else set()
     missing = []

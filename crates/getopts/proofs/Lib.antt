@@ -14,7 +14,7 @@ pub mod Scanner
 -- what names resolve to, and the table for looking them up
 pub mod Lookup
 -- what data structures store, and the values that they represent
-pub mod Held
+pub mod Stored
 -- from a reading or an error to the result of `parse`
 pub mod Parsing
 -- canonical lines, and the result of `canonical`

@@ -1,5 +1,5 @@
 -- How words are read: the step-by-step reader `read`, and properties of all readings.
-pub mod Turns
+pub mod Reader
 pub mod Texts
 pub mod Steps
 pub mod Readings

@@ -10,7 +10,7 @@ use Rattle.std.specs.String.{string_bytes}
 use Rattle.std.specs.declared.string.String.{String}
 use Rattle.std.specs.declared.alloc.Global.{Global}
 use Rattle.getopts.specs.Names.{Text, Names, IsLawfullyNamed, resolution}
-use Rattle.getopts.specs.Matches.{Found, Matched, MatchedGroup}
+use Rattle.getopts.specs.Matches.{GroupOccurrence, Matched, MatchedGroup}
 
 -- the names of each group
 abbrev pub held_names : List MatchedGroup → List Names
@@ -29,56 +29,57 @@ abbrev pub AreDefined : List MatchedGroup → List Text → Type 0
 AreDefined groups names = AllByRecursion (IsDefined groups) names
 
 -- Each group in the matches has valid names.
-abbrev pub AreHeldLawfully : List MatchedGroup → Type 0
-AreHeldLawfully groups = AllByRecursion (λ group. IsLawfullyNamed group.signature.names) groups
+abbrev pub HaveLawfulNames : List MatchedGroup → Type 0
+HaveLawfulNames groups = AllByRecursion (λ group. IsLawfullyNamed group.signature.names) groups
 
 -- the occurrences of the group at a place; none past the last group
-abbrev pub found_in : List MatchedGroup → ℕ → List Found
-found_in groups place = option_map_or (λ group. group.found) (slice_get groups place) []
+abbrev pub occurrences_of_group : List MatchedGroup → ℕ → List GroupOccurrence
+occurrences_of_group groups place = option_map_or (λ group. group.found) (slice_get groups place) []
 
 -- the occurrences of the group that a name resolves to; none if it is undefined
-abbrev pub found_of : List MatchedGroup → Text → List Found
-found_of groups name = option_map_or (found_in groups) (place_of groups name) []
+abbrev pub occurrences_of_name : List MatchedGroup → Text → List GroupOccurrence
+occurrences_of_name groups name =
+    option_map_or (occurrences_of_group groups) (place_of groups name) []
 
 -- whether a name has an occurrence
 abbrev pub is_present : List MatchedGroup → Text → Bool
-is_present groups name = nat_lt 0 (length (found_of groups name))
+is_present groups name = nat_lt 0 (length (occurrences_of_name groups name))
 
 -- a position and a value, borrowed
-abbrev pub held_found : ℕ × Option (Bor Text) → Found
-held_found pair = record { position = pair.0; value = option_copied pair.1 }
+abbrev pub borrowed_occurrence : ℕ × Option (Bor Text) → GroupOccurrence
+borrowed_occurrence pair = record { position = pair.0; value = option_copied pair.1 }
 
 -- a position and a value, copied
 abbrev pub pair_view : ℕ × String Global → ℕ × Text
 pair_view pair = (pair.0, string_bytes pair.1)
 
 -- the positions of occurrences
-abbrev pub positions_of : List Found → List ℕ
+abbrev pub positions_of : List GroupOccurrence → List ℕ
 positions_of founds = map (λ found. found.position) founds
 
 -- the value of each occurrence, or that it has none
-abbrev pub each_value : List Found → List (Option Text)
+abbrev pub each_value : List GroupOccurrence → List (Option Text)
 each_value founds = map (λ found. found.value) founds
 
 -- the values of the occurrences that have one
-abbrev pub values_of : List Found → List Text
+abbrev pub values_of : List GroupOccurrence → List Text
 values_of founds = filter_map (λ found. found.value) founds
 
 -- an occurrence's position and value, if it has a value
-abbrev pub pair_of : Found → Option (ℕ × Text)
+abbrev pub pair_of : GroupOccurrence → Option (ℕ × Text)
 pair_of found = option_map (λ value. (found.position, value)) found.value
 
 -- the positions and values of the occurrences that have a value
-abbrev pub pairs_of : List Found → List (ℕ × Text)
+abbrev pub pairs_of : List GroupOccurrence → List (ℕ × Text)
 pairs_of founds = filter_map pair_of founds
 
 -- the value of the first occurrence, if there is one and it has a value
-abbrev pub first_value : List Found → Option Text
+abbrev pub first_value : List GroupOccurrence → Option Text
 first_value [] = None
 first_value (found ∷ founds) = found.value
 
 -- the value of the first occurrence, or this text if that has none
-abbrev pub first_value_or : List Found → Text → Option Text
+abbrev pub first_value_or : List GroupOccurrence → Text → Option Text
 first_value_or [] fallback = None
 first_value_or (found ∷ founds) fallback = Some (unwrap_or found.value fallback)
 
@@ -86,13 +87,13 @@ first_value_or (found ∷ founds) fallback = Some (unwrap_or found.value fallbac
 abbrev pub first_value_among : List MatchedGroup → List Text → Option Text
 first_value_among groups [] = None
 first_value_among groups (name ∷ names) =
-    option_or (first_value (found_of groups name)) (first_value_among groups names)
+    option_or (first_value (occurrences_of_name groups name)) (first_value_among groups names)
 
 -- If there is no value, the answer is `Ok None`.
 -- The answer is what parsing the value gives: a result or an error.
-abbrev pub IsReadAs : {T E : Type 0} → (Text → Result T E → Type 0)
+abbrev pub IsParsedAs : {T E : Type 0} → (Text → Result T E → Type 0)
     → Option Text → Result (Option T) E → Type 0
-IsReadAs gives value answer =
+IsParsedAs gives value answer =
     MatchOption value (answer ≡ Ok None) (λ text. IsSomeAnd (result_transpose answer) (gives text))
 
 -- the free words before the trailing start, or all if there is none

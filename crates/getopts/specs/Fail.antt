@@ -53,5 +53,5 @@ abbrev pub fail_text : Fail → Text
 fail_text fail = option_map_or fault_text (fault_of fail) (codes "Out of memory")
 
 -- The `Fail` is out of memory, or reports an error with this property.
-abbrev pub Tells : Fail → (Fault → Type 0) → Type 0
-Tells fail P = MatchOption (fault_of fail) ⊤ P
+abbrev pub IsOutOfMemoryOr : Fail → (Fault → Type 0) → Type 0
+IsOutOfMemoryOr fail P = MatchOption (fault_of fail) ⊤ P

@@ -7,7 +7,7 @@ use Rattle.getopts.specs.Names.{Text, texts}
 use Rattle.getopts.specs.Options.{Declared, Declares, signatures_of, kind_of, occur_of}
 use Rattle.getopts.specs.Matches.{Matched, MatchedGroup, KeepsCounts}
 use Rattle.getopts.specs.Parse.{IsAccepted}
-use Rattle.getopts.specs.Accessors.{IsDefined, found_of, first_value}
+use Rattle.getopts.specs.Accessors.{IsDefined, occurrences_of_name, first_value}
 use Rattle.getopts.specs.Reading.{FitsKind, stop_word}
 use Rattle.getopts.specs.Results.{parse_result}
 use Rattle.getopts.specs.ReadingLaws.{HavePositionsInOrder, HavePositionsBelow}
@@ -28,24 +28,25 @@ HaveValuesByKind groups =
 -- The groups are those of the options, with positions in order and values that fit their kinds. An
 -- option that needs an argument and was given has a value.
 -- The matches fit the options: each declared name is defined.
-pub record HoldGiven (options : Declared) (groups : List MatchedGroup) : Type 0 where
+pub record FitOptions (options : Declared) (groups : List MatchedGroup) : Type 0 where
   pub same_groups : AreGroupsOf options groups
   pub positions_in_order : HavePositionsInOrder groups
   pub values_fit : HaveValuesByKind groups
   pub defined : (name : Text) → Declares options name → IsDefined groups name
   pub needed : (name : Text) → kind_of options.groups name ≡ Some Yes
-      → 0 < length (found_of groups name) → IsSome (first_value (found_of groups name))
+      → 0 < length (occurrences_of_name groups name)
+      → IsSome (first_value (occurrences_of_name groups name))
 
 -- Accepted matches also keep the counts, so each required option was given exactly once.
-pub record HoldDeclared (options : Declared) (groups : List MatchedGroup) : Type 0 where
-  pub given : HoldGiven options groups
+pub record FitOptionsAndCounts (options : Declared) (groups : List MatchedGroup) : Type 0 where
+  pub given : FitOptions options groups
   pub counts_kept : KeepsCounts groups
   pub required : (name : Text) → occur_of options.groups name ≡ Some Req
-      → length (found_of groups name) ≡ 1
+      → length (occurrences_of_name groups name) ≡ 1
 
 -- The words before the free words give the same options by themselves, and no free words.
 -- The words end in the free words.
-pub record StandBeforeFree (options : Declared) (words : List Text) (matches : Matched)
+pub record EndsInFreeWords (options : Declared) (words : List Text) (matches : Matched)
     : Type 0 where
   pub before : List Text
   pub words_are : words ≡ before ++ matches.free
@@ -55,7 +56,7 @@ pub record StandBeforeFree (options : Declared) (words : List Text) (matches : M
 -- Under `StopAtFirstFree`, options precede the free words, which are the last words of the line.
 abbrev pub HaveLastWordsFree : Declared → List Text → Matched → Type 0
 HaveLastWordsFree options words matches =
-    options.style ≡ StopAtFirstFree → StandBeforeFree options words matches
+    options.style ≡ StopAtFirstFree → EndsInFreeWords options words matches
 
 -- There is at least one free word from the trailing start on.
 -- The words are some words, `--`, and the free words from the trailing start on.

@@ -1,7 +1,8 @@
 -- What a caller has to trust, in reading order. The last line above a definition is its summary,
 -- which `rt lemma` prints; the lines before it give details. A name with a capital letter is a
 -- type, of data (`Item`) or of facts (`IsReading`); functions begin with a small letter. In names,
--- *held* means stored, *lawful* valid, *fault* an error of a command line, and *refused* rejected.
+-- *held* means contained in matches, *lawful* valid, *fault* an error of a command line, and
+-- *refused* rejected.
 
 -- one value, and no other
 pub mod Only
@@ -28,11 +29,11 @@ pub mod CanonAnswers
 -- the results as functions
 pub mod Results
 -- the results of `parse_unless` and `parse_request`
-pub mod Asked
+pub mod Unless
 -- what accepted matches say about declared names
 pub mod Holds
 -- what the functions of `Results` have to compute, and what calls return
-pub mod Gives
+pub mod Returns
 -- the main theorem
 pub mod Theorem
 -- when options, matches and errors are equal
@@ -46,6 +47,6 @@ pub mod Prelude
 -- Cited by private clauses alone, and by the views of private types.
 
 -- one step of reading: what the first word of a command line gives
-pub mod Turn
+pub mod Step
 -- what the code stores, and the values that it represents
-pub mod Held
+pub mod Stored

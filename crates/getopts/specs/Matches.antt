@@ -10,14 +10,14 @@ use Rattle.getopts.specs.declared.groups.Occur.{Occur}
 use Rattle.getopts.specs.declared.groups.Occur.TheVariants.{Req, Optional, Multi}
 
 -- an occurrence of a known group: its position, and its value if it has one
-pub record Found : Type 0 where
+pub record GroupOccurrence : Type 0 where
   pub position : ℕ
   pub value : Option Text
 
 -- a group in matches, with its occurrences in command-line order
 pub record MatchedGroup : Type 0 where
   pub signature : Signature
-  pub found : List Found
+  pub found : List GroupOccurrence
 
 -- matches: groups, free words, and where the words after a stop begin among the free words
 pub record Matched : Type 0 where
@@ -26,18 +26,20 @@ pub record Matched : Type 0 where
   pub trailing_start : Option ℕ
 
 -- an occurrence without its group
-abbrev pub found_part : Occurrence → Found
-found_part occurrence = record { position = occurrence.position; value = occurrence.mention.value }
+abbrev pub without_group : Occurrence → GroupOccurrence
+without_group occurrence =
+    record { position = occurrence.position; value = occurrence.mention.value }
 
 -- the occurrences of the group at this place
-abbrev pub found_at : ℕ → List Occurrence → List Found
-found_at place occurrences = map found_part (filter (λ o. o.mention.group == place) occurrences)
+abbrev pub occurrences_mentioning : ℕ → List Occurrence → List GroupOccurrence
+occurrences_mentioning place occurrences =
+    map without_group (filter (λ o. o.mention.group == place) occurrences)
 
 -- each group with its occurrences; the first group has this place
 abbrev pub matched : ℕ → List Signature → List Occurrence → List MatchedGroup
 matched place [] occurrences = []
 matched place (signature ∷ signatures) occurrences =
-    record { signature = signature; found = found_at place occurrences }
+    record { signature = signature; found = occurrences_mentioning place occurrences }
     ∷ matched (place + 1) signatures occurrences
 
 -- the matches of a reading

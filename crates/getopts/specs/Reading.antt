@@ -113,9 +113,9 @@ spelled_all (item ∷ items) more = item_words item ++ spelled_all items more
 -- Two dashes may precede any name. In long-only mode, one dash may precede a name that doesn't
 -- begin with a dash.
 -- These dashes may precede this name.
-abbrev pub MayStandBefore : Bool → Dashes → Text → Type 0
-MayStandBefore long_only one name = (long_only ≡ true) × (begins_with_dash name ≡ false)
-MayStandBefore long_only two name = ⊤
+abbrev pub MayPrecede : Bool → Dashes → Text → Type 0
+MayPrecede long_only one name = (long_only ≡ true) × (begins_with_dash name ≡ false)
+MayPrecede long_only two name = ⊤
 
 -- The value fits the kind: there is none for `No`, one for `Yes`, and at most one for `Maybe`.
 abbrev pub FitsKind : HasArg → Option Text → Type 0
@@ -155,7 +155,7 @@ IsLawfulEnd grammar bytes (ends_in option argument) = (kind : HasArg)
 -- The long item is valid.
 pub record IsLawfulLong (grammar : Grammar) (dashes : Dashes) (name : Text) (argument : Argument)
     : Type 0 where
-  pub before : MayStandBefore grammar.long_only dashes name
+  pub before : MayPrecede grammar.long_only dashes name
   pub cut_once : holds_equals name ≡ false
   pub resolves : (kind : HasArg) × (grammar.kind name ≡ Some kind) × FitsLong kind argument
 
@@ -304,7 +304,7 @@ trailing_start reading = trailing_after (length (free_items reading.items)) read
 -- The word is in long form, with this name and this attached argument.
 pub record IsLongForm (grammar : Grammar) (word name : Text) (argument : Option Text) : Type 0 where
   pub dashes : Dashes
-  pub before : MayStandBefore grammar.long_only dashes name
+  pub before : MayPrecede grammar.long_only dashes name
   pub cut_once : holds_equals name ≡ false
   pub word_is : word ≡ long_word dashes name argument
   pub filled : word ≢ dash_text dashes

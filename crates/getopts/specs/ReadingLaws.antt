@@ -164,7 +164,7 @@ HavePositionsInOrder groups =
 -- The occurrence is one of the item's mentions. Its position is the number of words that earlier
 -- items spell, and the word at that position is the item's first.
 -- The occurrence belongs to an item.
-pub record StandsInItem (grammar : Grammar) (reading : Reading) (words : List Text)
+pub record BelongsToItem (grammar : Grammar) (reading : Reading) (words : List Text)
     (occurrence : Occurrence) : Type 0 where
   pub before : List Item
   pub item : Item
@@ -180,7 +180,7 @@ pub record PositionsAreWords (grammar : Grammar) : Type 0 where
   pub of_occurrence : (reading : Reading) (words : List Text) (occurrence : Occurrence)
       → IsReading grammar reading words
       → Contains (occurrences_of grammar reading) occurrence
-      → StandsInItem grammar reading words occurrence
+      → BelongsToItem grammar reading words occurrence
 
 -- Each position in the matches is below this number of words.
 abbrev pub HavePositionsBelow : ℕ → List MatchedGroup → Type 0

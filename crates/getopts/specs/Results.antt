@@ -1,6 +1,6 @@
 -- The results as functions. Nobody has to trust these definitions: `HasResults` says that each
--- function gives what a relation of `Gives` or `CanonAnswers` describes. An *outcome* is a reading
--- or an error.
+-- function gives what a relation of `Returns` or `CanonAnswers` describes. An *outcome* is a
+-- reading or an error.
 use Rattle.std.specs.Prelude.{◌==◌, if◌then◌else◌, ℕ, Bool, true, nat_lt, not, List, [], ◌∷◌, ◌++◌}
 use Rattle.std.specs.Prelude.{length, map, Option, Some, None, Result, Ok, Err}
 use Rattle.std.specs.List.{list_all}
@@ -11,55 +11,55 @@ use Rattle.getopts.specs.Reading.{dash, none, separate, one, two, Item, free, li
 use Rattle.getopts.specs.Reading.{stop, rest, Reading, holds_equals}
 use Rattle.getopts.specs.Matches.{MatchedGroup, Matched, matches_of, count_fault}
 use Rattle.getopts.specs.Canon.{Content, content_of, main_at, canonical_line}
-use Rattle.getopts.specs.Turn.{Turn, ends, takes, faults, long_turn, cluster_turn}
+use Rattle.getopts.specs.Step.{Step, ends, takes, faults, long_step, cluster_step}
 use Rattle.getopts.specs.declared.groups.Occur.{Occur}
 use Rattle.getopts.specs.declared.groups.Occur.TheVariants.{Req, Optional, Multi}
 use Rattle.getopts.specs.declared.groups.ParsingStyle.{ParsingStyle}
 use Rattle.getopts.specs.declared.groups.ParsingStyle.TheVariants.{FloatingFrees, StopAtFirstFree}
 
--- the turn of a word that isn't dashed
-abbrev pub free_turn : ParsingStyle → Text → List Text → Turn
-free_turn FloatingFrees word more = takes (free word) none
-free_turn StopAtFirstFree word more = ends (rest (word ∷ more))
+-- the step of a word that isn't dashed
+abbrev pub free_step : ParsingStyle → Text → List Text → Step
+free_step FloatingFrees word more = takes (free word) none
+free_step StopAtFirstFree word more = ends (rest (word ∷ more))
 
--- the turn of two dashes and this text: the stop, or a name in long form
-abbrev pub two_dashes_turn : Grammar → Text → List Text → Turn
-two_dashes_turn grammar [] more = ends (stop more)
-two_dashes_turn grammar (c ∷ text) more = long_turn grammar two (c ∷ text) more
+-- the step of two dashes and this text: the stop, or a name in long form
+abbrev pub two_dashes_step : Grammar → Text → List Text → Step
+two_dashes_step grammar [] more = ends (stop more)
+two_dashes_step grammar (c ∷ text) more = long_step grammar two (c ∷ text) more
 
--- the turn of one dash and this text, if no second dash follows
-abbrev pub one_dash_turn : Grammar → Text → List Text → Turn
-one_dash_turn grammar text more =
-    if grammar.long_only then long_turn grammar one text more else cluster_turn grammar [] text more
+-- the step of one dash and this text, if no second dash follows
+abbrev pub one_dash_step : Grammar → Text → List Text → Step
+one_dash_step grammar text more =
+    if grammar.long_only then long_step grammar one text more else cluster_step grammar [] text more
 
--- the turn of the first word of a command line, with the words after it
-unfoldable pub turn : Grammar → Text → List Text → Turn
-turn grammar (first ∷ second ∷ text) more = if first == dash
-    then (if second == dash then two_dashes_turn grammar text more else one_dash_turn grammar
+-- the step of the first word of a command line, with the words after it
+unfoldable pub step : Grammar → Text → List Text → Step
+step grammar (first ∷ second ∷ text) more = if first == dash
+    then (if second == dash then two_dashes_step grammar text more else one_dash_step grammar
     (second ∷ text) more)
-    else free_turn grammar.style (first ∷ second ∷ text) more
-turn grammar word more = free_turn grammar.style word more
+    else free_step grammar.style (first ∷ second ∷ text) more
+step grammar word more = free_step grammar.style word more
 
 -- an outcome with these items before it
 abbrev pub with_items : List Item → Result Reading Fault → Result Reading Fault
 with_items items (Ok reading) = Ok (record { items = items ++ reading.items; tail = reading.tail })
 with_items items (Err fault) = Err fault
 
--- The outcome depends on the first word's turn, and on the outcomes of what follows one word and
+-- The outcome depends on the first word's step, and on the outcomes of what follows one word and
 -- two words.
 -- the outcome of a command line
-abbrev pub after_turn : Turn → Result Reading Fault → Result Reading Fault → Result Reading Fault
-after_turn (ends tail) after_one after_two = Ok (record { items = []; tail = tail })
-after_turn (takes item (separate word)) after_one after_two = with_items (item ∷ []) after_two
-after_turn (takes item argument) after_one after_two = with_items (item ∷ []) after_one
-after_turn (faults fault) after_one after_two = Err fault
+abbrev pub after_step : Step → Result Reading Fault → Result Reading Fault → Result Reading Fault
+after_step (ends tail) after_one after_two = Ok (record { items = []; tail = tail })
+after_step (takes item (separate word)) after_one after_two = with_items (item ∷ []) after_two
+after_step (takes item argument) after_one after_two = with_items (item ∷ []) after_one
+after_step (faults fault) after_one after_two = Err fault
 
 -- the outcomes of a command line, and of that line without its first word
 unfoldable pub read_both : Grammar → List Text → Result Reading Fault × Result Reading Fault
 read_both grammar [] =
     (Ok (record { items = []; tail = line_end }), Ok (record { items = []; tail = line_end }))
 read_both grammar (word ∷ more) = (
-  after_turn (turn grammar word more) (read_both grammar more).0
+  after_step (step grammar word more) (read_both grammar more).0
       (read_both grammar more).1,
   (read_both grammar more).0,
 )
@@ -98,12 +98,12 @@ with_counts_kept options (Ok reading) =
 with_counts_kept options (Err fault) = Err fault
 
 -- the reading of words, or their scan error
-unfoldable pub reading_result : Declared → List Text → Result Reading Fault
-reading_result options words = read (grammar_of options) words
+unfoldable pub reading_or_error : Declared → List Text → Result Reading Fault
+reading_or_error options words = read (grammar_of options) words
 
 -- the reading of words that keeps the counts, or their first error
-unfoldable pub line_result : Declared → List Text → Result Reading Fault
-line_result options words = with_counts_kept options (read (grammar_of options) words)
+unfoldable pub accepted_reading : Declared → List Text → Result Reading Fault
+accepted_reading options words = with_counts_kept options (read (grammar_of options) words)
 
 -- the canonical line of a content, or none if some mention of it can't be written
 abbrev pub written_line : List Group → Content → Option (List Text)
@@ -117,21 +117,22 @@ made_of make (Ok reading) = Ok (make reading)
 made_of make (Err fault) = Err fault
 
 -- the result of `parse_ignoring_counts`
-abbrev pub read_result : Declared → List Text → Result Matched Fault
-read_result options words = made_of (matches_of options) (reading_result options words)
+abbrev pub parse_ignoring_counts_result : Declared → List Text → Result Matched Fault
+parse_ignoring_counts_result options words =
+    made_of (matches_of options) (reading_or_error options words)
 
 -- the result of `parse`
 abbrev pub parse_result : Declared → List Text → Result Matched Fault
-parse_result options words = made_of (matches_of options) (line_result options words)
+parse_result options words = made_of (matches_of options) (accepted_reading options words)
 
 -- the result of `canonical`
 abbrev pub canonical_result : Declared → List Text → Result (Option (List Text)) Fault
 canonical_result options words =
     made_of (λ reading. written_line options.groups (content_of options reading))
-    (line_result options words)
+    (accepted_reading options words)
 
 -- the result of `parse_in_order`: the place of each option, in command-line order
 abbrev pub parse_in_order_result : Declared → List Text → Result (List ℕ) Fault
 parse_in_order_result options words =
     made_of (λ reading. map (λ m. m.group) (content_of options reading).mentions)
-    (line_result options words)
+    (accepted_reading options words)

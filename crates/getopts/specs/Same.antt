@@ -8,7 +8,7 @@ use Rattle.std.specs.Ordering.{on, eq_of_both}
 use Rattle.getopts.specs.Names.{Names}
 use Rattle.getopts.specs.Options.{Signature, Group, Declared}
 use Rattle.getopts.specs.Fail.{Fault, fault_index, fault_name, fault_of}
-use Rattle.getopts.specs.Matches.{Found, MatchedGroup, Matched}
+use Rattle.getopts.specs.Matches.{GroupOccurrence, MatchedGroup, Matched}
 use Rattle.getopts.specs.declared.fail.Fail.{Fail}
 use Rattle.getopts.specs.declared.groups.HasArg.{HasArg}
 use Rattle.getopts.specs.declared.groups.Occur.{Occur}
@@ -66,14 +66,14 @@ abbrev pub same_fail : Fail → Fail → Bool
 same_fail = on fault_of (option_eq same_fault)
 
 -- whether the positions and the values of two occurrences are the same
-abbrev pub same_found : Found → Found → Bool
-same_found = eq_of_both (on (λ found. found.position) ◌==◌)
+abbrev pub same_group_occurrence : GroupOccurrence → GroupOccurrence → Bool
+same_group_occurrence = eq_of_both (on (λ found. found.position) ◌==◌)
     (on (λ found. found.value) (option_eq (pointwise ◌==◌)))
 
 -- whether two groups are the same, with their occurrences in order
 abbrev pub same_matched_group : MatchedGroup → MatchedGroup → Bool
 same_matched_group = eq_of_both (on (λ group. group.signature) same_signature)
-    (on (λ group. group.found) (pointwise same_found))
+    (on (λ group. group.found) (pointwise same_group_occurrence))
 
 -- whether the groups in order, the free words and the trailing start are the same
 abbrev pub same_matches : Matched → Matched → Bool

@@ -1,6 +1,6 @@
 -- The main theorem: the result of `parse` for any words, and when two canonical lines are equal.
 use Rattle.std.specs.Prelude.{◌≡◌, ◌↔◌, ◌⊎◌, Bool, List}
-use Rattle.getopts.specs.Accessors.{found_of, each_value}
+use Rattle.getopts.specs.Accessors.{occurrences_of_name, each_value}
 use Rattle.getopts.specs.Only.{AtMostOne}
 use Rattle.getopts.specs.Names.{Text, AreTexts}
 use Rattle.getopts.specs.Options.{Declared, grammar_of}
@@ -12,7 +12,7 @@ use Rattle.getopts.specs.Canon.{Content, content_of, IsPlain, canonical_line, Is
 use Rattle.getopts.specs.Canon.{with_setting}
 use Rattle.getopts.specs.declared.groups.ParsingStyle.{ParsingStyle}
 use Rattle.getopts.specs.CanonAnswers.{IsWritten}
-use Rattle.getopts.specs.Gives.{HasResults}
+use Rattle.getopts.specs.Returns.{HasResults}
 
 -- Any words have at most one reading.
 abbrev pub OneReading : Declared → Type 0
@@ -42,9 +42,10 @@ HaveResults options = (words : List Text) → AreTexts words → HasResults opti
 
 -- Each occurrence of each name has the same value, or none in both; the free words are the same.
 -- Two matches have the same values and free words; positions and the trailing start may differ.
-pub record HoldSame (matches other : Matched) : Type 0 where
+pub record HaveSameValues (matches other : Matched) : Type 0 where
   pub values : (name : Text)
-      → each_value (found_of other.groups name) ≡ each_value (found_of matches.groups name)
+      → each_value (occurrences_of_name other.groups name)
+      ≡ each_value (occurrences_of_name matches.groups name)
   pub free : other.free ≡ matches.free
 
 -- Words with the content of accepted words are accepted, with the same values and free words.
@@ -55,13 +56,13 @@ OneContentHoldsSame options = (words others : List Text) (reading other : Readin
     → Reads options words reading → Reads options others other
     → content_of options other ≡ content_of options reading
     → IsAccepted options others (matches_of options other)
-    × HoldSame matches (matches_of options other)
+    × HaveSameValues matches (matches_of options other)
 
 -- The line is accepted, with the values and free words of these matches.
 pub record ReadAgain (options : Declared) (line : List Text) (matches : Matched) : Type 0 where
   pub again : Matched
   pub accepted : IsAccepted options line again
-  pub same : HoldSame matches again
+  pub same : HaveSameValues matches again
 
 -- The line may be read in any style and mode.
 -- A canonical line, read again, gives the same values and free words as the original words.

@@ -5,9 +5,11 @@ ghost use Rattle.std.specs.Prelude.{MatchOption, OnErr, OnOk};
 ghost use Rattle.std.specs.List.{list_any};
 ghost use Rattle.std.specs.Option.{option_copied, option_map};
 ghost use Rattle.std.specs.String.{string_bytes};
-ghost use Rattle.getopts.specs.Accessors.{AreDefined, AreHeldLawfully, IsDefined, IsReadAs};
-ghost use Rattle.getopts.specs.Accessors.{first_value, first_value_among, first_value_or, found_in};
-ghost use Rattle.getopts.specs.Accessors.{found_of, is_present, pair_view, pairs_of, place_of};
+ghost use Rattle.getopts.specs.Accessors.{AreDefined, HaveLawfulNames, IsDefined, IsParsedAs};
+ghost use Rattle.getopts.specs.Accessors.{first_value, first_value_among, first_value_or};
+ghost use Rattle.getopts.specs.Accessors.{occurrences_of_group};
+ghost use Rattle.getopts.specs.Accessors.{is_present, occurrences_of_name, pair_view, pairs_of};
+ghost use Rattle.getopts.specs.Accessors.{place_of};
 ghost use Rattle.getopts.specs.Accessors.{free_before_trailing, positions_of, trailing_words, values_of};
 ghost use Rattle.getopts.specs.Names.{texts};
 
@@ -35,7 +37,7 @@ impl Matches {
     /// no such method.
     pub fn opt_place(&self, name: &str) -> Option<usize>
         ensures place { result ≡ place_of self.now.groups name.now }
-        ensures lawful { AreHeldLawfully self.now.groups }
+        ensures lawful { HaveLawfulNames self.now.groups }
     {
         self.held.place_of(name)
     }
@@ -47,7 +49,7 @@ impl Matches {
     /// 0 has one occurrence, with position 1 and the value `x`. The Rust crate has no such method.
     #[inline]
     pub fn occurrences_at(&self, place: usize) -> Occurrences<'_>
-        ensures occurrences { result ≡ found_in self.now.groups place }
+        ensures occurrences { result ≡ occurrences_of_group self.now.groups place }
     {
         self.held.occurrences_at(place)
     }
@@ -65,7 +67,7 @@ impl Matches {
     /// there if the name is undefined. Names are written without dashes: `opt_defined("verbose")`.
     pub fn opt_defined(&self, name: &str) -> bool
         ensures defined { IsTrue result ↔ IsDefined self.now.groups name.now }
-        ensures lawful { AreHeldLawfully self.now.groups }
+        ensures lawful { HaveLawfulNames self.now.groups }
     {
         self.opt_place(name).is_some()
     }
@@ -75,7 +77,7 @@ impl Matches {
     /// Requires a defined name (see `opt_defined`); the Rust crate panics on others.
     pub fn opt_count(&self, name: &str) -> usize
         requires { IsDefined self.now.groups name.now }
-        ensures count { result ≡ length (found_of self.now.groups name.now) }
+        ensures count { result ≡ length (occurrences_of_name self.now.groups name.now) }
     {
         self.held.occurrences_of(name).len()
     }
@@ -86,7 +88,8 @@ impl Matches {
     pub fn opt_present(&self, name: &str) -> bool
         requires { IsDefined self.now.groups name.now }
         ensures present { result ≡ is_present self.now.groups name.now }
-        ensures counted { IsTrue result ↔ (0 < length (found_of self.now.groups name.now)) }
+        ensures counted { IsTrue result
+            ↔ (0 < length (occurrences_of_name self.now.groups name.now)) }
     {
         self.has(name)
     }
@@ -102,9 +105,9 @@ impl Matches {
     pub fn opt_positions(&self, alloc: Global, name: &str) -> Result<Vec<usize>, AllocError>
         requires { IsDefined self.now.groups name.now }
         ensures positions { IfOk result (λ positions. positions.items
-            ≡ positions_of (found_of self.now.groups name.now)) }
+            ≡ positions_of (occurrences_of_name self.now.groups name.now)) }
         ensures count { IfOk result (λ positions. vec_len positions
-            ≡ length (found_of self.now.groups name.now)) }
+            ≡ length (occurrences_of_name self.now.groups name.now)) }
     {
         self.held.occurrences_of(name).positions(alloc)
     }
@@ -117,7 +120,7 @@ impl Matches {
     pub fn opt_strs(&self, alloc: Global, name: &str) -> Result<Vec<String>, AllocError>
         requires { IsDefined self.now.groups name.now }
         ensures values { IfOk result (λ values. map string_bytes values.items
-            ≡ values_of (found_of self.now.groups name.now)) }
+            ≡ values_of (occurrences_of_name self.now.groups name.now)) }
     {
         self.held.occurrences_of(name).values(alloc)
     }
@@ -135,9 +138,9 @@ impl Matches {
     ) -> Result<Vec<(usize, String)>, AllocError>
         requires { IsDefined self.now.groups name.now }
         ensures pairs { IfOk result (λ pairs. map pair_view pairs.items
-            ≡ pairs_of (found_of self.now.groups name.now)) }
+            ≡ pairs_of (occurrences_of_name self.now.groups name.now)) }
         ensures texts { IfOk result (λ pairs. map (λ pair. string_bytes pair.1) pairs.items
-            ≡ values_of (found_of self.now.groups name.now)) }
+            ≡ values_of (occurrences_of_name self.now.groups name.now)) }
     {
         self.held.occurrences_of(name).pairs(alloc)
     }
@@ -151,7 +154,7 @@ impl Matches {
     pub fn opt_str(&self, alloc: Global, name: &str) -> Result<Option<String>, AllocError>
         requires { IsDefined self.now.groups name.now }
         ensures value { IfOk result (λ value. option_map string_bytes value
-            ≡ first_value (found_of self.now.groups name.now)) }
+            ≡ first_value (occurrences_of_name self.now.groups name.now)) }
     {
         copied(alloc, self.held.occurrences_of(name).first_value())
     }
@@ -169,7 +172,7 @@ impl Matches {
     ) -> Result<Option<String>, AllocError>
         requires { IsDefined self.now.groups name.now }
         ensures value { IfOk result (λ value. option_map string_bytes value
-            ≡ first_value_or (found_of self.now.groups name.now) def.now) }
+            ≡ first_value_or (occurrences_of_name self.now.groups name.now) def.now) }
     {
         copied(alloc, self.held.occurrences_of(name).first_value_or(def))
     }
@@ -182,8 +185,8 @@ impl Matches {
     /// it first.
     pub fn opt_get<T: FromStr>(&self, name: &str) -> Result<Option<T>, T::Err>
         requires { IsDefined self.now.groups name.now }
-        ensures parsed { IsReadAs T.from_str_gives
-            (first_value (found_of self.now.groups name.now)) result }
+        ensures parsed { IsParsedAs T.from_str_gives
+            (first_value (occurrences_of_name self.now.groups name.now)) result }
     {
         match self.held.occurrences_of(name).first_value() {
             Some(text) => Ok(Some(text.parse()?)),
@@ -199,7 +202,7 @@ impl Matches {
     /// crate copies it first.
     pub fn opt_get_default<T: FromStr + Drop>(&self, name: &str, def: T) -> Result<T, T::Err>
         requires { IsDefined self.now.groups name.now }
-        ensures parsed { MatchOption (first_value (found_of self.now.groups name.now))
+        ensures parsed { MatchOption (first_value (occurrences_of_name self.now.groups name.now))
             (result ≡ Ok def) (λ text. T.from_str_gives text result) }
     {
         match self.held.occurrences_of(name).first_value() {

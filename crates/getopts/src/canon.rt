@@ -7,11 +7,11 @@ ghost use Rattle.std.specs.Option.{option_copied, option_map};
 ghost use Rattle.std.specs.String.{string_bytes};
 ghost use Rattle.getopts.specs.Reading.{holds_equals, long_word, two};
 ghost use Rattle.getopts.specs.Canon.{canonical_line, canonical_word, main_at};
-ghost use Rattle.getopts.specs.Fail.{Tells};
-ghost use Rattle.getopts.specs.Held.Matches.{IsOfSignatures};
+ghost use Rattle.getopts.specs.Fail.{IsOutOfMemoryOr};
+ghost use Rattle.getopts.specs.Stored.Matches.{IsOfSignatures};
 ghost use Rattle.getopts.specs.Names.{texts};
 ghost use Rattle.getopts.specs.Options.{signatures_of};
-ghost use Rattle.getopts.specs.Held.Scan.{line_content};
+ghost use Rattle.getopts.specs.Stored.Scan.{line_content};
 
 use crate::fail::Fail;
 use crate::help::Groups;
@@ -113,7 +113,7 @@ impl Options {
     ghost use Rattle.std.specs.Iterator.{IsFinite};
     ghost use Rattle.std.specs.Iterator.Runs.{WholeRun};
     ghost use Rattle.getopts.specs.Parse.{IsRefused};
-    ghost use Rattle.getopts.specs.Gives.{GivesAs};
+    ghost use Rattle.getopts.specs.Returns.{ReturnsConverted};
     ghost use Rattle.getopts.specs.Results.{canonical_result, parse_in_order_result};
     ghost use Rattle.getopts.specs.CanonAnswers.{IsWritten, IsUnwritable, IsOrder, KeepsLineLaws};
     ghost use Rattle.getopts.specs.Theorem.{LinesReadAgain};
@@ -142,14 +142,15 @@ impl Options {
     ) -> Result<Option<Vec<String>>, Fail>
         requires can { I.can_next args }
         requires ends { IsFinite (I.remaining args) }
-        ensures result { GivesAs (option_map (λ line. map string_bytes line.items)) result
+        ensures result { ReturnsConverted (option_map (λ line. map string_bytes line.items)) result
             (λ answer. WholeRun I.next_gives args
             (λ run. canonical_result self.now (texts run.items) ≡ answer)) }
         ensures written { IfOk result (λ answer. IfSome answer (λ line. WholeRun I.next_gives args
             (λ run. IsWritten self.now (texts run.items) (map string_bytes line.items)))) }
         ensures unwritable { IfOk result (λ answer. IfNone answer (WholeRun I.next_gives args
             (λ run. IsUnwritable self.now (texts run.items)))) }
-        ensures refused { IfErr result (λ fail. Tells fail (λ fault. WholeRun I.next_gives args
+        ensures refused { IfErr result
+            (λ fail. IsOutOfMemoryOr fail (λ fault. WholeRun I.next_gives args
             (λ run. IsRefused self.now (texts run.items) fault))) }
         ensures laws { OnOk result (KeepsLineLaws self.now) }
         ensures read_again { OnOk result (LinesReadAgain self.now) }
@@ -170,11 +171,11 @@ impl Options {
     ///
     /// Fails exactly as `parse_words` does. The Rust crate has no such method.
     pub fn parse_in_order<S: AsStr>(&self, alloc: Global, words: &[S]) -> Result<Vec<usize>, Fail>
-        ensures result { GivesAs (λ places. places.items) result
+        ensures result { ReturnsConverted (λ places. places.items) result
             (λ answer. parse_in_order_result self.now (map S.text words.now) ≡ answer) }
         ensures order { IfOk result (λ places.
             IsOrder self.now (map S.text words.now) places.items) }
-        ensures refused { IfErr result (λ fail. Tells fail
+        ensures refused { IfErr result (λ fail. IsOutOfMemoryOr fail
             (IsRefused self.now (map S.text words.now))) }
     {
         let accepted = self.accepted_line(alloc, words)?;
@@ -190,13 +191,13 @@ impl Options {
         alloc: Global,
         words: &[S],
     ) -> Result<Option<Vec<String>>, Fail>
-        ensures result { GivesAs (option_map (λ line. map string_bytes line.items)) result
+        ensures result { ReturnsConverted (option_map (λ line. map string_bytes line.items)) result
             (λ answer. canonical_result self.now (map S.text words.now) ≡ answer) }
         ensures written { IfOk result (λ answer. IfSome answer (λ line.
             IsWritten self.now (map S.text words.now) (map string_bytes line.items))) }
         ensures unwritable { IfOk result (λ answer. IfNone answer
             (IsUnwritable self.now (map S.text words.now))) }
-        ensures refused { IfErr result (λ fail. Tells fail
+        ensures refused { IfErr result (λ fail. IsOutOfMemoryOr fail
             (IsRefused self.now (map S.text words.now))) }
         ensures laws { OnOk result (KeepsLineLaws self.now) }
         ensures read_again { OnOk result (LinesReadAgain self.now) }

@@ -3,7 +3,7 @@
 ghost use Rattle.std.specs.Prelude.{◌≡◌, ◌↔◌, Some, IfOk, IsTrue};
 ghost use Rattle.std.specs.Cmp.Rules.{comparing};
 ghost use Rattle.std.proofs.Common.{rules};
-ghost use Rattle.getopts.specs.Fail.{Tells, argument_missing, fail_text, fault_of};
+ghost use Rattle.getopts.specs.Fail.{IsOutOfMemoryOr, argument_missing, fail_text, fault_of};
 ghost use Rattle.getopts.specs.Fail.{option_duplicated, option_missing, unexpected_argument};
 ghost use Rattle.getopts.specs.Fail.{unrecognized_option};
 ghost use Rattle.getopts.specs.declared.fail.Fail.TheVariants.{OutOfMemory};
@@ -124,31 +124,31 @@ impl<T: Drop> From<AllocFailed<T>> for Fail {
 // copied.
 impl Fail {
     pub(crate) fn argument_missing(alloc: Global, name: &str) -> Fail
-        ensures { Tells result (λ fault. fault ≡ argument_missing name.now) }
+        ensures { IsOutOfMemoryOr result (λ fault. fault ≡ argument_missing name.now) }
     {
         String::from_str(alloc, name).map_or(Fail::OutOfMemory, Fail::ArgumentMissing)
     }
 
     pub(crate) fn unrecognized_option(alloc: Global, name: &str) -> Fail
-        ensures { Tells result (λ fault. fault ≡ unrecognized_option name.now) }
+        ensures { IsOutOfMemoryOr result (λ fault. fault ≡ unrecognized_option name.now) }
     {
         String::from_str(alloc, name).map_or(Fail::OutOfMemory, Fail::UnrecognizedOption)
     }
 
     pub(crate) fn option_missing(alloc: Global, name: &str) -> Fail
-        ensures { Tells result (λ fault. fault ≡ option_missing name.now) }
+        ensures { IsOutOfMemoryOr result (λ fault. fault ≡ option_missing name.now) }
     {
         String::from_str(alloc, name).map_or(Fail::OutOfMemory, Fail::OptionMissing)
     }
 
     pub(crate) fn option_duplicated(alloc: Global, name: &str) -> Fail
-        ensures { Tells result (λ fault. fault ≡ option_duplicated name.now) }
+        ensures { IsOutOfMemoryOr result (λ fault. fault ≡ option_duplicated name.now) }
     {
         String::from_str(alloc, name).map_or(Fail::OutOfMemory, Fail::OptionDuplicated)
     }
 
     pub(crate) fn unexpected_argument(alloc: Global, name: &str) -> Fail
-        ensures { Tells result (λ fault. fault ≡ unexpected_argument name.now) }
+        ensures { IsOutOfMemoryOr result (λ fault. fault ≡ unexpected_argument name.now) }
     {
         String::from_str(alloc, name).map_or(Fail::OutOfMemory, Fail::UnexpectedArgument)
     }

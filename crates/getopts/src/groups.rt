@@ -8,9 +8,9 @@ ghost use Rattle.std.specs.Cmp.Lexicographic.{pointwise};
 ghost use Rattle.std.specs.Cmp.Rules.{comparing};
 ghost use Rattle.std.proofs.Common.{rules};
 ghost use Rattle.getopts.specs.Names.{AreLawful, IsLawfullyNamed, main_name};
-ghost use Rattle.getopts.specs.Held.Groups.{signature_view, names_view, names_in, signature_with};
-ghost use Rattle.getopts.specs.Held.Groups.{HasKeys, AreEndsOf, StandAt, two_at, ends_of};
-ghost use Rattle.getopts.specs.Held.Names.{names_at};
+ghost use Rattle.getopts.specs.Stored.Groups.{signature_view, names_view, names_in, signature_with};
+ghost use Rattle.getopts.specs.Stored.Groups.{HasKeys, AreEndsOf, IsPairAt, pair_at, ends_of};
+ghost use Rattle.getopts.specs.Stored.Names.{names_at};
 
 use crate::names::{NO_BYTE, Names, key_of, short_byte};
 use std::alloc::{AllocError, Global};
@@ -66,7 +66,7 @@ pub(crate) struct Kinds {
 }
 
 impl PartialEq for Kinds {
-    ghost use Rattle.getopts.specs.Held.Groups.{same_kinds};
+    ghost use Rattle.getopts.specs.Stored.Groups.{same_kinds};
 
     ghost eq = { same_kinds };
 
@@ -87,7 +87,7 @@ pub(crate) struct Signature<'g> {
 }
 
 impl<'g> PartialEq for Signature<'g> {
-    ghost use Rattle.getopts.specs.Held.Groups.{same_signature_view};
+    ghost use Rattle.getopts.specs.Stored.Groups.{same_signature_view};
 
     ghost eq = { same_signature_view };
 
@@ -124,7 +124,7 @@ pub(crate) struct SignatureRecord {
 }
 
 impl PartialEq for SignatureRecord {
-    ghost use Rattle.getopts.specs.Held.Groups.{same_record};
+    ghost use Rattle.getopts.specs.Stored.Groups.{same_record};
 
     ghost eq = { same_record };
 
@@ -183,7 +183,7 @@ pub(crate) fn push_pair(texts: &mut String, first: &str, second: &str) -> PairEn
     requires { string_len texts.old + (length first.now + length second.now)
         ≤ string_capacity texts.old }
     ensures bytes { string_bytes texts.new ≡ string_bytes texts.old ++ (first.now ++ second.now) }
-    ensures two { StandAt (string_bytes texts.new) result (first.now, second.now) }
+    ensures two { IsPairAt (string_bytes texts.new) result (first.now, second.now) }
     ensures first { result.first ≡ result.start + length first.now }
 {
     let start = texts.len();
@@ -200,7 +200,7 @@ pub(crate) fn push_pair(texts: &mut String, first: &str, second: &str) -> PairEn
 #[inline(always)]
 pub(crate) fn first_at(text: &str, ends: PairEnds) -> &str
     requires { AreEndsOf text.now ends }
-    ensures { result.now ≡ (two_at text.now ends).0 }
+    ensures { result.now ≡ (pair_at text.now ends).0 }
 {
     &text[ends.start..ends.first]
 }
@@ -209,7 +209,7 @@ pub(crate) fn first_at(text: &str, ends: PairEnds) -> &str
 #[inline(always)]
 pub(crate) fn second_at(text: &str, ends: PairEnds) -> &str
     requires { AreEndsOf text.now ends }
-    ensures { result.now ≡ (two_at text.now ends).1 }
+    ensures { result.now ≡ (pair_at text.now ends).1 }
 {
     &text[ends.first..ends.second]
 }
@@ -234,7 +234,7 @@ impl Drop for Signatures {
 impl Model for Signatures {
     ghost use Rattle.std.specs.Prelude.{List};
     ghost use Rattle.getopts.specs.Options.{Signature};
-    ghost use Rattle.getopts.specs.Held.Groups.{signatures_view, HoldSignatures};
+    ghost use Rattle.getopts.specs.Stored.Groups.{signatures_view, HoldSignatures};
 
     ghost Value = { List Signature };
 
@@ -244,7 +244,7 @@ impl Model for Signatures {
 }
 
 impl Signatures {
-    ghost use Rattle.getopts.specs.Held.Groups.{kinds_of};
+    ghost use Rattle.getopts.specs.Stored.Groups.{kinds_of};
 
     /// No groups. Allocates nothing.
     pub(crate) fn new(alloc: Global) -> Signatures

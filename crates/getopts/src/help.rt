@@ -1,14 +1,13 @@
 //! Declared groups: their names and kinds, with their hints and descriptions.
 
-ghost use Rattle.std.specs.Prelude.{◌≡◌, ◌++◌, ◌∷◌, [], Some, ◌<◌, length};
-ghost use Rattle.std.specs.Prelude.{slice_get, OnOk, OnErr};
+ghost use Rattle.std.specs.Prelude.{◌≡◌, ◌++◌, ◌∷◌, [], Some, ◌<◌, length, slice_get, OnOk, OnErr};
 ghost use Rattle.std.specs.Cmp.Lexicographic.{pointwise};
 ghost use Rattle.std.specs.Cmp.Rules.{comparing};
 ghost use Rattle.std.proofs.Common.{rules};
 ghost use Rattle.getopts.specs.Names.{AreLawful};
 ghost use Rattle.getopts.specs.Options.{MayBeDeclared, group_of, signatures_of};
 ghost use Rattle.getopts.specs.Canon.{main_at};
-ghost use Rattle.getopts.specs.Held.Groups.{AreLawfulSignatures};
+ghost use Rattle.getopts.specs.Stored.Groups.{AreLawfulSignatures};
 
 use crate::groups::{
     FIRST_GROUPS, FIRST_TEXT, Kinds, PairEnds, Signature, Signatures, first_at, push_pair,
@@ -26,7 +25,7 @@ pub(crate) struct Group<'g> {
 }
 
 impl<'g> PartialEq for Group<'g> {
-    ghost use Rattle.getopts.specs.Held.Help.{same_group_view};
+    ghost use Rattle.getopts.specs.Stored.Help.{same_group_view};
 
     ghost eq = { same_group_view };
 
@@ -59,7 +58,7 @@ impl Drop for Groups {
 impl Model for Groups {
     ghost use Rattle.std.specs.Prelude.{List};
     ghost use Rattle.getopts.specs.Options.{Group};
-    ghost use Rattle.getopts.specs.Held.Help.{groups_view, HoldGroups};
+    ghost use Rattle.getopts.specs.Stored.Help.{groups_view, HoldGroups};
 
     ghost Value = { List Group };
 
@@ -69,7 +68,7 @@ impl Model for Groups {
 }
 
 impl Groups {
-    ghost use Rattle.getopts.specs.Held.Help.{group_view};
+    ghost use Rattle.getopts.specs.Stored.Help.{group_view};
 
     /// No groups. Allocates nothing.
     pub(crate) fn new(alloc: Global) -> Groups

@@ -5,9 +5,10 @@ ghost use Rattle.std.specs.Cmp.Lexicographic.{pointwise};
 ghost use Rattle.std.specs.Cmp.Rules.{comparing};
 ghost use Rattle.std.specs.String.{string_bytes};
 ghost use Rattle.std.proofs.Common.{rules};
-ghost use Rattle.getopts.specs.Accessors.{AreHeldLawfully, found_in, found_of, place_of};
+ghost use Rattle.getopts.specs.Accessors.{HaveLawfulNames, occurrences_of_group};
+ghost use Rattle.getopts.specs.Accessors.{occurrences_of_name, place_of};
 ghost use Rattle.getopts.specs.Matches.{matched};
-ghost use Rattle.getopts.specs.Held.Matches.{IsOfSignatures};
+ghost use Rattle.getopts.specs.Stored.Matches.{IsOfSignatures};
 
 use crate::groups::Signatures;
 use crate::index::Index;
@@ -155,7 +156,7 @@ impl Drop for MatchedGroups {
 impl Model for MatchedGroups {
     ghost use Rattle.std.specs.Prelude.{List};
     ghost use Rattle.getopts.specs.Matches.{MatchedGroup};
-    ghost use Rattle.getopts.specs.Held.Matches.{matched_view, KeepsGroups};
+    ghost use Rattle.getopts.specs.Stored.Matches.{matched_view, KeepsGroups};
 
     ghost Value = { List MatchedGroup };
 
@@ -177,7 +178,7 @@ impl MatchedGroups {
     /// The place of the group that a name resolves to.
     pub(crate) fn place_of(&self, name: &str) -> Option<usize>
         ensures place { result ≡ place_of self.now name.now }
-        ensures lawful { AreHeldLawfully self.now }
+        ensures lawful { HaveLawfulNames self.now }
     {
         self.table.resolve(&self.signatures, name)
     }
@@ -187,14 +188,14 @@ impl MatchedGroups {
     // takes 2.4 % more instructions.
     #[inline]
     pub(crate) fn occurrences_at(&self, place: usize) -> Occurrences<'_>
-        ensures { result ≡ found_in self.now place }
+        ensures { result ≡ occurrences_of_group self.now place }
     {
         Occurrences::of(&self.found, self.index.places(place))
     }
 
     /// The occurrences of the group that a name resolves to, none if it is undefined.
     pub(crate) fn occurrences_of(&self, name: &str) -> Occurrences<'_>
-        ensures { result ≡ found_of self.now name.now }
+        ensures { result ≡ occurrences_of_name self.now name.now }
     {
         match self.place_of(name) {
             Some(place) => self.occurrences_at(place),

@@ -3,7 +3,7 @@
 ghost use Rattle.std.specs.Prelude.{◌≡◌, ◌↔◌, ◌+◌, ◌*◌, ◌^◌, ◌<◌, IsTrue, length, drop};
 ghost use Rattle.std.specs.Int.{from_be_bytes, w64};
 ghost use Rattle.getopts.specs.Names.{AreLawful};
-ghost use Rattle.getopts.specs.Held.Names.{key_of, short_code};
+ghost use Rattle.getopts.specs.Stored.Names.{key_of, short_code};
 
 /// Multiplying by this shifts a number by four bytes.
 const FOUR_BYTES: u64 = 1 << 32;
@@ -34,7 +34,7 @@ pub(crate) struct Names<'g> {
 
 impl<'g> Names<'g> {
     ghost use Rattle.getopts.specs.Names.{main_name};
-    ghost use Rattle.getopts.specs.Held.Groups.{names_view};
+    ghost use Rattle.getopts.specs.Stored.Groups.{names_view};
 
     /// The main name: the long name or, if that is empty, the short name.
     pub(crate) fn main(self) -> &'g str

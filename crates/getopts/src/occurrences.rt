@@ -1,18 +1,17 @@
 //! The options in a command line, with their values: all together, and by group.
 
 ghost use Rattle.std.specs.Prelude.{◌≡◌, ◌↔◌, ◌<◌, ◌∷◌, ◌++◌};
-ghost use Rattle.std.specs.Prelude.{[], Some, IfOk, OnOk, OnErr, IsTrue, map, length};
-ghost use Rattle.std.specs.Prelude.{slice_get};
+ghost use Rattle.std.specs.Prelude.{[], Some, IfOk, OnOk, OnErr, IsTrue, map, length, slice_get};
 ghost use Rattle.std.specs.Cmp.Lexicographic.{pointwise};
 ghost use Rattle.std.specs.Iterator.{YieldsFirstBy, item_count};
 ghost use Rattle.std.specs.Option.{option_copied, option_map};
 ghost use Rattle.std.specs.Str.{IsUtf8};
 ghost use Rattle.std.specs.String.{string_bytes};
-ghost use Rattle.getopts.specs.Accessors.{first_value, first_value_or, held_found, pair_view};
-ghost use Rattle.getopts.specs.Accessors.{pairs_of, positions_of, values_of};
-ghost use Rattle.getopts.specs.Held.Occurrences.{founds_at, ArePlacesOf, StandsAt};
+ghost use Rattle.getopts.specs.Accessors.{borrowed_occurrence, first_value, first_value_or};
+ghost use Rattle.getopts.specs.Accessors.{pair_view, pairs_of, positions_of, values_of};
 ghost use Rattle.getopts.specs.Reading.{at_position};
-ghost use Rattle.getopts.specs.Same.{same_found};
+ghost use Rattle.getopts.specs.Same.{same_group_occurrence};
+ghost use Rattle.getopts.specs.Stored.Occurrences.{occurrences_at_places, ArePlacesOf, IsTextAt};
 
 use std::alloc::{AllocError, Global};
 use std::marker::Model;
@@ -57,7 +56,7 @@ const FIRST_VALUES: usize = 64;
 fn push_value(values: &mut String, value: &str) -> Result<Span, AllocError>
     ensures ok { IfOk result (λ span.
         (string_bytes values.new ≡ string_bytes values.old ++ value.now)
-        × StandsAt (string_bytes values.new) span value.now) }
+        × IsTextAt (string_bytes values.new) span value.now) }
     ensures err { OnErr result (string_bytes values.new ≡ string_bytes values.old) }
     ensures utf8 { IsUtf8 value.now }
 {
@@ -91,7 +90,7 @@ impl Drop for LineOccurrences {
 impl Model for LineOccurrences {
     ghost use Rattle.std.specs.Prelude.{List};
     ghost use Rattle.getopts.specs.Reading.{Occurrence};
-    ghost use Rattle.getopts.specs.Held.Occurrences.{found_view, HaveTheirValues};
+    ghost use Rattle.getopts.specs.Stored.Occurrences.{found_view, HaveTheirValues};
 
     ghost Value = { List Occurrence };
 
@@ -196,12 +195,12 @@ pub struct Occurrences<'m> {
 
 impl<'m> Model for Occurrences<'m> {
     ghost use Rattle.std.specs.Prelude.{List};
-    ghost use Rattle.getopts.specs.Matches.{Found};
-    ghost use Rattle.getopts.specs.Held.Occurrences.{founds_at, ArePlacesOf};
+    ghost use Rattle.getopts.specs.Matches.{GroupOccurrence};
+    ghost use Rattle.getopts.specs.Stored.Occurrences.{occurrences_at_places, ArePlacesOf};
 
-    ghost Value = { List Found };
+    ghost Value = { List GroupOccurrence };
 
-    ghost view = { λ a. founds_at a.found.now a.places.now };
+    ghost view = { λ a. occurrences_at_places a.found.now a.places.now };
 
     ghost invariant = { λ a. ArePlacesOf a.found.now a.places.now };
 }
@@ -210,7 +209,7 @@ impl<'m> Occurrences<'m> {
     /// The occurrences at these places of a command line.
     pub(crate) fn of(found: &'m LineOccurrences, places: &'m [usize]) -> Occurrences<'m>
         requires { ArePlacesOf found.now places.now }
-        ensures { result ≡ founds_at found.now places.now }
+        ensures { result ≡ occurrences_at_places found.now places.now }
     {
         Occurrences { found, places }
     }
@@ -233,7 +232,7 @@ impl<'m> Occurrences<'m> {
     // Without `inline` here and at `at`, the job `equal` takes 80 % more instructions.
     #[inline]
     pub fn get(&self, nth: usize) -> Option<(usize, Option<&'m str>)>
-        ensures occurrence { option_map held_found result ≡ slice_get self.now nth }
+        ensures occurrence { option_map borrowed_occurrence result ≡ slice_get self.now nth }
     {
         if nth >= self.len() {
             return None;
@@ -246,7 +245,8 @@ impl<'m> Occurrences<'m> {
     #[inline]
     fn at(&self, nth: usize) -> Occurrence<'m>
         requires { nth < length self.now }
-        ensures { slice_get self.now nth ≡ Some (held_found (result.position, result.value)) }
+        ensures { slice_get self.now nth
+            ≡ Some (borrowed_occurrence (result.position, result.value)) }
     {
         self.found.at(self.places[nth])
     }
@@ -306,7 +306,7 @@ impl<'m> Occurrences<'m> {
     // Without `inline`, the job `equal` takes 20 % more instructions.
     #[inline]
     pub(crate) fn same(&self, other: &Occurrences<'_>) -> bool
-        ensures { result ≡ pointwise same_found self.now other.now }
+        ensures { result ≡ pointwise same_group_occurrence self.now other.now }
     {
         if self.len() != other.len() {
             return false;
@@ -346,9 +346,9 @@ pub struct OccurrencesIter<'m> {
 
 impl<'m> Model for OccurrencesIter<'m> {
     ghost use Rattle.std.specs.Prelude.{List, drop};
-    ghost use Rattle.getopts.specs.Matches.{Found};
+    ghost use Rattle.getopts.specs.Matches.{GroupOccurrence};
 
-    ghost Value = { List Found };
+    ghost Value = { List GroupOccurrence };
 
     ghost view = { λ a. drop a.next a.occurrences };
 }
@@ -356,7 +356,7 @@ impl<'m> Model for OccurrencesIter<'m> {
 impl<'m> Iterator for OccurrencesIter<'m> {
     type Item = (usize, Option<&'m str>);
 
-    ghost next_gives = { YieldsFirstBy held_found (λ rest. rest) };
+    ghost next_gives = { YieldsFirstBy borrowed_occurrence (λ rest. rest) };
 
     ghost remaining = { item_count (λ rest. rest) };
 

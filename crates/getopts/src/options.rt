@@ -1,11 +1,10 @@
 //! Options: the groups that a caller declares, a parsing style and a mode.
 
-ghost use Rattle.std.specs.Prelude.{◌≡◌, ◌↔◌, [], false, IfOk};
-ghost use Rattle.std.specs.Prelude.{IsTrue, OnOk, OnErr};
+ghost use Rattle.std.specs.Prelude.{◌≡◌, ◌↔◌, [], false, IfOk, IsTrue, OnOk, OnErr};
 ghost use Rattle.std.specs.Cmp.Rules.{comparing};
 ghost use Rattle.std.proofs.Common.{rules};
 ghost use Rattle.getopts.specs.Names.{AreLawful};
-ghost use Rattle.getopts.specs.Held.Groups.{AreLawfulSignatures};
+ghost use Rattle.getopts.specs.Stored.Groups.{AreLawfulSignatures};
 ghost use Rattle.getopts.specs.Options.{group_of, with_group, signatures_of, MayBeDeclared};
 
 use crate::groups::{HasArg, Kinds, Occur, ParsingStyle, Signatures};

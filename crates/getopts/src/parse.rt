@@ -4,9 +4,9 @@ ghost use Rattle.std.specs.Prelude.{◌≡◌, ◌↔◌, IsTrue, IfOk, IfErr, I
 ghost use Rattle.std.specs.Iterator.{IsFinite};
 ghost use Rattle.std.specs.Iterator.Runs.{WholeRun};
 ghost use Rattle.getopts.specs.Matches.{FitsCount, IsCountFault, KeepsCounts, count_fault, matched};
-ghost use Rattle.getopts.specs.Fail.{Tells};
+ghost use Rattle.getopts.specs.Fail.{IsOutOfMemoryOr};
 ghost use Rattle.getopts.specs.Names.{texts};
-ghost use Rattle.getopts.specs.Held.Matches.{IsOfSignatures};
+ghost use Rattle.getopts.specs.Stored.Matches.{IsOfSignatures};
 
 use crate::fail::Fail;
 use crate::groups::{Occur, Signatures};
@@ -23,12 +23,11 @@ impl Options {
     ghost use Rattle.getopts.specs.ReadingLaws.{HavePositionsBelow};
     ghost use Rattle.getopts.specs.Parse.{IsAccepted, IsRefused, HasReading, HasNoReading};
     ghost use Rattle.getopts.specs.Parse.{KeepsReadingLaws};
-    ghost use Rattle.getopts.specs.Gives.{GivesAs, GivesResult, HasResults};
-    ghost use Rattle.getopts.specs.Results.{parse_result};
-    ghost use Rattle.getopts.specs.Results.{read_result};
-    ghost use Rattle.getopts.specs.Holds.{HoldDeclared, HoldGiven, HaveLastWordsFree, Accepts};
-    ghost use Rattle.getopts.specs.Holds.{EndsInTrailing};
-    ghost use Rattle.getopts.specs.Held.Matches.{IsReadLine, IsAcceptedLine};
+    ghost use Rattle.getopts.specs.Returns.{HasResults, ReturnsConverted, ReturnsResult};
+    ghost use Rattle.getopts.specs.Results.{parse_result, parse_ignoring_counts_result};
+    ghost use Rattle.getopts.specs.Holds.{FitOptionsAndCounts, FitOptions, HaveLastWordsFree};
+    ghost use Rattle.getopts.specs.Holds.{Accepts, EndsInTrailing};
+    ghost use Rattle.getopts.specs.Stored.Matches.{IsReadLine, IsAcceptedLine};
 
     /// Parses a command line, given without the program's own name.
     ///
@@ -42,13 +41,13 @@ impl Options {
     ///
     /// The Rust crate has no such method: its `parse` takes an iterator.
     pub fn parse_words<S: AsStr>(&self, alloc: Global, words: &[S]) -> crate::Result
-        ensures result { GivesResult result (parse_result self.now (map S.text words.now)) }
+        ensures result { ReturnsResult result (parse_result self.now (map S.text words.now)) }
         ensures accepted { IfOk result (IsAccepted self.now (map S.text words.now)) }
-        ensures refused { IfErr result (λ fail. Tells fail
+        ensures refused { IfErr result (λ fail. IsOutOfMemoryOr fail
             (IsRefused self.now (map S.text words.now))) }
 
         // The matches have each declared option, with occurrences that fit its declaration.
-        ensures declared { IfOk result (λ matches. HoldDeclared self.now matches.groups) }
+        ensures declared { IfOk result (λ matches. FitOptionsAndCounts self.now matches.groups) }
         ensures positions_below { IfOk result (λ matches.
             HavePositionsBelow (length words.now) matches.groups) }
         ensures free_last { IfOk result (λ matches.
@@ -72,11 +71,12 @@ impl Options {
     /// occur several times. Otherwise, it returns the same error as `parse_words`. The Rust crate
     /// has no such method.
     pub fn parse_ignoring_counts<S: AsStr>(&self, alloc: Global, words: &[S]) -> crate::Result
-        ensures result { GivesResult result (read_result self.now (map S.text words.now)) }
+        ensures result { ReturnsResult result
+            (parse_ignoring_counts_result self.now (map S.text words.now)) }
         ensures read { IfOk result (HasReading self.now (map S.text words.now)) }
-        ensures refused { IfErr result (λ fail. Tells fail
+        ensures refused { IfErr result (λ fail. IsOutOfMemoryOr fail
             (HasNoReading self.now (map S.text words.now))) }
-        ensures given { IfOk result (λ matches. HoldGiven self.now matches.groups) }
+        ensures given { IfOk result (λ matches. FitOptions self.now matches.groups) }
         ensures trailing { IfOk result (λ matches. IfSome matches.trailing_start
             (EndsInTrailing (map S.text words.now) matches)) }
     {
@@ -96,13 +96,15 @@ impl Options {
     ) -> crate::Result
         requires can { I.can_next args }
         requires ends { IsFinite (I.remaining args) }
-        ensures result { GivesAs (λ matches. matches) result (λ answer. WholeRun I.next_gives args
+        ensures result { ReturnsConverted (λ matches. matches) result
+            (λ answer. WholeRun I.next_gives args
             (λ run. parse_result self.now (texts run.items) ≡ answer)) }
         ensures accepted { IfOk result (λ matches. WholeRun I.next_gives args
             (λ run. Accepts self.now run.items matches)) }
-        ensures refused { IfErr result (λ fail. Tells fail (λ fault. WholeRun I.next_gives args
+        ensures refused { IfErr result
+            (λ fail. IsOutOfMemoryOr fail (λ fault. WholeRun I.next_gives args
             (λ run. IsRefused self.now (texts run.items) fault))) }
-        ensures declared { IfOk result (λ matches. HoldDeclared self.now matches.groups) }
+        ensures declared { IfOk result (λ matches. FitOptionsAndCounts self.now matches.groups) }
         ensures laws { OnOk result (KeepsReadingLaws (grammar_of self.now)) }
     {
         let words = words_from(alloc, args)?;
@@ -118,7 +120,7 @@ impl Options {
         words: &[S],
     ) -> Result<ReadLine, Fail>
         ensures accepted { IfOk result (IsAcceptedLine self.now (map S.text words.now)) }
-        ensures refused { IfErr result (λ fail. Tells fail
+        ensures refused { IfErr result (λ fail. IsOutOfMemoryOr fail
             (IsRefused self.now (map S.text words.now))) }
         ensures results { HasResults self.now (map S.text words.now) }
     {
@@ -131,7 +133,7 @@ impl Options {
     #[inline(always)]
     fn read_line<S: AsStr>(&self, alloc: Global, words: &[S]) -> Result<ReadLine, Fail>
         ensures read { IfOk result (IsReadLine self.now (map S.text words.now)) }
-        ensures refused { IfErr result (λ fail. Tells fail
+        ensures refused { IfErr result (λ fail. IsOutOfMemoryOr fail
             (HasNoReading self.now (map S.text words.now))) }
         ensures results { HasResults self.now (map S.text words.now) }
     {
@@ -173,7 +175,7 @@ fn check_counts(alloc: Global, signatures: &Signatures, read: &ReadLine) -> Resu
     requires { IsOfSignatures signatures.now read.now }
     ensures ok { OnOk result
         (KeepsCounts (matched 0 signatures.now read.now.line.found)) }
-    ensures err { IfErr result (λ fail. Tells fail
+    ensures err { IfErr result (λ fail. IsOutOfMemoryOr fail
         (IsCountFault (matched 0 signatures.now read.now.line.found))) }
 {
     for place in 0..signatures.len() {
@@ -198,7 +200,7 @@ fn fits_count(occurrence: Occur, count: usize) -> bool
 
 /// The error for an option that may not occur this often.
 fn count_fault(alloc: Global, main: &str, count: usize) -> Fail
-    ensures { Tells result (λ fault. fault ≡ count_fault main.now count) }
+    ensures { IsOutOfMemoryOr result (λ fault. fault ≡ count_fault main.now count) }
 {
     if count == 0 {
         Fail::option_missing(alloc, main)

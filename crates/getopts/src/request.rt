@@ -1,10 +1,10 @@
 //! Help and the version, which a command line may request even if a required option is missing.
 
 ghost use Rattle.std.specs.Prelude.{codes, map, IfOk, IfSome};
-ghost use Rattle.getopts.specs.Asked.{asked_result, parse_request_result, IfParsed};
-ghost use Rattle.getopts.specs.Gives.{GivesResult};
-ghost use Rattle.getopts.specs.Holds.{EndsInTrailing, HoldDeclared};
+ghost use Rattle.getopts.specs.Returns.{ReturnsResult};
+ghost use Rattle.getopts.specs.Holds.{EndsInTrailing, FitOptionsAndCounts};
 ghost use Rattle.getopts.specs.Options.{Declares};
+ghost use Rattle.getopts.specs.Unless.{parse_unless_result, parse_request_result, IfParsed};
 
 use crate::fail::Fail;
 use crate::matches::Matches;
@@ -38,10 +38,10 @@ impl Options {
     ) -> Result<Request<Matches>, Fail>
         requires help { Declares self.now (codes "help") }
         requires version { Declares self.now (codes "version") }
-        ensures result { GivesResult result
+        ensures result { ReturnsResult result
             (parse_request_result self.now (map S.text words.now)) }
         ensures declared { IfOk result (λ request. IfParsed request (λ matches.
-            HoldDeclared self.now matches.groups)) }
+            FitOptionsAndCounts self.now matches.groups)) }
         ensures trailing { IfOk result (λ request. IfParsed request (λ matches.
             IfSome matches.trailing_start (EndsInTrailing (map S.text words.now) matches))) }
     {
@@ -71,10 +71,10 @@ impl Options {
         flag: &str,
     ) -> Result<Option<Matches>, Fail>
         requires { Declares self.now flag.now }
-        ensures result { GivesResult result
-            (asked_result self.now flag.now (map S.text words.now)) }
+        ensures result { ReturnsResult result
+            (parse_unless_result self.now flag.now (map S.text words.now)) }
         ensures declared { IfOk result (λ answer. IfSome answer (λ matches.
-            HoldDeclared self.now matches.groups)) }
+            FitOptionsAndCounts self.now matches.groups)) }
         ensures trailing { IfOk result (λ answer. IfSome answer (λ matches.
             IfSome matches.trailing_start (EndsInTrailing (map S.text words.now) matches))) }
     {

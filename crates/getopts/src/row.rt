@@ -3,9 +3,9 @@ ghost use Rattle.std.specs.Prelude.{◌≡◌, ◌++◌, string_bytes, OnOk};
 ghost use Rattle.getopts.specs.Wrap.{width_of};
 ghost use Rattle.getopts.specs.Usage.{IsUsageRow, argument_part, has_columns, head};
 ghost use Rattle.getopts.specs.Usage.{long_part, padding, short_part};
-ghost use Rattle.getopts.specs.Held.Groups.{names_view};
-ghost use Rattle.getopts.specs.Held.Help.{group_view};
-ghost use Rattle.getopts.specs.Held.Rows.{AddsTheOnly};
+ghost use Rattle.getopts.specs.Stored.Groups.{names_view};
+ghost use Rattle.getopts.specs.Stored.Help.{group_view};
+ghost use Rattle.getopts.specs.Stored.Rows.{AddsTheOnly};
 
 use crate::groups::{HasArg, Signature};
 use crate::help::Group;

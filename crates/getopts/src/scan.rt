@@ -5,10 +5,10 @@ ghost use Rattle.std.specs.Prelude.{Some, None, Err, false, IfOk, IfErr, OnOk, m
 ghost use Rattle.std.specs.String.{string_bytes};
 ghost use Rattle.std.specs.Option.{option_copied};
 ghost use Rattle.getopts.specs.Reading.{Dashes, IsScanFault, dash, holds_equals, is_dashed};
-ghost use Rattle.getopts.specs.Fail.{Tells};
+ghost use Rattle.getopts.specs.Fail.{IsOutOfMemoryOr};
 ghost use Rattle.std.specs.Str.{IsUtf8};
 ghost use Rattle.getopts.specs.Names.{AreTexts, Text};
-ghost use Rattle.getopts.specs.Turn.{with_equals, first_char, chosen_end, Chooses};
+ghost use Rattle.getopts.specs.Step.{with_equals, first_char, chosen_end, Chooses};
 
 use crate::fail::Fail;
 use crate::groups::{HasArg, ParsingStyle};
@@ -48,7 +48,7 @@ pub(crate) struct Line {
 }
 
 impl Line {
-    ghost use Rattle.getopts.specs.Held.Scan.{IsEmptyLine};
+    ghost use Rattle.getopts.specs.Stored.Scan.{IsEmptyLine};
 
     /// An empty line, with room for `room` options and `room` free words.
     pub(crate) fn with_capacity(alloc: Global, room: usize) -> Result<Line, AllocError>
@@ -210,7 +210,7 @@ fn last_argument<'w, S: AsStr>(
     requires { kind ≢ HasArg.No }
     ensures ok { IfOk result (λ end. Chooses
         (chosen_end kind name.now rest.now (map S.text after.now)) (option_copied end.value) end.used) }
-    ensures err { IfErr result (λ fail. Tells fail (λ fault.
+    ensures err { IfErr result (λ fail. IsOutOfMemoryOr fail (λ fault.
         chosen_end kind name.now rest.now (map S.text after.now) ≡ Err fault)) }
 {
     let (value, used) = match after.first() {
@@ -223,9 +223,9 @@ fn last_argument<'w, S: AsStr>(
 }
 
 impl<'o> Scanner<'o> {
-    ghost use Rattle.getopts.specs.Held.Scan.{scanner_grammar, IsLawfulScanner, IsNamedBy, HasShape};
-    ghost use Rattle.getopts.specs.Held.Scan.{ReadsLine};
-    ghost use Rattle.getopts.specs.Turn.{faults, long_turn, cluster_turn, AddsItem};
+    ghost use Rattle.getopts.specs.Step.{faults, long_step, cluster_step, AddsItem};
+    ghost use Rattle.getopts.specs.Stored.Scan.{scanner_grammar, IsLawfulScanner, IsNamedBy};
+    ghost use Rattle.getopts.specs.Stored.Scan.{HasShape, ReadsLine};
 
     /// The option that a name resolves to.
     fn option(&self, name: &str) -> Option<Named>
@@ -252,11 +252,12 @@ impl<'o> Scanner<'o> {
         requires lawful { IsLawfulScanner self.now }
         ensures ok { let grammar = scanner_grammar self.now in
             IfOk result (λ used. (dashes : Dashes)
-            → AddsItem grammar (long_turn grammar dashes text.now (map S.text after.now)) position used
+            → AddsItem grammar
+            (long_step grammar dashes text.now (map S.text after.now)) position used
             found.old found.new) }
         ensures err { let grammar = scanner_grammar self.now in
-            IfErr result (λ fail. (dashes : Dashes) → Tells fail (λ fault.
-            long_turn grammar dashes text.now (map S.text after.now) ≡ faults fault)) }
+            IfErr result (λ fail. (dashes : Dashes) → IsOutOfMemoryOr fail (λ fault.
+            long_step grammar dashes text.now (map S.text after.now) ≡ faults fault)) }
     {
         let (name, argument) = name_and_argument(text);
         let option = match self.option(name) {
@@ -305,11 +306,11 @@ impl<'o> Scanner<'o> {
         requires lawful { IsLawfulScanner self.now }
         ensures ok { let grammar = scanner_grammar self.now in
             IfOk result (λ used.
-            AddsItem grammar (cluster_turn grammar [] text.now (map S.text after.now)) position used
+            AddsItem grammar (cluster_step grammar [] text.now (map S.text after.now)) position used
             found.old found.new) }
         ensures err { let grammar = scanner_grammar self.now in
-            IfErr result (λ fail. Tells fail (λ fault.
-            cluster_turn grammar [] text.now (map S.text after.now) ≡ faults fault)) }
+            IfErr result (λ fail. IsOutOfMemoryOr fail (λ fault.
+            cluster_step grammar [] text.now (map S.text after.now) ≡ faults fault)) }
     {
         'names: for at in 0..text.len() {
             match self.option_at(text.as_bytes()[at]) {
@@ -357,7 +358,7 @@ impl<'o> Scanner<'o> {
         requires texts { AreTexts (map S.text words.now) }
         ensures ok { IfOk result (λ line.
             ReadsLine (scanner_grammar self.now) (map S.text words.now) line) }
-        ensures err { IfErr result (λ fail. Tells fail
+        ensures err { IfErr result (λ fail. IsOutOfMemoryOr fail
             (IsScanFault (scanner_grammar self.now) (map S.text words.now))) }
     {
         let stops = self.options.style() == ParsingStyle::StopAtFirstFree;

@@ -1,14 +1,14 @@
 //! Usage texts: all options in one line, and a row for each option with its description.
 ghost use Rattle.std.specs.Prelude.{◌≡◌, ◌++◌, List, codes, map, string_bytes, IfOk, OnOk};
 ghost use Rattle.std.specs.Iterator.{YieldsFirstBy, item_count};
-ghost use Rattle.getopts.specs.Held.Groups.{names_view};
-ghost use Rattle.getopts.specs.Held.Help.{group_view};
+ghost use Rattle.getopts.specs.Stored.Groups.{names_view};
+ghost use Rattle.getopts.specs.Stored.Help.{group_view};
 ghost use Rattle.getopts.specs.Names.{Text};
 ghost use Rattle.getopts.specs.Only.{IsTheOnly};
 ghost use Rattle.getopts.specs.Usage.{AreUsageRows, IsUsageText, any_short};
 ghost use Rattle.getopts.specs.Usage.{option_name, option_text, short_usage_text};
 ghost use Rattle.getopts.specs.Wrap.{joined};
-ghost use Rattle.getopts.specs.Held.Rows.{AddsRows};
+ghost use Rattle.getopts.specs.Stored.Rows.{AddsRows};
 
 use crate::groups::{HasArg, Occur, Signature};
 use crate::help::Group;

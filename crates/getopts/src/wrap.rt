@@ -4,7 +4,7 @@ ghost use Rattle.std.specs.Str.Lines.{lines};
 ghost use Rattle.getopts.specs.Wrap.{BreaksInto, IsDescriptionRows};
 ghost use Rattle.getopts.specs.Wrap.{IsFewestBreaking, parting, width_of};
 ghost use Rattle.getopts.specs.Only.{IsTheOnly};
-ghost use Rattle.getopts.specs.Held.Rows.{AddsDescription, AddsLine};
+ghost use Rattle.getopts.specs.Stored.Rows.{AddsDescription, AddsLine};
 
 use std::alloc::{AllocError, Global};
 use unicode_width::UnicodeWidthStr;

@@ -6,7 +6,8 @@ use Rattle.std.specs.String.{string_bytes}
 use Rattle.getopts.specs.Prelude.{Text, fail_text, parse_request_result}
 use Rattle.getopts.specs.declared.request.Request.{Request}
 use Rattle.getopts.specs.declared.request.Request.TheVariants.{Help, Parsed, Version}
-use Rattle.getopts_greet.specs.Greeting.{IsAskedBy, greeter_help, greeter_options, greeter_version}
+use Rattle.getopts_greet.specs.Greeting.{IsAskedOrError, greeter_help, greeter_options}
+use Rattle.getopts_greet.specs.Greeting.{greeter_version}
 use Rattle.getopts_greet.specs.declared.greeting.Greeting.{Greeting}
 use Rattle.getopts_greet.specs.declared.greeting.Refusal.{Refusal}
 use Rattle.getopts_greet.specs.declared.greeting.Refusal.TheVariants.{Line, Number, OutOfMemory}
@@ -36,7 +37,8 @@ IsAnswerOf (Err (Number error)) text status =
 -- This is the text and the status for these words.
 abbrev pub IsAnswerTo : List Text → Text → ℕ → Type 0
 IsAnswerTo words text status = (asked : Result (Request Greeting) Refusal)
-    × IsAskedBy (parse_request_result greeter_options words) asked × IsAnswerOf asked text status
+    × IsAskedOrError (parse_request_result greeter_options words) asked
+    × IsAnswerOf asked text status
 
 -- The writer has received the text for these words, which have this status.
 abbrev pub Shows : Option (List ℕ) → Option (List ℕ) → List Text → ℕ → Type 0

@@ -5,8 +5,8 @@ use Rattle.std.specs.Option.{option_map}
 use Rattle.std.specs.Str.Parse.{ParsesUnsigned}
 use Rattle.std.specs.String.{string_bytes}
 use Rattle.std.specs.declared.num.ParseIntError.{ParseIntError}
-use Rattle.getopts.specs.Prelude.{Declared, Fault, IsReadAs, Matched, Text, fault_of, first_value}
-use Rattle.getopts.specs.Prelude.{found_of, group_of}
+use Rattle.getopts.specs.Prelude.{Declared, Fault, IsParsedAs, Matched, Text, fault_of, first_value}
+use Rattle.getopts.specs.Prelude.{group_of, occurrences_of_name}
 use Rattle.getopts.specs.declared.fail.Fail.{Fail}
 use Rattle.getopts.specs.declared.fail.Fail.TheVariants as fail
 use Rattle.getopts.specs.declared.groups.HasArg.TheVariants.{No, Yes}
@@ -51,27 +51,30 @@ refusal_of fail = Line fail
 
 -- The matches give this name, and this number or none.
 pub record IsGreetingOf (matches : Matched) (greeting : Greeting) : Type 0 where
-  pub name : first_value (found_of matches.groups (codes "name")) ≡ Some (string_bytes greeting.name)
-  pub times : IsReadAs {E = ParseIntError} (ParsesUnsigned 32 10)
-      (first_value (found_of matches.groups (codes "times"))) (Ok greeting.times)
+  pub name : first_value
+      (occurrences_of_name matches.groups (codes "name")) ≡ Some (string_bytes greeting.name)
+  pub times : IsParsedAs {E = ParseIntError} (ParsesUnsigned 32 10)
+      (first_value (occurrences_of_name matches.groups (codes "times"))) (Ok greeting.times)
 
 -- Out of memory says nothing about the matches.
 -- This is the greeting that matches ask for, or why there is none: a number that can't be read.
-abbrev pub IsGreetingBy : Matched → Result Greeting Refusal → Type 0
-IsGreetingBy matches (Err OutOfMemory) = ⊤
-IsGreetingBy matches (Err (Number error)) = IsReadAs {T = ℕ} (ParsesUnsigned 32 10)
-    (first_value (found_of matches.groups (codes "times"))) (Err error)
-IsGreetingBy matches (Err (Line fail)) = ⊥
-IsGreetingBy matches (Ok greeting) = IsGreetingOf matches greeting
+abbrev pub IsGreetingOrError : Matched → Result Greeting Refusal → Type 0
+IsGreetingOrError matches (Err OutOfMemory) = ⊤
+IsGreetingOrError matches (Err (Number error)) = IsParsedAs {T = ℕ} (ParsesUnsigned 32 10)
+    (first_value (occurrences_of_name matches.groups (codes "times"))) (Err error)
+IsGreetingOrError matches (Err (Line fail)) = ⊥
+IsGreetingOrError matches (Ok greeting) = IsGreetingOf matches greeting
 
 -- A command line asks for nothing if it has an error, or a number that can't be read. Out of memory
 -- says nothing about the command line.
 -- This is what a command line asks for, or why it asks for nothing.
-abbrev pub IsAskedBy : Result (Request Matched) Fault → Result (Request Greeting) Refusal → Type 0
-IsAskedBy asked (Err OutOfMemory) = ⊤
-IsAskedBy asked (Err (Line fail)) = option_map Err (fault_of fail) ≡ Some asked
-IsAskedBy (Ok Help) (Ok Help) = ⊤
-IsAskedBy (Ok Version) (Ok Version) = ⊤
-IsAskedBy (Ok (Parsed matches)) (Ok (Parsed greeting)) = IsGreetingOf matches greeting
-IsAskedBy (Ok (Parsed matches)) (Err (Number error)) = IsGreetingBy matches (Err (Number error))
-IsAskedBy asked result = ⊥
+abbrev pub IsAskedOrError : Result (Request Matched) Fault → Result (Request Greeting) Refusal
+    → Type 0
+IsAskedOrError asked (Err OutOfMemory) = ⊤
+IsAskedOrError asked (Err (Line fail)) = option_map Err (fault_of fail) ≡ Some asked
+IsAskedOrError (Ok Help) (Ok Help) = ⊤
+IsAskedOrError (Ok Version) (Ok Version) = ⊤
+IsAskedOrError (Ok (Parsed matches)) (Ok (Parsed greeting)) = IsGreetingOf matches greeting
+IsAskedOrError (Ok (Parsed matches)) (Err (Number error)) =
+    IsGreetingOrError matches (Err (Number error))
+IsAskedOrError asked result = ⊥

@@ -3,10 +3,10 @@
 ghost use Rattle.std.specs.Prelude.{◌≡◌, [], ◌∷◌, codes, map, IfOk, Ok, Some};
 ghost use Rattle.std.specs.Str.Parse.{ParsesUnsigned};
 ghost use Rattle.std.specs.String.{string_bytes};
-ghost use Rattle.getopts.specs.Prelude.{HoldDeclared, IsDefined, IsReadAs, Matched, first_value};
-ghost use Rattle.getopts.specs.Prelude.{found_of, parse_request_result};
+ghost use Rattle.getopts.specs.Prelude.{FitOptionsAndCounts, IsDefined, IsParsedAs, Matched};
+ghost use Rattle.getopts.specs.Prelude.{first_value, occurrences_of_name, parse_request_result};
 ghost use Rattle.getopts.specs.declared.request.Request.TheVariants.{Help, Parsed};
-ghost use Rattle.getopts_greet.specs.Greeting.{IsAskedBy, IsGreetingBy, greeter_help};
+ghost use Rattle.getopts_greet.specs.Greeting.{IsAskedOrError, IsGreetingOrError, greeter_help};
 ghost use Rattle.getopts_greet.specs.Greeting.{greeter_options, refusal_of};
 ghost use Rattle.getopts_greet.specs.declared.greeting.Refusal.TheVariants.{Number, OutOfMemory};
 
@@ -84,7 +84,7 @@ pub fn help_text(alloc: Global) -> Result<String, AllocError>
 /// What a command line asks for: help and the version are printed even if an option is missing, but
 /// not if a word can't be read.
 pub fn read<S: AsStr>(alloc: Global, words: &[S]) -> Result<Request<Greeting>, Refusal>
-    ensures { IsAskedBy (parse_request_result greeter_options (map S.text words.now)) result }
+    ensures { IsAskedOrError (parse_request_result greeter_options (map S.text words.now)) result }
 {
     let options = options(alloc)?;
     match options.parse_request(alloc, words)? {
@@ -99,15 +99,15 @@ pub fn read<S: AsStr>(alloc: Global, words: &[S]) -> Result<Request<Greeting>, R
 fn lines_written_out()
     ensures greeting { (matches : Matched)
         × (parse_request_result greeter_options (codes "-nAnn" ∷ codes "-t2" ∷ []) ≡ Ok (Parsed matches))
-        × (first_value (found_of matches.groups (codes "name")) ≡ Some (codes "Ann"))
-        × (first_value (found_of matches.groups (codes "times")) ≡ Some (codes "2")) }
+        × (first_value (occurrences_of_name matches.groups (codes "name")) ≡ Some (codes "Ann"))
+        × (first_value (occurrences_of_name matches.groups (codes "times")) ≡ Some (codes "2")) }
     ensures help { parse_request_result greeter_options (codes "-Vh" ∷ []) ≡ Ok Help }
 {}
 
 /// The greeting that matches ask for.
 fn greeting_of(alloc: Global, matches: &Matches) -> Result<Greeting, Refusal>
-    requires { HoldDeclared greeter_options matches.now.groups }
-    ensures { IsGreetingBy matches.now result }
+    requires { FitOptionsAndCounts greeter_options matches.now.groups }
+    ensures { IsGreetingOrError matches.now result }
 {
     Ok(Greeting {
         name: matches.opt_str(alloc, "name")?.unwrap(),
@@ -118,8 +118,8 @@ fn greeting_of(alloc: Global, matches: &Matches) -> Result<Greeting, Refusal>
 /// The number of an option, if it was given.
 fn number(matches: &Matches, name: &str) -> Result<Option<u32>, ParseIntError>
     requires { IsDefined matches.now.groups name.now }
-    ensures { IsReadAs (ParsesUnsigned 32 10)
-        (first_value (found_of matches.now.groups name.now)) result }
+    ensures { IsParsedAs (ParsesUnsigned 32 10)
+        (first_value (occurrences_of_name matches.now.groups name.now)) result }
 {
     matches.opt_get(name)
 }

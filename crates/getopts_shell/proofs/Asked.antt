@@ -5,19 +5,21 @@ use Rattle.std.proofs.Common.{drop_of_length-le, get_or, length, map, refl, subs
 use Rattle.std.specs.Prelude.{if◌then◌else◌, ◌&&◌}
 use Rattle.std.specs.Option.{is_none}
 use Rattle.std.proofs.lemmas.Bool.{false≢true}
-use Rattle.getopts.specs.Accessors.{found_in}
+use Rattle.getopts.specs.Accessors.{occurrences_of_group}
 use Rattle.getopts.specs.Fail.{Fault}
 use Rattle.getopts.specs.Matches.{Matched, MatchedGroup, matched, matches_of}
 use Rattle.getopts.specs.Names.{Text}
 use Rattle.getopts.specs.Options.{Declared, Signature, signatures_of}
 use Rattle.getopts.specs.Reading.{Occurrence, Reading}
-use Rattle.getopts.specs.Results.{broken_count, first_count_fault, fits_count, line_result, made_of}
-use Rattle.getopts.specs.Results.{parse_result, read_result, reading_result, unless_fault}
+use Rattle.getopts.specs.Results.{accepted_reading, broken_count, first_count_fault, fits_count}
+use Rattle.getopts.specs.Results.{made_of}
+use Rattle.getopts.specs.Results.{parse_ignoring_counts_result, parse_result, reading_or_error}
+use Rattle.getopts.specs.Results.{unless_fault}
 use Rattle.getopts.specs.Results.{with_counts_kept}
 use Rattle.getopts.specs.declared.groups.Occur.{Occur}
 use Rattle.getopts.proofs.MainTheorem.Results.{made_of-ok}
-use Rattle.getopts_shell.specs.Held.{entry_of_row, groups_of, held_signatures}
 use Rattle.getopts_shell.specs.Program.{Asked, asked_fault}
+use Rattle.getopts_shell.specs.Stored.{entry_of_row, groups_of, held_signatures}
 use Rattle.getopts_shell.specs.Table.{Entry, group_of_entry, occurrence_of}
 use Rattle.getopts_shell.specs.Variables.{Given, HaveOwnVariables, SetsVariables, VariableFault}
 use Rattle.getopts_shell.specs.Variables.{first_fault, given_from, is_prefix}
@@ -63,20 +65,21 @@ matched_signatures place (signature ∷ signatures) occurrences =
 
 -- the matches of words have the signatures of the options
 pub held_signatures_are : (options : Declared) (words : List Text) (matches : Matched)
-    → read_result options words ≡ Ok matches → held_signatures matches.groups
+    → parse_ignoring_counts_result options words ≡ Ok matches → held_signatures matches.groups
     ≡ signatures_of options.groups
 held_signatures_are options words matches is =
-    let made = made_of-ok (matches_of options) (reading_result options words) matches is in
+    let made = made_of-ok (matches_of options) (reading_or_error options words) matches is in
     ap (λ (m : Matched). held_signatures m.groups) (sym made.2)
     ∙ matched_signatures 0 (signatures_of options.groups) _
 
 -- matches of words without a count error are the result of the words
 pub kept_result : (options : Declared) (words : List Text) (matches : Matched)
-    → read_result options words ≡ Ok matches → is_none (first_count_fault matches.groups) ≡ true
+    → parse_ignoring_counts_result options words ≡ Ok matches
+    → is_none (first_count_fault matches.groups) ≡ true
     → parse_result options words ≡ Ok matches
-unfolding reading_result line_result
+unfolding reading_or_error accepted_reading
 kept_result options words matches is kept =
-    let made = made_of-ok (matches_of options) (reading_result options words) matches is in
+    let made = made_of-ok (matches_of options) (reading_or_error options words) matches is in
     ap (λ outcome. made_of (matches_of options) (with_counts_kept options outcome)) made.1
     ∙ by_fault made.0 (first_count_fault (matches_of options made.0).groups)
     (ap (λ (m : Matched). is_none (first_count_fault m.groups)) made.2 ∙ kept) made.2
@@ -102,18 +105,18 @@ pub counts_from : (groups : List MatchedGroup) (rows : List Row) (place : ℕ) (
     → held_signatures groups ≡ signatures_of (groups_of rows) → place < length rows → row
     ≡ get_or rows place row
     → is_none (first_count_fault (drop place groups))
-    ≡ (fits_count (occurrence_of false row.frequency) (length (found_in groups place))
+    ≡ (fits_count (occurrence_of false row.frequency) (length (occurrences_of_group groups place))
     && is_none (first_count_fault (drop (place + 1) groups)))
 counts_from groups rows place row same below row_is =
     by_place groups rows place same below row_is
-    ∙ ap (λ (n : ℕ). fits_count (occurrence_of false row.frequency) (length (found_in groups place))
+    ∙ ap (λ (n : ℕ). fits_count (occurrence_of false row.frequency) (length (occurrences_of_group groups place))
     && is_none (first_count_fault (drop n groups))) (sym (add-one place))
   where
     by_place : (groups : List MatchedGroup) (rows : List Row) (place : ℕ)
         → held_signatures groups ≡ signatures_of (groups_of rows) → place < length rows → row
         ≡ get_or rows place row
         → is_none (first_count_fault (drop place groups))
-        ≡ (fits_count (occurrence_of false row.frequency) (length (found_in groups place))
+        ≡ (fits_count (occurrence_of false row.frequency) (length (occurrences_of_group groups place))
         && is_none (first_count_fault (drop (suc place) groups)))
     by_place groups [] place same below row_is = absurd (omega arith)
     by_place [] (other ∷ rows) place same below row_is = cc

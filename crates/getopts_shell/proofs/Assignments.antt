@@ -12,12 +12,12 @@ use Rattle.std.proofs.lemmas.Bool.Decides.{nat_tests}
 use Rattle.std.proofs.lemmas.List.{length-map, map-append, take_more}
 use Rattle.std.proofs.lemmas.List.Concat.{flat_map-append}
 use Rattle.std.proofs.lemmas.List.Folds.{list_all-append, list_all-map}
-use Rattle.getopts.specs.Accessors.{each_value, found_in}
-use Rattle.getopts.specs.Matches.{Found, MatchedGroup}
+use Rattle.getopts.specs.Accessors.{each_value, occurrences_of_group}
+use Rattle.getopts.specs.Matches.{GroupOccurrence, MatchedGroup}
 use Rattle.getopts.specs.Names.{Text, main_name}
 use Rattle.getopts.specs.Wrap.{parting}
-use Rattle.getopts_shell.specs.Held.{entries_of, entry_of_row}
 use Rattle.getopts_shell.specs.Quote.{quoted, quoted_words, replaced, spaced}
+use Rattle.getopts_shell.specs.Stored.{entries_of, entry_of_row}
 use Rattle.getopts_shell.specs.Table.{Entry}
 use Rattle.getopts_shell.specs.Variables.{first_fault, given_from, is_variable, with_same_variable}
 use Rattle.getopts_shell.specs.Variables.{is_variable_byte, texts_found, variable, variable_byte}
@@ -44,7 +44,7 @@ name_written (byte ∷ name) = rw (name_written name) (by_test (eqb byte 45))
 -- ---- values
 
 -- the value of an occurrence, or the empty text
-pub text_of : (founds : List Found) (nth : ℕ)
+pub text_of : (founds : List GroupOccurrence) (nth : ℕ)
     → get_or (texts_found founds) nth []
     ≡ option_map_or (λ found. unwrap_or found.value []) (slice_get founds nth) []
 text_of [] nth = refl
@@ -52,10 +52,10 @@ text_of (first ∷ founds) zero = refl
 text_of (first ∷ founds) (suc nth) = text_of founds nth
 
 -- there is one text for each occurrence
-pub length_texts : (founds : List Found) → length (texts_found founds) ≡ length founds
+pub length_texts : (founds : List GroupOccurrence) → length (texts_found founds) ≡ length founds
 length_texts founds =
     length-map (each_value founds) (λ (value : Option Text). unwrap_or value [])
-    ∙ length-map founds (λ (found : Found). found.value)
+    ∙ length-map founds (λ (found : GroupOccurrence). found.value)
 
 -- one more word after a space
 spaced_last : (front : Text) (words : List Text) (word : Text)
@@ -92,7 +92,7 @@ last_text (text ∷ other ∷ texts) before some =
     rw (← next) (last_text (other ∷ texts) (Some text) (omega arith))
 
 -- the value of the last occurrence
-pub last_found : (founds : List Found) (count : ℕ) → count ≡ length founds → count ≢ 0
+pub last_found : (founds : List GroupOccurrence) (count : ℕ) → count ≡ length founds → count ≢ 0
     → last_or None (texts_found founds) ≡ Some (get_or (texts_found founds) (count - 1) [])
 last_found founds count is some =
     last_text (texts_found founds) None (omega (arith, length_texts founds))
@@ -100,8 +100,8 @@ last_found founds count is some =
 
 -- one more option
 pub given_more : (place : ℕ) (rows : List Row) (held : List MatchedGroup) (row : Row)
-    (found : List Found)
-    → place < length rows → row ≡ get_or rows place row → found ≡ found_in held place
+    (found : List GroupOccurrence)
+    → place < length rows → row ≡ get_or rows place row → found ≡ occurrences_of_group held place
     → given_from 0 (entries_of (take (place + 1) rows)) held
     ≡ given_from 0 (entries_of (take place rows)) held
     ++ record { entry = entry_of_row row; found = found } ∷ []
@@ -113,7 +113,7 @@ given_more place rows held row found below is found_is =
         → from + before ≡ place
         → given_from from (entries_of (take (suc before) rows)) held
         ≡ given_from from (entries_of (take before rows)) held
-        ++ record { entry = entry_of_row row; found = found_in held place } ∷ []
+        ++ record { entry = entry_of_row row; found = occurrences_of_group held place } ∷ []
     by_place from before [] below is here = absurd (omega arith)
     by_place from zero (other ∷ rows) below is here =
         let same : other ≡ row = sym is in

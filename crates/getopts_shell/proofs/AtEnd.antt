@@ -7,19 +7,19 @@ use Rattle.std.proofs.lemmas.Bool.{ne_eqb}
 use Rattle.std.specs.Prelude.{if◌then◌else◌, MatchResult}
 use Rattle.std.specs.Str.{IsUtf8}
 use Rattle.getopts.specs.Fail.{Fault}
-use Rattle.getopts.specs.Gives.{IsReadingOf}
+use Rattle.getopts.specs.Returns.{IsReadingOf}
 use Rattle.getopts.specs.Matches.{Matched, MatchedGroup, matches_of}
 use Rattle.getopts.specs.Names.{AreTexts, Text, texts}
 use Rattle.getopts.specs.Options.{Declared, Grammar, MayBeDeclared, grammar_of}
 use Rattle.getopts.specs.Parse.{Reads}
 use Rattle.getopts.specs.Reading.{AreWellFollowed, EndsOrIsDashed, IsReading, Item, Reading, Tail}
 use Rattle.getopts.specs.Reading.{free_items, line_end, rest, spelled_all, stop, stop_word}
-use Rattle.getopts.specs.Results.{made_of, read_result, reading_result}
+use Rattle.getopts.specs.Results.{made_of, parse_ignoring_counts_result, reading_or_error}
 use Rattle.getopts.proofs.Lists.{AllByRecursion-append}
 use Rattle.getopts.proofs.MainTheorem.Results.{HasResults-declared}
 use Rattle.getopts.proofs.Reading.Readings.{EndsOrIsDashed-spelled, spelled_all-append}
 use Rattle.getopts_shell.specs.Completion.{groups_before_option, groups_at_end}
-use Rattle.getopts_shell.specs.Held.{is_last_after_stop}
+use Rattle.getopts_shell.specs.Stored.{is_last_after_stop}
 use Rattle.getopts_shell.proofs.Written.{strings_are_texts}
 
 -- words with `--` and an empty word after them
@@ -97,14 +97,14 @@ texts_stopped words are = AllByRecursion-append IsUtf8 words (stop_word ∷ [] �
 module _ (options : Declared) (declared : MayBeDeclared options.groups) where
   -- words that have a reading are read to it
   read_as : (words : List Text) (reading : Reading) → AreTexts words → Reads options words reading
-      → reading_result options words ≡ Ok reading
+      → reading_or_error options words ≡ Ok reading
   read_as words reading are reads =
       sym (((HasResults-declared options declared words are).reading (Ok reading)).0 reads)
 
   result_of : (words : List Text) → AreTexts words
-      → IsReadingOf options words (reading_result options words)
+      → IsReadingOf options words (reading_or_error options words)
   result_of words are =
-      ((HasResults-declared options declared words are).reading (reading_result options words)).1
+      ((HasResults-declared options declared words are).reading (reading_or_error options words)).1
       refl
 
   -- no option may follow words that have no such reading
@@ -130,19 +130,20 @@ module _ (options : Declared) (declared : MayBeDeclared options.groups) where
 
   -- what the words with the stop give
   pub groups_before_option-stop : (words : List Text) → AreTexts words
-      → groups_after (read_result options (with_stop words)) ≡ groups_before_option options words
-  groups_before_option-stop words are = by (reading_result options words) refl (result_of words are) where
-    unread : (outcome : Result Reading Fault) → reading_result options words ≡ outcome
+      → groups_after (parse_ignoring_counts_result options (with_stop words))
+      ≡ groups_before_option options words
+  groups_before_option-stop words are = by (reading_or_error options words) refl (result_of words are) where
+    unread : (outcome : Result Reading Fault) → reading_or_error options words ≡ outcome
         → groups_at_end options outcome ≡ None
-        → groups_after (read_result options (with_stop words)) ≡ None
+        → groups_after (parse_ignoring_counts_result options (with_stop words)) ≡ None
     unread outcome is none = none_after words are (ap (groups_at_end options) is ∙ none)
-        (reading_result options (with_stop words))
+        (reading_or_error options (with_stop words))
         (result_of (with_stop words) (texts_stopped words are))
 
     by_tail : (items : List Item) (tail : Tail)
-        → reading_result options words ≡ Ok (record { items = items; tail = tail })
+        → reading_or_error options words ≡ Ok (record { items = items; tail = tail })
         → Reads options words (record { items = items; tail = tail })
-        → groups_after (read_result options (with_stop words))
+        → groups_after (parse_ignoring_counts_result options (with_stop words))
         ≡ groups_at_end options (Ok (record { items = items; tail = tail }))
     by_tail items line_end is reads =
         let one : length (free_items items ++ [] ∷ []) - length (free_items items) ≡ 1 =
@@ -155,20 +156,22 @@ module _ (options : Declared) (declared : MayBeDeclared options.groups) where
     by_tail items (stop more) is reads = unread _ is refl
     by_tail items (rest more) is reads = unread _ is refl
 
-    by : (outcome : Result Reading Fault) → reading_result options words ≡ outcome
+    by : (outcome : Result Reading Fault) → reading_or_error options words ≡ outcome
         → IsReadingOf options words outcome
-        → groups_after (read_result options (with_stop words)) ≡ groups_at_end options outcome
+        → groups_after (parse_ignoring_counts_result options (with_stop words))
+        ≡ groups_at_end options outcome
     by (Err fault) is reads = unread (Err fault) is refl
     by (Ok reading) is reads = by_tail reading.items reading.tail is reads
 
   -- the same for what was found for these words
   pub groups_before_option-found : (before : List (String Global)) (words : List (Bor Text))
       → texts words ≡ with_stop (map string_bytes before) → (found : Option Matched)
-      → MatchResult (read_result options (texts words)) (λ matches. found ≡ Some matches)
+      → MatchResult (parse_ignoring_counts_result options (texts words))
+      (λ matches. found ≡ Some matches)
       (λ fault. found ≡ None)
       → groups_found found ≡ groups_before_option options (map string_bytes before)
   groups_before_option-found before words words_are found is =
-      by (read_result options (with_stop (map string_bytes before))) (rw words_are at is)
+      by (parse_ignoring_counts_result options (with_stop (map string_bytes before))) (rw words_are at is)
       ∙ groups_before_option-stop (map string_bytes before) (strings_are_texts before)
     where
       by : (result : Result Matched Fault)

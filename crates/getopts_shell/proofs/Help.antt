@@ -2,7 +2,7 @@
 use Rattle.std.proofs.Common.{◌≡◌, ℕ, false, List, [], Option, Some, None, refl, sym, ap, ◌∙◌}
 use Rattle.std.specs.Prelude.{length, nat_lt, IsSome}
 use Rattle.std.specs.Option.{option_map_or}
-use Rattle.getopts.specs.Accessors.{IsDefined, found_in, is_present, place_of}
+use Rattle.getopts.specs.Accessors.{IsDefined, is_present, occurrences_of_group, place_of}
 use Rattle.getopts.specs.Fail.{Fault, fault_of}
 use Rattle.getopts.specs.Matches.{Matched, MatchedGroup, matches_of}
 use Rattle.getopts.specs.Names.{Text}
@@ -17,7 +17,7 @@ pub undefined_absent : (groups : List MatchedGroup) (name : Text) → ¬ (IsDefi
 undefined_absent groups name none = by_place (place_of groups name) none
   where
     by_place : (place : Option ℕ) → ¬ (IsSome place)
-        → nat_lt 0 (length (option_map_or (found_in groups) place [])) ≡ false
+        → nat_lt 0 (length (option_map_or (occurrences_of_group groups) place [])) ≡ false
     by_place None none = refl
     by_place (Some place) none = absurd (none refl)
 

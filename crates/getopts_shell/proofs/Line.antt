@@ -8,7 +8,7 @@ use Rattle.getopts.specs.CanonAnswers.{IsUnwritable, IsWritten, KeepsLineLaws}
 use Rattle.getopts.specs.Names.{AreTexts, Text, resolution, EmptyResolvesNot}
 use Rattle.getopts.specs.Options.{Declared, Group, names_of}
 use Rattle.getopts.specs.Reading.{Mention, holds_equals, stop_word}
-use Rattle.getopts_shell.specs.Program.{TellsWords}
+use Rattle.getopts_shell.specs.Program.{IsCanonicalLineOf}
 use Rattle.getopts_shell.proofs.Plain.{ArePlainlyNamed}
 use Rattle.getopts_shell.proofs.Written.{sets_words}
 
@@ -58,7 +58,7 @@ no_stops groups empty (m ∷ mentioned) sound =
 -- the facts about a canonical line
 pub tells_words : (options : Declared) (words line : List Text) → AreTexts line
     → EmptyResolvesNot (names_of options.groups)
-    → KeepsLineLaws options → IsWritten options words line → TellsWords options words line
+    → KeepsLineLaws options → IsWritten options words line → IsCanonicalLineOf options words line
 tells_words options words line are empty laws written = record {
   shell = sets_words line are;
   written = written;

@@ -11,7 +11,7 @@ use Rattle.std.proofs.lemmas.List.Concat.{flat_map-append}
 use Rattle.getopts.specs.Names.{Names, Text, is_empty}
 use Rattle.getopts.specs.declared.groups.HasArg.{HasArg}
 use Rattle.getopts.specs.Wrap.{lines_of}
-use Rattle.getopts_shell.specs.Held.{TellsFault}
+use Rattle.getopts_shell.specs.Stored.{IsOutOfMemoryOrFault}
 use Rattle.getopts_shell.specs.declared.table.TableError.{TableError}
 use Rattle.getopts_shell.specs.declared.table.TableError.TheVariants as error
 use Rattle.std.specs.Str.{IsTrimAscii}
@@ -284,8 +284,8 @@ ok_of_both (Ok value) is also gives = gives is also
 ok_of_both (Err error) is also gives = tt
 
 -- what an error reports has a weaker property
-pub tells_weaker : (error : TableError) (P Q : TableFault → Type 0) → TellsFault error P
-    → ((fault : TableFault) → P fault → Q fault) → TellsFault error Q
+pub tells_weaker : (error : TableError) (P Q : TableFault → Type 0) → IsOutOfMemoryOrFault error P
+    → ((fault : TableFault) → P fault → Q fault) → IsOutOfMemoryOrFault error Q
 tells_weaker (error.NoOption number item) P Q tells weaker = weaker _ tells
 tells_weaker (error.NameTwice number name) P Q tells weaker = weaker _ tells
 tells_weaker (error.LateOperand number operand other) P Q tells weaker = weaker _ tells

@@ -8,13 +8,13 @@ use Rattle.std.specs.List.{find}
 use Rattle.getopts.specs.Matches.{Matched}
 use Rattle.getopts.specs.Names.{Text}
 use Rattle.getopts.specs.Only.{IsTheOnly}
-use Rattle.getopts.specs.Results.{canonical_result, parse_result, read_result}
+use Rattle.getopts.specs.Results.{canonical_result, parse_ignoring_counts_result, parse_result}
 use Rattle.getopts_shell.specs.Completion.{functions, stub}
 use Rattle.getopts_shell.specs.Program.{Answer, AnswersAlone, AnswersCounted, AnswersDeclared}
 use Rattle.getopts_shell.specs.Program.{AnswersFree, AnswersLine, AnswersOffer, AnswersOwn}
 use Rattle.getopts_shell.specs.Program.{AnswersAccepted, AnswersRead, AnswersScript, AnswersTable}
 use Rattle.getopts_shell.specs.Program.{free_fault, AnswersWords, Asked, IsAnswer, IsHelp, IsStatus}
-use Rattle.getopts_shell.specs.Program.{OneAnswer, PrintsHelp, Script, TellsOptions, asked_by}
+use Rattle.getopts_shell.specs.Program.{IsVariablesCode, OneAnswer, PrintsHelp, Script, asked_by}
 use Rattle.getopts_shell.specs.Program.{asked_fault, asks_help, brief_text, declared, done, faulty}
 use Rattle.getopts_shell.specs.Program.{help_front, shown_options, help_code, is_alone, is_given}
 use Rattle.getopts_shell.specs.Program.{misused, no_completion, own_options, read_options}
@@ -106,7 +106,7 @@ one_help script {Is} one = record {
 }
 
 one_tells : (script : Script) (prefix : Text) (options : List _) (free : List Text)
-    → IsOne (TellsOptions script prefix options free)
+    → IsOne (IsVariablesCode script prefix options free)
 one_tells script prefix options free = record {
   only = λ answer other is also. also.answer_is ∙ sym is.answer_is;
   by = λ answer is. subst (λ (a : Answer). AnswersBy a.status) (sym is.answer_is) is_done;
@@ -151,7 +151,7 @@ one_read script words matches = one_bool (asks_help script.entries matches) (one
     (one_uncounted script words (find (is_alone matches) script.entries))
 
 one_words : (script : Script) (words : List Text) → IsOne (AnswersWords script words)
-one_words script words = one_result (read_result (read_options script) words)
+one_words script words = one_result (parse_ignoring_counts_result (read_options script) words)
     (one_read script words) (λ fault. one_equal _ is_refused)
 
 one_at_word : (script : Script) (shell : Text) (words : List Text)

@@ -13,31 +13,31 @@ use Rattle.std.proofs.lemmas.List.Concat.{flat_map-append}
 use Rattle.getopts.proofs.Wrapping.Texts.{joined-push}
 use Rattle.getopts.specs.Wrap.{IsDescriptionRows, continued, joined, parting}
 use Rattle.getopts.specs.Names.{Text}
-use Rattle.getopts_shell.specs.Held.{operand_of, operands_of}
 use Rattle.getopts_shell.specs.Program.{IsOperandRow, free_fault, operand_fault, operand_head}
 use Rattle.getopts_shell.specs.Program.{help_front, unexpected}
+use Rattle.getopts_shell.specs.Stored.{operand_of, operands_of}
 use Rattle.getopts_shell.specs.Table.{Operand, may_repeat}
-use Rattle.getopts_shell.specs.declared.operand.Operand.{Operand as OperandHeld}
+use Rattle.getopts_shell.specs.declared.operand.Operand.{Operand as StoredOperand}
 
 -- if a table has operands, the error of free words is theirs
-pub fault_of_some : (operands : List OperandHeld) (free : List Text) → 0 < length operands
+pub fault_of_some : (operands : List StoredOperand) (free : List Text) → 0 < length operands
     → free_fault (operands_of operands) free ≡ operand_fault (operands_of operands) free
 fault_of_some [] free some = absurd (omega arith)
 fault_of_some (operand ∷ operands) free some = refl
 
 -- if no word is left for an operand, it decides
-pub fault_at_end : (operands : List OperandHeld) (free : List Text) (at : ℕ) (d : OperandHeld)
+pub fault_at_end : (operands : List StoredOperand) (free : List Text) (at : ℕ) (d : StoredOperand)
     → at < length operands → length free ≤ at
     → operand_fault (operands_of (drop at operands)) (drop at free)
     ≡ operand_fault (operand_of (get_or operands at d) ∷ []) []
 fault_at_end operands free at d below past =
-    ap (λ (more : List OperandHeld). operand_fault (operands_of more) (drop at free))
-    (at_drop_more (λ (t : List OperandHeld). t) operands at d below)
+    ap (λ (more : List StoredOperand). operand_fault (operands_of more) (drop at free))
+    (at_drop_more (λ (t : List StoredOperand). t) operands at d below)
     ∙ ap (operand_fault (operands_of (get_or operands at d ∷ drop (at + 1) operands)))
     (drop_of_length-le free past)
 
 -- a word is the operand's, or all from there on are
-pub fault_from : (operands : List OperandHeld) (free : List Text) (at : ℕ) (d : OperandHeld)
+pub fault_from : (operands : List StoredOperand) (free : List Text) (at : ℕ) (d : StoredOperand)
     (again : Bool)
     → at < length operands → at < length free → may_repeat (operand_of (get_or operands at d))
     ≡ again
@@ -45,29 +45,29 @@ pub fault_from : (operands : List OperandHeld) (free : List Text) (at : ℕ) (d 
     ≡ (if again then None else operand_fault (operands_of (drop (at + 1) operands))
     (drop (at + 1) free))
 fault_from operands free at d again below more again_is =
-    ap (λ (more : List OperandHeld). operand_fault (operands_of more) (drop at free))
-    (at_drop_more (λ (t : List OperandHeld). t) operands at d below)
+    ap (λ (more : List StoredOperand). operand_fault (operands_of more) (drop at free))
+    (at_drop_more (λ (t : List StoredOperand). t) operands at d below)
     ∙ ap (operand_fault (operands_of (get_or operands at d ∷ drop (at + 1) operands)))
     (at_drop_more (λ (t : List Text). t) free at [] more)
     ∙ ap (λ (b : Bool). if b then None else operand_fault (operands_of (drop (at + 1) operands))
     (drop (at + 1) free)) again_is
 
 -- if each operand has its word, the next word is one too many
-pub fault_past : (operands : List OperandHeld) (free : List Text) (at : ℕ)
+pub fault_past : (operands : List StoredOperand) (free : List Text) (at : ℕ)
     → length operands ≤ at → at < length free
     → operand_fault (operands_of (drop at operands)) (drop at free)
     ≡ Some (unexpected (get_or free at []))
 fault_past operands free at past more =
-    ap (λ (none : List OperandHeld). operand_fault (operands_of none) (drop at free))
+    ap (λ (none : List StoredOperand). operand_fault (operands_of none) (drop at free))
     (drop_of_length-le operands past)
     ∙ ap (operand_fault []) (at_drop_more (λ (t : List Text). t) free at [] more)
 
 -- and if there is no next word, none is
-pub fault_none : (operands : List OperandHeld) (free : List Text) (at : ℕ)
+pub fault_none : (operands : List StoredOperand) (free : List Text) (at : ℕ)
     → length operands ≤ at → length free ≤ at
     → operand_fault (operands_of (drop at operands)) (drop at free) ≡ None
 fault_none operands free at past end =
-    ap (λ (none : List OperandHeld). operand_fault (operands_of none) (drop at free))
+    ap (λ (none : List StoredOperand). operand_fault (operands_of none) (drop at free))
     (drop_of_length-le operands past)
     ∙ ap (operand_fault []) (drop_of_length-le free end)
 
@@ -83,18 +83,18 @@ continued_push true separator texts text =
 continued_push false separator texts text = joined-push separator texts text
 
 -- the items of operands
-abbrev pub items_of : List OperandHeld → List Text
+abbrev pub items_of : List StoredOperand → List Text
 items_of operands = map (λ (operand : Operand). operand.item) (operands_of operands)
 
 -- what follows the last operand, as the code reads it
-abbrev pub no_operand : OperandHeld
+abbrev pub no_operand : StoredOperand
 no_operand = record {
   item = record { ref_ptr = (0, 0); now = [] };
   description = record { ref_ptr = (0, 0); now = [] };
 }
 
 -- one more operand
-pub items_push : (begun parted : Bool) (operands : List OperandHeld) (at : ℕ) (d : OperandHeld)
+pub items_push : (begun parted : Bool) (operands : List StoredOperand) (at : ℕ) (d : StoredOperand)
     (old text : Text) → at < length operands → parted ≡ (begun || nat_lt 0 at)
     → text ≡ old ++ continued begun (codes " ") (items_of (take at operands))
     → (text ++ parting parted (codes " ")) ++ (get_or operands at d).item.now

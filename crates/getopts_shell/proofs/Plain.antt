@@ -5,7 +5,7 @@ use Rattle.std.specs.List.{AllByRecursion, list_all}
 use Rattle.getopts.specs.Names.{Text, Names, is_empty, main_name}
 use Rattle.getopts.specs.Options.{Group}
 use Rattle.getopts.specs.Reading.{begins_with_dash, holds_equals}
-use Rattle.getopts_shell.specs.Held.{entry_of_row, groups_of}
+use Rattle.getopts_shell.specs.Stored.{entry_of_row, groups_of}
 use Rattle.getopts_shell.specs.declared.row.Row.{Row}
 use Rattle.getopts_shell.specs.Table.{ends_as_name, is_long_byte, is_long_name, is_name}
 use Rattle.getopts_shell.specs.Table.{is_name_byte}

@@ -14,7 +14,7 @@ use Rattle.std.proofs.lemmas.Bool.{and_from, and_parts, cond_both}
 use Rattle.std.proofs.lemmas.Bool.Decides.{nat_tests}
 use Rattle.std.proofs.lemmas.List.{length-map}
 use Rattle.std.proofs.lemmas.Str.{IsUtf8-string_bytes}
-use Rattle.getopts.specs.Matches.{Found}
+use Rattle.getopts.specs.Matches.{GroupOccurrence}
 use Rattle.getopts.specs.Names.{AreTexts, Text}
 use Rattle.getopts.specs.declared.groups.HasArg.{HasArg}
 use Rattle.getopts.specs.declared.groups.HasArg.TheVariants.{Yes, No, Maybe}
@@ -82,7 +82,7 @@ count_gives count = by_test (eqb count 0)
 -- ---- values
 
 -- the values in bytes are the bytes of the values
-texts_in_bytes : (founds : List Found)
+texts_in_bytes : (founds : List GroupOccurrence)
     → texts_found (map found_in_bytes founds) ≡ map bytes_of (texts_found founds)
 texts_in_bytes [] = refl
 texts_in_bytes (found ∷ founds) = by_value found.value (texts_in_bytes founds)
@@ -119,7 +119,7 @@ many_give name texts named are =
     (append_gives (words_give texts are) (ascii_gives (codes ")\n") refl))))
 
 -- the line of an option that takes an argument
-argument_gives : (name : Text) (arrays all : Bool) (founds : List Found) → Gives name name
+argument_gives : (name : Text) (arrays all : Bool) (founds : List GroupOccurrence) → Gives name name
     → AreTextValues Yes all founds
     → Gives (value_line name (held_value arrays Yes all founds))
     (value_line name (held_value arrays Yes all (map found_in_bytes founds)))
@@ -138,7 +138,7 @@ argument_gives name arrays false founds named are =
     by_last (Some text) utf8 = one_gives name text _ named (text_gives text utf8)
 
 -- the line of an option
-value_gives : (name : Text) (arrays all : Bool) (kind : HasArg) (founds : List Found)
+value_gives : (name : Text) (arrays all : Bool) (kind : HasArg) (founds : List GroupOccurrence)
     → Gives name name
     → AreTextValues kind all founds
     → Gives (value_line name (held_value arrays kind all founds))

@@ -10,7 +10,7 @@ use Rattle.getopts.specs.Matches.{MatchedGroup, matches_of}
 use Rattle.getopts.specs.Names.{Text, is_empty, main_name}
 use Rattle.getopts.specs.Options.{Declared}
 use Rattle.getopts.specs.Reading.{Reading, Tail, line_end}
-use Rattle.getopts.specs.Results.{reading_result}
+use Rattle.getopts.specs.Results.{reading_or_error}
 use Rattle.getopts.specs.declared.groups.HasArg.{HasArg}
 use Rattle.getopts.specs.declared.groups.HasArg.TheVariants.{No}
 use Rattle.getopts_shell.specs.declared.complete.TheConstants.{BASH, ZSH, FISH}
@@ -34,7 +34,7 @@ groups_at_end options (Err fault) = None
 
 -- the groups of words whose reading ends with the line, so that an option may follow them
 abbrev pub groups_before_option : Declared → List Text → Option (List MatchedGroup)
-groups_before_option options before = groups_at_end options (reading_result options before)
+groups_before_option options before = groups_at_end options (reading_or_error options before)
 
 -- whether all values of an option count
 abbrev pub holds_all : Frequency → Bool

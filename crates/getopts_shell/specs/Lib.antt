@@ -13,5 +13,5 @@ pub mod Program
 -- Cited by private clauses alone.
 
 -- what the code stores, and the values that it represents
-pub mod Held
-pub mod HeldScript
+pub mod Stored
+pub mod StoredScript

@@ -7,7 +7,7 @@ use Rattle.std.specs.Io.KnownBytes.{Appends}
 use Rattle.std.specs.List.{AllByRecursion, AllZip, find, last_or, list_any}
 use Rattle.std.specs.Option.{option_map_or, unwrap_or}
 use Rattle.std.specs.Str.{bytes_eq}
-use Rattle.getopts.specs.Accessors.{first_value, found_of, is_present}
+use Rattle.getopts.specs.Accessors.{first_value, is_present, occurrences_of_name}
 use Rattle.getopts.specs.Canon.{HasCanonicalLine, canonical_word}
 use Rattle.getopts.specs.CanonAnswers.{IsWritten}
 use Rattle.getopts.specs.Fail.{Fault, fault_text}
@@ -16,7 +16,7 @@ use Rattle.getopts.specs.Names.{AreTexts, Text, main_name}
 use Rattle.getopts.specs.Only.{IsTheOnly}
 use Rattle.getopts.specs.Options.{Group, Declared, group_of}
 use Rattle.getopts.specs.Reading.{stop_word}
-use Rattle.getopts.specs.Results.{canonical_result, parse_result, read_result}
+use Rattle.getopts.specs.Results.{canonical_result, parse_ignoring_counts_result, parse_result}
 use Rattle.getopts.specs.Usage.{IsUsageText, next_row, short_usage_text, spaces}
 use Rattle.getopts.specs.Wrap.{IsDescriptionRows, continued, joined}
 use Rattle.getopts.specs.declared.groups.HasArg.TheVariants.{Yes, No}
@@ -97,7 +97,7 @@ is_given own name = is_present own.groups name
 
 -- the value of the option of this name, if it has one
 abbrev pub value_given : Matched → Text → Option Text
-value_given own name = first_value (found_of own.groups name)
+value_given own name = first_value (occurrences_of_name own.groups name)
 
 -- what the program's own words ask for
 pub record Asked : Type 0 where
@@ -310,7 +310,7 @@ asked_fault asked entries = option_map_or (λ prefix. prefix_fault prefix entrie
 -- and both modes with the content of the words, and says nothing else. Its first word `--` is the
 -- stop.
 -- These are the facts about a canonical line.
-pub record TellsWords (options : Declared) (words line : List Text) : Type 0 where
+pub record IsCanonicalLineOf (options : Declared) (words line : List Text) : Type 0 where
   pub shell : SetsWords line
   pub written : IsWritten options words line
   pub reads_back : HasCanonicalLine options written.content
@@ -341,7 +341,8 @@ AnswersOffer script shell words answer = MatchOption (functions shell)
 
 -- The values are UTF-8, so a shell that runs the bytes of the code holds their bytes.
 -- These are the facts about code that sets variables for options and free words.
-pub record TellsOptions (script : Script) (prefix : Text) (options : List Given) (free : List Text)
+pub record IsVariablesCode (script : Script) (prefix : Text) (options : List Given)
+    (free : List Text)
     (answer : Answer) : Type 0 where
   pub sets : SetsVariables prefix script.asked.arrays options free
   pub values : HoldTexts options
@@ -353,19 +354,19 @@ pub record TellsOptions (script : Script) (prefix : Text) (options : List Given)
 abbrev pub AnswersAlone : Script → Entry → Answer → Type 0
 AnswersAlone script entry answer = MatchOption script.asked.variables
     (SetsWords (alone_line entry) × (answer ≡ done (line_code (alone_line entry))))
-    (λ prefix. TellsOptions script prefix (given_alone script.entries entry) [] answer)
+    (λ prefix. IsVariablesCode script prefix (given_alone script.entries entry) [] answer)
 
 -- This is the answer to accepted words: their canonical line, or variables.
 abbrev pub AnswersLine : Script → List Text → Answer → Type 0
 AnswersLine script words answer = MatchResult (canonical_result (read_options script) words)
-    (λ written. MatchOption written ⊥ (λ line. TellsWords (read_options script) words line
+    (λ written. MatchOption written ⊥ (λ line. IsCanonicalLineOf (read_options script) words line
     × (answer ≡ done (line_code line))))
     (λ fault. answer ≡ refused script fault)
 
 abbrev pub AnswersAccepted : Script → List Text → Matched → Answer → Type 0
 AnswersAccepted script words matches answer = MatchOption script.asked.variables
     (AnswersLine script words answer)
-    (λ prefix. TellsOptions script prefix (given_from 0 script.entries matches.groups) matches.free
+    (λ prefix. IsVariablesCode script prefix (given_from 0 script.entries matches.groups) matches.free
     answer)
 
 -- The answer is the first error of an option, or else of the free words. If there is none, the
@@ -394,7 +395,8 @@ AnswersRead script words matches answer = MatchBool (asks_help script.entries ma
 
 -- This is the answer to a script's words.
 abbrev pub AnswersWords : Script → List Text → Answer → Type 0
-AnswersWords script words answer = MatchResult (read_result (read_options script) words)
+AnswersWords script words answer =
+    MatchResult (parse_ignoring_counts_result (read_options script) words)
     (λ matches. AnswersRead script words matches answer) (λ fault. answer ≡ refused script fault)
 
 -- This is the answer for a script: its help, completions, or what its words mean.

@@ -6,8 +6,8 @@ use Rattle.std.specs.Char.{is_ascii_alphanumeric, is_ascii_digit}
 use Rattle.std.specs.List.{AllByRecursion, find, flat_map, last_or, list_all}
 use Rattle.std.specs.Option.{option_map, option_or, unwrap_or}
 use Rattle.std.specs.Str.{IsUtf8, bytes_eq}
-use Rattle.getopts.specs.Accessors.{each_value, found_in}
-use Rattle.getopts.specs.Matches.{Found, MatchedGroup}
+use Rattle.getopts.specs.Accessors.{each_value, occurrences_of_group}
+use Rattle.getopts.specs.Matches.{GroupOccurrence, MatchedGroup}
 use Rattle.getopts.specs.Names.{AreTexts, Text, is_empty, main_name}
 use Rattle.getopts.specs.declared.groups.HasArg.{HasArg}
 use Rattle.getopts.specs.declared.groups.HasArg.TheVariants.{No}
@@ -148,20 +148,20 @@ prefix_fault prefix entries =
 -- an option as words give it: its entry, and its occurrences
 pub record Given : Type 0 where
   pub entry : Entry
-  pub found : List Found
+  pub found : List GroupOccurrence
 
 -- the options of a table as matches give them, if the first has this place
 abbrev pub given_from : ℕ → List Entry → List MatchedGroup → List Given
 given_from place [] held = []
 given_from place (entry ∷ entries) held =
-    record { entry = entry; found = found_in held place } ∷ given_from (place + 1) entries held
+    record { entry = entry; found = occurrences_of_group held place } ∷ given_from (place + 1) entries held
 
 -- one occurrence without a value
-abbrev pub once : List Found
+abbrev pub once : List GroupOccurrence
 once = record { position = 0; value = None } ∷ []
 
 -- the occurrences of an option if only this one is given, once and without a value
-abbrev pub found_alone : Entry → Entry → List Found
+abbrev pub found_alone : Entry → Entry → List GroupOccurrence
 found_alone entry alone =
     if bytes_eq (main_name entry.names) (main_name alone.names) then once else []
 
@@ -171,17 +171,17 @@ given_alone entries alone =
     map (λ entry. record { entry = entry; found = found_alone entry alone }) entries
 
 -- the occurrences of an option, as the code stores them
-abbrev pub founds_of : OptionOccurrences → List Found
+abbrev pub founds_of : OptionOccurrences → List GroupOccurrence
 founds_of (option_occurrences.InMatches held) = held.now
 founds_of option_occurrences.Once = once
 founds_of option_occurrences.Never = []
 
 -- the values of occurrences, with an empty text for one that has none
-abbrev pub texts_found : List Found → List Text
+abbrev pub texts_found : List GroupOccurrence → List Text
 texts_found founds = map (λ value. unwrap_or value []) (each_value founds)
 
 -- all values, as an array or as words to be read once more
-abbrev pub all_values : Bool → List Found → Value
+abbrev pub all_values : Bool → List GroupOccurrence → Value
 all_values arrays founds =
     if arrays then many (texts_found founds) else one (quoted_words (texts_found founds))
 
@@ -191,7 +191,7 @@ count_text count = if count == 0 then [] else decimal count
 
 -- what a variable holds: how often the option was given if it takes no argument, all values, or
 -- the last value if there is one
-abbrev pub held_value : Bool → HasArg → Bool → List Found → Option Value
+abbrev pub held_value : Bool → HasArg → Bool → List GroupOccurrence → Option Value
 held_value arrays No all founds = Some (one (count_text (length founds)))
 held_value arrays kind true founds = Some (all_values arrays founds)
 held_value arrays kind false founds = option_map one (last_or None (texts_found founds))
@@ -234,14 +234,14 @@ variables_code prefix arrays options free =
 -- ---- what a shell makes of the text, and of its bytes
 
 -- an option with the bytes of its values
-abbrev pub found_in_bytes : Found → Found
+abbrev pub found_in_bytes : GroupOccurrence → GroupOccurrence
 found_in_bytes found = record found { value = option_map bytes_of found.value }
 
 abbrev pub in_bytes : Given → Given
 in_bytes option = record option { found = map found_in_bytes option.found }
 
 -- What a variable holds of an option is UTF-8.
-abbrev pub AreTextValues : HasArg → Bool → List Found → Type 0
+abbrev pub AreTextValues : HasArg → Bool → List GroupOccurrence → Type 0
 AreTextValues No all founds = ⊤
 AreTextValues kind true founds = AreTexts (texts_found founds)
 AreTextValues kind false founds = MatchOption (last_or None (texts_found founds)) ⊤ IsUtf8

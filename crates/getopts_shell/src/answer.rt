@@ -10,27 +10,27 @@ ghost use Rattle.std.specs.String.{string_bytes};
 ghost use Rattle.getopts.specs.Fail.{Fault, fault_of};
 ghost use Rattle.getopts.specs.Names.{AreTexts, Text};
 ghost use Rattle.getopts.specs.Options.{signatures_of};
-ghost use Rattle.getopts.specs.Results.{first_count_fault, fits_count, parse_result, read_result};
+ghost use Rattle.getopts.specs.Results.{first_count_fault, fits_count};
+ghost use Rattle.getopts.specs.Results.{parse_ignoring_counts_result, parse_result};
 ghost use Rattle.getopts_shell.specs.Completion.{offer, takes_argument};
-ghost use Rattle.getopts_shell.specs.Held.{HasOwnGroups, answer_of, asked_of, entries_of};
-ghost use Rattle.getopts_shell.specs.Held.{entry_of_row, fault_told, groups_of, held_signatures};
-ghost use Rattle.getopts_shell.specs.Held.{operand_fault_told, operand_of, operands_of};
-ghost use Rattle.getopts_shell.specs.Held.{variable_fault_told};
-ghost use Rattle.getopts_shell.specs.Held.{with_groups};
-ghost use Rattle.getopts_shell.specs.HeldScript.{script_of};
 ghost use Rattle.getopts_shell.specs.Program.{AnswersAccepted, AnswersAlone, AnswersCounted};
 ghost use Rattle.getopts_shell.specs.Program.{AnswersDeclared, operand_fault_line, refused_by};
 ghost use Rattle.getopts_shell.specs.Program.{usage_line, AnswersFree, AnswersLine, AnswersOffer};
 ghost use Rattle.getopts_shell.specs.Program.{AnswersOwn, AnswersRead, AnswersScript, AnswersTable};
 ghost use Rattle.getopts_shell.specs.Program.{AnswersWords, AppendsFront, IsAnswer, IsHelp};
 ghost use Rattle.getopts_shell.specs.Program.{IsOutput, IsStatus, ShowsAnswer, ShowsFront};
-ghost use Rattle.getopts_shell.specs.Program.{TellsOptions, alone_line, asked_by, asked_fault};
+ghost use Rattle.getopts_shell.specs.Program.{IsVariablesCode, alone_line, asked_by, asked_fault};
 ghost use Rattle.getopts_shell.specs.Program.{asks_help, brief_text, completion_answer, done};
 ghost use Rattle.getopts_shell.specs.Program.{fault_line, help_code, help_front, is_alone};
 ghost use Rattle.getopts_shell.specs.Program.{last_word, misused, no_completion, options_in};
 ghost use Rattle.getopts_shell.specs.Program.{own_groups, own_options, read_options, refused};
 ghost use Rattle.getopts_shell.specs.Program.{shown_options, stands_alone, table_fault_line};
 ghost use Rattle.getopts_shell.specs.Program.{variable_fault_line};
+ghost use Rattle.getopts_shell.specs.Stored.{HasOwnGroups, answer_of, asked_of, entries_of};
+ghost use Rattle.getopts_shell.specs.Stored.{entry_of_row, fault_told, groups_of, held_signatures};
+ghost use Rattle.getopts_shell.specs.Stored.{operand_fault_told, operand_of, operands_of};
+ghost use Rattle.getopts_shell.specs.Stored.{variable_fault_told, with_groups};
+ghost use Rattle.getopts_shell.specs.StoredScript.{script_of};
 ghost use Rattle.getopts_shell.specs.Table.{TableFault, groups_as, late_operand, occurrence_of};
 ghost use Rattle.getopts_shell.specs.Variables.{given_from, line_code};
 
@@ -671,7 +671,8 @@ fn read_answer(
     words: &[String],
     matches: &Matches,
 ) -> Result<Outcome, AllocError>
-    requires { read_result (read_options (script_of script)) (map string_bytes words.now) ≡ Ok matches.now }
+    requires { parse_ignoring_counts_result (read_options (script_of script))
+        (map string_bytes words.now) ≡ Ok matches.now }
     ensures { IfOk result (λ outcome.
         AnswersRead (script_of script.entry) (map string_bytes words.now) matches.now (answer_of outcome)) }
 {
@@ -776,7 +777,8 @@ fn counted_answer(
     words: &[String],
     matches: &Matches,
 ) -> Result<Outcome, AllocError>
-    requires { read_result (read_options (script_of script)) (map string_bytes words.now) ≡ Ok matches.now }
+    requires { parse_ignoring_counts_result (read_options (script_of script))
+        (map string_bytes words.now) ≡ Ok matches.now }
     ensures { IfOk result (λ outcome.
         AnswersCounted (script_of script.entry) (map string_bytes words.now) (answer_of outcome)) }
 {
@@ -857,7 +859,7 @@ fn variables_answer(
     matches: &Matches,
 ) -> Result<Outcome, AllocError>
     requires { (asked_of script.asked.now).variables ≡ Some prefix.now }
-    ensures { IfOk result (λ outcome. TellsOptions (script_of script.entry) prefix.now
+    ensures { IfOk result (λ outcome. IsVariablesCode (script_of script.entry) prefix.now
         (given_from 0 (script_of script.entry).entries matches.now.groups) matches.now.free
         (answer_of outcome)) }
 {

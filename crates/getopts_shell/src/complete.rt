@@ -9,13 +9,13 @@ ghost use Rattle.std.specs.String.{string_bytes};
 ghost use Rattle.getopts.specs.Accessors.{is_present};
 ghost use Rattle.getopts.specs.Fail.{Fault, fault_of};
 ghost use Rattle.getopts.specs.Names.{texts};
-ghost use Rattle.getopts.specs.Results.{read_result};
+ghost use Rattle.getopts.specs.Results.{parse_ignoring_counts_result};
 ghost use Rattle.getopts.specs.Reading.{stop_word};
 ghost use Rattle.getopts_shell.specs.Completion.{groups_before_option, holds_all, may_come, name_line, offer};
 ghost use Rattle.getopts_shell.specs.Completion.{option_lines, options_lines, takes_argument};
 ghost use Rattle.getopts_shell.specs.Completion.{first_line, functions, modes, stub, stub_call};
 ghost use Rattle.getopts_shell.specs.Completion.{stub_quoted};
-ghost use Rattle.getopts_shell.specs.Held.{entries_of, entry_of_row, is_last_after_stop};
+ghost use Rattle.getopts_shell.specs.Stored.{entries_of, entry_of_row, is_last_after_stop};
 
 use crate::item::is_long_name;
 use crate::quote::{push_parting, push_replaced};
@@ -239,7 +239,8 @@ fn read_words(
     options: &Options,
     words: &[&str],
 ) -> Result<Option<Matches>, AllocError>
-    ensures { IfOk result (λ found. MatchResult (read_result options.now (texts words.now))
+    ensures { IfOk result
+        (λ found. MatchResult (parse_ignoring_counts_result options.now (texts words.now))
         (λ matches. found ≡ Some matches) (λ fault. found ≡ None)) }
 {
     match options.parse_ignoring_counts(alloc, words) {

@@ -1,8 +1,8 @@
 //! What the program is asked for, and the script that asks.
 
 ghost use Rattle.std.specs.Prelude.{◌≡◌, None};
-ghost use Rattle.getopts_shell.specs.Held.{asked_of, entries_of, groups_of};
 ghost use Rattle.getopts_shell.specs.Program.{asked_fault, options_in};
+ghost use Rattle.getopts_shell.specs.Stored.{asked_of, entries_of, groups_of};
 
 use crate::table::Table;
 use crate::variables::Variables;

@@ -6,8 +6,8 @@ ghost use Rattle.std.specs.List.{list_any};
 ghost use Rattle.std.specs.Option.{option_copied, option_to_list};
 ghost use Rattle.std.specs.Str.{bytes_eq};
 ghost use Rattle.getopts.specs.Names.{Text, is_empty};
-ghost use Rattle.getopts_shell.specs.Held.{entry_of_row, entries_of, operand_of, operands_of};
-ghost use Rattle.getopts_shell.specs.Held.{TellsFault};
+ghost use Rattle.getopts_shell.specs.Stored.{entry_of_row, entries_of, operand_of, operands_of};
+ghost use Rattle.getopts_shell.specs.Stored.{IsOutOfMemoryOrFault};
 ghost use Rattle.getopts_shell.specs.Table.{trimmed, begins_gap, before_gap, from_gap};
 ghost use Rattle.getopts_shell.specs.Table.{any_has_name, name_again, Entry, OneTableOneList};
 ghost use Rattle.getopts_shell.specs.Table.{Declares, DeclaresOptions, IsLineFault, IsTableFault};
@@ -49,7 +49,7 @@ pub(crate) fn declared_in<'t>(alloc: Global, text: &'t str) -> Result<Table<'t>,
     ensures { MatchResult result
         (λ table. DeclaresOptions text.now (entries_of table.rows.items)
         × (operands_of table.operands.items ≡ operands_in text.now))
-        (λ error. TellsFault error (IsTableFault text.now)) }
+        (λ error. IsOutOfMemoryOrFault error (IsTableFault text.now)) }
 {
     let mut table = Table {
         rows: Vec::new(alloc),
@@ -73,7 +73,7 @@ fn push_line<'t>(table: &mut Table<'t>, number: usize, line: &'t str) -> Result<
         ≡ operands_of table.old.operands.items ++ option_to_list (operand_at line.now)) }
     ensures in_order { OnOk result (IfSome (operand_at line.now)
         (λ operand. conflicting_operand (operands_of table.old.operands.items) operand ≡ None)) }
-    ensures fault { IfErr result (λ error. TellsFault error (IsLineFault number
+    ensures fault { IfErr result (λ error. IsOutOfMemoryOrFault error (IsLineFault number
         (entries_of table.old.rows.items) (operands_of table.old.operands.items) line.now)) }
 {
     let line = trimmed(line);
@@ -103,7 +103,8 @@ fn push_operand<'t>(
         ≡ operands_of operands.old.items ++ operand_of operand.entry ∷ []) }
     ensures in_order { OnOk result
         (conflicting_operand (operands_of operands.old.items) (operand_of operand.entry) ≡ None) }
-    ensures fault { IfErr result (λ error. TellsFault error (λ fault. (earlier : OperandOfTable)
+    ensures fault { IfErr result
+        (λ error. IsOutOfMemoryOrFault error (λ fault. (earlier : OperandOfTable)
         × (fault ≡ late_operand number (operand_of operand.entry) earlier)
         × (conflicting_operand (operands_of operands.old.items) (operand_of operand.entry)
         ≡ Some earlier))) }
@@ -123,7 +124,7 @@ fn push_row<'t>(rows: &mut Vec<Row<'t>>, row: Row<'t>) -> Result<(), TableError<
         ≡ entries_of rows.old.items ++ entry_of_row row.entry ∷ []) }
     ensures once { OnOk result
         (name_again (entries_of rows.old.items) (entry_of_row row.entry) ≡ None) }
-    ensures fault { IfErr result (λ error. TellsFault error (λ fault. (name : Text)
+    ensures fault { IfErr result (λ error. IsOutOfMemoryOrFault error (λ fault. (name : Text)
         × (fault ≡ name_twice row.entry.line name)
         × (name_again (entries_of rows.old.items) (entry_of_row row.entry) ≡ Some name))) }
 {

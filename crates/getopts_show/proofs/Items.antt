@@ -3,9 +3,9 @@ use Rattle.std.proofs.Common.{◌≡◌, ◌∙◌, ap, subst, List, Option, Res
 use Rattle.std.specs.Borrow.{Bor}
 use Rattle.std.specs.Iterator.Runs.{EachRunFrom, IsCopiedRun, SomeRun, WholeRun, YieldsRefsInOrder}
 use Rattle.getopts.specs.Fail.{Fault}
-use Rattle.getopts.specs.Gives.{GivesAs}
+use Rattle.getopts.specs.Returns.{ReturnsConverted}
 use Rattle.getopts.specs.declared.fail.Fail.{Fail}
-use Rattle.getopts.proofs.Parsing.Faults.{Tells-weaker}
+use Rattle.getopts.proofs.Parsing.Faults.{IsOutOfMemoryOr-weaker}
 
 module _ {S T A : Type 0} {steps : S → Option (Bor A) → S → Type 0}
     {copied : T → Option A → T → Type 0} (rest : S → List A) (iter : S) (copy : T) (words : List A)
@@ -18,10 +18,10 @@ module _ {S T A : Type 0} {steps : S → Option (Bor A) → S → Type 0}
       subst P (items ∙ ap rest is ∙ rest_is) holds
 
   -- the same for a call's result
-  pub result_of_run : {B X : Type 0} (see : B → X) (result : List A → Result X Fault)
+  pub result_of_run : {B X : Type 0} (convert : B → X) (result : List A → Result X Fault)
       (answer : Result B Fail)
-      → GivesAs see answer (λ r. WholeRun copied copy (λ run. result run.items ≡ r))
-      → GivesAs see answer (λ r. result words ≡ r)
-  result_of_run see result (Ok value) is = of_run (λ xs. result xs ≡ Ok (see value)) is
-  result_of_run see result (Err fail) is =
-      Tells-weaker fail _ _ is (λ fault. of_run (λ xs. result xs ≡ Err fault))
+      → ReturnsConverted convert answer (λ r. WholeRun copied copy (λ run. result run.items ≡ r))
+      → ReturnsConverted convert answer (λ r. result words ≡ r)
+  result_of_run convert result (Ok value) is = of_run (λ xs. result xs ≡ Ok (convert value)) is
+  result_of_run convert result (Err fail) is =
+      IsOutOfMemoryOr-weaker fail _ _ is (λ fault. of_run (λ xs. result xs ≡ Err fault))

@@ -3,7 +3,7 @@ use Rattle.std.proofs.Common.{◌≡◌, ℕ, Bool, zero, suc, ◌<◌, List, []
 use Rattle.std.proofs.Common.{get_or, map, refl, ap, ◌∙◌, sym, subst, arith, Result, Ok}
 use Rattle.std.specs.Borrow.{Bor}
 use Rattle.std.specs.List.{AllByRecursion, flat_map}
-use Rattle.getopts.specs.Results.{line_result, parse_result}
+use Rattle.getopts.specs.Results.{accepted_reading, parse_result}
 use Rattle.getopts.specs.Fail.{Fault}
 use Rattle.getopts.specs.Matches.{Matched, MatchedGroup, matches_of}
 use Rattle.getopts.specs.Names.{Text, main_name, texts}
@@ -36,21 +36,21 @@ lines_of_names groups (occurrences, is) = subst
 module _ (words : List Text) (matches : Matched) (is : parse_result program_options words ≡ Ok matches) where
   pub program_groups_of : HasProgramGroups matches.groups
   program_groups_of =
-      let made = made_of-ok (matches_of program_options) (line_result program_options words) matches is in
+      let made = made_of-ok (matches_of program_options) (accepted_reading program_options words) matches is in
       (occurrences_of (grammar_of program_options) made.0, ap (λ (m : Matched). m.groups) (sym made.2))
 
   pub are_accepted : AreAccepted words
   are_accepted =
-      let made = made_of-ok (matches_of program_options) (line_result program_options words) matches is in
+      let made = made_of-ok (matches_of program_options) (accepted_reading program_options words) matches is in
       (made.0, made.1)
 
   -- a text of the reading is theirs
   pub text_of_reading : (asks : Bool) (text : Text) → asks_help matches ≡ asks
-      → ((reading : Reading) → line_result program_options words ≡ Ok reading
+      → ((reading : Reading) → accepted_reading program_options words ≡ Ok reading
       → matches_of program_options reading ≡ matches → IsReadingText asks reading text)
       → IsProgramText words text 0
   text_of_reading asks text asked says =
-      let made = made_of-ok (matches_of program_options) (line_result program_options words) matches is in
+      let made = made_of-ok (matches_of program_options) (accepted_reading program_options words) matches is in
       let asks_it : asks_help (matches_of program_options made.0) ≡ asks = ap asks_help made.2 ∙ asked in
       subst (λ (r : Result Reading Fault). IsResultText r text 0) (sym made.1)
       (subst (λ (b : Bool). IsReadingText b made.0 text) (sym asks_it) (says made.0 made.1 made.2), refl)

@@ -3,14 +3,14 @@ use Rattle.std.specs.Prelude.{◌≡◌, ◌⊎◌, ℕ, Bool, true, false, Opti
 use Rattle.std.specs.Prelude.{codes, decimal, Result, Ok, Err}
 use Rattle.std.specs.List.{flat_map}
 use Rattle.std.specs.Io.KnownBytes.{Appends}
-use Rattle.getopts.specs.Accessors.{found_of, is_present, pairs_of, positions_of}
+use Rattle.getopts.specs.Accessors.{is_present, occurrences_of_name, pairs_of, positions_of}
 use Rattle.getopts.specs.Canon.{Content, canonical_line, content_of}
 use Rattle.getopts.specs.Fail.{Fault, fault_text}
-use Rattle.getopts.specs.Matches.{Found, Matched, MatchedGroup, matched, matches_of}
+use Rattle.getopts.specs.Matches.{GroupOccurrence, Matched, MatchedGroup, matched, matches_of}
 use Rattle.getopts.specs.Names.{Text, main_name}
 use Rattle.getopts.specs.Options.{Group, Declared, group_of, signatures_of}
 use Rattle.getopts.specs.Reading.{Occurrence, Reading}
-use Rattle.getopts.specs.Results.{line_result}
+use Rattle.getopts.specs.Results.{accepted_reading}
 use Rattle.getopts.specs.Only.{IsTheOnly}
 use Rattle.getopts.specs.Usage.{IsUsageText}
 use Rattle.getopts.specs.declared.groups.HasArg.TheVariants.{Yes, No, Maybe}
@@ -40,7 +40,7 @@ abbrev pub position_mark : ℕ → Text
 position_mark position = codes " @" ++ decimal position
 
 -- the line `name: count` for some occurrences, with the mark of each position after the count
-abbrev pub count_line : Text → List Found → Text
+abbrev pub count_line : Text → List GroupOccurrence → Text
 count_line name founds =
     name ++ (codes ": " ++ (decimal (length founds)
     ++ (flat_map position_mark (positions_of founds) ++ newline)))
@@ -55,12 +55,12 @@ abbrev pub word_line : Text → Text → Text
 word_line label word = label ++ (codes ": " ++ (word ++ newline))
 
 -- the count and positions of an option with this name and these occurrences, and its values
-abbrev pub option_lines : Text → List Found → Text
+abbrev pub option_lines : Text → List GroupOccurrence → Text
 option_lines name founds = count_line name founds ++ flat_map (value_line name) (pairs_of founds)
 
 -- the lines of the option that this name resolves to, under this name
 abbrev pub named_lines : List MatchedGroup → Text → Text
-named_lines groups name = option_lines name (found_of groups name)
+named_lines groups name = option_lines name (occurrences_of_name groups name)
 
 -- The groups are the program's, each with its share of some occurrences.
 abbrev pub HasProgramGroups : List MatchedGroup → Type 0
@@ -85,7 +85,7 @@ fault_line fault = codes "getopts_show: " ++ (fault_text fault ++ newline)
 
 -- The program's options accept these words.
 abbrev pub AreAccepted : List Text → Type 0
-AreAccepted words = (reading : Reading) × (line_result program_options words ≡ Ok reading)
+AreAccepted words = (reading : Reading) × (accepted_reading program_options words ≡ Ok reading)
 
 -- whether matches ask for help
 abbrev pub asks_help : Matched → Bool
@@ -126,7 +126,7 @@ IsResultText (Err fault) text status = (text ≡ fault_line fault) × (status �
 
 -- These are the output and the status for the words.
 abbrev pub IsProgramText : List Text → Text → ℕ → Type 0
-IsProgramText words text status = IsResultText (line_result program_options words) text status
+IsProgramText words text status = IsResultText (accepted_reading program_options words) text status
 
 -- The status is 0 if help, or the meaning of accepted words, was shown; 2 if the error of rejected
 -- words was shown; 3 if an allocation failed; and 4 if writing or flushing failed.

@@ -6,15 +6,15 @@ ghost use Rattle.std.specs.List.{flat_map};
 ghost use Rattle.std.specs.Option.{option_map};
 ghost use Rattle.std.specs.String.{string_bytes};
 ghost use Rattle.std.specs.Io.KnownBytes.{Appends};
-ghost use Rattle.getopts.specs.Accessors.{AreDefined, IsDefined, found_of, pair_view};
+ghost use Rattle.getopts.specs.Accessors.{AreDefined, IsDefined, occurrences_of_name, pair_view};
 ghost use Rattle.getopts.specs.Fail.{Fault, fault_of};
 ghost use Rattle.getopts.specs.Names.{texts};
 ghost use Rattle.getopts.specs.Options.{with_groups};
 ghost use Rattle.getopts.specs.Canon.{canonical_line, content_of};
 ghost use Rattle.getopts.specs.CanonAnswers.{IsUnwritable};
-ghost use Rattle.getopts.specs.Gives.{GivesAs, GivesResult};
+ghost use Rattle.getopts.specs.Returns.{ReturnsConverted, ReturnsResult};
 ghost use Rattle.getopts.specs.Reading.{Reading};
-ghost use Rattle.getopts.specs.Results.{canonical_result, line_result, parse_result};
+ghost use Rattle.getopts.specs.Results.{accepted_reading, canonical_result, parse_result};
 ghost use Rattle.getopts_show.specs.Program.{AreAccepted, IsHelpText, IsProgramText};
 ghost use Rattle.getopts_show.specs.Program.{HasProgramGroups, IsStatus, IsDone, ShowsText};
 ghost use Rattle.getopts_show.specs.Program.{asks_help, content_text, count_line};
@@ -102,14 +102,14 @@ fn answer_to(alloc: Global, words: &[&str]) -> Result<Answer, AllocError>
 
 /// The matches of words, or their first error.
 fn parsed(alloc: Global, options: &Options, words: &[&str]) -> getopts::Result
-    ensures { GivesResult result (parse_result options.now (texts words.now)) }
+    ensures { ReturnsResult result (parse_result options.now (texts words.now)) }
 {
     options.parse(alloc, words.iter().copied())
 }
 
 /// The canonical line of words, or their first error. There is none if it can't be written.
 fn rewritten(alloc: Global, options: &Options, words: &[&str]) -> Result<Option<Vec<String>>, Fail>
-    ensures result { GivesAs (option_map (λ line. map string_bytes line.items)) result
+    ensures result { ReturnsConverted (option_map (λ line. map string_bytes line.items)) result
         (λ answer. canonical_result options.now (texts words.now) ≡ answer) }
     ensures unwritable { IfOk result (λ answer.
         IfNone answer (IsUnwritable options.now (texts words.now))) }
@@ -172,7 +172,7 @@ fn push_canonical(
     requires program { options.now ≡ program_options }
     requires accepted { AreAccepted (texts words.now) }
     ensures { OnOk result ((reading : Reading)
-        → line_result program_options (texts words.now) ≡ Ok reading
+        → accepted_reading program_options (texts words.now) ≡ Ok reading
         → string_bytes text.new
         ≡ string_bytes text.old ++ content_text (content_of program_options reading)) }
 {
@@ -190,7 +190,7 @@ fn canonical_line(
     requires program { options.now ≡ program_options }
     requires accepted { AreAccepted (texts words.now) }
     ensures { IfOk result (λ line. (reading : Reading)
-        → line_result program_options (texts words.now) ≡ Ok reading
+        → accepted_reading program_options (texts words.now) ≡ Ok reading
         → map string_bytes line.items
         ≡ canonical_line program_groups (content_of program_options reading)) }
 {
@@ -307,7 +307,8 @@ fn push_count(
 ) -> Result<(), AllocError>
     requires { IsDefined matches.now.groups name.now }
     ensures { OnOk result (string_bytes text.new
-        ≡ string_bytes text.old ++ count_line name.now (found_of matches.now.groups name.now)) }
+        ≡ string_bytes text.old ++ count_line name.now
+        (occurrences_of_name matches.now.groups name.now)) }
 {
     let count = matches.opt_count(name);
     write!(text, "{name}: {count}")?;

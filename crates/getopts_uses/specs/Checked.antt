@@ -11,7 +11,7 @@ use Rattle.std.specs.declared.alloc.Global.{Global}
 use Rattle.std.specs.declared.num.ParseIntError.{ParseIntError}
 use Rattle.std.specs.declared.vec.Vec.{Vec}
 use Rattle.getopts.specs.Prelude.{Declared, Fault, Matched, Text, fault_of, first_value}
-use Rattle.getopts.specs.Prelude.{first_value_or, found_of, group_of, values_of}
+use Rattle.getopts.specs.Prelude.{first_value_or, group_of, occurrences_of_name, values_of}
 use Rattle.getopts.specs.declared.fail.Fail.{Fail}
 use Rattle.getopts.specs.declared.fail.Fail.TheVariants as fail
 use Rattle.getopts.specs.declared.groups.HasArg.TheVariants.{Maybe, Yes}
@@ -44,14 +44,14 @@ IsWithin low high text number =
 
 -- The error contains the option, the text and the bounds.
 -- This is the number that an option's value is, or the default, or an error.
-abbrev pub IsNumberBy : Text → ℕ → ℕ → ℕ → Option Text → Result ℕ Refusal → Type 0
-IsNumberBy option low high default text (Err refusal.OutOfMemory) = ⊤
-IsNumberBy option low high default None (Ok number) = number ≡ default
-IsNumberBy option low high default (Some text) (Ok number) = IsWithin low high text number
-IsNumberBy option low high default (Some text) (Err (refusal.Number told given least most)) =
+abbrev pub IsNumberOrError : Text → ℕ → ℕ → ℕ → Option Text → Result ℕ Refusal → Type 0
+IsNumberOrError option low high default text (Err refusal.OutOfMemory) = ⊤
+IsNumberOrError option low high default None (Ok number) = number ≡ default
+IsNumberOrError option low high default (Some text) (Ok number) = IsWithin low high text number
+IsNumberOrError option low high default (Some text) (Err (refusal.Number told given least most)) =
     (told.now ≡ option) × (string_bytes given ≡ text) × (least ≡ low) × (most ≡ high)
     × ((number : ℕ) → ¬ (IsWithin low high text number))
-IsNumberBy option low high default text result = ⊥
+IsNumberOrError option low high default text result = ⊥
 
 -- the parts between the commas of a list, if there is one; 44 is the byte `,`
 abbrev pub parts_of : Option Text → List Text
@@ -96,13 +96,13 @@ color_named word =
 
 -- The error contains the option and the text.
 -- This is the choice that a word names, or `auto` if there is none, or an error.
-abbrev pub IsColorBy : Text → Option Text → Result Color Refusal → Type 0
-IsColorBy option text (Err refusal.OutOfMemory) = ⊤
-IsColorBy option None (Ok color) = color ≡ Auto
-IsColorBy option (Some word) (Ok color) = color_named word ≡ Some color
-IsColorBy option (Some word) (Err (refusal.Choice told given)) =
+abbrev pub IsColorOrError : Text → Option Text → Result Color Refusal → Type 0
+IsColorOrError option text (Err refusal.OutOfMemory) = ⊤
+IsColorOrError option None (Ok color) = color ≡ Auto
+IsColorOrError option (Some word) (Ok color) = color_named word ≡ Some color
+IsColorOrError option (Some word) (Err (refusal.Choice told given)) =
     (told.now ≡ option) × (string_bytes given ≡ word) × (color_named word ≡ None)
-IsColorBy option word result = ⊥
+IsColorOrError option word result = ⊥
 
 -- the text before and after the first `=` of a text, if it has one; 61 is the byte `=`
 abbrev pub cut : Text → Option (Text × Text)
@@ -115,12 +115,12 @@ pair_view pair = (string_bytes pair.key, string_bytes pair.value)
 
 -- The error contains the option and the text.
 -- This is the pair that a text is, or an error.
-abbrev pub IsPairBy : Text → Text → Result Pair Refusal → Type 0
-IsPairBy option text (Err refusal.OutOfMemory) = ⊤
-IsPairBy option text (Ok pair) = cut text ≡ Some (pair_view pair)
-IsPairBy option text (Err (refusal.Pair told given)) =
+abbrev pub IsPairOrError : Text → Text → Result Pair Refusal → Type 0
+IsPairOrError option text (Err refusal.OutOfMemory) = ⊤
+IsPairOrError option text (Ok pair) = cut text ≡ Some (pair_view pair)
+IsPairOrError option text (Err (refusal.Pair told given)) =
     (told.now ≡ option) × (string_bytes given ≡ text) × (cut text ≡ None)
-IsPairBy option text result = ⊥
+IsPairOrError option text result = ⊥
 
 -- the first of these texts that isn't a pair
 abbrev pub first_uncut : List Text → Option Text
@@ -129,25 +129,27 @@ first_uncut (text ∷ texts) = option_map_or (λ pair. first_uncut texts) (cut t
 
 -- The error contains the option and the first text that isn't a pair.
 -- These are the pairs that texts are, or an error.
-abbrev pub ArePairsBy : Text → List Text → Result (Vec Pair Global) Refusal → Type 0
-ArePairsBy option texts (Err refusal.OutOfMemory) = ⊤
-ArePairsBy option texts (Ok pairs) = map cut texts ≡ map (λ pair. Some (pair_view pair)) pairs.items
-ArePairsBy option texts (Err (refusal.Pair told given)) =
+abbrev pub ArePairsOrError : Text → List Text → Result (Vec Pair Global) Refusal → Type 0
+ArePairsOrError option texts (Err refusal.OutOfMemory) = ⊤
+ArePairsOrError option texts (Ok pairs) =
+    map cut texts ≡ map (λ pair. Some (pair_view pair)) pairs.items
+ArePairsOrError option texts (Err (refusal.Pair told given)) =
     (told.now ≡ option) × (first_uncut texts ≡ Some (string_bytes given))
-ArePairsBy option texts result = ⊥
+ArePairsOrError option texts result = ⊥
 
 -- an option's value
 abbrev pub value_of : Matched → Text → Option Text
-value_of matches name = first_value (found_of matches.groups name)
+value_of matches name = first_value (occurrences_of_name matches.groups name)
 
 -- This is the number of jobs that matches give: from 1 to 64, and 1 if they give none.
 abbrev pub AreJobsOf : Matched → Result ℕ Refusal → Type 0
-AreJobsOf matches jobs = IsNumberBy (codes "jobs") 1 64 1 (value_of matches (codes "jobs")) jobs
+AreJobsOf matches jobs =
+    IsNumberOrError (codes "jobs") 1 64 1 (value_of matches (codes "jobs")) jobs
 
 -- This is when the matches ask to colour: always, if the option has no value.
 abbrev pub IsColorOf : Matched → Result Color Refusal → Type 0
-IsColorOf matches color = IsColorBy (codes "color")
-    (first_value_or (found_of matches.groups (codes "color")) (codes "always")) color
+IsColorOf matches color = IsColorOrError (codes "color")
+    (first_value_or (occurrences_of_name matches.groups (codes "color")) (codes "always")) color
 
 -- These are the fields that matches give.
 abbrev pub AreFieldsOf : Matched → Result (Vec ℕ Global) Refusal → Type 0
@@ -156,7 +158,7 @@ AreFieldsOf matches fields =
 
 -- These are the pairs that matches set.
 abbrev pub AreSetsOf : Matched → Result (Vec Pair Global) Refusal → Type 0
-AreSetsOf matches sets = ArePairsBy (codes "set") (values_of (found_of matches.groups (codes "set"))) sets
+AreSetsOf matches sets = ArePairsOrError (codes "set") (values_of (occurrences_of_name matches.groups (codes "set"))) sets
 
 -- the program's error for a `Fail`; out of memory isn't an error of the command line
 abbrev pub refusal_of : Fail → Refusal
@@ -167,22 +169,22 @@ refusal_of fail = refusal.Line fail
 -- otherwise, if its colour isn't one of the choices; otherwise, if a field is out of bounds;
 -- otherwise, if a text isn't a pair.
 -- This is what a command line sets, or why it sets nothing.
-abbrev pub IsSettingsBy : Result Matched Fault → Result Settings Refusal → Type 0
-IsSettingsBy line (Err refusal.OutOfMemory) = ⊤
-IsSettingsBy line (Err (refusal.Line fail)) = option_map Err (fault_of fail) ≡ Some line
-IsSettingsBy (Ok matches) (Ok settings) =
+abbrev pub IsSettingsOrError : Result Matched Fault → Result Settings Refusal → Type 0
+IsSettingsOrError line (Err refusal.OutOfMemory) = ⊤
+IsSettingsOrError line (Err (refusal.Line fail)) = option_map Err (fault_of fail) ≡ Some line
+IsSettingsOrError (Ok matches) (Ok settings) =
     AreJobsOf matches (Ok settings.jobs) × IsColorOf matches (Ok settings.color)
     × AreFieldsOf matches (Ok settings.fields) × AreSetsOf matches (Ok settings.sets)
     × (map string_bytes settings.files.items ≡ matches.free)
-IsSettingsBy (Ok matches) (Err (refusal.Number told given low high)) =
+IsSettingsOrError (Ok matches) (Err (refusal.Number told given low high)) =
     AreJobsOf matches (Err (refusal.Number told given low high))
-IsSettingsBy (Ok matches) (Err (refusal.Choice told given)) =
+IsSettingsOrError (Ok matches) (Err (refusal.Choice told given)) =
     ((jobs : ℕ) × AreJobsOf matches (Ok jobs)) × IsColorOf matches (Err (refusal.Choice told given))
-IsSettingsBy (Ok matches) (Err (refusal.Field told given)) =
+IsSettingsOrError (Ok matches) (Err (refusal.Field told given)) =
     ((jobs : ℕ) × AreJobsOf matches (Ok jobs)) × ((color : Color) × IsColorOf matches (Ok color))
     × AreFieldsOf matches (Err (refusal.Field told given))
-IsSettingsBy (Ok matches) (Err (refusal.Pair told given)) =
+IsSettingsOrError (Ok matches) (Err (refusal.Pair told given)) =
     ((jobs : ℕ) × AreJobsOf matches (Ok jobs)) × ((color : Color) × IsColorOf matches (Ok color))
     × ((fields : Vec ℕ Global) × AreFieldsOf matches (Ok fields))
     × AreSetsOf matches (Err (refusal.Pair told given))
-IsSettingsBy (Err fault) result = ⊥
+IsSettingsOrError (Err fault) result = ⊥

@@ -3,13 +3,14 @@ use Rattle.std.specs.Prelude.{◌≡◌, ◌≢◌, ⊤, List, [], ◌∷◌, fa
 use Rattle.std.specs.Prelude.{Option, Some, None, Result, Ok, Err}
 use Rattle.std.specs.Option.{option_map}
 use Rattle.std.specs.String.{string_bytes}
-use Rattle.getopts.specs.Prelude.{Declared, Fault, Matched, Tells, Text, asked_result, first_value}
-use Rattle.getopts.specs.Prelude.{found_of, group_of, is_present}
+use Rattle.getopts.specs.Prelude.{Declared, Fault, IsOutOfMemoryOr, Matched, Text, first_value}
+use Rattle.getopts.specs.Prelude.{parse_unless_result}
+use Rattle.getopts.specs.Prelude.{group_of, is_present, occurrences_of_name}
 use Rattle.getopts.specs.declared.fail.Fail.{Fail}
 use Rattle.getopts.specs.declared.groups.HasArg.TheVariants.{No, Yes}
 use Rattle.getopts.specs.declared.groups.Occur.TheVariants.{Optional}
 use Rattle.getopts.specs.declared.groups.ParsingStyle.TheVariants.{FloatingFrees, StopAtFirstFree}
-use Rattle.getopts_uses.specs.Log.{IsLogBy, log_options}
+use Rattle.getopts_uses.specs.Log.{IsLogOrError, log_options}
 use Rattle.getopts_uses.specs.declared.add.Add.{Add}
 use Rattle.getopts_uses.specs.declared.subcommand.Command.{Command}
 use Rattle.getopts_uses.specs.declared.subcommand.Command.TheVariants as command
@@ -44,32 +45,33 @@ abbrev pub add_help : Text
 add_help = codes "Usage: add [options] FILE..\n\nOptions:\n    -f, --force         add ignored files too\n    -h, --help          print this help\n"
 
 -- This is what a command line of `add` asks for, or none if that is help, or its error.
-abbrev pub IsAddBy : Result (Option Matched) Fault → Result (Option Add) Fail → Type 0
-IsAddBy asked (Err fail) = Tells fail (λ fault. asked ≡ Err fault)
-IsAddBy (Ok None) (Ok None) = ⊤
-IsAddBy (Ok (Some matches)) (Ok (Some add)) = (add.force ≡ is_present matches.groups (codes "force"))
+abbrev pub IsAddOrError : Result (Option Matched) Fault → Result (Option Add) Fail → Type 0
+IsAddOrError asked (Err fail) = IsOutOfMemoryOr fail (λ fault. asked ≡ Err fault)
+IsAddOrError (Ok None) (Ok None) = ⊤
+IsAddOrError (Ok (Some matches)) (Ok (Some add)) =
+    (add.force ≡ is_present matches.groups (codes "force"))
     × (map string_bytes add.files.items ≡ matches.free)
-IsAddBy asked result = ⊥
+IsAddOrError asked result = ⊥
 
 -- what a subcommand's own words ask for, by its options
-abbrev pub asked_by : Declared → List Text → Result (Option Matched) Fault
-asked_by options words = asked_result options (codes "help") words
+abbrev pub parse_unless_help : Declared → List Text → Result (Option Matched) Fault
+parse_unless_help options words = parse_unless_result options (codes "help") words
 
 -- There is no subcommand if its own words have an error, or its name is unknown.
 -- This is the subcommand of this name, with what its own words ask for, or why there is none.
-abbrev pub IsCommandBy : Text → List Text → Result Command Refusal → Type 0
-IsCommandBy name words (Err refusal.OutOfMemory) = ⊤
-IsCommandBy name words (Ok (command.Add add)) =
-    (name ≡ codes "add") × IsAddBy (asked_by add_options words) (Ok add)
-IsCommandBy name words (Err (refusal.Add fail)) =
-    (name ≡ codes "add") × IsAddBy (asked_by add_options words) (Err fail)
-IsCommandBy name words (Ok (command.Log log)) =
-    (name ≡ codes "log") × IsLogBy (asked_by log_options words) (Ok log)
-IsCommandBy name words (Err (refusal.Log fail)) =
-    (name ≡ codes "log") × IsLogBy (asked_by log_options words) (Err fail)
-IsCommandBy name words (Err (refusal.Unknown text)) =
+abbrev pub IsCommandOrError : Text → List Text → Result Command Refusal → Type 0
+IsCommandOrError name words (Err refusal.OutOfMemory) = ⊤
+IsCommandOrError name words (Ok (command.Add add)) =
+    (name ≡ codes "add") × IsAddOrError (parse_unless_help add_options words) (Ok add)
+IsCommandOrError name words (Err (refusal.Add fail)) =
+    (name ≡ codes "add") × IsAddOrError (parse_unless_help add_options words) (Err fail)
+IsCommandOrError name words (Ok (command.Log log)) =
+    (name ≡ codes "log") × IsLogOrError (parse_unless_help log_options words) (Ok log)
+IsCommandOrError name words (Err (refusal.Log fail)) =
+    (name ≡ codes "log") × IsLogOrError (parse_unless_help log_options words) (Err fail)
+IsCommandOrError name words (Err (refusal.Unknown text)) =
     (string_bytes text ≡ name) × (name ≢ codes "add") × (name ≢ codes "log")
-IsCommandBy name words result = ⊥
+IsCommandOrError name words result = ⊥
 
 -- The first free word is the subcommand's name, and the others are its own words.
 -- This is what matches with these free words run.
@@ -78,14 +80,14 @@ IsRunOf global free (Err refusal.OutOfMemory) = ⊤
 IsRunOf global [] (Err refusal.NoCommand) = ⊤
 IsRunOf global (name ∷ words) (Ok run) =
     (run.quiet ≡ is_present global.groups (codes "quiet"))
-    × (option_map string_bytes run.folder ≡ first_value (found_of global.groups (codes "folder")))
-    × IsCommandBy name words (Ok run.command)
-IsRunOf global (name ∷ words) (Err refused) = IsCommandBy name words (Err refused)
+    × (option_map string_bytes run.folder ≡ first_value (occurrences_of_name global.groups (codes "folder")))
+    × IsCommandOrError name words (Ok run.command)
+IsRunOf global (name ∷ words) (Err refused) = IsCommandOrError name words (Err refused)
 IsRunOf global [] result = ⊥
 
 -- This is what a command line runs, or why it runs nothing.
-abbrev pub IsRunBy : Result Matched Fault → Result Run Refusal → Type 0
-IsRunBy line (Err refusal.OutOfMemory) = ⊤
-IsRunBy line (Err (refusal.Line fail)) = Tells fail (λ fault. line ≡ Err fault)
-IsRunBy (Ok global) result = IsRunOf global global.free result
-IsRunBy (Err fault) result = ⊥
+abbrev pub IsRunOrError : Result Matched Fault → Result Run Refusal → Type 0
+IsRunOrError line (Err refusal.OutOfMemory) = ⊤
+IsRunOrError line (Err (refusal.Line fail)) = IsOutOfMemoryOr fail (λ fault. line ≡ Err fault)
+IsRunOrError (Ok global) result = IsRunOf global global.free result
+IsRunOrError (Err fault) result = ⊥

@@ -3,8 +3,9 @@ use Rattle.std.specs.Prelude.{◌≡◌, ◌==◌, ⊤, Bool, List, [], ◌∷�
 use Rattle.std.specs.Prelude.{length, Result, Ok, Err}
 use Rattle.std.specs.Option.{option_map}
 use Rattle.std.specs.String.{string_bytes}
-use Rattle.getopts.specs.Prelude.{Declared, Fault, Group, Matched, Tells, first_value}
-use Rattle.getopts.specs.Prelude.{first_value_or, found_of, group_of, is_present, values_of}
+use Rattle.getopts.specs.Prelude.{Declared, Fault, Group, IsOutOfMemoryOr, Matched, first_value}
+use Rattle.getopts.specs.Prelude.{first_value_or, group_of, is_present, occurrences_of_name}
+use Rattle.getopts.specs.Prelude.{values_of}
 use Rattle.getopts.specs.declared.groups.HasArg.TheVariants.{No, Yes, Maybe}
 use Rattle.getopts.specs.declared.groups.Occur.TheVariants.{Optional, Multi}
 use Rattle.getopts.specs.declared.groups.ParsingStyle.TheVariants.{FloatingFrees}
@@ -87,30 +88,42 @@ driver_options = record {
 
 -- What is written, searched and linked is exactly what the matches say.
 pub record IsSearchOf (matches : Matched) (it : Search) : Type 0 where
-  pub output : option_map string_bytes it.output ≡ first_value (found_of matches.groups (codes "output"))
-  pub folders : map string_bytes it.folders.items ≡ values_of (found_of matches.groups (codes "include"))
-  pub library_folders : map string_bytes it.library_folders.items ≡ values_of (found_of matches.groups (codes "library-path"))
-  pub libraries : map string_bytes it.libraries.items ≡ values_of (found_of matches.groups (codes "library"))
+  pub output : option_map string_bytes it.output
+      ≡ first_value (occurrences_of_name matches.groups (codes "output"))
+  pub folders : map string_bytes it.folders.items
+      ≡ values_of (occurrences_of_name matches.groups (codes "include"))
+  pub library_folders : map string_bytes it.library_folders.items
+      ≡ values_of (occurrences_of_name matches.groups (codes "library-path"))
+  pub libraries : map string_bytes it.libraries.items
+      ≡ values_of (occurrences_of_name matches.groups (codes "library"))
   pub debug : it.debug ≡ is_present matches.groups (codes "debug")
   pub compile : it.compile ≡ is_present matches.groups (codes "compile")
 
 -- How the inputs are read is exactly what the matches say.
 pub record AreSourcesOf (matches : Matched) (it : Sources) : Type 0 where
-  pub macros : map string_bytes it.macros.items ≡ values_of (found_of matches.groups (codes "define"))
-  pub forgotten : map string_bytes it.forgotten.items ≡ values_of (found_of matches.groups (codes "undefine"))
-  pub warnings : map string_bytes it.warnings.items ≡ values_of (found_of matches.groups (codes "warn"))
-  pub level : option_map string_bytes it.level ≡ first_value_or (found_of matches.groups (codes "optimize")) (codes "1")
+  pub macros : map string_bytes it.macros.items
+      ≡ values_of (occurrences_of_name matches.groups (codes "define"))
+  pub forgotten : map string_bytes it.forgotten.items
+      ≡ values_of (occurrences_of_name matches.groups (codes "undefine"))
+  pub warnings : map string_bytes it.warnings.items
+      ≡ values_of (occurrences_of_name matches.groups (codes "warn"))
+  pub level : option_map string_bytes it.level
+      ≡ first_value_or (occurrences_of_name matches.groups (codes "optimize")) (codes "1")
 
 -- How far the driver goes, and what it prints, is exactly what the matches say.
 pub record AreStagesOf (matches : Matched) (it : Stages) : Type 0 where
   pub assemble : it.assemble ≡ is_present matches.groups (codes "assemble")
   pub preprocess : it.preprocess ≡ is_present matches.groups (codes "preprocess")
-  pub verbose : it.verbose ≡ length (found_of matches.groups (codes "verbose"))
+  pub verbose : it.verbose ≡ length (occurrences_of_name matches.groups (codes "verbose"))
   pub no_warnings : it.no_warnings ≡ is_present matches.groups (codes "no-warnings")
-  pub language : option_map string_bytes it.language ≡ first_value (found_of matches.groups (codes "language"))
-  pub standard : option_map string_bytes it.standard ≡ first_value (found_of matches.groups (codes "std"))
-  pub target : option_map string_bytes it.target ≡ first_value (found_of matches.groups (codes "target"))
-  pub root : option_map string_bytes it.root ≡ first_value (found_of matches.groups (codes "sysroot"))
+  pub language : option_map string_bytes it.language
+      ≡ first_value (occurrences_of_name matches.groups (codes "language"))
+  pub standard : option_map string_bytes it.standard
+      ≡ first_value (occurrences_of_name matches.groups (codes "std"))
+  pub target : option_map string_bytes it.target
+      ≡ first_value (occurrences_of_name matches.groups (codes "target"))
+  pub root : option_map string_bytes it.root
+      ≡ first_value (occurrences_of_name matches.groups (codes "sysroot"))
   pub fixed : it.fixed ≡ is_present matches.groups (codes "static")
   pub shared : it.shared ≡ is_present matches.groups (codes "shared")
 
@@ -120,25 +133,34 @@ pub record AreTargetsOf (matches : Matched) (it : Targets) : Type 0 where
   pub no_pie : it.no_pie ≡ is_present matches.groups (codes "no-pie")
   pub threads : it.threads ≡ is_present matches.groups (codes "pthread")
   pub pipes : it.pipes ≡ is_present matches.groups (codes "pipe")
-  pub kept : option_map string_bytes it.kept ≡ first_value_or (found_of matches.groups (codes "save-temps")) (codes "1")
-  pub emits : map string_bytes it.emits.items ≡ values_of (found_of matches.groups (codes "emit"))
-  pub processor : option_map string_bytes it.processor ≡ first_value (found_of matches.groups (codes "march"))
-  pub script : option_map string_bytes it.script ≡ first_value (found_of matches.groups (codes "script"))
+  pub kept : option_map string_bytes it.kept
+      ≡ first_value_or (occurrences_of_name matches.groups (codes "save-temps")) (codes "1")
+  pub emits : map string_bytes it.emits.items
+      ≡ values_of (occurrences_of_name matches.groups (codes "emit"))
+  pub processor : option_map string_bytes it.processor
+      ≡ first_value (occurrences_of_name matches.groups (codes "march"))
+  pub script : option_map string_bytes it.script
+      ≡ first_value (occurrences_of_name matches.groups (codes "script"))
   pub help : it.help ≡ is_present matches.groups (codes "help")
   pub version : it.version ≡ is_present matches.groups (codes "version")
 
 -- What else the driver does is exactly what the matches say.
 pub record AreExtrasOf (matches : Matched) (it : Extras) : Type 0 where
   pub depends : it.depends ≡ is_present matches.groups (codes "depend")
-  pub frameworks : map string_bytes it.frameworks.items ≡ values_of (found_of matches.groups (codes "framework"))
+  pub frameworks : map string_bytes it.frameworks.items
+      ≡ values_of (occurrences_of_name matches.groups (codes "framework"))
   pub strip : it.strip ≡ is_present matches.groups (codes "strip")
   pub quiet : it.quiet ≡ is_present matches.groups (codes "quiet")
-  pub jobs : option_map string_bytes it.jobs ≡ first_value (found_of matches.groups (codes "jobs"))
-  pub color : option_map string_bytes it.color ≡ first_value_or (found_of matches.groups (codes "color")) (codes "1")
+  pub jobs : option_map string_bytes it.jobs
+      ≡ first_value (occurrences_of_name matches.groups (codes "jobs"))
+  pub color : option_map string_bytes it.color
+      ≡ first_value_or (occurrences_of_name matches.groups (codes "color")) (codes "1")
   pub keep_going : it.keep_going ≡ is_present matches.groups (codes "keep-going")
   pub no_lines : it.no_lines ≡ is_present matches.groups (codes "no-lines")
-  pub unstable : map string_bytes it.unstable.items ≡ values_of (found_of matches.groups (codes "unstable"))
-  pub renamed : map string_bytes it.renamed.items ≡ values_of (found_of matches.groups (codes "prefix-map"))
+  pub unstable : map string_bytes it.unstable.items
+      ≡ values_of (occurrences_of_name matches.groups (codes "unstable"))
+  pub renamed : map string_bytes it.renamed.items
+      ≡ values_of (occurrences_of_name matches.groups (codes "prefix-map"))
 
 -- The job is exactly what the matches say.
 pub record IsJobOf (matches : Matched) (job : Job) : Type 0 where
@@ -155,9 +177,9 @@ names_none matches = length matches.free == 0
 
 -- There is no job if the command line has an error or names no input.
 -- This is the job for a command line's result, or why there is none.
-abbrev pub IsJobBy : Result Matched Fault → Result Job Refusal → Type 0
-IsJobBy line (Err OutOfMemory) = ⊤
-IsJobBy line (Err (Line fail)) = Tells fail (λ fault. line ≡ Err fault)
-IsJobBy (Ok matches) (Err NoInput) = names_none matches ≡ true
-IsJobBy (Ok matches) (Ok job) = (names_none matches ≡ false) × IsJobOf matches job
-IsJobBy line result = ⊥
+abbrev pub IsJobOrError : Result Matched Fault → Result Job Refusal → Type 0
+IsJobOrError line (Err OutOfMemory) = ⊤
+IsJobOrError line (Err (Line fail)) = IsOutOfMemoryOr fail (λ fault. line ≡ Err fault)
+IsJobOrError (Ok matches) (Err NoInput) = names_none matches ≡ true
+IsJobOrError (Ok matches) (Ok job) = (names_none matches ≡ false) × IsJobOf matches job
+IsJobOrError line result = ⊥

@@ -1,7 +1,8 @@
 -- The subcommand `log`: its options and help, and what its words ask for.
 use Rattle.std.specs.Prelude.{◌≡◌, ⊤, [], ◌∷◌, false, map, codes, Option, Some, None, Result, Ok, Err}
 use Rattle.std.specs.String.{string_bytes}
-use Rattle.getopts.specs.Prelude.{Declared, Fault, Matched, Tells, Text, first_value, found_of}
+use Rattle.getopts.specs.Prelude.{Declared, Fault, IsOutOfMemoryOr, Matched, Text, first_value}
+use Rattle.getopts.specs.Prelude.{occurrences_of_name}
 use Rattle.getopts.specs.Prelude.{group_of, values_of}
 use Rattle.getopts.specs.declared.fail.Fail.{Fail}
 use Rattle.getopts.specs.declared.groups.HasArg.TheVariants.{No, Yes}
@@ -27,13 +28,15 @@ log_help = codes "Usage: log -n NUMBER [options] FILE..\n\nOptions:\n    -n, --m
 
 -- This is what matches of `log` ask for.
 pub record IsLogOf (matches : Matched) (log : Log) : Type 0 where
-  pub count : first_value (found_of matches.groups (codes "max-count")) ≡ Some (string_bytes log.count)
-  pub texts : map string_bytes log.texts.items ≡ values_of (found_of matches.groups (codes "grep"))
+  pub count : first_value
+      (occurrences_of_name matches.groups (codes "max-count")) ≡ Some (string_bytes log.count)
+  pub texts : map string_bytes log.texts.items
+      ≡ values_of (occurrences_of_name matches.groups (codes "grep"))
   pub files : map string_bytes log.files.items ≡ matches.free
 
 -- This is what a command line of `log` asks for, or none if that is help, or its error.
-abbrev pub IsLogBy : Result (Option Matched) Fault → Result (Option Log) Fail → Type 0
-IsLogBy asked (Err fail) = Tells fail (λ fault. asked ≡ Err fault)
-IsLogBy (Ok None) (Ok None) = ⊤
-IsLogBy (Ok (Some matches)) (Ok (Some log)) = IsLogOf matches log
-IsLogBy asked result = ⊥
+abbrev pub IsLogOrError : Result (Option Matched) Fault → Result (Option Log) Fail → Type 0
+IsLogOrError asked (Err fail) = IsOutOfMemoryOr fail (λ fault. asked ≡ Err fault)
+IsLogOrError (Ok None) (Ok None) = ⊤
+IsLogOrError (Ok (Some matches)) (Ok (Some log)) = IsLogOf matches log
+IsLogOrError asked result = ⊥

@@ -3,7 +3,8 @@ use Rattle.std.specs.Prelude.{ℕ, Bool, List, [], ◌∷◌, false, map, length
 use Rattle.std.specs.Option.{option_map}
 use Rattle.std.specs.Result.{result_map_both}
 use Rattle.std.specs.String.{string_bytes}
-use Rattle.getopts.specs.Prelude.{Declared, Fault, Matched, Text, first_value, found_of, group_of}
+use Rattle.getopts.specs.Prelude.{Declared, Fault, Matched, Text, first_value, group_of}
+use Rattle.getopts.specs.Prelude.{occurrences_of_name}
 use Rattle.getopts.specs.Prelude.{is_present, parse_result, values_of}
 use Rattle.getopts.specs.declared.groups.HasArg.TheVariants.{No, Yes}
 use Rattle.getopts.specs.declared.groups.Occur.TheVariants.{Optional, Multi}
@@ -34,10 +35,10 @@ pub record Said : Type 0 where
 -- what matches say
 abbrev pub said_by : Matched → Said
 said_by matches = record {
-  jobs = first_value (found_of matches.groups (codes "jobs"));
+  jobs = first_value (occurrences_of_name matches.groups (codes "jobs"));
   keep_going = is_present matches.groups (codes "keep-going");
-  verbose = length (found_of matches.groups (codes "verbose"));
-  sets = values_of (found_of matches.groups (codes "set"));
+  verbose = length (occurrences_of_name matches.groups (codes "verbose"));
+  sets = values_of (occurrences_of_name matches.groups (codes "set"));
   targets = matches.free;
 }
 

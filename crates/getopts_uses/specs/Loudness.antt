@@ -1,7 +1,7 @@
 -- Flags of which the last one wins: the options, and how much output a command line asks for.
 use Rattle.std.specs.Prelude.{◌≡◌, ◌==◌, if◌then◌else◌, false, ℕ, List, [], ◌∷◌, codes}
 use Rattle.std.specs.Prelude.{Option, Some, None, Result, Ok, Err, unwrap_or}
-use Rattle.getopts.specs.Prelude.{Declared, Fault, Tells, group_of}
+use Rattle.getopts.specs.Prelude.{Declared, Fault, IsOutOfMemoryOr, group_of}
 use Rattle.getopts.specs.declared.fail.Fail.{Fail}
 use Rattle.getopts.specs.declared.groups.HasArg.TheVariants.{No, Yes}
 use Rattle.getopts.specs.declared.groups.Occur.TheVariants.{Optional, Multi}
@@ -22,17 +22,17 @@ loudness_options = record {
 }
 
 -- how much output the option at a place asks for, if any
-abbrev pub asked_by : ℕ → Option Loudness
-asked_by place = if place == 0 then Some Quiet else (if place == 1 then Some Verbose else None)
+abbrev pub loudness_at : ℕ → Option Loudness
+loudness_at place = if place == 0 then Some Quiet else (if place == 1 then Some Verbose else None)
 
 -- The last of the two flags wins.
 -- how much output options at these places ask for, if it was `loudness` before
 abbrev pub after : Loudness → List ℕ → Loudness
 after loudness [] = loudness
-after loudness (place ∷ places) = after (unwrap_or (asked_by place) loudness) places
+after loudness (place ∷ places) = after (unwrap_or (loudness_at place) loudness) places
 
 -- This is how much output the places of a command line's options ask for, or its error.
 abbrev pub IsLoudnessBy : Result (List ℕ) Fault → Result Loudness Fail → Type 0
-IsLoudnessBy line (Err fail) = Tells fail (λ fault. line ≡ Err fault)
+IsLoudnessBy line (Err fail) = IsOutOfMemoryOr fail (λ fault. line ≡ Err fault)
 IsLoudnessBy (Ok places) (Ok loudness) = loudness ≡ after Normal places
 IsLoudnessBy (Err fault) (Ok loudness) = ⊥

@@ -1,7 +1,8 @@
 -- The output file that a command line names.
 use Rattle.std.specs.Prelude.{◌≡◌, false, [], ◌∷◌, codes, Option, Result, Ok, Err, String, string_bytes}
 use Rattle.std.specs.Option.{option_map}
-use Rattle.getopts.specs.Prelude.{Declared, Fault, Matched, Tells, first_value, found_of, group_of}
+use Rattle.getopts.specs.Prelude.{Declared, Fault, IsOutOfMemoryOr, Matched, first_value, group_of}
+use Rattle.getopts.specs.Prelude.{occurrences_of_name}
 use Rattle.getopts.specs.declared.fail.Fail.{Fail}
 use Rattle.std.specs.declared.alloc.Global.{Global}
 use Rattle.getopts.specs.declared.groups.HasArg.TheVariants.{No, Yes}
@@ -20,8 +21,8 @@ output_options = record {
 }
 
 -- This is the output for a result, or its error.
-abbrev pub IsOutputBy : Result Matched Fault → Result (Option (String Global)) Fail → Type 0
-IsOutputBy line (Err fail) = Tells fail (λ fault. line ≡ Err fault)
-IsOutputBy (Ok matches) (Ok output) =
-    option_map string_bytes output ≡ first_value (found_of matches.groups (codes "output"))
-IsOutputBy (Err fault) (Ok output) = ⊥
+abbrev pub IsOutputOrError : Result Matched Fault → Result (Option (String Global)) Fail → Type 0
+IsOutputOrError line (Err fail) = IsOutOfMemoryOr fail (λ fault. line ≡ Err fault)
+IsOutputOrError (Ok matches) (Ok output) =
+    option_map string_bytes output ≡ first_value (occurrences_of_name matches.groups (codes "output"))
+IsOutputOrError (Err fault) (Ok output) = ⊥

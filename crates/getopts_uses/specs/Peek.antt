@@ -4,8 +4,10 @@ use Rattle.std.specs.Option.{option_map}
 use Rattle.std.specs.Str.Parse.{ParsesUnsigned}
 use Rattle.std.specs.String.{string_bytes}
 use Rattle.std.specs.declared.num.ParseIntError.{ParseIntError}
-use Rattle.getopts.specs.Prelude.{Declared, Fault, IsReadAs, Matched, Tells, Text, first_value}
-use Rattle.getopts.specs.Prelude.{first_value_or, found_of, group_of, is_present, values_of}
+use Rattle.getopts.specs.Prelude.{Declared, Fault, IsOutOfMemoryOr, IsParsedAs, Matched, Text}
+use Rattle.getopts.specs.Prelude.{first_value}
+use Rattle.getopts.specs.Prelude.{first_value_or, group_of, is_present, occurrences_of_name}
+use Rattle.getopts.specs.Prelude.{values_of}
 use Rattle.getopts.specs.declared.groups.HasArg.TheVariants.{No, Yes, Maybe}
 use Rattle.getopts.specs.declared.groups.Occur.TheVariants.{Optional, Req, Multi}
 use Rattle.getopts.specs.declared.groups.ParsingStyle.TheVariants.{FloatingFrees}
@@ -32,20 +34,21 @@ peek_options = record {
 
 -- The matches ask for these lines.
 pub record IsPeekOf (matches : Matched) (peek : Peek) : Type 0 where
-  pub lines : IsReadAs {E = ParseIntError} (ParsesUnsigned 32 10)
-      (first_value (found_of matches.groups (codes "lines"))) (Ok (Some peek.lines))
+  pub lines : IsParsedAs {E = ParseIntError} (ParsesUnsigned 32 10)
+      (first_value (occurrences_of_name matches.groups (codes "lines"))) (Ok (Some peek.lines))
   pub reverse : peek.reverse ≡ is_present matches.groups (codes "reverse")
-  pub wanted : map string_bytes peek.wanted.items ≡ values_of (found_of matches.groups (codes "match"))
+  pub wanted : map string_bytes peek.wanted.items
+      ≡ values_of (occurrences_of_name matches.groups (codes "match"))
   pub color : option_map string_bytes peek.color
-      ≡ first_value_or (found_of matches.groups (codes "color")) (codes "always")
+      ≡ first_value_or (occurrences_of_name matches.groups (codes "color")) (codes "always")
   pub files : map string_bytes peek.files.items ≡ matches.free
 
 -- Out of memory says nothing about the matches.
 -- These are the lines that matches ask for, or why there are none: a number that can't be read.
 abbrev pub IsPeekBy : Matched → Result Peek Refusal → Type 0
 IsPeekBy matches (Err OutOfMemory) = ⊤
-IsPeekBy matches (Err (Number error)) = IsReadAs {T = ℕ} (ParsesUnsigned 32 10)
-    (first_value (found_of matches.groups (codes "lines"))) (Err error)
+IsPeekBy matches (Err (Number error)) = IsParsedAs {T = ℕ} (ParsesUnsigned 32 10)
+    (first_value (occurrences_of_name matches.groups (codes "lines"))) (Err error)
 IsPeekBy matches (Err (Line fail)) = ⊥
 IsPeekBy matches (Ok peek) = IsPeekOf matches peek
 
@@ -53,7 +56,7 @@ IsPeekBy matches (Ok peek) = IsPeekOf matches peek
 -- This is what a command line asks for, or why it asks for nothing.
 abbrev pub IsRequestBy : Result (Request Matched) Fault → Result (Request Peek) Refusal → Type 0
 IsRequestBy line (Err OutOfMemory) = ⊤
-IsRequestBy line (Err (Line fail)) = Tells fail (λ fault. line ≡ Err fault)
+IsRequestBy line (Err (Line fail)) = IsOutOfMemoryOr fail (λ fault. line ≡ Err fault)
 IsRequestBy (Ok Help) (Ok Help) = ⊤
 IsRequestBy (Ok Version) (Ok Version) = ⊤
 IsRequestBy (Ok (Parsed matches)) (Ok (Parsed peek)) = IsPeekOf matches peek

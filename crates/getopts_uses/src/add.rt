@@ -2,8 +2,8 @@
 
 ghost use Rattle.std.specs.Prelude.{◌≡◌, codes, map, IfOk};
 ghost use Rattle.std.specs.String.{string_bytes};
-ghost use Rattle.getopts.specs.Prelude.{asked_result};
-ghost use Rattle.getopts_uses.specs.Command.{IsAddBy, add_help, add_options};
+ghost use Rattle.getopts.specs.Prelude.{parse_unless_result};
+ghost use Rattle.getopts_uses.specs.Command.{IsAddOrError, add_help, add_options};
 
 use getopts::{Fail, Options};
 use std::alloc::{AllocError, Global};
@@ -37,7 +37,8 @@ pub fn help_text(alloc: Global) -> Result<String, AllocError>
 
 /// What the words after `add` ask for, or none if they ask for help.
 pub fn read_add<S: AsStr>(alloc: Global, words: &[S]) -> Result<Option<Add>, Fail>
-    ensures { IsAddBy (asked_result add_options (codes "help") (map S.text words.now)) result }
+    ensures { IsAddOrError
+        (parse_unless_result add_options (codes "help") (map S.text words.now)) result }
 {
     let options = options(alloc)?;
     let Some(matches) = options.parse_unless(alloc, words, "help")? else {

@@ -6,11 +6,13 @@ ghost use Rattle.std.specs.List.{slice_split};
 ghost use Rattle.std.specs.Option.{option_copied, option_map};
 ghost use Rattle.std.specs.Str.Parse.{ParsesUnsigned};
 ghost use Rattle.std.specs.String.{string_bytes};
-ghost use Rattle.getopts.specs.Prelude.{IsDefined, first_value, first_value_or, found_of};
-ghost use Rattle.getopts.specs.Prelude.{parse_result, values_of};
+ghost use Rattle.getopts.specs.Prelude.{IsDefined, first_value, first_value_or};
+ghost use Rattle.getopts.specs.Prelude.{occurrences_of_name, parse_result, values_of};
 ghost use Rattle.getopts.specs.Names.{texts};
-ghost use Rattle.getopts_uses.specs.Checked.{AreFieldsBy, ArePairsBy, IsColorBy, IsNumberBy};
-ghost use Rattle.getopts_uses.specs.Checked.{IsFieldBy, IsPairBy, IsSettingsBy, checked_options};
+ghost use Rattle.getopts_uses.specs.Checked.{AreFieldsBy, ArePairsOrError, IsColorOrError};
+ghost use Rattle.getopts_uses.specs.Checked.{IsNumberOrError};
+ghost use Rattle.getopts_uses.specs.Checked.{IsFieldBy, IsPairOrError, IsSettingsOrError};
+ghost use Rattle.getopts_uses.specs.Checked.{checked_options};
 ghost use Rattle.getopts_uses.specs.Checked.{color_named, cut, parts_of, refusal_of};
 ghost use Rattle.getopts_uses.specs.declared.checked.Refusal.TheVariants.{OutOfMemory};
 
@@ -112,7 +114,7 @@ fn options(alloc: Global) -> Result<Options, AllocError>
 
 /// What a command line sets.
 pub fn read_settings<S: AsStr>(alloc: Global, words: &[S]) -> Result<Settings, Refusal>
-    ensures { IsSettingsBy (parse_result checked_options (map S.text words.now)) result }
+    ensures { IsSettingsOrError (parse_result checked_options (map S.text words.now)) result }
 {
     let matches = options(alloc)?.parse_words(alloc, words)?;
     Ok(Settings {
@@ -127,7 +129,8 @@ pub fn read_settings<S: AsStr>(alloc: Global, words: &[S]) -> Result<Settings, R
 /// An option's value, borrowed, if it has one.
 fn value_of<'m>(matches: &'m Matches, option: &str) -> Option<&'m str>
     requires { IsDefined matches.now.groups option.now }
-    ensures { option_copied result ≡ first_value (found_of matches.now.groups option.now) }
+    ensures { option_copied result
+        ≡ first_value (occurrences_of_name matches.now.groups option.now) }
 {
     let place = matches.opt_place(option)?;
     match matches.occurrences_at(place).get(0) {
@@ -146,8 +149,8 @@ fn number_of(
     default: u32,
 ) -> Result<u32, Refusal>
     requires { IsDefined matches.now.groups option.now }
-    ensures { IsNumberBy option.now low high default
-        (first_value (found_of matches.now.groups option.now)) result }
+    ensures { IsNumberOrError option.now low high default
+        (first_value (occurrences_of_name matches.now.groups option.now)) result }
 {
     let Some(text) = value_of(matches, option) else {
         return Ok(default);
@@ -173,8 +176,9 @@ fn read_number(text: &str) -> Result<u32, ParseIntError>
 /// An option's choice: `always` if it has no value, and `auto` if it isn't given.
 fn color_of(alloc: Global, matches: &Matches, option: &'static str) -> Result<Color, Refusal>
     requires { IsDefined matches.now.groups option.now }
-    ensures { IsColorBy option.now
-        (first_value_or (found_of matches.now.groups option.now) (codes "always")) result }
+    ensures { IsColorOrError option.now
+        (first_value_or (occurrences_of_name matches.now.groups option.now)
+        (codes "always")) result }
 {
     let Some(text) = matches.opt_default(alloc, option, "always")? else {
         return Ok(Color::Auto);
@@ -201,7 +205,7 @@ fn color_named(word: &str) -> Option<Color>
 fn fields_of(alloc: Global, matches: &Matches, option: &'static str) -> Result<Vec<u32>, Refusal>
     requires { IsDefined matches.now.groups option.now }
     ensures { AreFieldsBy option.now
-        (parts_of (first_value (found_of matches.now.groups option.now))) result }
+        (parts_of (first_value (occurrences_of_name matches.now.groups option.now))) result }
 {
     let parts = parts_of(alloc, value_of(matches, option))?;
     fields_in(alloc, option, &parts)
@@ -261,7 +265,8 @@ fn add_field(fields: &mut Vec<u32>, field: u32) -> Result<(), AllocError>
 /// An option's pairs, or an error with the first text that isn't a pair.
 fn sets_of(alloc: Global, matches: &Matches, option: &'static str) -> Result<Vec<Pair>, Refusal>
     requires { IsDefined matches.now.groups option.now }
-    ensures { ArePairsBy option.now (values_of (found_of matches.now.groups option.now)) result }
+    ensures { ArePairsOrError option.now
+        (values_of (occurrences_of_name matches.now.groups option.now)) result }
 {
     let texts = matches.opt_strs(alloc, option)?;
     pairs_of(alloc, option, &texts)
@@ -269,7 +274,7 @@ fn sets_of(alloc: Global, matches: &Matches, option: &'static str) -> Result<Vec
 
 /// The pairs that texts are, or an error with the first text that isn't a pair.
 fn pairs_of(alloc: Global, option: &'static str, texts: &[String]) -> Result<Vec<Pair>, Refusal>
-    ensures { ArePairsBy option.now (map string_bytes texts.now) result }
+    ensures { ArePairsOrError option.now (map string_bytes texts.now) result }
 {
     let mut pairs = Vec::new(alloc);
     for text in texts {
@@ -288,7 +293,7 @@ fn add_pair(pairs: &mut Vec<Pair>, pair: Pair) -> Result<(), AllocError>
 
 /// The pair that a text is.
 fn pair_of(alloc: Global, option: &'static str, text: &str) -> Result<Pair, Refusal>
-    ensures { IsPairBy option.now text.now result }
+    ensures { IsPairOrError option.now text.now result }
 {
     match cut(text) {
         Some((key, value)) => Ok(Pair {

@@ -2,8 +2,8 @@
 //! all their values.
 
 ghost use Rattle.std.specs.Prelude.{◌≡◌, map, IfOk, OnOk};
-ghost use Rattle.getopts.specs.Prelude.{HoldDeclared, parse_result, with_groups};
-ghost use Rattle.getopts_uses.specs.Driver.{IsJobBy, IsJobOf, driver_options, names_none};
+ghost use Rattle.getopts.specs.Prelude.{FitOptionsAndCounts, parse_result, with_groups};
+ghost use Rattle.getopts_uses.specs.Driver.{IsJobOf, IsJobOrError, driver_options, names_none};
 ghost use Rattle.getopts_uses.specs.Driver.{IsSearchOf, AreSourcesOf, AreStagesOf, AreTargetsOf, AreExtrasOf};
 ghost use Rattle.getopts_uses.specs.Driver.{search_groups, stages_groups, targets_groups, extras_groups};
 ghost use Rattle.getopts_uses.specs.declared.driver.Refusal.TheVariants.{Line, NoInput, OutOfMemory};
@@ -201,7 +201,7 @@ fn add_extras(options: &mut Options) -> Result<(), AllocError>
 
 /// The job that a command line describes.
 pub fn read_job<S: AsStr>(alloc: Global, words: &[S]) -> Result<Job, Refusal>
-    ensures { IsJobBy (parse_result driver_options (map S.text words.now)) result }
+    ensures { IsJobOrError (parse_result driver_options (map S.text words.now)) result }
 {
     let matches = options(alloc)?.parse_words(alloc, words)?;
     if names_none(&matches) {
@@ -219,7 +219,7 @@ fn names_none(matches: &Matches) -> bool
 
 /// The job that matches describe. Each helper borrows the matches, and returns a part.
 fn job_of(alloc: Global, matches: Matches) -> Result<Job, AllocError>
-    requires { HoldDeclared driver_options matches.groups }
+    requires { FitOptionsAndCounts driver_options matches.groups }
     ensures { IfOk result (IsJobOf matches) }
 {
     Ok(Job {
@@ -234,7 +234,7 @@ fn job_of(alloc: Global, matches: Matches) -> Result<Job, AllocError>
 
 /// What is written, searched and linked.
 fn search_of(alloc: Global, matches: &Matches) -> Result<Search, AllocError>
-    requires { HoldDeclared driver_options matches.now.groups }
+    requires { FitOptionsAndCounts driver_options matches.now.groups }
     ensures { IfOk result (IsSearchOf matches.now) }
 {
     Ok(Search {
@@ -249,7 +249,7 @@ fn search_of(alloc: Global, matches: &Matches) -> Result<Search, AllocError>
 
 /// How the inputs are read.
 fn sources_of(alloc: Global, matches: &Matches) -> Result<Sources, AllocError>
-    requires { HoldDeclared driver_options matches.now.groups }
+    requires { FitOptionsAndCounts driver_options matches.now.groups }
     ensures { IfOk result (AreSourcesOf matches.now) }
 {
     Ok(Sources {
@@ -262,7 +262,7 @@ fn sources_of(alloc: Global, matches: &Matches) -> Result<Sources, AllocError>
 
 /// How far the driver goes, and what it prints.
 fn stages_of(alloc: Global, matches: &Matches) -> Result<Stages, AllocError>
-    requires { HoldDeclared driver_options matches.now.groups }
+    requires { FitOptionsAndCounts driver_options matches.now.groups }
     ensures { IfOk result (AreStagesOf matches.now) }
 {
     Ok(Stages {
@@ -281,7 +281,7 @@ fn stages_of(alloc: Global, matches: &Matches) -> Result<Stages, AllocError>
 
 /// What the driver compiles for.
 fn targets_of(alloc: Global, matches: &Matches) -> Result<Targets, AllocError>
-    requires { HoldDeclared driver_options matches.now.groups }
+    requires { FitOptionsAndCounts driver_options matches.now.groups }
     ensures { IfOk result (AreTargetsOf matches.now) }
 {
     Ok(Targets {
@@ -300,7 +300,7 @@ fn targets_of(alloc: Global, matches: &Matches) -> Result<Targets, AllocError>
 
 /// What else the driver does.
 fn extras_of(alloc: Global, matches: &Matches) -> Result<Extras, AllocError>
-    requires { HoldDeclared driver_options matches.now.groups }
+    requires { FitOptionsAndCounts driver_options matches.now.groups }
     ensures { IfOk result (AreExtrasOf matches.now) }
 {
     Ok(Extras {

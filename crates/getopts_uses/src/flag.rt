@@ -1,7 +1,8 @@
 //! Whether a command line gives a flag.
 
 ghost use Rattle.std.specs.Prelude.{◌≡◌, codes, map, Err, IfErr, IfOk, Ok};
-ghost use Rattle.getopts.specs.Prelude.{Declares, Matched, Tells, is_present, parse_result};
+ghost use Rattle.getopts.specs.Prelude.{Declares, IsOutOfMemoryOr, Matched, is_present};
+ghost use Rattle.getopts.specs.Prelude.{parse_result};
 
 use getopts::{Fail, Options};
 use std::alloc::Global;
@@ -13,7 +14,7 @@ pub fn says_more<S: AsStr>(alloc: Global, options: &Options, words: &[S]) -> Res
     ensures said { IfOk result (λ more. (matches : Matched)
         × (parse_result options.now (map S.text words.now) ≡ Ok matches)
         × (more ≡ is_present matches.groups (codes "verbose"))) }
-    ensures refused { IfErr result (λ fail. Tells fail (λ fault.
+    ensures refused { IfErr result (λ fail. IsOutOfMemoryOr fail (λ fault.
         parse_result options.now (map S.text words.now) ≡ Err fault)) }
 {
     let matches = options.parse_words(alloc, words)?;

@@ -2,7 +2,7 @@
 
 ghost use Rattle.std.specs.Prelude.{◌≡◌, ◌↔◌, [], None, length, IfSome, IsSome, IsTrue};
 ghost use Rattle.std.specs.List.{list_any};
-ghost use Rattle.getopts.specs.Prelude.{IsDefined, found_of, is_present};
+ghost use Rattle.getopts.specs.Prelude.{IsDefined, is_present, occurrences_of_name};
 ghost use Rattle.getopts.specs.Accessors.{AreDefined, place_of};
 ghost use Rattle.getopts.specs.Names.{texts};
 
@@ -12,7 +12,7 @@ use getopts::{Matches, held_names_resolve};
 pub fn count_of(matches: &Matches, name: &str) -> Option<usize>
     ensures defined { IsSome result ↔ IsDefined matches.now.groups name.now }
     ensures count { IfSome result (λ count.
-        count ≡ length (found_of matches.now.groups name.now)) }
+        count ≡ length (occurrences_of_name matches.now.groups name.now)) }
 {
     if matches.opt_defined(name) {
         Some(matches.opt_count(name))

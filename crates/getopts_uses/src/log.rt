@@ -2,8 +2,8 @@
 
 ghost use Rattle.std.specs.Prelude.{◌≡◌, codes, map, IfOk};
 ghost use Rattle.std.specs.String.{string_bytes};
-ghost use Rattle.getopts.specs.Prelude.{HoldDeclared, asked_result};
-ghost use Rattle.getopts_uses.specs.Log.{IsLogBy, IsLogOf, log_help, log_options};
+ghost use Rattle.getopts.specs.Prelude.{FitOptionsAndCounts, parse_unless_result};
+ghost use Rattle.getopts_uses.specs.Log.{IsLogOf, IsLogOrError, log_help, log_options};
 
 use getopts::{Fail, Matches, Options};
 use std::alloc::{AllocError, Global};
@@ -39,7 +39,8 @@ pub fn help_text(alloc: Global) -> Result<String, AllocError>
 
 /// What the words after `log` ask for, or none if they ask for help.
 pub fn read_log<S: AsStr>(alloc: Global, words: &[S]) -> Result<Option<Log>, Fail>
-    ensures { IsLogBy (asked_result log_options (codes "help") (map S.text words.now)) result }
+    ensures { IsLogOrError
+        (parse_unless_result log_options (codes "help") (map S.text words.now)) result }
 {
     let options = options(alloc)?;
     let Some(matches) = options.parse_unless(alloc, words, "help")? else {
@@ -50,7 +51,7 @@ pub fn read_log<S: AsStr>(alloc: Global, words: &[S]) -> Result<Option<Log>, Fai
 
 /// What matches of `log` ask for.
 fn log_of(alloc: Global, matches: Matches) -> Result<Log, AllocError>
-    requires { HoldDeclared log_options matches.groups }
+    requires { FitOptionsAndCounts log_options matches.groups }
     ensures { IfOk result (IsLogOf matches) }
 {
     Ok(Log {

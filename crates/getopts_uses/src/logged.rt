@@ -4,7 +4,7 @@
 ghost use Rattle.std.specs.Prelude.{◌≡◌, List, Some, map, IfOk, Ok};
 ghost use Rattle.std.specs.String.{string_bytes};
 ghost use Rattle.getopts.specs.CanonAnswers.{IsWritten};
-ghost use Rattle.getopts.specs.Gives.{GivesAs};
+ghost use Rattle.getopts.specs.Returns.{ReturnsConverted};
 ghost use Rattle.getopts.specs.Prelude.{Text};
 ghost use Rattle.getopts.specs.Results.{canonical_result};
 ghost use Rattle.getopts_uses.specs.Logged.{build_options, said_of, said_result};
@@ -45,7 +45,7 @@ fn options(alloc: Global) -> Result<Options, AllocError>
 
 /// What a command line asks for: the program's own, or a line of the log.
 pub fn read_build<S: AsStr>(alloc: Global, words: &[S]) -> Result<Build, Fail>
-    ensures { GivesAs said_of result (λ it. said_result (map S.text words.now) ≡ it) }
+    ensures { ReturnsConverted said_of result (λ it. said_result (map S.text words.now) ≡ it) }
 {
     let matches = options(alloc)?.parse_words(alloc, words)?;
     Ok(Build {
@@ -71,7 +71,7 @@ fn lines_say_the_same()
 /// The line for the log: the canonical line of the words. There always is one, since no main name
 /// contains `=`.
 fn log_line<S: AsStr>(alloc: Global, words: &[S]) -> Result<Vec<String>, Fail>
-    ensures logged { GivesAs (λ line. Some (map string_bytes line.items)) result
+    ensures logged { ReturnsConverted (λ line. Some (map string_bytes line.items)) result
         (λ it. canonical_result build_options (map S.text words.now) ≡ it) }
     ensures written { IfOk result (λ line. IsWritten build_options (map S.text words.now)
         (map string_bytes line.items)) }
@@ -83,7 +83,7 @@ fn log_line<S: AsStr>(alloc: Global, words: &[S]) -> Result<Vec<String>, Fail>
 /// What a command line asks for, and the line for the log. That line, read again, asks for the
 /// same, and is logged unchanged.
 pub fn read_and_log<S: AsStr>(alloc: Global, words: &[S]) -> Result<Logged, Fail>
-    ensures said { GivesAs (λ logged. said_of logged.build) result
+    ensures said { ReturnsConverted (λ logged. said_of logged.build) result
         (λ it. said_result (map S.text words.now) ≡ it) }
     ensures logged { IfOk result (λ logged. canonical_result build_options (map S.text words.now)
         ≡ Ok (Some (map string_bytes logged.line.items))) }

@@ -4,7 +4,7 @@
 ghost use Rattle.std.specs.Prelude.{◌≡◌, [], ◌∷◌, codes, map, IfOk, Ok};
 ghost use Rattle.std.specs.Result.{result_map_both};
 ghost use Rattle.getopts.specs.Prelude.{parse_in_order_result};
-ghost use Rattle.getopts_uses.specs.Loudness.{IsLoudnessBy, after, asked_by, loudness_options};
+ghost use Rattle.getopts_uses.specs.Loudness.{IsLoudnessBy, after, loudness_at, loudness_options};
 ghost use Rattle.getopts_uses.specs.declared.loudness.Loudness.TheVariants.{Normal, Quiet, Verbose};
 
 use getopts::{Fail, Options};
@@ -54,14 +54,14 @@ fn last_of(places: &[usize]) -> Loudness
 {
     let mut loudness = Loudness::Normal;
     for place in places {
-        loudness = asked_by(*place).unwrap_or(loudness);
+        loudness = loudness_at(*place).unwrap_or(loudness);
     }
     loudness
 }
 
 /// How much output the option at a place asks for, if any.
-fn asked_by(place: usize) -> Option<Loudness>
-    ensures { result ≡ asked_by place }
+fn loudness_at(place: usize) -> Option<Loudness>
+    ensures { result ≡ loudness_at place }
 {
     match place {
         0 => Some(Loudness::Quiet),

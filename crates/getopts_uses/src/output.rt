@@ -2,7 +2,7 @@
 
 ghost use Rattle.std.specs.Prelude.{◌≡◌, map, IfOk};
 ghost use Rattle.getopts.specs.Prelude.{parse_result};
-ghost use Rattle.getopts_uses.specs.Output.{IsOutputBy, output_options};
+ghost use Rattle.getopts_uses.specs.Output.{IsOutputOrError, output_options};
 
 use getopts::{Fail, Options};
 use std::alloc::{AllocError, Global};
@@ -21,7 +21,7 @@ fn options(alloc: Global) -> Result<Options, AllocError>
 
 /// The output file that a command line names, if it names one.
 pub fn output_of<S: AsStr>(alloc: Global, words: &[S]) -> Result<Option<String>, Fail>
-    ensures { IsOutputBy (parse_result output_options (map S.text words.now)) result }
+    ensures { IsOutputOrError (parse_result output_options (map S.text words.now)) result }
 {
     let matches = options(alloc)?.parse_words(alloc, words)?;
     Ok(matches.opt_str(alloc, "output")?)

@@ -3,8 +3,8 @@
 
 ghost use Rattle.std.specs.Prelude.{◌≡◌, map, string_bytes, IfOk};
 ghost use Rattle.std.specs.Str.Parse.{ParsesUnsigned};
-ghost use Rattle.getopts.specs.Prelude.{HoldDeclared, IsDefined, IsReadAs, first_value, found_of};
-ghost use Rattle.getopts.specs.Prelude.{parse_request_result};
+ghost use Rattle.getopts.specs.Prelude.{FitOptionsAndCounts, IsDefined, IsParsedAs, first_value};
+ghost use Rattle.getopts.specs.Prelude.{occurrences_of_name, parse_request_result};
 ghost use Rattle.getopts_uses.specs.declared.peek.Refusal.TheVariants.{Line, Number, OutOfMemory};
 ghost use Rattle.getopts_uses.specs.Peek.{IsPeekBy, IsRequestBy, peek_help, peek_options};
 
@@ -85,7 +85,7 @@ pub fn read_request<S: AsStr>(alloc: Global, words: &[S]) -> Result<Request<Peek
 
 /// The lines that matches ask for.
 fn peek_of(alloc: Global, matches: Matches) -> Result<Peek, Refusal>
-    requires { HoldDeclared peek_options matches.groups }
+    requires { FitOptionsAndCounts peek_options matches.groups }
     ensures { IsPeekBy matches result }
 {
     Ok(Peek {
@@ -100,8 +100,8 @@ fn peek_of(alloc: Global, matches: Matches) -> Result<Peek, Refusal>
 /// The number of an option, if it was given.
 fn number(matches: &Matches, name: &str) -> Result<Option<u32>, ParseIntError>
     requires { IsDefined matches.now.groups name.now }
-    ensures { IsReadAs (ParsesUnsigned 32 10)
-        (first_value (found_of matches.now.groups name.now)) result }
+    ensures { IsParsedAs (ParsesUnsigned 32 10)
+        (first_value (occurrences_of_name matches.now.groups name.now)) result }
 {
     matches.opt_get(name)
 }

@@ -3,9 +3,10 @@
 
 ghost use Rattle.std.specs.Prelude.{◌≡◌, map, IfOk, Ok, OnOk};
 ghost use Rattle.std.specs.String.{string_bytes};
-ghost use Rattle.getopts.specs.Prelude.{HoldGiven, Matched, parse_result};
-ghost use Rattle.getopts.specs.Holds.{StandBeforeFree};
-ghost use Rattle.getopts_uses.specs.Command.{IsCommandBy, IsRunBy, IsRunOf, global_options};
+ghost use Rattle.getopts.specs.Prelude.{FitOptions, Matched, parse_result};
+ghost use Rattle.getopts.specs.Holds.{EndsInFreeWords};
+ghost use Rattle.getopts_uses.specs.Command.{IsCommandOrError, IsRunOf, IsRunOrError};
+ghost use Rattle.getopts_uses.specs.Command.{global_options};
 ghost use Rattle.getopts_uses.specs.declared.subcommand.Refusal.TheVariants.{Line, OutOfMemory};
 
 use crate::add::{Add, read_add};
@@ -72,10 +73,10 @@ fn options(alloc: Global) -> Result<Options, AllocError>
 /// What a command line runs. Whatever follows the words before the subcommand, these words give the
 /// same options.
 pub fn read_run<S: AsStr>(alloc: Global, words: &[S]) -> Result<Run, Refusal>
-    ensures run { IsRunBy (parse_result global_options (map S.text words.now)) result }
+    ensures run { IsRunOrError (parse_result global_options (map S.text words.now)) result }
     ensures before { OnOk result ((global : Matched)
         × (parse_result global_options (map S.text words.now) ≡ Ok global)
-        × StandBeforeFree global_options (map S.text words.now) global) }
+        × EndsInFreeWords global_options (map S.text words.now) global) }
 {
     let matches = options(alloc)?.parse_words(alloc, words)?;
     run_of(alloc, &matches)
@@ -83,7 +84,7 @@ pub fn read_run<S: AsStr>(alloc: Global, words: &[S]) -> Result<Run, Refusal>
 
 /// What a command line with these matches runs.
 fn run_of(alloc: Global, matches: &Matches) -> Result<Run, Refusal>
-    requires { HoldGiven global_options matches.now.groups }
+    requires { FitOptions global_options matches.now.groups }
     ensures { IsRunOf matches.now matches.now.free result }
 {
     let Some((name, words)) = matches.free.split_first() else {
@@ -98,7 +99,7 @@ fn run_of(alloc: Global, matches: &Matches) -> Result<Run, Refusal>
 
 /// The subcommand of this name, with what its own words ask for.
 fn read_command(alloc: Global, name: &str, words: &[String]) -> Result<Command, Refusal>
-    ensures { IsCommandBy name.now (map string_bytes words.now) result }
+    ensures { IsCommandOrError name.now (map string_bytes words.now) result }
 {
     match name {
         "add" => match read_add(alloc, words) {

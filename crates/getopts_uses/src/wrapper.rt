@@ -2,7 +2,7 @@
 
 ghost use Rattle.std.specs.Prelude.{◌≡◌, [], ◌∷◌, true, codes, map, Err, IfErr, IfOk, Ok};
 ghost use Rattle.std.specs.String.{string_bytes};
-ghost use Rattle.getopts.specs.Prelude.{Matched, Tells, is_present, parse_result};
+ghost use Rattle.getopts.specs.Prelude.{IsOutOfMemoryOr, Matched, is_present, parse_result};
 ghost use Rattle.getopts_uses.specs.Wrapper.{HandsOn, wrapper_options};
 
 use getopts::{Fail, Options};
@@ -32,7 +32,7 @@ fn matches_of_a_line()
 pub fn handed_on<S: AsStr>(alloc: Global, words: &[S]) -> Result<Vec<String>, Fail>
     ensures handed { IfOk result (λ handed.
         HandsOn (map S.text words.now) (map string_bytes handed.items)) }
-    ensures refused { IfErr result (λ fail. Tells fail (λ fault.
+    ensures refused { IfErr result (λ fail. IsOutOfMemoryOr fail (λ fault.
         parse_result wrapper_options (map S.text words.now) ≡ Err fault)) }
 {
     let options = options(alloc)?;

@@ -13,13 +13,13 @@ use Rattle.getopts.specs.Reading.{equals_sign, holds_equals, Reading, IsScanFaul
 use Rattle.getopts.specs.Reading.{Occurrence}
 use Rattle.getopts.specs.Reading.{occurrences_of}
 use Rattle.getopts.specs.ReadingLaws.{mentions_of}
-use Rattle.getopts.specs.Held.Scan.{line_content}
+use Rattle.getopts.specs.Stored.Scan.{line_content}
 use Rattle.getopts.specs.Matches.{Matched, MatchedGroup, matches_of, matched, KeepsCount}
 use Rattle.getopts.specs.Matches.{KeepsCounts, IsCountFault}
 use Rattle.getopts.specs.Parse.{Reads, IsAccepted, HasReading, IsRefused}
 use Rattle.getopts.specs.Canon.{Content, IsCountKeeping, content_of, main_at, IsPlain}
 use Rattle.getopts.specs.Canon.{canonical_line, IsAcceptedWith, Says}
-use Rattle.getopts.specs.Held.Matches.{IsReadLine, IsAcceptedLine}
+use Rattle.getopts.specs.Stored.Matches.{IsReadLine, IsAcceptedLine}
 use Rattle.getopts.specs.CanonAnswers.{IsWritten, IsUnwritable, IsParseAnswer}
 use Rattle.getopts.specs.CanonAnswers.{IsCanonicalAnswer, IsOrderAnswer, KeepsLineLaws}
 use Rattle.getopts.specs.declared.matches.ReadLine.{ReadLine}

@@ -15,12 +15,12 @@ use Rattle.getopts.specs.Options.{signatures_of, Grammar, kind_of, grammar_of}
 use Rattle.getopts.specs.Reading.{dash, equals_sign, begins_with_dash, holds_equals, stop_word}
 use Rattle.getopts.specs.Reading.{Argument, none, attached, separate, one, two, flags, ends_in}
 use Rattle.getopts.specs.Reading.{end_text, attached_argument, argument_words, value_of, FitsKind}
-use Rattle.getopts.specs.Turn.{with_equals, cut_at_equals}
+use Rattle.getopts.specs.Step.{with_equals, cut_at_equals}
 use Rattle.getopts.specs.Reading.{Item, free, long, cluster, spelled_all, FitsLong, FitsEnd, IsFlag}
 use Rattle.getopts.specs.Reading.{IsLawfulItem, AreWellFollowed, Reading, IsReading, Mention}
 use Rattle.getopts.specs.Reading.{mention_of, mentions, Occurrence, occurrences_of, free_items}
 use Rattle.getopts.specs.ReadingLaws.{mentions_of}
-use Rattle.getopts.specs.Matches.{found_at, matched, FitsCount, KeepsCounts}
+use Rattle.getopts.specs.Matches.{occurrences_mentioning, matched, FitsCount, KeepsCounts}
 use Rattle.getopts.specs.Canon.{Content, content_of, main_at}
 use Rattle.getopts.specs.Canon.{IsPlain, IsSound, canonical_word, canonical_line, attached_value}
 use Rattle.getopts.specs.Canon.{canonical_item, canonical_reading, with_setting, IsAcceptedWith}
@@ -34,9 +34,9 @@ use Rattle.getopts.proofs.Lists.{length-filter-map}
 use Rattle.getopts.proofs.Lookup.Names.{main_at-Some, resolution-main_name, resolution-nil}
 use Rattle.getopts.proofs.Lookup.Names.{resolution_within}
 use Rattle.getopts.proofs.Reading.Positions.{mentions_of-items}
+use Rattle.getopts.proofs.Reading.Reader.{IsNamed}
 use Rattle.getopts.proofs.Reading.Readings.{only_reading}
 use Rattle.getopts.proofs.Reading.Texts.{begins_with_dash-append, cut_at_equals-append}
-use Rattle.getopts.proofs.Reading.Turns.{IsNamed}
 
 -- the main name of the group at this place contains no `=`
 abbrev HasPlainMain : List Group → ℕ → Type 0
@@ -305,17 +305,17 @@ abbrev count_at : ℕ → List Mention → ℕ
 count_at place ms = length (filter (λ m. m.group == place) ms)
 
 -- a group has as many occurrences as mentions
-length-found_at : (place : ℕ) (grammar : Grammar) (reading : Reading)
-    → length (found_at place (occurrences_of grammar reading))
+length-occurrences_mentioning : (place : ℕ) (grammar : Grammar) (reading : Reading)
+    → length (occurrences_mentioning place (occurrences_of grammar reading))
     ≡ count_at place (mentions_of grammar reading)
-length-found_at place grammar reading =
+length-occurrences_mentioning place grammar reading =
     length-map _ _
     ∙ sym (length-filter-map (λ m. m.group == place) (λ (o : Occurrence). o.mention)
     (occurrences_of grammar reading))
 
 -- the counts depend on the number of occurrences for each place
 KeepsCounts-numbers : (signatures : List Signature) (place : ℕ) (old new : List Occurrence)
-    → ((k : ℕ) → length (found_at k old) ≡ length (found_at k new))
+    → ((k : ℕ) → length (occurrences_mentioning k old) ≡ length (occurrences_mentioning k new))
     → KeepsCounts (matched place signatures old) → KeepsCounts (matched place signatures new)
 KeepsCounts-numbers [] place old new same keeps = tt
 KeepsCounts-numbers (signature ∷ signatures) place old new same keeps = (
@@ -330,8 +330,8 @@ pub KeepsCounts-mentions : (signatures : List Signature) (grammar other_grammar 
     → KeepsCounts (matched 0 signatures (occurrences_of other_grammar other))
 KeepsCounts-mentions signatures grammar other_grammar reading other same keeps =
     KeepsCounts-numbers signatures 0 _ _
-    (λ k. length-found_at k grammar reading ∙ ap (count_at k) same
-    ∙ sym (length-found_at k other_grammar other)) keeps
+    (λ k. length-occurrences_mentioning k grammar reading ∙ ap (count_at k) same
+    ∙ sym (length-occurrences_mentioning k other_grammar other)) keeps
 
 -- words that are accepted with a content, in some style and mode, have this content
 pub Says-accepted : (options : Declared) (style : ParsingStyle) (long_only : Bool)

@@ -7,7 +7,7 @@ use Rattle.getopts.specs.Reading.{Reading}
 use Rattle.getopts.specs.Matches.{Matched, matches_of, KeepsCounts}
 use Rattle.getopts.specs.Parse.{Reads, IsAccepted}
 use Rattle.getopts.specs.Results.{read, first_count_fault, unless_fault, with_counts_kept, made_of}
-use Rattle.getopts.specs.Results.{line_result, parse_result}
+use Rattle.getopts.specs.Results.{accepted_reading, parse_result}
 use Rattle.getopts.proofs.MainTheorem.FirstFault.{first_count_fault-is, no_fault}
 use Rattle.getopts.proofs.Parsing.Only.{meets}
 use Rattle.getopts.proofs.Parsing.Parsed.{named_here}
@@ -17,7 +17,7 @@ use Rattle.getopts.proofs.Reading.Readings.{reading_read}
 pub parse_result-accepted : (options : Declared) → MayBeDeclared options.groups
     → (words : List Text) (m : Matched) → IsAccepted options words m
     → parse_result options words ≡ Ok m
-unfolding line_result
+unfolding accepted_reading
 parse_result-accepted options declared words m is =
     let reading = is.read.reading in
     let reads = meets (Reads options words) reading is.read.only in

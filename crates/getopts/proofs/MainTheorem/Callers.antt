@@ -12,11 +12,13 @@ use Rattle.getopts.specs.Reading.{Reading, Mention, Occurrence, occurrences_of, 
 use Rattle.getopts.specs.ReadingLaws.{mentions_of}
 use Rattle.getopts.specs.Canon.{Content, content_of, canonical_reading, with_setting}
 use Rattle.getopts.specs.CanonAnswers.{IsWritten, KeepsLineLaws}
-use Rattle.getopts.specs.Matches.{Found, Matched, found_at, matched, matches_of, KeepsCounts}
-use Rattle.getopts.specs.Accessors.{place_of, found_in, found_of, each_value, first_value}
+use Rattle.getopts.specs.Matches.{GroupOccurrence, Matched, occurrences_mentioning, matched}
+use Rattle.getopts.specs.Matches.{matches_of, KeepsCounts}
+use Rattle.getopts.specs.Accessors.{place_of, occurrences_of_group, occurrences_of_name, each_value}
+use Rattle.getopts.specs.Accessors.{first_value}
 use Rattle.getopts.specs.Accessors.{is_present, values_of}
 use Rattle.getopts.specs.Parse.{Reads, HasReading}
-use Rattle.getopts.specs.Theorem.{AcceptedExactlyWhen, HoldSame, OneContentHoldsSame}
+use Rattle.getopts.specs.Theorem.{AcceptedExactlyWhen, HaveSameValues, OneContentHoldsSame}
 use Rattle.getopts.specs.Theorem.{LinesReadAgain}
 use Rattle.getopts.specs.Fail.{Fault}
 use Rattle.getopts.specs.Results.{parse_result}
@@ -25,7 +27,7 @@ use Rattle.std.specs.Result.{result_map_both}
 pub use Rattle.getopts.proofs.MainTheorem.Accepted.{parse_result-accepted}
 use Rattle.getopts.proofs.Canonical.Lines.{KeepsCounts-mentions}
 use Rattle.getopts.proofs.Canonical.Answered.{reads_of}
-use Rattle.getopts.proofs.Held.Matches.{signatures-matched}
+use Rattle.getopts.proofs.Stored.Matches.{signatures-matched}
 use Rattle.getopts.proofs.MainTheorem.Plain.{are_plain, lawful_groups}
 use Rattle.getopts.proofs.Parsing.Holds.{place_of-groups}
 use Rattle.getopts.proofs.Parsing.Parsed.{only_reads}
@@ -41,12 +43,14 @@ MayBeDeclared-plain options plain = lawful_groups options.groups plain
 abbrev values_at : ℕ → List Mention → List (Option Text)
 values_at place ms = map (λ (m : Mention). m.value) (filter (λ (m : Mention). m.group == place) ms)
 
-values-found_at : (place : ℕ) (os : List Occurrence)
-    → each_value (found_at place os) ≡ values_at place (map (λ (o : Occurrence). o.mention) os)
-values-found_at place [] = refl
-values-found_at place (o ∷ os) = here (o.mention.group == place) (values-found_at place os) where
+values-occurrences_mentioning : (place : ℕ) (os : List Occurrence)
+    → each_value (occurrences_mentioning place os)
+    ≡ values_at place (map (λ (o : Occurrence). o.mention) os)
+values-occurrences_mentioning place [] = refl
+values-occurrences_mentioning place (o ∷ os) = here (o.mention.group == place) (values-occurrences_mentioning place os) where
   here : (is : Bool)
-      → each_value (found_at place os) ≡ values_at place (map (λ (o : Occurrence). o.mention) os)
+      → each_value (occurrences_mentioning place os)
+      ≡ values_at place (map (λ (o : Occurrence). o.mention) os)
       → each_value
       (map (λ (o : Occurrence). record { position = o.position; value = o.mention.value })
       (cond is (o ∷ filter (λ (o : Occurrence). o.mention.group == place) os)
@@ -58,31 +62,34 @@ values-found_at place (o ∷ os) = here (o.mention.group == place) (values-found
   here true others = ap (λ (more : List (Option Text)). o.mention.value ∷ more) others
   here false others = others
 
-values-found_in : (signatures : List Signature) (first i : ℕ) (old new : List Occurrence)
+values-occurrences_of_group : (signatures : List Signature) (first i : ℕ)
+    (old new : List Occurrence)
     → map (λ (o : Occurrence). o.mention) new ≡ map (λ (o : Occurrence). o.mention) old
-    → each_value (found_in (matched first signatures new) i)
-    ≡ each_value (found_in (matched first signatures old) i)
-values-found_in [] first i old new same = refl
-values-found_in (signature ∷ signatures) first zero old new same = values-found_at first new
-    ∙ ap (values_at first) same ∙ sym (values-found_at first old)
-values-found_in (signature ∷ signatures) first (suc i) old new same =
-    values-found_in signatures (first + 1) i old new same
+    → each_value (occurrences_of_group (matched first signatures new) i)
+    ≡ each_value (occurrences_of_group (matched first signatures old) i)
+values-occurrences_of_group [] first i old new same = refl
+values-occurrences_of_group (signature ∷ signatures) first zero old new same =
+    values-occurrences_mentioning first new
+    ∙ ap (values_at first) same ∙ sym (values-occurrences_mentioning first old)
+values-occurrences_of_group (signature ∷ signatures) first (suc i) old new same =
+    values-occurrences_of_group signatures (first + 1) i old new same
 
 -- Readings with the same mentions, in any styles and modes, give each name the same values.
-values-found_of : (options : Declared) (style : ParsingStyle) (long_only : Bool)
+values-occurrences_of_name : (options : Declared) (style : ParsingStyle) (long_only : Bool)
     → (old new : Reading)
     → mentions_of (grammar_of (with_setting options style long_only)) new
     ≡ mentions_of (grammar_of options) old → (name : Text)
-    → each_value (found_of (matches_of (with_setting options style long_only) new).groups name)
-    ≡ each_value (found_of (matches_of options old).groups name)
-values-found_of options style long_only old new same name =
+    → each_value
+    (occurrences_of_name (matches_of (with_setting options style long_only) new).groups name)
+    ≡ each_value (occurrences_of_name (matches_of options old).groups name)
+values-occurrences_of_name options style long_only old new same name =
     let other = with_setting options style long_only in
     ap (λ (place : Option ℕ). each_value
-    (option_map_or (found_in (matches_of other new).groups) place []))
+    (option_map_or (occurrences_of_group (matches_of other new).groups) place []))
     (resolves other new)
     ∙ here (resolution (names_of options.groups) name)
     ∙ ap (λ (place : Option ℕ). each_value
-    (option_map_or (found_in (matches_of options old).groups) place []))
+    (option_map_or (occurrences_of_group (matches_of options old).groups) place []))
     (sym (resolves options old)) where
       resolves : (by : Declared) (reading : Reading)
           → place_of (matches_of by reading).groups name
@@ -93,10 +100,11 @@ values-found_of options style long_only old new same name =
 
       here : (place : Option ℕ)
           → each_value (option_map_or
-          (found_in (matches_of (with_setting options style long_only) new).groups) place [])
-          ≡ each_value (option_map_or (found_in (matches_of options old).groups) place [])
+          (occurrences_of_group (matches_of (with_setting options style long_only) new).groups) place [])
+          ≡ each_value
+          (option_map_or (occurrences_of_group (matches_of options old).groups) place [])
       here None = refl
-      here (Some i) = values-found_in (signatures_of options.groups) 0 i
+      here (Some i) = values-occurrences_of_group (signatures_of options.groups) 0 i
           (occurrences_of (grammar_of options) old)
           (occurrences_of (grammar_of (with_setting options style long_only)) new) same
 
@@ -104,36 +112,38 @@ first_of_values : List (Option Text) → Option Text
 first_of_values [] = None
 first_of_values (value ∷ more) = value
 
-first_value-each : (founds : List Found) → first_value founds ≡ first_of_values (each_value founds)
+first_value-each : (founds : List GroupOccurrence) → first_value founds
+    ≡ first_of_values (each_value founds)
 unfolding first_of_values
 first_value-each [] = refl
 first_value-each (found ∷ founds) = refl
 
-each_value-first : (founds others : List Found) → each_value founds ≡ each_value others
+each_value-first : (founds others : List GroupOccurrence) → each_value founds ≡ each_value others
     → first_value founds ≡ first_value others
 each_value-first founds others same = first_value-each founds ∙ ap first_of_values same
     ∙ sym (first_value-each others)
 
-values_of-each : (founds : List Found)
+values_of-each : (founds : List GroupOccurrence)
     → values_of founds ≡ filter_map (λ (value : Option Text). value) (each_value founds)
 values_of-each [] = refl
 values_of-each (found ∷ founds) = ap (cons_option found.value) (values_of-each founds)
 
-each_value-values : (founds others : List Found) → each_value founds ≡ each_value others
+each_value-values : (founds others : List GroupOccurrence) → each_value founds ≡ each_value others
     → values_of founds ≡ values_of others
 each_value-values founds others same =
     values_of-each founds ∙ ap (filter_map (λ (value : Option Text). value)) same
     ∙ sym (values_of-each others)
 
 -- readings with the same content give matches that hold the same
-HoldSame-content : (options : Declared) (style : ParsingStyle) (long_only : Bool)
+HaveSameValues-content : (options : Declared) (style : ParsingStyle) (long_only : Bool)
     → (old new : Reading)
     → mentions_of (grammar_of (with_setting options style long_only)) new
     ≡ mentions_of (grammar_of options) old
     → free_words new ≡ free_words old
-    → HoldSame (matches_of options old) (matches_of (with_setting options style long_only) new)
-HoldSame-content options style long_only old new same free =
-    record { values = values-found_of options style long_only old new same; free = free }
+    → HaveSameValues (matches_of options old)
+    (matches_of (with_setting options style long_only) new)
+HaveSameValues-content options style long_only old new same free =
+    record { values = values-occurrences_of_name options style long_only old new same; free = free }
 
 -- words with the content of accepted words are accepted, with matches that hold the same
 pub OneContentHoldsSame_lem : (options : Declared) → AcceptedExactlyWhen options
@@ -152,8 +162,8 @@ OneContentHoldsSame_lem options accepted_when words others old new matches accep
     (signatures_of options.groups) grammar grammar old new (sym told) kept in (
       (accepted_when others (matches_of options new)).1
           (new, record { reads = reads_new; keeps = keeps }, refl),
-      subst (λ (those : Matched). HoldSame those (matches_of options new)) matches_are
-          (HoldSame-content options options.style options.long_only old new told free),
+      subst (λ (those : Matched). HaveSameValues those (matches_of options new)) matches_are
+          (HaveSameValues-content options options.style options.long_only old new told free),
     )
 
 -- a canonical line, read again in any style and mode, gives matches that hold the same
@@ -180,23 +190,23 @@ LinesReadAgain_lem options declared line_laws words line matches written has sty
         };
         counts = back.reads.keeps;
       };
-      same = subst (λ (those : Matched). HoldSame those (matches_of other reading))
+      same = subst (λ (those : Matched). HaveSameValues those (matches_of other reading))
           (sym matches_are)
-          (HoldSame-content options style long_only with.reading reading
+          (HaveSameValues-content options style long_only with.reading reading
           (ap (λ (content : Content). content.mentions) said)
           (ap (λ (content : Content). content.free) said));
     }
 
 -- The matches of a line and of its canonical line are seen alike, in all styles and modes.
-pub results_again : {X : Type 0} (see : Matched → X)
-    → ((m n : Matched) → HoldSame m n → see n ≡ see m) → (options : Declared)
+pub results_again : {X : Type 0} (convert : Matched → X)
+    → ((m n : Matched) → HaveSameValues m n → convert n ≡ convert m) → (options : Declared)
     → MayBeDeclared options.groups → LinesReadAgain options
     → (words line : List Text) → IsWritten options words line
     → (style : ParsingStyle) (long_only : Bool)
-    → result_map_both see (λ (fault : Fault). fault)
+    → result_map_both convert (λ (fault : Fault). fault)
     (parse_result (with_setting options style long_only) line)
-    ≡ result_map_both see (λ (fault : Fault). fault) (parse_result options words)
-results_again {X} see same options declared law words line written style long_only =
+    ≡ result_map_both convert (λ (fault : Fault). fault) (parse_result options words)
+results_again {X} convert same options declared law words line written style long_only =
     let with = written.accepted in
     let m = matches_of options with.reading in
     let has : HasReading options words m =
@@ -208,24 +218,27 @@ results_again {X} see same options declared law words line written style long_on
     back.again back.accepted in
     rw (first, second) (ap (λ (x : X). Ok x) (same m back.again back.same))
 
-module _ (matches other : Matched) (same : HoldSame matches other) where
+module _ (matches other : Matched) (same : HaveSameValues matches other) where
   -- In matches that hold the same, an option has the same first value.
   pub same_first : (name : Text)
-      → first_value (found_of other.groups name) ≡ first_value (found_of matches.groups name)
+      → first_value (occurrences_of_name other.groups name)
+      ≡ first_value (occurrences_of_name matches.groups name)
   same_first name = each_value-first _ _ (same.values name)
 
   -- In matches that hold the same, an option has the same values.
   pub same_values : (name : Text)
-      → values_of (found_of other.groups name) ≡ values_of (found_of matches.groups name)
+      → values_of (occurrences_of_name other.groups name)
+      ≡ values_of (occurrences_of_name matches.groups name)
   same_values name = each_value-values _ _ (same.values name)
 
   -- In matches that hold the same, an option has the same count.
   pub same_count : (name : Text)
-      → length (found_of other.groups name) ≡ length (found_of matches.groups name)
+      → length (occurrences_of_name other.groups name)
+      ≡ length (occurrences_of_name matches.groups name)
   same_count name =
-      sym (length-map (found_of other.groups name) (λ (found : Found). found.value))
+      sym (length-map (occurrences_of_name other.groups name) (λ (found : GroupOccurrence). found.value))
       ∙ ap length (same.values name)
-      ∙ length-map (found_of matches.groups name) (λ (found : Found). found.value)
+      ∙ length-map (occurrences_of_name matches.groups name) (λ (found : GroupOccurrence). found.value)
 
   -- In matches that hold the same, an option was given in both or in neither.
   pub same_present : (name : Text) → is_present other.groups name ≡ is_present matches.groups name

@@ -13,7 +13,7 @@ use Rattle.getopts.specs.Names.{Text, main_name}
 use Rattle.getopts.specs.Options.{Declared, Group, MayBeDeclared, grammar_of}
 use Rattle.getopts.specs.Parse.{Reads}
 use Rattle.getopts.specs.Reading.{Mention, Reading, holds_equals}
-use Rattle.getopts.specs.Results.{canonical_result, line_result, made_of, parse_result, read}
+use Rattle.getopts.specs.Results.{accepted_reading, canonical_result, made_of, parse_result, read}
 use Rattle.getopts.specs.Results.{first_count_fault, unless_fault, with_counts_kept, written_line}
 use Rattle.getopts.specs.declared.groups.ParsingStyle.{ParsingStyle}
 use Rattle.getopts.proofs.MainTheorem.FirstFault.{first_count_fault-is, no_fault}
@@ -31,7 +31,7 @@ same_error make other (Err first) fault is = cc
 pub canonical_errors : (options : Declared) (words : List Text) (fault : Fault)
     → (canonical_result options words ≡ Err fault) ↔ (parse_result options words ≡ Err fault)
 canonical_errors options words fault =
-    (same_error _ _ (line_result options words) fault, same_error _ _ (line_result options words) fault)
+    (same_error _ _ (accepted_reading options words) fault, same_error _ _ (accepted_reading options words) fault)
 
 -- ---- there is a line
 
@@ -78,7 +78,7 @@ pub canonical_again : (options : Declared) → MayBeDeclared options.groups → 
     → (words line : List Text) → IsWritten options words line
     → (style : ParsingStyle) (long_only : Bool)
     → canonical_result (with_setting options style long_only) line ≡ Ok (Some line)
-unfolding line_result
+unfolding accepted_reading
 canonical_again options declared laws words line written style long_only =
     let other = with_setting options style long_only in
     let back = (laws words line written).reads_back style long_only in

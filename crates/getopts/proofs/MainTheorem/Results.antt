@@ -7,7 +7,7 @@ use Rattle.std.specs.declared.alloc.Global.{Global}
 use Rattle.std.specs.declared.vec.Vec.{Vec}
 use Rattle.getopts.specs.Names.{Text, AreTexts}
 use Rattle.getopts.specs.Options.{Declared, MayBeDeclared, grammar_of}
-use Rattle.getopts.specs.Fail.{Fault, Tells}
+use Rattle.getopts.specs.Fail.{Fault, IsOutOfMemoryOr}
 use Rattle.getopts.specs.declared.fail.Fail.{Fail}
 use Rattle.getopts.specs.Reading.{Reading, IsReading, holds_equals}
 use Rattle.getopts.specs.Matches.{Matched, matches_of}
@@ -16,16 +16,18 @@ use Rattle.getopts.specs.Canon.{Content, content_of, main_at, canonical_line, Is
 use Rattle.getopts.specs.CanonAnswers.{IsParseAnswer, IsCanonicalAnswer, IsWritten, IsUnwritable}
 use Rattle.getopts.specs.CanonAnswers.{IsOrder, IsOrderAnswer}
 use Rattle.getopts.specs.Results.{read, first_count_fault, unless_fault, with_counts_kept}
-use Rattle.getopts.specs.Results.{reading_result, line_result, made_of, written_line, read_result}
+use Rattle.getopts.specs.Results.{reading_or_error, accepted_reading, made_of, written_line}
+use Rattle.getopts.specs.Results.{parse_ignoring_counts_result}
 use Rattle.getopts.specs.Results.{parse_result, canonical_result, parse_in_order_result}
-use Rattle.getopts.specs.Gives.{IsReadingOf, IsLineOf, IsReadAnswer, HasResults, GivesResult, GivesAs}
+use Rattle.getopts.specs.Returns.{IsReadingOf, IsLineOf, IsReadAnswer, HasResults, ReturnsResult}
+use Rattle.getopts.specs.Returns.{ReturnsConverted}
 use Rattle.getopts.proofs.Canonical.Lines.{is_plain-true, is_plain-false, Says-accepted}
 use Rattle.getopts.proofs.Canonical.Lines.{IsSound-says, HasUnwritable-content}
 use Rattle.getopts.proofs.Canonical.Answered.{only_parse_answer, only_canonical_answer}
 use Rattle.getopts.proofs.Canonical.Answered.{only_order_answer}
 use Rattle.getopts.proofs.Canonical.Answered.{only_matches, reads_of, not_refused}
 use Rattle.getopts.proofs.MainTheorem.FirstFault.{HaveFault, first_count_fault-is}
-use Rattle.getopts.proofs.Parsing.Faults.{Tells-weaker}
+use Rattle.getopts.proofs.Parsing.Faults.{IsOutOfMemoryOr-weaker}
 use Rattle.getopts.proofs.Parsing.Only.{IsTheOnly-from}
 use Rattle.getopts.proofs.Parsing.Parsed.{only_reads, named_here, HasNoReading-fault}
 use Rattle.getopts.proofs.Reading.Readings.{IsSoundOutcome, read_sound}
@@ -157,23 +159,23 @@ module _ (options : Declared) (declared : MayBeDeclared options.groups) (words :
 
   -- the results are the computed ones
   pub HasResults-declared : AreTexts words → HasResults options words
-  unfolding reading_result line_result
+  unfolding reading_or_error accepted_reading
   HasResults-declared texts =
       let sound = read_sound (grammar_of options)
       (named_here options declared) words texts _ refl in
       let line = line_answers texts (read (grammar_of options) words) sound in
       let reading = reading_answer texts (read (grammar_of options) words) sound in
       record {
-        reading = IsTheOnly-from (IsReadingOf options words) (reading_result options words) reading
-            (λ other is. only_reading_answer other (reading_result options words) is reading);
-        line = IsTheOnly-from (IsLineOf options words) (line_result options words) line.0
-            (λ other is. only_line_answer other (line_result options words) is line.0);
+        reading = IsTheOnly-from (IsReadingOf options words) (reading_or_error options words) reading
+            (λ other is. only_reading_answer other (reading_or_error options words) is reading);
+        line = IsTheOnly-from (IsLineOf options words) (accepted_reading options words) line.0
+            (λ other is. only_line_answer other (accepted_reading options words) is line.0);
         parse = IsTheOnly-from (IsParseAnswer options words) (parse_result options words) line.1
             (λ other is. only_parse_answer options words other
             (parse_result options words) is line.1);
-        read = IsTheOnly-from (IsReadAnswer options words) (read_result options words)
+        read = IsTheOnly-from (IsReadAnswer options words) (parse_ignoring_counts_result options words)
             (read_answer texts (read (grammar_of options) words) sound)
-            (λ other is. only_read_answer other (read_result options words) is
+            (λ other is. only_read_answer other (parse_ignoring_counts_result options words) is
             (read_answer texts (read (grammar_of options) words) sound));
         canonical = IsTheOnly-from (IsCanonicalAnswer options words)
             (canonical_result options words) line.2
@@ -186,61 +188,61 @@ module _ (options : Declared) (declared : MayBeDeclared options.groups) (words :
       }
 
 -- A call that returns what is accepted, or the error for which words are rejected, is right.
-pub GivesResult-parse : (options : Declared) (words : List Text) → HasResults options words
+pub ReturnsResult-parse : (options : Declared) (words : List Text) → HasResults options words
     → (answer : Result Matched Fail) → IfOk answer (IsAccepted options words)
-    → IfErr answer (λ fail. Tells fail (IsRefused options words))
-    → GivesResult answer (parse_result options words)
-GivesResult-parse options words has (Ok matches) is refused = sym ((has.parse (Ok matches)).0 is)
-GivesResult-parse options words has (Err fail) is refused =
-    Tells-weaker fail (IsRefused options words)
+    → IfErr answer (λ fail. IsOutOfMemoryOr fail (IsRefused options words))
+    → ReturnsResult answer (parse_result options words)
+ReturnsResult-parse options words has (Ok matches) is refused = sym ((has.parse (Ok matches)).0 is)
+ReturnsResult-parse options words has (Err fail) is refused =
+    IsOutOfMemoryOr-weaker fail (IsRefused options words)
     (λ fault. parse_result options words ≡ Err fault) refused
     (λ fault why. sym ((has.parse (Err fault)).0 why))
 
-pub GivesResult-read : (options : Declared) (words : List Text) → HasResults options words
+pub ReturnsResult-read : (options : Declared) (words : List Text) → HasResults options words
     → (answer : Result Matched Fail) → IfOk answer (HasReading options words)
-    → IfErr answer (λ fail. Tells fail (HasNoReading options words))
-    → GivesResult answer (read_result options words)
-GivesResult-read options words has (Ok matches) is refused = sym ((has.read (Ok matches)).0 is)
-GivesResult-read options words has (Err fail) is refused =
-    Tells-weaker fail (HasNoReading options words)
-    (λ fault. read_result options words ≡ Err fault) refused
+    → IfErr answer (λ fail. IsOutOfMemoryOr fail (HasNoReading options words))
+    → ReturnsResult answer (parse_ignoring_counts_result options words)
+ReturnsResult-read options words has (Ok matches) is refused = sym ((has.read (Ok matches)).0 is)
+ReturnsResult-read options words has (Err fail) is refused =
+    IsOutOfMemoryOr-weaker fail (HasNoReading options words)
+    (λ fault. parse_ignoring_counts_result options words ≡ Err fault) refused
     (λ fault why. sym ((has.read (Err fault)).0 why))
 
-pub GivesResult-canonical : {Y : Type 0} (options : Declared) (words : List Text)
+pub ReturnsResult-canonical : {Y : Type 0} (options : Declared) (words : List Text)
     → HasResults options words
-    → (see : Y → List Text) (answer : Result (Option Y) Fail)
-    → IfOk answer (λ a. IfSome a (λ y. IsWritten options words (see y)))
+    → (convert : Y → List Text) (answer : Result (Option Y) Fail)
+    → IfOk answer (λ a. IfSome a (λ y. IsWritten options words (convert y)))
     → IfOk answer (λ a. IfNone a (IsUnwritable options words))
-    → IfErr answer (λ fail. Tells fail (IsRefused options words))
-    → GivesAs (option_map see) answer (λ it. canonical_result options words ≡ it)
-GivesResult-canonical options words has see (Ok (Some y)) is none_is refused =
-    sym ((has.canonical (Ok (Some (see y)))).0 is)
-GivesResult-canonical options words has see (Ok None) is none_is refused =
+    → IfErr answer (λ fail. IsOutOfMemoryOr fail (IsRefused options words))
+    → ReturnsConverted (option_map convert) answer (λ it. canonical_result options words ≡ it)
+ReturnsResult-canonical options words has convert (Ok (Some y)) is none_is refused =
+    sym ((has.canonical (Ok (Some (convert y)))).0 is)
+ReturnsResult-canonical options words has convert (Ok None) is none_is refused =
     sym ((has.canonical (Ok None)).0 none_is)
-GivesResult-canonical options words has see (Err fail) is none_is refused =
-    Tells-weaker fail (IsRefused options words)
+ReturnsResult-canonical options words has convert (Err fail) is none_is refused =
+    IsOutOfMemoryOr-weaker fail (IsRefused options words)
     (λ fault. canonical_result options words ≡ Err fault) refused
     (λ fault why. sym ((has.canonical (Err fault)).0 why))
 
-pub GivesResult-order : (options : Declared) (words : List Text) → HasResults options words
+pub ReturnsResult-order : (options : Declared) (words : List Text) → HasResults options words
     → (answer : Result (Vec ℕ Global) Fail)
     → IfOk answer (λ places. IsOrder options words places.items)
-    → IfErr answer (λ fail. Tells fail (IsRefused options words))
-    → GivesAs (λ (places : Vec ℕ Global). places.items) answer
+    → IfErr answer (λ fail. IsOutOfMemoryOr fail (IsRefused options words))
+    → ReturnsConverted (λ (places : Vec ℕ Global). places.items) answer
     (λ it. parse_in_order_result options words ≡ it)
-GivesResult-order options words has (Ok places) is refused =
+ReturnsResult-order options words has (Ok places) is refused =
     sym ((has.order (Ok places.items)).0 is)
-GivesResult-order options words has (Err fail) is refused =
-    Tells-weaker fail (IsRefused options words)
+ReturnsResult-order options words has (Err fail) is refused =
+    IsOutOfMemoryOr-weaker fail (IsRefused options words)
     (λ fault. parse_in_order_result options words ≡ Err fault) refused
     (λ fault why. sym ((has.order (Err fault)).0 why))
 
 -- The error of rejected words is the computed one.
 pub refused_result : (options : Declared) → MayBeDeclared options.groups → (words : List Text)
-    → AreTexts words → (fail : Fail) → Tells fail (IsRefused options words)
-    → Tells fail (λ fault. parse_result options words ≡ Err fault)
+    → AreTexts words → (fail : Fail) → IsOutOfMemoryOr fail (IsRefused options words)
+    → IsOutOfMemoryOr fail (λ fault. parse_result options words ≡ Err fault)
 refused_result options declared words texts fail told =
-    GivesResult-parse options words (HasResults-declared options declared words texts) (Err fail) tt
+    ReturnsResult-parse options words (HasResults-declared options declared words texts) (Err fail) tt
     told
 
 -- a result made of an outcome is made of a reading

@@ -14,7 +14,7 @@ use Rattle.getopts.proofs.Canonical.Answered.{reads_of, keeps_accepted, not_refu
 use Rattle.getopts.proofs.Parsing.Only.{meets}
 use Rattle.getopts.proofs.Parsing.Parsed.{only_reads, named_here, HasNoReading-fault}
 use Rattle.getopts.proofs.Reading.Readings.{only_reading}
-use Rattle.getopts.proofs.Reading.Turns.{IsNamed}
+use Rattle.getopts.proofs.Reading.Reader.{IsNamed}
 
 module _ (options : Declared) (declared : MayBeDeclared options.groups) where
   named : IsNamed (grammar_of options)

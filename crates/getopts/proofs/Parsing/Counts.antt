@@ -9,19 +9,20 @@ use Rattle.std.proofs.lemmas.List.{length-map, take-append-drop}
 use Rattle.getopts.specs.Options.{Signature}
 use Rattle.getopts.specs.Fail.{Fault}
 use Rattle.getopts.specs.Reading.{Occurrence}
-use Rattle.getopts.specs.Matches.{Found, MatchedGroup, found_at, matched, KeepsCount, KeepsCounts}
+use Rattle.getopts.specs.Matches.{GroupOccurrence, MatchedGroup, occurrences_mentioning, matched}
+use Rattle.getopts.specs.Matches.{KeepsCount, KeepsCounts}
 use Rattle.getopts.specs.Matches.{FitsCount, IsCountFault}
 pub use Rattle.getopts.specs.Results.{broken_count}
-use Rattle.getopts.specs.Held.Index.{index_of}
-use Rattle.getopts.specs.Held.Groups.{kinds_of}
+use Rattle.getopts.specs.Stored.Index.{index_of}
+use Rattle.getopts.specs.Stored.Groups.{kinds_of}
 use Rattle.getopts.specs.declared.groups.Kinds.{Kinds}
 use Rattle.getopts.proofs.Lists.{AllByRecursion-append, take-get, slice_get-drop}
-use Rattle.getopts.proofs.Held.Index.{length-places_of, slice_get-places_by_group}
+use Rattle.getopts.proofs.Stored.Index.{length-places_of, slice_get-places_by_group}
 
 -- the signature at this place with its occurrences
 abbrev pub matched_at : ℕ → Signature → List Occurrence → MatchedGroup
 matched_at place signature occurrences =
-    record { signature = signature; found = found_at place occurrences }
+    record { signature = signature; found = occurrences_mentioning place occurrences }
 
 -- the matched groups from a place on
 pub matched-from : (first : ℕ) (signatures : List Signature) (occurrences : List Occurrence) (i : ℕ)
@@ -45,11 +46,11 @@ matched-from first (k ∷ signatures) occurrences (suc i) signature there =
     ∙ ap (λ n. matched_at (first + suc i) signature occurrences ∷ drop n whole) (sym later)
 
 -- the number of a group's occurrences, from the index
-pub length-found_at : (count : ℕ) (occurrences : List Occurrence) (i : ℕ) → i < count
+pub length-occurrences_mentioning : (count : ℕ) (occurrences : List Occurrence) (i : ℕ) → i < count
     → length (unwrap_or (slice_get (index_of count occurrences) i) [])
-    ≡ length (found_at i occurrences)
-length-found_at count occurrences i within =
-    let founds : length (found_at i occurrences)
+    ≡ length (occurrences_mentioning i occurrences)
+length-occurrences_mentioning count occurrences i within =
+    let founds : length (occurrences_mentioning i occurrences)
     ≡ length (filter (λ (o : Occurrence). o.mention.group == i) occurrences) = simp length-map in
     ap (λ (o : Option (List ℕ)). length (unwrap_or o []))
     (slice_get-places_by_group count i
@@ -67,7 +68,7 @@ module _ (signatures : List Signature) (occurrences : List Occurrence) (i : ℕ)
     (signature : Signature)
     (there : slice_get signatures i ≡ Some signature)
     (kept : KeepsCounts (take i (matched 0 signatures occurrences))) (count : ℕ)
-    (counted : count ≡ length (found_at i occurrences)) where
+    (counted : count ≡ length (occurrences_mentioning i occurrences)) where
   here : drop i (matched 0 signatures occurrences)
       ≡ matched_at i signature occurrences ∷ drop (i + 1) (matched 0 signatures occurrences)
   here = simp zero-add at (matched-from 0 signatures occurrences i signature there)
@@ -114,17 +115,17 @@ signature-there (signature ∷ signatures) (suc i) kinds there =
 
 -- a test that passes for each group with occurrences passes for each occurrence
 pub list_all-by_group : (p : ℕ → Bool) (occurrences : List Occurrence)
-    → ((group : ℕ) → 0 < length (found_at group occurrences) → p group ≡ true)
+    → ((group : ℕ) → 0 < length (occurrences_mentioning group occurrences) → p group ≡ true)
     → list_all (λ o. p o.mention.group) occurrences ≡ true
 list_all-by_group p [] each = refl
 list_all-by_group p (o ∷ occurrences) each =
-    let founds : ℕ → Bool → List Found = λ group b. map
+    let founds : ℕ → Bool → List GroupOccurrence = λ group b. map
     (λ (o : Occurrence). record { position = o.position; value = o.mention.value })
     (cond b (o ∷ filter (λ (o : Occurrence). o.mention.group == group) occurrences)
     (filter (λ (o : Occurrence). o.mention.group == group) occurrences)) in
     let same : (o.mention.group == o.mention.group) ≡ true =
     eq-eqb o.mention.group o.mention.group refl in
-    let here : 0 < length (found_at o.mention.group (o ∷ occurrences)) = rw same (omega arith) in
+    let here : 0 < length (occurrences_mentioning o.mention.group (o ∷ occurrences)) = rw same (omega arith) in
     and_from (p o.mention.group) (list_all (λ o. p o.mention.group) occurrences)
     (each o.mention.group here)
     (list_all-by_group p occurrences
@@ -137,7 +138,7 @@ list_all-by_group p (o ∷ occurrences) each =
 
 -- a test that fails for a group with occurrences fails for one of them
 pub list_all-fails_by_group : (p : ℕ → Bool) (group : ℕ) (occurrences : List Occurrence)
-    → p group ≡ false → 0 < length (found_at group occurrences)
+    → p group ≡ false → 0 < length (occurrences_mentioning group occurrences)
     → list_all (λ o. p o.mention.group) occurrences ≡ false
 list_all-fails_by_group p group [] fails some = absurd (omega arith)
 list_all-fails_by_group p group (o ∷ occurrences) fails some =

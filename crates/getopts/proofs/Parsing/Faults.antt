@@ -1,7 +1,7 @@
 -- What an error says.
 use Rattle.std.proofs.Common.{◌≡◌, Option, Some, None, MatchOption, sym, subst}
 use Rattle.std.specs.Prelude.{⊤}
-use Rattle.getopts.specs.Fail.{Fault, Tells, fault_of}
+use Rattle.getopts.specs.Fail.{Fault, IsOutOfMemoryOr, fault_of}
 use Rattle.getopts.specs.declared.fail.Fail.{Fail}
 
 told_of : (told : Option Fault) (fault : Fault) (Q : Fault → Type 0)
@@ -10,9 +10,10 @@ told_of None fault Q tells holds = tt
 told_of (Some f) fault Q tells holds = subst Q (sym tells) holds
 
 -- a `Fail` with this error has an error with the properties of this error
-pub Tells-one : (fail : Fail) (fault : Fault) (Q : Fault → Type 0) → Tells fail (λ f. f ≡ fault)
-    → Q fault → Tells fail Q
-Tells-one fail fault Q tells holds = told_of (fault_of fail) fault Q tells holds
+pub IsOutOfMemoryOr-one : (fail : Fail) (fault : Fault) (Q : Fault → Type 0)
+    → IsOutOfMemoryOr fail (λ f. f ≡ fault)
+    → Q fault → IsOutOfMemoryOr fail Q
+IsOutOfMemoryOr-one fail fault Q tells holds = told_of (fault_of fail) fault Q tells holds
 
 weaker_of : (told : Option Fault) (P Q : Fault → Type 0) → MatchOption told ⊤ P
     → ((fault : Fault) → P fault → Q fault) → MatchOption told ⊤ Q
@@ -20,6 +21,6 @@ weaker_of None P Q tells holds = tt
 weaker_of (Some f) P Q tells holds = holds f tells
 
 -- the error of a `Fail` has all properties that follow from its properties
-pub Tells-weaker : (fail : Fail) (P Q : Fault → Type 0) → Tells fail P
-    → ((fault : Fault) → P fault → Q fault) → Tells fail Q
-Tells-weaker fail P Q tells holds = weaker_of (fault_of fail) P Q tells holds
+pub IsOutOfMemoryOr-weaker : (fail : Fail) (P Q : Fault → Type 0) → IsOutOfMemoryOr fail P
+    → ((fault : Fault) → P fault → Q fault) → IsOutOfMemoryOr fail Q
+IsOutOfMemoryOr-weaker fail P Q tells holds = weaker_of (fault_of fail) P Q tells holds

@@ -11,26 +11,28 @@ use Rattle.getopts.specs.Options.{Signature, Group, Declared, names_of, signatur
 use Rattle.getopts.specs.Options.{grammar_of, Declares, kind_of, occur_of}
 use Rattle.getopts.specs.Reading.{Occurrence, spelled_all, tail_words, occurrences_of, Tail, stop}
 use Rattle.getopts.specs.Reading.{FitsKind, stop_word, free_words, IsReading}
-use Rattle.getopts.specs.Matches.{Found, Matched, MatchedGroup, found_at, matched, FitsCount}
+use Rattle.getopts.specs.Matches.{GroupOccurrence, Matched, MatchedGroup, occurrences_mentioning}
+use Rattle.getopts.specs.Matches.{matched, FitsCount}
 use Rattle.getopts.specs.Matches.{KeepsCounts}
-use Rattle.getopts.specs.Accessors.{IsDefined, place_of, found_of, found_in, first_value}
+use Rattle.getopts.specs.Accessors.{IsDefined, place_of, occurrences_of_name, occurrences_of_group}
+use Rattle.getopts.specs.Accessors.{first_value}
 use Rattle.getopts.specs.Parse.{IsAccepted, HasReading}
 use Rattle.getopts.specs.Holds.{AreGroupsOf, HaveValuesByKind}
-use Rattle.getopts.specs.Holds.{HoldGiven, HoldDeclared, EndsInTrailing}
+use Rattle.getopts.specs.Holds.{FitOptions, FitOptionsAndCounts, EndsInTrailing}
 use Rattle.getopts.specs.declared.groups.HasArg.{HasArg}
 use Rattle.getopts.specs.declared.groups.HasArg.TheVariants.{Yes}
 use Rattle.getopts.specs.declared.groups.Occur.{Occur}
 use Rattle.getopts.specs.declared.groups.Occur.TheVariants.{Req}
 use Rattle.getopts.proofs.Lists.{AllByRecursion-unmap}
 use Rattle.getopts.proofs.Canonical.Lines.{kind_at, FitsGroup, IsFitting-reading}
-use Rattle.getopts.proofs.Held.Matches.{signatures-matched}
+use Rattle.getopts.proofs.Stored.Matches.{signatures-matched}
 use Rattle.getopts.proofs.Reading.Laws.{TrailingStartIsAfterStop_lem}
 use Rattle.getopts.proofs.Reading.Readings.{spelled_all-append}
-use Rattle.getopts.proofs.Held.Groups.{names-signatures_of}
+use Rattle.getopts.proofs.Stored.Groups.{names-signatures_of}
 use Rattle.getopts.proofs.Parsing.Parsed.{HavePositionsInOrder-read}
 
 -- each occurrence has a value or none, as this kind of argument requires
-abbrev HaveValuesFor : HasArg → List Found → Type 0
+abbrev HaveValuesFor : HasArg → List GroupOccurrence → Type 0
 HaveValuesFor kind founds = AllByRecursion (λ found. FitsKind kind found.value) founds
 
 -- the names of known groups
@@ -63,12 +65,12 @@ defined-groups options groups are name declares =
     subst (λ (place : Option ℕ). IsSome place) (place_of-groups options groups are name) declares
 
 -- the group at a place among the matched groups
-module _ (P : Signature → List Found → Type 0) where
+module _ (P : Signature → List GroupOccurrence → Type 0) where
   at_place : (signatures : List Signature) (groups : List MatchedGroup)
       → map (λ (group : MatchedGroup). group.signature) groups ≡ signatures
       → AllByRecursion (λ (group : MatchedGroup). P group.signature group.found) groups
       → (place : ℕ) (signature : Signature) → slice_get signatures place ≡ Some signature
-      → P signature (found_in groups place)
+      → P signature (occurrences_of_group groups place)
   at_place [] groups are each place signature there = cc there
   at_place (first ∷ signatures) [] are each place signature there = cc are
   at_place (first ∷ signatures) (group ∷ groups) are each zero signature there =
@@ -102,25 +104,25 @@ module _ (options : Declared) (groups : List MatchedGroup) (are : AreGroupsOf op
   -- each required option was given once
   required-groups : KeepsCounts groups → (name : Text)
       → occur_of options.groups name ≡ Some Req
-      → length (found_of groups name) ≡ 1
+      → length (occurrences_of_name groups name) ≡ 1
   required-groups keeps name required =
       option_and_then_some _ (resolution (names_of options.groups) name) Req required by_place where
         by_place : (place : ℕ) → resolution (names_of options.groups) name ≡ Some place
             → option_map (λ (group : Group). group.signature.occurrence)
             (slice_get options.groups place)
-            ≡ Some Req → length (found_of groups name) ≡ 1
+            ≡ Some Req → length (occurrences_of_name groups name) ≡ 1
         by_place place resolves there =
             let signature = occurrence-signature options.groups place Req there in
             let fits = at_place (λ signature found. FitsCount signature.occurrence (length found))
             (signatures_of options.groups) groups are keeps place signature.0 signature.1 in
-            let once : FitsCount Req (length (found_in groups place)) =
-            subst (λ (occurrence : Occur). FitsCount occurrence (length (found_in groups place)))
+            let once : FitsCount Req (length (occurrences_of_group groups place)) =
+            subst (λ (occurrence : Occur). FitsCount occurrence (length (occurrences_of_group groups place)))
             signature.2 fits in
-            ap (λ (at : Option ℕ). length (option_map_or (found_in groups) at []))
+            ap (λ (at : Option ℕ). length (option_map_or (occurrences_of_group groups) at []))
             (sym (place_of-groups options groups are name) ∙ resolves) ∙ once
 
   -- occurrences that have values have a first one
-  first_there : (founds : List Found) → HaveValuesFor Yes founds → 0 < length founds
+  first_there : (founds : List GroupOccurrence) → HaveValuesFor Yes founds → 0 < length founds
       → IsSome (first_value founds)
   first_there [] each some = absurd (omega arith)
   first_there (found ∷ founds) each some = there found.value each.0 where
@@ -130,24 +132,25 @@ module _ (options : Declared) (groups : List MatchedGroup) (are : AreGroupsOf op
 
   -- each option that needs an argument and was given has a value
   needed-groups : HaveValuesByKind groups → (name : Text) → kind_of options.groups name ≡ Some Yes
-      → 0 < length (found_of groups name) → IsSome (first_value (found_of groups name))
+      → 0 < length (occurrences_of_name groups name)
+      → IsSome (first_value (occurrences_of_name groups name))
   needed-groups have name needs =
       option_and_then_some _ (resolution (names_of options.groups) name) Yes needs by_place where
         by_place : (place : ℕ) → resolution (names_of options.groups) name ≡ Some place
             → option_map (λ (group : Group). group.signature.kind) (slice_get options.groups place)
-            ≡ Some Yes → 0 < length (found_of groups name)
-            → IsSome (first_value (found_of groups name))
+            ≡ Some Yes → 0 < length (occurrences_of_name groups name)
+            → IsSome (first_value (occurrences_of_name groups name))
         by_place place resolves there =
             let signature = kind-signature options.groups place Yes there in
             let fits = at_place (λ signature found. HaveValuesFor signature.kind found)
             (signatures_of options.groups) groups are have place signature.0 signature.1 in
-            let values : HaveValuesFor Yes (found_in groups place) =
-            subst (λ (kind : HasArg). HaveValuesFor kind (found_in groups place)) signature.2
+            let values : HaveValuesFor Yes (occurrences_of_group groups place) =
+            subst (λ (kind : HasArg). HaveValuesFor kind (occurrences_of_group groups place)) signature.2
             fits in
             let here : Some place ≡ place_of groups name = sym resolves
             ∙ place_of-groups options groups are name in
-            first_there (found_of groups name)
-            (subst (λ (at : Option ℕ). HaveValuesFor Yes (option_map_or (found_in groups) at []))
+            first_there (occurrences_of_name groups name)
+            (subst (λ (at : Option ℕ). HaveValuesFor Yes (option_map_or (occurrences_of_group groups) at []))
             here
             values)
 
@@ -160,16 +163,16 @@ FitsKind-place groups o place kind there fits here =
     subst (λ (k : HasArg). FitsKind k o.mention.value) same fits.2
 
 -- the occurrences of one group have values as its kind requires
-HaveValuesFor-found_at : (groups : List Group) (place : ℕ) (kind : HasArg)
+HaveValuesFor-occurrences_mentioning : (groups : List Group) (place : ℕ) (kind : HasArg)
     → kind_at groups place ≡ Some kind → (occurrences : List Occurrence)
     → AllByRecursion (λ o. FitsGroup groups o.mention) occurrences
-    → HaveValuesFor kind (found_at place occurrences)
-HaveValuesFor-found_at groups place kind there [] each = tt
-HaveValuesFor-found_at groups place kind there (o ∷ occurrences) each =
+    → HaveValuesFor kind (occurrences_mentioning place occurrences)
+HaveValuesFor-occurrences_mentioning groups place kind there [] each = tt
+HaveValuesFor-occurrences_mentioning groups place kind there (o ∷ occurrences) each =
     here (o.mention.group == place) refl
-    (HaveValuesFor-found_at groups place kind there occurrences each.1) where
+    (HaveValuesFor-occurrences_mentioning groups place kind there occurrences each.1) where
       here : (is : Bool) → (o.mention.group == place) ≡ is
-          → HaveValuesFor kind (found_at place occurrences)
+          → HaveValuesFor kind (occurrences_mentioning place occurrences)
           → HaveValuesFor kind
           (map (λ (o : Occurrence). record { position = o.position; value = o.mention.value })
           (cond is (o ∷ filter (λ (o : Occurrence). o.mention.group == place) occurrences)
@@ -189,7 +192,7 @@ HaveValuesByKind-matched : (groups : List Group) (first : ℕ) (signatures : Lis
     o.mention) occurrences → HaveValuesByKind (matched first signatures occurrences)
 HaveValuesByKind-matched groups first [] occurrences are each = tt
 HaveValuesByKind-matched groups first (signature ∷ signatures) occurrences are each = (
-  HaveValuesFor-found_at groups first signature.kind
+  HaveValuesFor-occurrences_mentioning groups first signature.kind
       (subst (λ n. kind_at groups n ≡ Some signature.kind) (add-zero first)
       (are 0 signature refl)) occurrences each,
   HaveValuesByKind-matched groups (first + 1) signatures occurrences
@@ -234,8 +237,8 @@ module _ (options : Declared) (words : List Text) (matches : Matched)
       (kind_at-signature options.groups i signature there)) each)
 
   -- and the declared facts about their groups
-  pub HoldGiven-read : HoldGiven options matches.groups
-  HoldGiven-read = record {
+  pub FitOptions-read : FitOptions options matches.groups
+  FitOptions-read = record {
     same_groups = AreGroupsOf-read;
     positions_in_order = HavePositionsInOrder-read options words matches has;
     values_fit = HaveValuesByKind-read;
@@ -244,10 +247,10 @@ module _ (options : Declared) (words : List Text) (matches : Matched)
   }
 
 -- accepted matches also keep the counts
-pub HoldDeclared-accepted : (options : Declared) (words : List Text) (matches : Matched)
-    → IsAccepted options words matches → HoldDeclared options matches.groups
-HoldDeclared-accepted options words matches accepted =
-    let given = HoldGiven-read options words matches accepted.read in
+pub FitOptionsAndCounts-accepted : (options : Declared) (words : List Text) (matches : Matched)
+    → IsAccepted options words matches → FitOptionsAndCounts options matches.groups
+FitOptionsAndCounts-accepted options words matches accepted =
+    let given = FitOptions-read options words matches accepted.read in
     record {
       given = given;
       counts_kept = accepted.counts;

@@ -17,8 +17,8 @@ use Rattle.getopts.proofs.Reading.Laws.{ClusterSplits_lem, OneDashOrTwo_lem, Lin
 use Rattle.getopts.proofs.Reading.Laws.{TrailingStartIsAfterStop_lem, FreeWordsAreSubsequence_lem}
 use Rattle.getopts.proofs.Reading.Laws.{HavePositionsInOrder-matched}
 use Rattle.getopts.proofs.Reading.Positions.{PositionsAreWords_lem, HavePositionsBelow-matched}
+use Rattle.getopts.proofs.Reading.Reader.{IsNamed}
 use Rattle.getopts.proofs.Reading.Readings.{only_reading, only_fault, no_reading}
-use Rattle.getopts.proofs.Reading.Turns.{IsNamed}
 
 module _ (options : Declared) (declared : MayBeDeclared options.groups) where
   -- the grammar has names

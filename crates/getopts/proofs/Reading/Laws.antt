@@ -18,8 +18,8 @@ use Rattle.getopts.specs.Reading.{Argument, IsLawfulEnd, IsLawfulLong, IsLawfulI
 use Rattle.getopts.specs.Reading.{none, attached, separate, end_text, FitsLong, line_end, IsReading}
 use Rattle.getopts.specs.Reading.{Dashes, cluster, FitsEnd, is_bare, Reading, Mention, mentions}
 use Rattle.getopts.specs.Reading.{one, two, End, flags, Item, free, long, Tail, stop, rest}
-use Rattle.getopts.specs.Reading.{MayStandBefore, EndsOrIsDashed, AreWellFollowed, occurrences_of}
-use Rattle.getopts.specs.Matches.{Found, found_at, matched}
+use Rattle.getopts.specs.Reading.{MayPrecede, EndsOrIsDashed, AreWellFollowed, occurrences_of}
+use Rattle.getopts.specs.Matches.{GroupOccurrence, matched, occurrences_mentioning}
 use Rattle.getopts.specs.ReadingLaws.{AreHigherAfter, ReadsAlike, Respells, mentions_of}
 use Rattle.getopts.specs.ReadingLaws.{positions_in, LongAttachedOrSeparate, ShortAttachedOrSeparate}
 use Rattle.getopts.specs.ReadingLaws.{ClusterSplits, OneDashOrTwo, is_last_bare, joined_reading}
@@ -42,7 +42,7 @@ ordinary_from_bare grammar (cluster names end) lawful bare = lawful.ordinary
 
 -- in ordinary mode a word in long form is dashed
 is_dashed-long : (grammar : Grammar) (dashes : Dashes) (name text : Text)
-    → MayStandBefore grammar.long_only dashes name → grammar.long_only ≡ false
+    → MayPrecede grammar.long_only dashes name → grammar.long_only ≡ false
     → is_dashed (dash_text dashes ++ text) ≡ true
 is_dashed-long grammar one name text before ordinary = cc (before.0, ordinary)
 is_dashed-long grammar two name text before ordinary = refl
@@ -232,10 +232,10 @@ LongAttachedOrSeparate_lem grammar = record {
 }
 
 -- in long-only mode one dash or two may precede a name that doesn't begin with `-`
-MayStandBefore-long_only : (long_only : Bool) (dashes : Dashes) (name : Text) → long_only ≡ true
-    → begins_with_dash name ≡ false → MayStandBefore long_only dashes name
-MayStandBefore-long_only long_only one name only plain = (only, plain)
-MayStandBefore-long_only long_only two name only plain = tt
+MayPrecede-long_only : (long_only : Bool) (dashes : Dashes) (name : Text) → long_only ≡ true
+    → begins_with_dash name ≡ false → MayPrecede long_only dashes name
+MayPrecede-long_only long_only one name only plain = (only, plain)
+MayPrecede-long_only long_only two name only plain = tt
 
 -- one dash or two
 pub OneDashOrTwo_lem : (grammar : Grammar) → OneDashOrTwo grammar
@@ -245,7 +245,7 @@ OneDashOrTwo_lem grammar = record {
       (long other name argument ∷ back) tail words
       (FitInPlace-long grammar dashes other name argument argument back (tail_words tail)
       (λ lawful. record {
-        before = MayStandBefore-long_only grammar.long_only other name only plain;
+        before = MayPrecede-long_only grammar.long_only other name only plain;
         cut_once = lawful.cut_once;
         resolves = lawful.resolves;
       })) refl
@@ -491,19 +491,19 @@ FreeWordsAreSubsequence_lem grammar = record {
 }
 
 -- the positions are at least this one, and never decrease
-abbrev RiseFrom : ℕ → List Found → Type 0
+abbrev RiseFrom : ℕ → List GroupOccurrence → Type 0
 RiseFrom low [] = Unit {0}
 RiseFrom low (found ∷ founds) = (low ≤ found.position) × RiseFrom found.position founds
 
 -- the same from a lower position
-RiseFrom-lower : (low high : ℕ) (founds : List Found) → low ≤ high → RiseFrom high founds
+RiseFrom-lower : (low high : ℕ) (founds : List GroupOccurrence) → low ≤ high → RiseFrom high founds
     → RiseFrom low founds
 RiseFrom-lower low high [] below rise = tt
 RiseFrom-lower low high (found ∷ founds) below rise = (omega (arith, rise.0), rise.1)
 
 -- each is at least the lowest
-RiseFrom-get_or : (low : ℕ) (founds : List Found) → RiseFrom low founds
-    → (index : ℕ) (default : Found) → index < length founds
+RiseFrom-get_or : (low : ℕ) (founds : List GroupOccurrence) → RiseFrom low founds
+    → (index : ℕ) (default : GroupOccurrence) → index < length founds
     → low ≤ (get_or founds index default).position
 RiseFrom-get_or low [] rise index default in_range = absurd (omega arith)
 RiseFrom-get_or low (found ∷ founds) rise zero default in_range = rise.0
@@ -513,11 +513,11 @@ RiseFrom-get_or low (found ∷ founds) rise (suc index) default in_range =
     omega (arith, rise.0, step)
 
 -- the positions of a group's occurrences never decrease
-abbrev NeverDecrease : List Found → Type 0
+abbrev NeverDecrease : List GroupOccurrence → Type 0
 NeverDecrease founds = IsNonDecreasingBy (λ found. found.position) founds
 
 -- rising positions never decrease
-NeverDecrease-from_rise : (low : ℕ) (founds : List Found) → RiseFrom low founds
+NeverDecrease-from_rise : (low : ℕ) (founds : List GroupOccurrence) → RiseFrom low founds
     → NeverDecrease founds
 NeverDecrease-from_rise low [] rise i j default ordered in_range = absurd (omega arith)
 NeverDecrease-from_rise low (found ∷ founds) rise zero zero default ordered in_range = omega arith
@@ -530,8 +530,8 @@ NeverDecrease-from_rise low (found ∷ founds) rise (suc i) (suc j) default orde
 
 -- the occurrences of an item rise from its position, if the later ones do
 RiseFrom-item : (place position : ℕ) (told : List Mention) (later : List Occurrence)
-    → RiseFrom position (found_at place later)
-    → RiseFrom position (found_at place (map (at_position position) told ++ later))
+    → RiseFrom position (occurrences_mentioning place later)
+    → RiseFrom position (occurrences_mentioning place (map (at_position position) told ++ later))
 RiseFrom-item place position [] later rise = rise
 RiseFrom-item place position (first ∷ told) later rise =
     let after = RiseFrom-item place position told later rise in
@@ -543,7 +543,7 @@ RiseFrom-item place position (first ∷ told) later rise =
 
 -- the occurrences of items rise from the first position
 RiseFrom-items : (grammar : Grammar) (place before : ℕ) (items : List Item)
-    → RiseFrom before (found_at place (occurrences_after before grammar items))
+    → RiseFrom before (occurrences_mentioning place (occurrences_after before grammar items))
 RiseFrom-items grammar place before [] = tt
 RiseFrom-items grammar place before (item ∷ items) =
     RiseFrom-item place before (mentions grammar item)
@@ -553,7 +553,7 @@ RiseFrom-items grammar place before (item ∷ items) =
 
 -- the positions of each group's occurrences never decrease
 NeverDecrease-reading : (grammar : Grammar) (reading : Reading) (place : ℕ)
-    → NeverDecrease (found_at place (occurrences_of grammar reading))
+    → NeverDecrease (occurrences_mentioning place (occurrences_of grammar reading))
 NeverDecrease-reading grammar reading place =
     NeverDecrease-from_rise 0 _ (RiseFrom-items grammar place 0 reading.items)
 

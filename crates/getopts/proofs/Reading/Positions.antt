@@ -14,12 +14,12 @@ use Rattle.getopts.specs.Options.{Signature, Grammar}
 use Rattle.getopts.specs.Reading.{Item, free, long, cluster, item_words, spelled_all, Tail}
 use Rattle.getopts.specs.Reading.{tail_words, Reading, IsReading, Mention, mentions, Occurrence}
 use Rattle.getopts.specs.Reading.{at_position, word_count, occurrences_after, occurrences_of}
-use Rattle.getopts.specs.Matches.{Found, found_at, matched}
-use Rattle.getopts.specs.ReadingLaws.{mentions_of, positions_in, one_higher_after, StandsInItem}
+use Rattle.getopts.specs.Matches.{GroupOccurrence, matched, occurrences_mentioning}
+use Rattle.getopts.specs.ReadingLaws.{mentions_of, positions_in, one_higher_after, BelongsToItem}
 use Rattle.getopts.specs.ReadingLaws.{PositionsAreWords, HavePositionsBelow}
 use Rattle.getopts.proofs.Lists.{AllByRecursion-append, slice_get-append}
+use Rattle.getopts.proofs.Reading.Reader.{spelled}
 use Rattle.getopts.proofs.Reading.Readings.{spelled_all-append, spelled_all-joined}
-use Rattle.getopts.proofs.Reading.Turns.{spelled}
 
 -- the words of items, and the following words
 pub length-spelled_all : (items : List Item) (more : List Text)
@@ -225,7 +225,7 @@ pub PositionsAreWords_lem : (grammar : Grammar) → PositionsAreWords grammar
 PositionsAreWords_lem grammar = record { of_occurrence = stands } where
   stands : (reading : Reading) (words : List Text) (occurrence : Occurrence)
       → IsReading grammar reading words → Contains (occurrences_of grammar reading) occurrence
-      → StandsInItem grammar reading words occurrence
+      → BelongsToItem grammar reading words occurrence
   stands reading words occurrence reads held =
       let found = IsOfItem-from_contains grammar 0 reading.items occurrence held in
       let mentioned : Contains (map (at_position (word_count found.before))
@@ -276,12 +276,13 @@ below-occurrences_after grammar count before (item ∷ items) within =
     (omega (arith, words)))
 
 -- so are those of one group
-below-found_at : (count place : ℕ) (occurrences : List Occurrence)
+below-occurrences_mentioning : (count place : ℕ) (occurrences : List Occurrence)
     → AllByRecursion (λ o. o.position < count) occurrences
-    → AllByRecursion (λ (found : Found). found.position < count) (found_at place occurrences)
-below-found_at count place [] all = tt
-below-found_at count place (first ∷ occurrences) all =
-    let later = below-found_at count place occurrences all.1 in
+    → AllByRecursion (λ (found : GroupOccurrence). found.position < count)
+    (occurrences_mentioning place occurrences)
+below-occurrences_mentioning count place [] all = tt
+below-occurrences_mentioning count place (first ∷ occurrences) all =
+    let later = below-occurrences_mentioning count place occurrences all.1 in
     elim (cases_Bool (first.mention.group == place)) [
       | inl here ↦
           rw here (all.0, later)
@@ -307,7 +308,7 @@ pub HavePositionsBelow-matched : (grammar : Grammar) (reading : Reading) (words 
     → HavePositionsBelow (length words) (matched place signatures (occurrences_of grammar reading))
 HavePositionsBelow-matched grammar reading words reads place [] = tt
 HavePositionsBelow-matched grammar reading words reads place (signature ∷ signatures) = (
-  below-found_at (length words) place (occurrences_of grammar reading)
+  below-occurrences_mentioning (length words) place (occurrences_of grammar reading)
       (below-occurrences_of grammar reading words reads),
   HavePositionsBelow-matched grammar reading words reads
       (place + 1) signatures,

@@ -12,39 +12,39 @@ use Rattle.getopts.specs.Reading.{argument_words, IsLawfulItem, EndsOrIsDashed, 
 use Rattle.getopts.specs.Reading.{item_words, spelled_all, tail_words, IsLawfulTail, IsScanFault}
 use Rattle.getopts.specs.declared.groups.ParsingStyle.{ParsingStyle}
 use Rattle.getopts.proofs.Lists.{AllByRecursion-right}
-use Rattle.getopts.specs.Turn.{Turn, ends, takes, faults}
-use Rattle.getopts.proofs.Reading.Turns.{IsNamed, turn, spelled, free_turn, with_items, after_turn}
-use Rattle.getopts.proofs.Reading.Turns.{read_both, read}
-use Rattle.getopts.proofs.Reading.Steps.{BeginsWith, spelled_turn, fault_dashed, IsSoundTurn}
-use Rattle.getopts.proofs.Reading.Steps.{TakesItem, fault_turn, turn_free, turn_stop, turn_sound}
+use Rattle.getopts.specs.Step.{Step, ends, takes, faults}
+use Rattle.getopts.proofs.Reading.Reader.{IsNamed, step, spelled, free_step, with_items, after_step}
+use Rattle.getopts.proofs.Reading.Reader.{read_both, read}
+use Rattle.getopts.proofs.Reading.Steps.{BeginsWith, spelled_step, fault_dashed, IsSoundStep}
+use Rattle.getopts.proofs.Reading.Steps.{TakesItem, fault_step, step_free, step_stop, step_sound}
 
--- One step of `read`, by the turn of the first word.
+-- `read` on one word, by its step.
 module _ (grammar : Grammar) (word : Text) (more : List Text) where
   -- an item, and the words that follow it
   pub read_item : (item : Item) (argument : Argument) (others : List Text)
-      → turn grammar word more ≡ takes item argument → more ≡ argument_words argument ++ others
+      → step grammar word more ≡ takes item argument → more ≡ argument_words argument ++ others
       → read grammar (word ∷ more) ≡ with_items (item ∷ []) (read grammar others)
   unfolding read
   read_item item (separate next) others said e =
-      ap (λ (t : Turn). after_turn t (read_both grammar more).0 (read_both grammar more).1) said
+      ap (λ (t : Step). after_step t (read_both grammar more).0 (read_both grammar more).1) said
       ∙ ap (λ (line : List Text). with_items (item ∷ []) (read_both grammar line).1) e
   read_item item argument others said e =
-      ap (λ (t : Turn). after_turn t (read_both grammar more).0 (read_both grammar more).1) said
+      ap (λ (t : Step). after_step t (read_both grammar more).0 (read_both grammar more).1) said
       ∙ ap (λ (line : List Text). with_items (item ∷ []) (read_both grammar line).0) e
 
   -- the tail of the line
-  pub read_tail : (tail : Tail) → turn grammar word more ≡ ends tail
+  pub read_tail : (tail : Tail) → step grammar word more ≡ ends tail
       → read grammar (word ∷ more) ≡ Ok (record { items = []; tail = tail })
   unfolding read
   read_tail tail e =
-      ap (λ (t : Turn). after_turn t (read_both grammar more).0 (read_both grammar more).1) e
+      ap (λ (t : Step). after_step t (read_both grammar more).0 (read_both grammar more).1) e
 
   -- an error
-  pub read_error : (fault : Fault) → turn grammar word more ≡ faults fault
+  pub read_error : (fault : Fault) → step grammar word more ≡ faults fault
       → read grammar (word ∷ more) ≡ Err fault
   unfolding read
   read_error fault e =
-      ap (λ (t : Turn). after_turn t (read_both grammar more).0 (read_both grammar more).1) e
+      ap (λ (t : Step). after_step t (read_both grammar more).0 (read_both grammar more).1) e
 
 -- the end of the line
 pub read_nil : (grammar : Grammar) → read grammar [] ≡ Ok (record { items = []; tail = line_end })
@@ -77,7 +77,7 @@ pub items_read : (grammar : Grammar) → IsNamed grammar → (items : List Item)
 items_read grammar named [] more lawful followed = with_items-none (read grammar more)
 items_read grammar named (item ∷ items) more lawful followed =
     taken_read grammar (spelled item (spelled_all items more)) item (spelled_all items more)
-    (spelled_turn grammar named item (spelled_all items more) lawful.0 followed.0)
+    (spelled_step grammar named item (spelled_all items more) lawful.0 followed.0)
     ∙ ap (with_items (item ∷ [])) (items_read grammar named items more lawful.1 followed.1)
     ∙ sym (with_items-append (item ∷ []) items (read grammar more))
 
@@ -86,12 +86,12 @@ tail_read : (grammar : Grammar) (tail : Tail) → IsLawfulTail grammar tail
     → read grammar (tail_words tail) ≡ Ok (record { items = []; tail = tail })
 tail_read grammar line_end lawful = read_nil grammar
 tail_read grammar (stop words) lawful =
-    read_tail grammar stop_word words (stop words) (turn_stop grammar words)
+    read_tail grammar stop_word words (stop words) (step_stop grammar words)
 tail_read grammar (rest []) lawful = absurd lawful
 tail_read grammar (rest (word ∷ words)) lawful =
     read_tail grammar word words (rest (word ∷ words))
-    (turn_free grammar word words lawful.0
-    ∙ ap (λ (style : ParsingStyle). free_turn style word words) lawful.1)
+    (step_free grammar word words lawful.0
+    ∙ ap (λ (style : ParsingStyle). free_step style word words) lawful.1)
 
 -- if a line has a reading, `read` returns it
 pub reading_read : (grammar : Grammar) → IsNamed grammar → (reading : Reading) (words : List Text)
@@ -161,7 +161,7 @@ fault_read grammar named words fault texts is =
     ap (read grammar) line
     ∙ items_read grammar named is.items (is.word ∷ is.after) is.reads.items followed
     ∙ ap (with_items is.items) (read_error grammar is.word is.after fault
-    (fault_turn grammar named is.word is.after fault utf8.0 is.fault_at))
+    (fault_step grammar named is.word is.after fault utf8.0 is.fault_at))
 
 -- The laws of a line: at most one reading, at most one error, and never both.
 module _ (grammar : Grammar) (named : IsNamed grammar) (words : List Text) where
@@ -194,10 +194,10 @@ IsSoundOutcome grammar words (Ok reading) = IsReading grammar reading words
 IsSoundOutcome grammar words (Err fault) = IsScanFault grammar words fault
 
 -- a reading of the words after an item, with the item
-reading_step : (grammar : Grammar) (words : List Text) (item : Item) (others : List Text)
+reading_after_item : (grammar : Grammar) (words : List Text) (item : Item) (others : List Text)
     (reading : Reading) → BeginsWith grammar words item others → IsReading grammar reading others
     → IsReading grammar (record { items = item ∷ reading.items; tail = reading.tail }) words
-reading_step grammar words item others reading begins is = record {
+reading_after_item grammar words item others reading begins is = record {
   spells = ap (spelled item) is.spells ∙ sym begins.spells;
   items = (begins.lawful, is.items);
   tail = is.tail;
@@ -205,10 +205,10 @@ reading_step grammar words item others reading begins is = record {
 }
 
 -- an error of the words after an item is an error of the line
-fault_step : (grammar : Grammar) (words : List Text) (item : Item) (others : List Text)
+fault_after_item : (grammar : Grammar) (words : List Text) (item : Item) (others : List Text)
     (fault : Fault) → BeginsWith grammar words item others → IsScanFault grammar others fault
     → IsScanFault grammar words fault
-fault_step grammar words item others fault begins is = record {
+fault_after_item grammar words item others fault begins is = record {
   before = spelled item is.before;
   word = is.word;
   after = is.after;
@@ -235,9 +235,9 @@ item_sound : (grammar : Grammar) (words : List Text) (item : Item) (others : Lis
     → IsSoundOutcome grammar others outcome
     → IsSoundOutcome grammar words (with_items (item ∷ []) outcome)
 item_sound grammar words item others (Ok reading) begins sound =
-    reading_step grammar words item others reading begins sound
+    reading_after_item grammar words item others reading begins sound
 item_sound grammar words item others (Err fault) begins sound =
-    fault_step grammar words item others fault begins sound
+    fault_after_item grammar words item others fault begins sound
 
 -- a line that consists of a tail
 tail_sound : (grammar : Grammar) (words : List Text) (tail : Tail) → IsLawfulTail grammar tail
@@ -258,22 +258,22 @@ fault_here grammar word more fault at = record {
   fault_at = at;
 }
 
--- the outcome of a line, by the turn of its first word
-after_turn_sound : (grammar : Grammar) (word : Text) (more : List Text) (said : Turn)
-    (after_one after_two : Result Reading Fault) → IsUtf8 word → IsSoundTurn grammar word more said
+-- the outcome of a line, by the step of its first word
+after_step_sound : (grammar : Grammar) (word : Text) (more : List Text) (said : Step)
+    (after_one after_two : Result Reading Fault) → IsUtf8 word → IsSoundStep grammar word more said
     → IsSoundOutcome grammar more after_one → IsSoundOutcome grammar (drop 1 more) after_two
-    → IsSoundOutcome grammar (word ∷ more) (after_turn said after_one after_two)
-after_turn_sound grammar word more (ends tail) after_one after_two utf8 sound one_sound two_sound =
+    → IsSoundOutcome grammar (word ∷ more) (after_step said after_one after_two)
+after_step_sound grammar word more (ends tail) after_one after_two utf8 sound one_sound two_sound =
     tail_sound grammar (word ∷ more) tail sound.0 sound.1
-after_turn_sound grammar word more (takes item (separate next)) after_one after_two utf8 sound
+after_step_sound grammar word more (takes item (separate next)) after_one after_two utf8 sound
     one_sound two_sound =
     item_sound grammar (word ∷ more) item sound.0 after_two sound.2
     (subst (λ (line : List Text). IsSoundOutcome grammar (drop 1 line) after_two) sound.1 two_sound)
-after_turn_sound grammar word more (takes item argument) after_one after_two utf8 sound one_sound
+after_step_sound grammar word more (takes item argument) after_one after_two utf8 sound one_sound
     two_sound =
     item_sound grammar (word ∷ more) item sound.0 after_one sound.2
     (subst (λ (line : List Text). IsSoundOutcome grammar line after_one) sound.1 one_sound)
-after_turn_sound grammar word more (faults fault) after_one after_two utf8 sound one_sound
+after_step_sound grammar word more (faults fault) after_one after_two utf8 sound one_sound
     two_sound =
     fault_here grammar word more fault (sound utf8)
 
@@ -288,9 +288,9 @@ both_sound grammar named (word ∷ more) texts =
     let after : IsSoundOutcome grammar more (read_both grammar more).0
     × IsSoundOutcome grammar (drop 1 more)
     (read_both grammar more).1 = both_sound grammar named more texts.1 in (
-      after_turn_sound grammar word more (turn grammar word more) (read_both grammar more).0
+      after_step_sound grammar word more (step grammar word more) (read_both grammar more).0
           (read_both grammar more).1
-          texts.0 (turn_sound grammar named word more) after.0 after.1,
+          texts.0 (step_sound grammar named word more) after.0 after.1,
       after.0,
     )
 

@@ -1,4 +1,4 @@
--- One word: `turn` agrees with the definitions.
+-- One word: `step` agrees with the definitions.
 use Rattle.std.proofs.Common.{◌≡◌, ◌≢◌, ◌==◌, ℕ, ◌<◌, Bool, true, false, List, [], ◌∷◌, ◌++◌}
 use Rattle.std.proofs.Common.{length, Option, Some, None, Ok, refl, sym, ap, ◌∙◌, subst, inl, inr}
 use Rattle.std.proofs.Common.{arith, encode_utf8, unwrap_or, append_assoc, append-nil}
@@ -12,22 +12,22 @@ use Rattle.getopts.specs.Options.{Grammar}
 use Rattle.getopts.specs.Fail.{Fault, unrecognized_option}
 use Rattle.getopts.specs.Reading.{dash, Dashes, flags, ends_in, cluster, FitsEnd, IsFlag, is_bare}
 use Rattle.getopts.specs.Reading.{is_dashed, stop_word, attached, long_word, tail_words, IsLongForm}
-use Rattle.getopts.specs.Reading.{holds_equals, one, argument_words, MayStandBefore, EndsOrIsDashed}
+use Rattle.getopts.specs.Reading.{holds_equals, one, argument_words, MayPrecede, EndsOrIsDashed}
 use Rattle.getopts.specs.Reading.{Argument, attached_argument, unknown_byte, unwanted_argument}
 use Rattle.getopts.specs.Reading.{none, two, End, Item, free, long, stop}
 use Rattle.getopts.specs.Reading.{separate, end_text, end_words, FitsLong, dash_text, IsFaultAt}
 use Rattle.getopts.specs.Reading.{item_words, IsLawfulEnd, IsLawfulItem, IsLawfulTail, unknown_name}
 use Rattle.getopts.specs.Reading.{wide_character}
 use Rattle.getopts.specs.Reading.{IsLawfulCluster, HasAfterFlags, long_unfinished, short_unfinished}
-use Rattle.getopts.specs.Turn.{with_equals, Turn, ends, takes, faults, IsInLongForm, IsShortForm}
-use Rattle.getopts.specs.Turn.{chosen_long, chosen_end, chosen_turn, named_turn, cut_at_equals}
-use Rattle.getopts.specs.Turn.{long_turn, first_char, byte_turn, cluster_turn}
+use Rattle.getopts.specs.Step.{with_equals, Step, ends, takes, faults, IsInLongForm, IsShortForm}
+use Rattle.getopts.specs.Step.{chosen_long, chosen_end, chosen_step, named_step, cut_at_equals}
+use Rattle.getopts.specs.Step.{long_step, first_char, byte_step, cluster_step}
 use Rattle.getopts.specs.declared.groups.HasArg.{HasArg}
 use Rattle.getopts.specs.declared.groups.HasArg.TheVariants.{Yes, No, Maybe}
 use Rattle.getopts.specs.declared.groups.ParsingStyle.{ParsingStyle}
 use Rattle.getopts.specs.declared.groups.ParsingStyle.TheVariants.{FloatingFrees, StopAtFirstFree}
 use Rattle.getopts.proofs.Lists.{AllByRecursion-append, filled-append}
-use Rattle.getopts.proofs.Reading.Turns.{spelled, IsNamed, free_turn, turn}
+use Rattle.getopts.proofs.Reading.Reader.{spelled, IsNamed, free_step, step}
 use Rattle.getopts.proofs.Reading.Texts.{cut_at_equals-joined, holds_equals-name}
 use Rattle.getopts.proofs.Reading.Texts.{cut_at_equals-append, begins_with_dash-append}
 use Rattle.getopts.proofs.Reading.Texts.{begins_with_dash-front, is_dashed-text, IsUtf8-past_ascii}
@@ -41,17 +41,17 @@ pub record BeginsWith (grammar : Grammar) (words : List Text) (item : Item) (mor
   pub lawful : IsLawfulItem grammar item
   pub followed : is_bare item ≡ true → EndsOrIsDashed more
 
--- A turn is right about a line that begins with this word: its tail, its item or its error.
-abbrev pub IsSoundTurn : Grammar → Text → List Text → Turn → Type 0
-IsSoundTurn grammar word more (ends tail) = IsLawfulTail grammar tail
+-- A step is right about a line that begins with this word: its tail, its item or its error.
+abbrev pub IsSoundStep : Grammar → Text → List Text → Step → Type 0
+IsSoundStep grammar word more (ends tail) = IsLawfulTail grammar tail
     × (tail_words tail ≡ word ∷ more)
-IsSoundTurn grammar word more (takes item argument) = (others : List Text)
+IsSoundStep grammar word more (takes item argument) = (others : List Text)
     × (more ≡ argument_words argument ++ others) × BeginsWith grammar (word ∷ more) item others
-IsSoundTurn grammar word more (faults fault) = IsUtf8 word → IsFaultAt grammar word more fault
+IsSoundStep grammar word more (faults fault) = IsUtf8 word → IsFaultAt grammar word more fault
 
 -- dashes that may precede a text may precede a name at its front
 before_front : (long_only : Bool) (dashes : Dashes) (name more : Text)
-    → MayStandBefore long_only dashes (name ++ more) → MayStandBefore long_only dashes name
+    → MayPrecede long_only dashes (name ++ more) → MayPrecede long_only dashes name
 before_front long_only one name more before = (before.0, begins_with_dash-front name more before.1)
 before_front long_only two name more before = tt
 
@@ -74,7 +74,7 @@ module _ (grammar : Grammar) (dashes : Dashes) (word name : Text)
   takes_long : (kind : HasArg) (argument : Argument) (more : List Text)
       → IsInLongForm grammar dashes word (name ++ with_equals (attached_argument argument))
       → grammar.kind name ≡ Some kind → FitsLong kind argument
-      → IsSoundTurn grammar word (argument_words argument ++ more)
+      → IsSoundStep grammar word (argument_words argument ++ more)
       (takes (long dashes name argument) argument)
   takes_long kind argument more form resolved fits = (
     more,
@@ -95,7 +95,7 @@ module _ (grammar : Grammar) (dashes : Dashes) (word name : Text)
   named_sound : (kind : Option HasArg) (argument : Option Text) (more : List Text)
       → IsInLongForm grammar dashes word (name ++ with_equals argument)
       → grammar.kind name ≡ kind
-      → IsSoundTurn grammar word more (named_turn kind dashes name argument more)
+      → IsSoundStep grammar word more (named_step kind dashes name argument more)
   named_sound None argument more form resolved =
       λ utf8. unknown_name name argument (long_form argument form) resolved
   named_sound (Some No) None more form resolved = takes_long No none more form resolved tt
@@ -112,7 +112,7 @@ module _ (grammar : Grammar) (dashes : Dashes) (word name : Text)
 -- a word in long form, by its text
 long_sound : (grammar : Grammar) (dashes : Dashes) (word text : Text) (more : List Text)
     → IsInLongForm grammar dashes word text
-    → IsSoundTurn grammar word more (long_turn grammar dashes text more)
+    → IsSoundStep grammar word more (long_step grammar dashes text more)
 long_sound grammar dashes word text more form =
     let cut = cut_at_equals text in
     named_sound grammar dashes word cut.0 (holds_equals-name text) (grammar.kind cut.0) cut.1 more
@@ -158,7 +158,7 @@ module _ (grammar : Grammar) (word : Text) (bytes : List ℕ)
       → IsShortForm grammar word (bytes ++ end_text (ends_in option argument))
       → grammar.kind (option ∷ []) ≡ Some kind → FitsEnd kind argument
       → (is_bare (cluster bytes (ends_in option argument)) ≡ true → EndsOrIsDashed more)
-      → IsSoundTurn grammar word (argument_words argument ++ more)
+      → IsSoundStep grammar word (argument_words argument ++ more)
       (takes (cluster bytes (ends_in option argument)) argument)
   takes_end option kind argument more form resolved fits followed = (
     more,
@@ -197,10 +197,10 @@ module _ (grammar : Grammar) (word : Text) (bytes : List ℕ)
 
   -- one more byte, by its kind, given the result of one more flag
   byte_sound : IsNamed grammar → (byte : ℕ) (kind : Option HasArg) (text : Text) (more : List Text)
-      (after : Turn) → IsShortForm grammar word (bytes ++ byte ∷ text)
+      (after : Step) → IsShortForm grammar word (bytes ++ byte ∷ text)
       → grammar.kind (byte ∷ []) ≡ kind
-      → (kind ≡ Some No → IsSoundTurn grammar word more after)
-      → IsSoundTurn grammar word more (byte_turn kind bytes byte text more after)
+      → (kind ≡ Some No → IsSoundStep grammar word more after)
+      → IsSoundStep grammar word more (byte_step kind bytes byte text more after)
   byte_sound named byte None text more after form resolved flag =
       unknown_flag named byte text more form resolved
   byte_sound named byte (Some No) text more after form resolved flag = flag refl
@@ -231,8 +231,8 @@ module _ (grammar : Grammar) (word : Text) (bytes : List ℕ)
 cluster_sound : (grammar : Grammar) → IsNamed grammar
     → (word : Text) (bytes : List ℕ) (text : Text) (more : List Text)
     → IsShortForm grammar word (bytes ++ text) → AllByRecursion (IsFlag grammar) bytes
-    → IsSoundTurn grammar word more (cluster_turn grammar bytes text more)
-unfolding cluster_turn
+    → IsSoundStep grammar word more (cluster_step grammar bytes text more)
+unfolding cluster_step
 cluster_sound grammar named word bytes [] more form each = (
   more,
   refl,
@@ -241,42 +241,42 @@ cluster_sound grammar named word bytes [] more form each = (
 )
 cluster_sound grammar named word bytes (byte ∷ text) more form each =
     byte_sound grammar word bytes each named byte (grammar.kind (byte ∷ [])) text more
-    (cluster_turn grammar (bytes ++ byte ∷ []) text more) form refl
+    (cluster_step grammar (bytes ++ byte ∷ []) text more) form refl
     (λ flag. cluster_sound grammar named word (bytes ++ byte ∷ []) text more
     (subst (IsShortForm grammar word) (sym (append_assoc bytes (byte ∷ []) text)) form)
     (AllByRecursion-append (IsFlag grammar) bytes (byte ∷ []) each (flag, tt)))
 
--- the turn of a word that isn't dashed
-pub turn_free : (grammar : Grammar) (word : Text) (more : List Text) → is_dashed word ≡ false
-    → turn grammar word more ≡ free_turn grammar.style word more
-unfolding turn
-turn_free grammar [] more plain = refl
-turn_free grammar (c ∷ []) more plain = refl
-turn_free grammar (c ∷ d ∷ text) more plain = rw plain refl
+-- the step of a word that isn't dashed
+pub step_free : (grammar : Grammar) (word : Text) (more : List Text) → is_dashed word ≡ false
+    → step grammar word more ≡ free_step grammar.style word more
+unfolding step
+step_free grammar [] more plain = refl
+step_free grammar (c ∷ []) more plain = refl
+step_free grammar (c ∷ d ∷ text) more plain = rw plain refl
 
--- the turn of `--`
-pub turn_stop : (grammar : Grammar) (more : List Text)
-    → turn grammar stop_word more ≡ ends (stop more)
-unfolding turn
-turn_stop grammar more = refl
+-- the step of `--`
+pub step_stop : (grammar : Grammar) (more : List Text)
+    → step grammar stop_word more ≡ ends (stop more)
+unfolding step
+step_stop grammar more = refl
 
--- the turn of a word in long form
-pub turn_long : (grammar : Grammar) (dashes : Dashes) (word text : Text) (more : List Text)
+-- the step of a word in long form
+pub step_long : (grammar : Grammar) (dashes : Dashes) (word text : Text) (more : List Text)
     → IsInLongForm grammar dashes word text
-    → turn grammar word more ≡ long_turn grammar dashes text more
-unfolding turn
-turn_long grammar two word [] more form = absurd (form.filled form.word_is)
-turn_long grammar two word (c ∷ text) more form = rw form.word_is refl
-turn_long grammar one word [] more form = absurd (form.filled form.word_is)
-turn_long grammar one word (c ∷ text) more form =
+    → step grammar word more ≡ long_step grammar dashes text more
+unfolding step
+step_long grammar two word [] more form = absurd (form.filled form.word_is)
+step_long grammar two word (c ∷ text) more form = rw form.word_is refl
+step_long grammar one word [] more form = absurd (form.filled form.word_is)
+step_long grammar one word (c ∷ text) more form =
     rw (form.word_is, form.before.1, form.before.0) refl
 
--- the turn of a word in short form
-pub turn_short : (grammar : Grammar) (word text : Text) (more : List Text)
-    → IsShortForm grammar word text → turn grammar word more ≡ cluster_turn grammar [] text more
-unfolding turn
-turn_short grammar word [] more form = absurd (form.filled refl)
-turn_short grammar word (c ∷ text) more form = rw (form.word_is, form.second, form.ordinary) refl
+-- the step of a word in short form
+pub step_short : (grammar : Grammar) (word text : Text) (more : List Text)
+    → IsShortForm grammar word text → step grammar word more ≡ cluster_step grammar [] text more
+unfolding step
+step_short grammar word [] more form = absurd (form.filled refl)
+step_short grammar word (c ∷ text) more form = rw (form.word_is, form.second, form.ordinary) refl
 
 -- a word in short form is dashed
 pub short_dashed : (grammar : Grammar) (word text : Text) → IsShortForm grammar word text
@@ -286,7 +286,7 @@ short_dashed grammar word text form = rw form.word_is (is_dashed-text text form.
 -- a word that isn't dashed
 free_sound : (grammar : Grammar) (word : Text) (more : List Text) → is_dashed word ≡ false
     → (style : ParsingStyle) → grammar.style ≡ style
-    → IsSoundTurn grammar word more (free_turn style word more)
+    → IsSoundStep grammar word more (free_step style word more)
 free_sound grammar word more plain FloatingFrees style = (
   more,
   refl,
@@ -299,16 +299,16 @@ free_sound grammar word more plain FloatingFrees style = (
 free_sound grammar word more plain StopAtFirstFree style = ((plain, style), refl)
 
 plain_sound : (grammar : Grammar) (word : Text) (more : List Text) → is_dashed word ≡ false
-    → IsSoundTurn grammar word more (turn grammar word more)
+    → IsSoundStep grammar word more (step grammar word more)
 plain_sound grammar word more plain =
-    rw (turn_free grammar word more plain) (free_sound grammar word more plain grammar.style refl)
+    rw (step_free grammar word more plain) (free_sound grammar word more plain grammar.style refl)
 
 -- the first word of a line
-pub turn_sound : (grammar : Grammar) → IsNamed grammar → (word : Text) (more : List Text)
-    → IsSoundTurn grammar word more (turn grammar word more)
-turn_sound grammar named [] more = plain_sound grammar [] more refl
-turn_sound grammar named (first ∷ []) more = plain_sound grammar (first ∷ []) more refl
-turn_sound grammar named (first ∷ second ∷ text) more = elim (cases_Bool (first == dash)) [
+pub step_sound : (grammar : Grammar) → IsNamed grammar → (word : Text) (more : List Text)
+    → IsSoundStep grammar word more (step grammar word more)
+step_sound grammar named [] more = plain_sound grammar [] more refl
+step_sound grammar named (first ∷ []) more = plain_sound grammar (first ∷ []) more refl
+step_sound grammar named (first ∷ second ∷ text) more = elim (cases_Bool (first == dash)) [
   | inr plain ↦ plain_sound grammar (first ∷ second ∷ text) more plain
   | inl dashed ↦ rw (eqb-true first dash dashed) (elim (cases_Bool (second == dash)) [
     | inl again ↦ rw (eqb-true second dash again) (two_sound text)
@@ -321,53 +321,53 @@ turn_sound grammar named (first ∷ second ∷ text) more = elim (cases_Bool (fi
       | inr ordinary ↦
           let form : IsShortForm grammar (dash ∷ second ∷ text) (second ∷ text) =
           record { ordinary = ordinary; word_is = refl; filled = λ e. cc e; second = name } in
-          rw (turn_short grammar (dash ∷ second ∷ text) (second ∷ text) more form)
+          rw (step_short grammar (dash ∷ second ∷ text) (second ∷ text) more form)
           (cluster_sound grammar named (dash ∷ second ∷ text) [] (second ∷ text) more form tt)
     ]
   ])
 ] where
   in_long : (dashes : Dashes) (word others : Text) → IsInLongForm grammar dashes word others
-      → IsSoundTurn grammar word more (turn grammar word more)
+      → IsSoundStep grammar word more (step grammar word more)
   in_long dashes word others form =
-      rw (turn_long grammar dashes word others more form)
+      rw (step_long grammar dashes word others more form)
       (long_sound grammar dashes word others more form)
 
   two_sound : (others : Text)
-      → IsSoundTurn grammar (dash ∷ dash ∷ others) more (turn grammar (dash ∷ dash ∷ others) more)
-  two_sound [] = rw (turn_stop grammar more) (tt, refl)
+      → IsSoundStep grammar (dash ∷ dash ∷ others) more (step grammar (dash ∷ dash ∷ others) more)
+  two_sound [] = rw (step_stop grammar more) (tt, refl)
   two_sound (c ∷ others) = in_long two (dash ∷ dash ∷ c ∷ others) (c ∷ others)
       (record { before = tt; word_is = refl; filled = λ e. cc e })
 
--- Conversely, the beginning of a line determines the turn of its first word.
+-- Conversely, the beginning of a line determines the step of its first word.
 
 -- a text in long form, by its name, its kind and its attached argument
-pub long_turn_cut : (grammar : Grammar) (dashes : Dashes) (name : Text) (argument : Option Text)
+pub long_step_cut : (grammar : Grammar) (dashes : Dashes) (name : Text) (argument : Option Text)
     (more : List Text) (kind : Option HasArg) → holds_equals name ≡ false
     → grammar.kind name ≡ kind
-    → long_turn grammar dashes (name ++ with_equals argument) more
-    ≡ named_turn kind dashes name argument more
-long_turn_cut grammar dashes name argument more kind plain resolved =
+    → long_step grammar dashes (name ++ with_equals argument) more
+    ≡ named_step kind dashes name argument more
+long_step_cut grammar dashes name argument more kind plain resolved =
     rw (cut_at_equals-append name argument plain, resolved) refl
 
 -- dashes that may precede a name may precede it and its argument
 before_more : (long_only : Bool) (dashes : Dashes) (name : Text) (argument : Option Text)
-    → MayStandBefore long_only dashes name
-    → MayStandBefore long_only dashes (name ++ with_equals argument)
+    → MayPrecede long_only dashes name
+    → MayPrecede long_only dashes (name ++ with_equals argument)
 before_more long_only one name argument before =
     (before.0, begins_with_dash-append name argument before.1)
 before_more long_only two name argument before = tt
 
--- the turn of a word in long form, by its name, its kind and its attached argument
-pub long_form_turn : (grammar : Grammar) (word name : Text) (argument : Option Text)
+-- the step of a word in long form, by its name, its kind and its attached argument
+pub long_form_step : (grammar : Grammar) (word name : Text) (argument : Option Text)
     (more : List Text) (kind : Option HasArg) (form : IsLongForm grammar word name argument)
     → grammar.kind name ≡ kind
-    → turn grammar word more ≡ named_turn kind form.dashes name argument more
-long_form_turn grammar word name argument more kind form resolved =
-    turn_long grammar form.dashes word (name ++ with_equals argument) more (record {
+    → step grammar word more ≡ named_step kind form.dashes name argument more
+long_form_step grammar word name argument more kind form resolved =
+    step_long grammar form.dashes word (name ++ with_equals argument) more (record {
       before = before_more grammar.long_only form.dashes name argument form.before;
       word_is = form.word_is;
       filled = form.filled;
-    }) ∙ long_turn_cut grammar form.dashes name argument more kind form.cut_once resolved
+    }) ∙ long_step_cut grammar form.dashes name argument more kind form.cut_once resolved
 
 -- the word of a name that resolves is longer than its dashes
 resolved_word : (grammar : Grammar) → IsNamed grammar
@@ -382,38 +382,38 @@ resolved_word grammar named two (c ∷ name) argument kind resolved = λ e. cc e
 -- flags precede the rest
 pub cluster_flags : (grammar : Grammar) (before names : List ℕ) (text : Text) (more : List Text)
     → AllByRecursion (IsFlag grammar) names
-    → cluster_turn grammar before (names ++ text) more
-    ≡ cluster_turn grammar (before ++ names) text more
-unfolding cluster_turn
+    → cluster_step grammar before (names ++ text) more
+    ≡ cluster_step grammar (before ++ names) text more
+unfolding cluster_step
 cluster_flags grammar before [] text more each = rw (append-nil before) refl
 cluster_flags grammar before (byte ∷ names) text more each =
     let flag : grammar.kind (byte ∷ []) ≡ Some No = each.0 in
     rw (flag, cluster_flags grammar (before ++ byte ∷ []) names text more each.1, append_assoc)
 
--- the turn of a word in short form, after its flags
-pub short_turn_flags : (grammar : Grammar) (word : Text) (names : List ℕ) (text : Text)
+-- the step of a word in short form, after its flags
+pub short_step_flags : (grammar : Grammar) (word : Text) (names : List ℕ) (text : Text)
     (more : List Text) → IsShortForm grammar word (names ++ text)
     → AllByRecursion (IsFlag grammar) names
-    → turn grammar word more ≡ cluster_turn grammar names text more
-short_turn_flags grammar word names text more form each =
-    turn_short grammar word (names ++ text) more form
+    → step grammar word more ≡ cluster_step grammar names text more
+short_step_flags grammar word names text more form each =
+    step_short grammar word (names ++ text) more form
     ∙ cluster_flags grammar [] names text more each
 
--- the turn of a word in short form, at a byte after its flags
-pub short_turn_byte : (grammar : Grammar) (word : Text) (names : List ℕ) (byte : ℕ) (text : Text)
+-- the step of a word in short form, at a byte after its flags
+pub short_step_byte : (grammar : Grammar) (word : Text) (names : List ℕ) (byte : ℕ) (text : Text)
     (more : List Text) (kind : Option HasArg) → IsShortForm grammar word (names ++ byte ∷ text)
     → AllByRecursion (IsFlag grammar) names → grammar.kind (byte ∷ []) ≡ kind
-    → turn grammar word more
-    ≡ byte_turn kind names byte text more (cluster_turn grammar (names ++ byte ∷ []) text more)
-unfolding cluster_turn
-short_turn_byte grammar word names byte text more kind form each resolved =
-    short_turn_flags grammar word names (byte ∷ text) more form each ∙ rw resolved
+    → step grammar word more
+    ≡ byte_step kind names byte text more (cluster_step grammar (names ++ byte ∷ []) text more)
+unfolding cluster_step
+short_step_byte grammar word names byte text more kind form each resolved =
+    short_step_flags grammar word names (byte ∷ text) more form each ∙ rw resolved
 
--- the turn of a line's first word takes this item, and these words follow it
+-- the step of a line's first word takes this item, and these words follow it
 abbrev pub TakesItem : Grammar → List Text → Item → List Text → Type 0
 TakesItem grammar [] item others = ⊥
 TakesItem grammar (word ∷ more) item others = (argument : Argument)
-    × (turn grammar word more ≡ takes item argument) × (more ≡ argument_words argument ++ others)
+    × (step grammar word more ≡ takes item argument) × (more ≡ argument_words argument ++ others)
 
 -- an argument that fits in long form is chosen
 long_chosen : (kind : HasArg) (name : Text) (argument : Argument) (more : List Text)
@@ -461,30 +461,30 @@ lawful_short grammar names end lawful = record {
 }
 
 -- an option that isn't a flag, by its kind
-pub byte_turn-end : (kind : HasArg) (bytes : List ℕ) (byte : ℕ) (text : Text) (more : List Text)
-    (after : Turn) → kind ≢ No
-    → byte_turn (Some kind) bytes byte text more after
-    ≡ chosen_turn (λ a. cluster bytes (ends_in byte a)) (chosen_end kind (byte ∷ []) text more)
-byte_turn-end No bytes byte text more after other = absurd (other refl)
-byte_turn-end kind bytes byte text more after other = refl
+pub byte_step-end : (kind : HasArg) (bytes : List ℕ) (byte : ℕ) (text : Text) (more : List Text)
+    (after : Step) → kind ≢ No
+    → byte_step (Some kind) bytes byte text more after
+    ≡ chosen_step (λ a. cluster bytes (ends_in byte a)) (chosen_end kind (byte ∷ []) text more)
+byte_step-end No bytes byte text more after other = absurd (other refl)
+byte_step-end kind bytes byte text more after other = refl
 
 -- the words that a valid item spells
-pub spelled_turn : (grammar : Grammar) → IsNamed grammar → (item : Item) (more : List Text)
+pub spelled_step : (grammar : Grammar) → IsNamed grammar → (item : Item) (more : List Text)
     → IsLawfulItem grammar item → (is_bare item ≡ true → EndsOrIsDashed more)
     → TakesItem grammar (spelled item more) item more
-unfolding cluster_turn
-spelled_turn grammar named (free word) more lawful followed = (
+unfolding cluster_step
+spelled_step grammar named (free word) more lawful followed = (
   none,
-  turn_free grammar word more lawful.0
-      ∙ ap (λ (style : ParsingStyle). free_turn style word more) lawful.1,
+  step_free grammar word more lawful.0
+      ∙ ap (λ (style : ParsingStyle). free_step style word more) lawful.1,
   refl,
 )
-spelled_turn grammar named (long dashes name argument) more lawful followed =
+spelled_step grammar named (long dashes name argument) more lawful followed =
     let kind = lawful.resolves in
     let text = attached_argument argument in
     let word = resolved_word grammar named dashes name text kind.0 kind.1 in (
       argument,
-      long_form_turn grammar (long_word dashes name text) name text
+      long_form_step grammar (long_word dashes name text) name text
           (argument_words argument ++ more) (Some kind.0)
           (record {
             dashes = dashes;
@@ -492,27 +492,27 @@ spelled_turn grammar named (long dashes name argument) more lawful followed =
             cut_once = lawful.cut_once;
             word_is = refl;
             filled = word;
-          }) kind.1 ∙ ap (chosen_turn (λ a. long dashes name a))
+          }) kind.1 ∙ ap (chosen_step (λ a. long dashes name a))
           (long_chosen kind.0 name argument more kind.2),
       refl,
     )
-spelled_turn grammar named (cluster bytes flags) more lawful followed = (
+spelled_step grammar named (cluster bytes flags) more lawful followed = (
   none,
-  short_turn_flags grammar (dash ∷ (bytes ++ [])) bytes [] more
+  short_step_flags grammar (dash ∷ (bytes ++ [])) bytes [] more
       (lawful_short grammar bytes flags lawful) lawful.each,
   refl,
 )
-spelled_turn grammar named (cluster bytes (ends_in option argument)) more lawful followed =
+spelled_step grammar named (cluster bytes (ends_in option argument)) more lawful followed =
     let kind = lawful.last in
     let text = unwrap_or (attached_argument argument) [] in
     let others = argument_words argument ++ more in (
       argument,
-      short_turn_byte grammar (dash ∷ (bytes ++ option ∷ text)) bytes option text others
+      short_step_byte grammar (dash ∷ (bytes ++ option ∷ text)) bytes option text others
           (Some kind.0)
           (lawful_short grammar bytes (ends_in option argument) lawful) lawful.each kind.1
-          ∙ byte_turn-end kind.0 bytes option text others _
+          ∙ byte_step-end kind.0 bytes option text others _
           (λ e. subst (λ (k : HasArg). FitsEnd k argument) e kind.2)
-          ∙ ap (chosen_turn (λ a. cluster bytes (ends_in option a)))
+          ∙ ap (chosen_step (λ a. cluster bytes (ends_in option a)))
           (end_chosen kind.0 (option ∷ []) argument more kind.2 (λ e. followed (rw e refl))),
       refl,
     )
@@ -529,13 +529,13 @@ wide_unknown grammar named c byte others text e wide = elim (named.ascii byte) [
 ]
 
 -- a word with a wide character after its flags
-wide_turn : (grammar : Grammar) → IsNamed grammar
+wide_step : (grammar : Grammar) → IsNamed grammar
     → (word : Text) (names : List ℕ) (c : ℕ) (text whole : Text) (more : List Text)
     → whole ≡ encode_utf8 c ++ text → IsUtf8 whole → IsShortForm grammar word (names ++ whole)
     → AllByRecursion (IsFlag grammar) names
     → 1 < length (encode_utf8 c)
-    → turn grammar word more ≡ faults (unrecognized_option (encode_utf8 c))
-wide_turn grammar named word names c text [] more e utf8 form each wide =
+    → step grammar word more ≡ faults (unrecognized_option (encode_utf8 c))
+wide_step grammar named word names c text [] more e utf8 form each wide =
     absurd (omega (
       arith,
       ap length e,
@@ -543,8 +543,8 @@ wide_turn grammar named word names c text [] more e utf8 form each wide =
       length-encode c,
       len_utf8_bounds c,
     ))
-wide_turn grammar named word names c text (byte ∷ others) more e utf8 form each wide =
-    short_turn_byte grammar word names byte others more None form each
+wide_step grammar named word names c text (byte ∷ others) more e utf8 form each wide =
+    short_step_byte grammar word names byte others more None form each
     (wide_unknown grammar named c byte others text e wide)
     ∙ ap (λ (t : Text). faults (unrecognized_option t))
     (rw e (first_char-append c text (rw e at utf8)))
@@ -582,27 +582,27 @@ first_byte byte text ascii utf8 =
     ap first_char (sym whole) ∙ first_char-append byte text (subst IsUtf8 (sym whole) utf8) ∙ encoded
 
 -- a word with an error
-pub fault_turn : (grammar : Grammar) → IsNamed grammar
+pub fault_step : (grammar : Grammar) → IsNamed grammar
     → (word : Text) (more : List Text) (fault : Fault) → IsUtf8 word
-    → IsFaultAt grammar word more fault → turn grammar word more ≡ faults fault
-fault_turn grammar named word more fault utf8 (unknown_name name argument form unknown) =
-    long_form_turn grammar word name argument more None form unknown
-fault_turn grammar named word more fault utf8 (unknown_byte byte text ascii has unknown) =
+    → IsFaultAt grammar word more fault → step grammar word more ≡ faults fault
+fault_step grammar named word more fault utf8 (unknown_name name argument form unknown) =
+    long_form_step grammar word name argument more None form unknown
+fault_step grammar named word more fault utf8 (unknown_byte byte text ascii has unknown) =
     let form = short_of grammar word _ has (filled-append has.bytes byte text) in
-    short_turn_byte grammar word has.bytes byte text more None form has.each unknown
+    short_step_byte grammar word has.bytes byte text more None form has.each unknown
     ∙ ap (λ (t : Text). faults (unrecognized_option t)) (first_byte byte text ascii
     (IsUtf8-after_flags grammar named word has.bytes (byte ∷ text) form has.each utf8))
-fault_turn grammar named word more fault utf8 (wide_character character text scalar wide has) =
+fault_step grammar named word more fault utf8 (wide_character character text scalar wide has) =
     let form = short_of grammar word _ has (filled-character has.bytes character text) in
-    wide_turn grammar named word has.bytes character text _ more refl
+    wide_step grammar named word has.bytes character text _ more refl
     (IsUtf8-after_flags grammar named word has.bytes (encode_utf8 character ++ text) form has.each
     utf8) form has.each wide
-fault_turn grammar named word more fault utf8 (unwanted_argument name argument form kind) =
-    long_form_turn grammar word name (Some argument) more (Some No) form kind
-fault_turn grammar named word more fault utf8 (long_unfinished name form kind ended) =
-    rw ended (long_form_turn grammar word name None [] (Some Yes) form kind)
-fault_turn grammar named word more fault utf8 (short_unfinished option has kind ended) =
-    rw ended (short_turn_byte grammar word has.bytes option [] [] (Some Yes)
+fault_step grammar named word more fault utf8 (unwanted_argument name argument form kind) =
+    long_form_step grammar word name (Some argument) more (Some No) form kind
+fault_step grammar named word more fault utf8 (long_unfinished name form kind ended) =
+    rw ended (long_form_step grammar word name None [] (Some Yes) form kind)
+fault_step grammar named word more fault utf8 (short_unfinished option has kind ended) =
+    rw ended (short_step_byte grammar word has.bytes option [] [] (Some Yes)
     (short_of grammar word _ has (filled-append has.bytes option [])) has.each kind)
 
 -- a word with an error is dashed

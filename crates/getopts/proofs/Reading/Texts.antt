@@ -5,7 +5,7 @@ use Rattle.std.proofs.Common.{encode_utf8}
 use Rattle.std.proofs.lemmas.Bool.{cases_Bool, cases_lt, eqb-true, or_parts, and_parts}
 use Rattle.getopts.specs.Names.{Text}
 use Rattle.getopts.specs.Reading.{equals_sign, begins_with_dash, holds_equals, dash, is_dashed}
-use Rattle.getopts.specs.Turn.{with_equals, cut_at_equals, first_char}
+use Rattle.getopts.specs.Step.{with_equals, cut_at_equals, first_char}
 use Rattle.std.specs.List.{AllByRecursion}
 use Rattle.std.specs.Char.{IsScalar}
 use Rattle.std.specs.Str.{IsUtf8, chars}

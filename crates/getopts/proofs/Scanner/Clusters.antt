@@ -9,10 +9,10 @@ use Rattle.getopts.specs.Names.{Text}
 use Rattle.getopts.specs.Options.{Grammar}
 use Rattle.getopts.specs.Reading.{none, flags, ends_in, cluster, IsFlag, Occurrence, at_position}
 use Rattle.getopts.specs.Reading.{mention_of, mentions}
-use Rattle.getopts.specs.Turn.{chosen_end, chosen_turn, byte_turn, cluster_turn, Chooses, AddsItem}
+use Rattle.getopts.specs.Step.{chosen_end, chosen_step, byte_step, cluster_step, Chooses, AddsItem}
 use Rattle.getopts.specs.declared.groups.HasArg.{HasArg}
 use Rattle.getopts.specs.declared.groups.HasArg.TheVariants.{No}
-use Rattle.getopts.proofs.Reading.Steps.{byte_turn-end}
+use Rattle.getopts.proofs.Reading.Steps.{byte_step-end}
 
 -- the occurrences of flags, all at one position
 abbrev pub flag_occurrences : Grammar → ℕ → List ℕ → List Occurrence
@@ -22,8 +22,8 @@ flag_occurrences grammar position bytes =
 -- The bytes before this place in a cluster are flags, and their occurrences were added.
 pub record FlagsRead (grammar : Grammar) (position : ℕ) (text : Text) (after : List Text) (at : ℕ)
     (old new : List Occurrence) : Type 0 where
-  pub turn_is : cluster_turn grammar [] text after
-      ≡ cluster_turn grammar (take at text) (drop at text) after
+  pub step_is : cluster_step grammar [] text after
+      ≡ cluster_step grammar (take at text) (drop at text) after
   pub boundary : IsCharBoundary text at
   pub added : new ≡ old ++ flag_occurrences grammar position (take at text)
 
@@ -37,7 +37,7 @@ module _ {grammar : Grammar} {position : ℕ} {text : Text} {after : List Text} 
   pub FlagsRead-none : (old : List Occurrence) → IsUtf8 text
       → FlagsRead grammar position text after 0 old old
   FlagsRead-none old utf8 = record {
-    turn_is = refl;
+    step_is = refl;
     boundary = IsCharBoundary-start text utf8;
     added = sym (append-nil old);
   }
@@ -45,12 +45,12 @@ module _ {grammar : Grammar} {position : ℕ} {text : Text} {after : List Text} 
   -- flags to the end of the word
   pub AddsItem-flags : {at : ℕ} {old new : List Occurrence} → length text ≤ at
       → FlagsRead grammar position text after at old new
-      → AddsItem grammar (cluster_turn grammar [] text after) position 0 old new
-  unfolding cluster_turn
+      → AddsItem grammar (cluster_step grammar [] text after) position 0 old new
+  unfolding cluster_step
   AddsItem-flags {at} {old} past before = record {
     item = cluster text flags;
     argument = none;
-    turn_is = before.turn_is ∙ rw (take_all at text past, drop_all at text past) refl;
+    step_is = before.step_is ∙ rw (take_all at text past, drop_all at text past) refl;
     used_is = refl;
     no_free = refl;
     added = before.added ∙ ap (λ bytes. old ++ flag_occurrences grammar position bytes)
@@ -60,27 +60,27 @@ module _ {grammar : Grammar} {position : ℕ} {text : Text} {after : List Text} 
   module _ {at : ℕ} {old new : List Occurrence} (within : at < length text)
       (before : FlagsRead grammar position text after at old new) where
     -- flags, and one more byte, by its kind
-    pub cluster_turn-byte : (kind : Option HasArg)
+    pub cluster_step-byte : (kind : Option HasArg)
         → grammar.kind (slice_index text at ∷ []) ≡ kind
-        → cluster_turn grammar [] text after
-        ≡ byte_turn kind (take at text) (slice_index text at) (drop (at + 1) text) after
-        (cluster_turn grammar (take at text ++ slice_index text at ∷ []) (drop (at + 1) text) after)
-    unfolding cluster_turn
-    cluster_turn-byte kind kind_is = before.turn_is
-        ∙ ap (λ (t : Text). cluster_turn grammar (take at text) t after) (text_from text at within)
-        ∙ ap (λ (k : Option HasArg). byte_turn k (take at text) (slice_index text at)
+        → cluster_step grammar [] text after
+        ≡ byte_step kind (take at text) (slice_index text at) (drop (at + 1) text) after
+        (cluster_step grammar (take at text ++ slice_index text at ∷ []) (drop (at + 1) text) after)
+    unfolding cluster_step
+    cluster_step-byte kind kind_is = before.step_is
+        ∙ ap (λ (t : Text). cluster_step grammar (take at text) t after) (text_from text at within)
+        ∙ ap (λ (k : Option HasArg). byte_step k (take at text) (slice_index text at)
         (drop (at + 1) text) after
-        (cluster_turn grammar (take at text ++ slice_index text at ∷ [])
+        (cluster_step grammar (take at text ++ slice_index text at ∷ [])
         (drop (at + 1) text) after)) kind_is
 
     -- flags, and an option that ends the cluster
-    pub cluster_turn-ends : (kind : HasArg) → kind ≢ No
+    pub cluster_step-ends : (kind : HasArg) → kind ≢ No
         → grammar.kind (slice_index text at ∷ []) ≡ Some kind
-        → cluster_turn grammar [] text after
-        ≡ chosen_turn (λ a. cluster (take at text) (ends_in (slice_index text at) a))
+        → cluster_step grammar [] text after
+        ≡ chosen_step (λ a. cluster (take at text) (ends_in (slice_index text at) a))
         (chosen_end kind (slice_index text at ∷ []) (drop (at + 1) text) after)
-    cluster_turn-ends kind other kind_is = cluster_turn-byte (Some kind) kind_is
-        ∙ byte_turn-end kind (take at text) (slice_index text at) (drop (at + 1) text) after _ other
+    cluster_step-ends kind other kind_is = cluster_step-byte (Some kind) kind_is
+        ∙ byte_step-end kind (take at text) (slice_index text at) (drop (at + 1) text) after _ other
 
     -- the occurrences of flags and of one option more
     occurrences_more : (newer : List Occurrence) (group : ℕ) (value : Option Text)
@@ -102,7 +102,7 @@ module _ {grammar : Grammar} {position : ℕ} {text : Text} {after : List Text} 
         let more : take (at + 1) text ≡ take at text ++ slice_index text at ∷ [] =
         take_more text at 0 within in
         record {
-          turn_is = cluster_turn-byte (Some No) flag ∙ rw more refl;
+          step_is = cluster_step-byte (Some No) flag ∙ rw more refl;
           boundary = IsCharBoundary-after_ascii text at utf8 within ascii;
           added = occurrences_more newer group None place pushed
               ∙ rw more (simp (append-nil, map-append));
@@ -114,12 +114,12 @@ module _ {grammar : Grammar} {position : ℕ} {text : Text} {after : List Text} 
         → kind ≢ No → grammar.kind (slice_index text at ∷ []) ≡ Some kind
         → Chooses (chosen_end kind (slice_index text at ∷ []) (drop (at + 1) text) after) value used
         → newer ≡ new ++ at_position position (record { group = group; value = value }) ∷ []
-        → AddsItem grammar (cluster_turn grammar [] text after) position used old newer
+        → AddsItem grammar (cluster_step grammar [] text after) position used old newer
     AddsItem-ends group kind value used newer place other kind_is chooses pushed = record {
       item = cluster (take at text) (ends_in (slice_index text at) chooses.argument);
       argument = chooses.argument;
-      turn_is = cluster_turn-ends kind other kind_is
-          ∙ ap (chosen_turn (λ a. cluster (take at text) (ends_in (slice_index text at) a)))
+      step_is = cluster_step-ends kind other kind_is
+          ∙ ap (chosen_step (λ a. cluster (take at text) (ends_in (slice_index text at) a)))
           chooses.chosen_is;
       used_is = chooses.used_is;
       no_free = refl;

@@ -5,14 +5,14 @@ use Rattle.getopts.specs.Names.{Text}
 use Rattle.getopts.specs.Options.{Grammar}
 use Rattle.getopts.specs.Reading.{Argument, none, attached, Dashes, long, argument_words}
 use Rattle.getopts.specs.Reading.{value_of, holds_equals, Occurrence, at_position}
-use Rattle.getopts.specs.Fail.{Fault, Tells}
-use Rattle.getopts.specs.Turn.{with_equals, faults, chosen_long, chosen_turn}
-use Rattle.getopts.specs.Turn.{named_turn, long_turn, Chooses, AddsItem}
+use Rattle.getopts.specs.Fail.{Fault, IsOutOfMemoryOr}
+use Rattle.getopts.specs.Step.{with_equals, faults, chosen_long, chosen_step}
+use Rattle.getopts.specs.Step.{named_step, long_step, Chooses, AddsItem}
 use Rattle.getopts.specs.declared.fail.Fail.{Fail}
 use Rattle.getopts.specs.declared.groups.HasArg.{HasArg}
 use Rattle.getopts.specs.declared.groups.HasArg.TheVariants.{Maybe}
-use Rattle.getopts.proofs.Parsing.Faults.{Tells-one}
-use Rattle.getopts.proofs.Reading.Steps.{long_turn_cut}
+use Rattle.getopts.proofs.Parsing.Faults.{IsOutOfMemoryOr-one}
+use Rattle.getopts.proofs.Reading.Steps.{long_step_cut}
 
 -- a chosen argument, with its value and its number of words
 pub Chooses-ok : (argument : Argument)
@@ -35,18 +35,19 @@ module _ (grammar : Grammar) (dashes : Dashes) (text name : Text) (argument : Op
     (after : List Text) (text_is : text ≡ name ++ with_equals argument)
     (cut_once : holds_equals name ≡ false) where
   -- its result, by its kind
-  long_turn-named : (kind : Option HasArg) → grammar.kind name ≡ kind
-      → long_turn grammar dashes text after ≡ named_turn kind dashes name argument after
-  long_turn-named kind kind_is = ap (λ (t : Text). long_turn grammar dashes t after) text_is
-      ∙ long_turn_cut grammar dashes name argument after kind cut_once kind_is
+  long_step-named : (kind : Option HasArg) → grammar.kind name ≡ kind
+      → long_step grammar dashes text after ≡ named_step kind dashes name argument after
+  long_step-named kind kind_is = ap (λ (t : Text). long_step grammar dashes t after) text_is
+      ∙ long_step_cut grammar dashes name argument after kind cut_once kind_is
 
   -- a `Fail` with its error
-  pub Tells-long : (kind : Option HasArg) → grammar.kind name ≡ kind
+  pub IsOutOfMemoryOr-long : (kind : Option HasArg) → grammar.kind name ≡ kind
       → (fail : Fail) (fault : Fault)
-      → named_turn kind dashes name argument after ≡ faults fault → Tells fail (λ f. f ≡ fault)
-      → Tells fail (λ f. long_turn grammar dashes text after ≡ faults f)
-  Tells-long kind kind_is fail fault is told = Tells-one fail fault
-      (λ f. long_turn grammar dashes text after ≡ faults f) told (long_turn-named kind kind_is ∙ is)
+      → named_step kind dashes name argument after ≡ faults fault
+      → IsOutOfMemoryOr fail (λ f. f ≡ fault)
+      → IsOutOfMemoryOr fail (λ f. long_step grammar dashes text after ≡ faults f)
+  IsOutOfMemoryOr-long kind kind_is fail fault is told = IsOutOfMemoryOr-one fail fault
+      (λ f. long_step grammar dashes text after ≡ faults f) told (long_step-named kind kind_is ∙ is)
 
   -- an item, after its occurrence was added
   pub AddsItem-long : (kind : HasArg) (group position used : ℕ) (value : Option Text)
@@ -54,12 +55,12 @@ module _ (grammar : Grammar) (dashes : Dashes) (text name : Text) (argument : Op
       → grammar.place name ≡ Some group
       → Chooses (chosen_long kind name argument after) value used
       → new ≡ old ++ at_position position (record { group = group; value = value }) ∷ []
-      → AddsItem grammar (long_turn grammar dashes text after) position used old new
+      → AddsItem grammar (long_step grammar dashes text after) position used old new
   AddsItem-long kind group position used value old new kind_is place_is chooses added = record {
     item = long dashes name chooses.argument;
     argument = chooses.argument;
-    turn_is = long_turn-named (Some kind) kind_is
-        ∙ ap (chosen_turn (λ a. long dashes name a)) chooses.chosen_is;
+    step_is = long_step-named (Some kind) kind_is
+        ∙ ap (chosen_step (λ a. long dashes name a)) chooses.chosen_is;
     used_is = chooses.used_is;
     no_free = refl;
     added = added ∙ rw (place_is, chooses.value_is) refl;

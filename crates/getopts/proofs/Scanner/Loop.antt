@@ -11,22 +11,22 @@ use Rattle.std.proofs.lemmas.Option.{slice_get_within, get_or_from_slice_get}
 use Rattle.std.specs.Prelude.{slice_get, Some}
 use Rattle.getopts.specs.Names.{Text, AreTexts}
 use Rattle.getopts.specs.Options.{Grammar}
-use Rattle.getopts.specs.Fail.{Tells}
+use Rattle.getopts.specs.Fail.{IsOutOfMemoryOr}
 use Rattle.getopts.specs.Reading.{is_dashed, stop_word, Argument, none, Item, free}
 use Rattle.getopts.specs.Reading.{argument_words, item_words, Occurrence, at_position, word_count}
 use Rattle.getopts.specs.Reading.{occurrences_after, mentions, free_items, Tail, stop, rest}
 use Rattle.getopts.specs.Reading.{trailing_after, IsReading, IsScanFault}
-use Rattle.getopts.specs.Turn.{Turn, ends, takes, faults, AddsItem}
+use Rattle.getopts.specs.Step.{Step, ends, takes, faults, AddsItem}
 use Rattle.getopts.specs.declared.fail.Fail.{Fail}
 use Rattle.getopts.specs.declared.groups.ParsingStyle.TheVariants.{FloatingFrees, StopAtFirstFree}
 use Rattle.getopts.proofs.Lists.{drop_past}
-use Rattle.getopts.proofs.Parsing.Faults.{Tells-weaker}
+use Rattle.getopts.proofs.Parsing.Faults.{IsOutOfMemoryOr-weaker}
 use Rattle.getopts.proofs.Reading.Laws.{free_items-append}
 use Rattle.getopts.proofs.Reading.Positions.{word_count-cons, length-spelled_all}
+use Rattle.getopts.proofs.Reading.Reader.{IsNamed, step, with_items, read}
 use Rattle.getopts.proofs.Reading.Readings.{spelled_all-joined, read_item, read_tail, read_error}
 use Rattle.getopts.proofs.Reading.Readings.{with_items-none, with_items-append, read_sound}
-use Rattle.getopts.proofs.Reading.Steps.{IsSoundTurn, turn_sound, turn_free, turn_stop}
-use Rattle.getopts.proofs.Reading.Turns.{IsNamed, turn, with_items, read}
+use Rattle.getopts.proofs.Reading.Steps.{IsSoundStep, step_sound, step_free, step_stop}
 
 -- Items were read up to this place, with these occurrences and free words.
 pub record ReadSoFar (grammar : Grammar) (words : List Text) (at : ℕ)
@@ -107,7 +107,7 @@ module _ {grammar : Grammar} (named : IsNamed grammar) {X : Type 0} (text : X �
     -- an item that it begins
     ReadSoFar-item : (item : Item) (argument : Argument) (newer : List Occurrence)
         (new_frees : List Text)
-        → turn grammar (text d) (map text (drop (at + 1) words)) ≡ takes item argument
+        → step grammar (text d) (map text (drop (at + 1) words)) ≡ takes item argument
         → newer ≡ occurrences ++ map (at_position at) (mentions grammar item)
         → new_frees ≡ frees ++ free_items (item ∷ [])
         → ReadSoFar grammar (map text words) (at + 1 + length (argument_words argument)) newer
@@ -117,8 +117,8 @@ module _ {grammar : Grammar} (named : IsNamed grammar) {X : Type 0} (text : X �
         let after = map text (drop (at + 1) words) in
         let left = texts_from text words d at there in
         let used = argument_words argument in
-        let sound : IsSoundTurn grammar word after (takes item argument) =
-        subst (IsSoundTurn grammar word after) said (turn_sound grammar named word after) in
+        let sound : IsSoundStep grammar word after (takes item argument) =
+        subst (IsSoundStep grammar word after) said (step_sound grammar named word after) in
         let next : drop (at + 1 + length used) (map text words) ≡ sound.0 =
         drop_past (map text words) after word at (length used) left ∙ ap (drop (length used)) sound.1
         ∙ drop-append_seam used sound.0 in
@@ -157,29 +157,29 @@ module _ {grammar : Grammar} (named : IsNamed grammar) {X : Type 0} (text : X �
         subst (λ (next : ℕ). ReadSoFar grammar (map text words) next occurrences new_frees)
         (add-zero (at + 1))
         (ReadSoFar-item (free (text d)) none occurrences new_frees
-        (turn_free grammar (text d) (map text (drop (at + 1) words)) plain
+        (step_free grammar (text d) (map text (drop (at + 1) words)) plain
         ∙ rw floating refl)
         (sym (append-nil occurrences)) pushed)
 
     -- an item that a dashed word begins
-    pub ReadSoFar-added : (said : Turn) (used : ℕ) (newer : List Occurrence)
-        → turn grammar (text d) (map text (drop (at + 1) words)) ≡ said
+    pub ReadSoFar-added : (said : Step) (used : ℕ) (newer : List Occurrence)
+        → step grammar (text d) (map text (drop (at + 1) words)) ≡ said
         → AddsItem grammar said at used occurrences newer
         → ReadSoFar grammar (map text words) (at + 1 + used) newer frees
     ReadSoFar-added said used newer is adds = rw adds.used_is
-        (ReadSoFar-item adds.item adds.argument newer frees (is ∙ adds.turn_is) adds.added
+        (ReadSoFar-item adds.item adds.argument newer frees (is ∙ adds.step_is) adds.added
         (sym (append-nil frees) ∙ ap (λ (ws : List Text). frees ++ ws) (sym adds.no_free)))
 
     -- the words that the item takes are there
-    pub used-within : (said : Turn) (used : ℕ) (newer : List Occurrence)
-        → turn grammar (text d) (map text (drop (at + 1) words)) ≡ said
+    pub used-within : (said : Step) (used : ℕ) (newer : List Occurrence)
+        → step grammar (text d) (map text (drop (at + 1) words)) ≡ said
         → AddsItem grammar said at used occurrences newer → at + 1 + used ≤ length words
     used-within said used newer is adds =
         let word = text d in
         let after = map text (drop (at + 1) words) in
-        let sound : IsSoundTurn grammar word after (takes adds.item adds.argument) =
-        subst (IsSoundTurn grammar word after) (is ∙ adds.turn_is)
-        (turn_sound grammar named word after) in
+        let sound : IsSoundStep grammar word after (takes adds.item adds.argument) =
+        subst (IsSoundStep grammar word after) (is ∙ adds.step_is)
+        (step_sound grammar named word after) in
         omega (
           arith,
           adds.used_is,
@@ -192,7 +192,7 @@ module _ {grammar : Grammar} (named : IsNamed grammar) {X : Type 0} (text : X �
 
     -- the tail of the line
     IsReading-ends : (tail : Tail)
-        → turn grammar (text d) (map text (drop (at + 1) words)) ≡ ends tail
+        → step grammar (text d) (map text (drop (at + 1) words)) ≡ ends tail
         → IsReading grammar (record { items = before.items; tail = tail }) (map text words)
     IsReading-ends tail said = IsReading-tail tail
         (ap (read grammar) (texts_from text words d at there) ∙ read_tail grammar _ _ tail said)
@@ -202,7 +202,7 @@ module _ {grammar : Grammar} (named : IsNamed grammar) {X : Type 0} (text : X �
         → IsReading grammar (record { items = before.items; tail = rest (drop at (map text words)) })
         (map text words)
     IsReading-rest plain stops = IsReading-ends (rest (drop at (map text words)))
-        (turn_free grammar (text d) (map text (drop (at + 1) words)) plain
+        (step_free grammar (text d) (map text (drop (at + 1) words)) plain
         ∙ rw (stops, texts_from text words d at there) refl)
 
     -- the stop, and the words after it
@@ -210,16 +210,16 @@ module _ {grammar : Grammar} (named : IsNamed grammar) {X : Type 0} (text : X �
         → IsReading grammar
         (record { items = before.items; tail = stop (map text (drop (at + 1) words)) }) (map text words)
     IsReading-stop stops = IsReading-ends (stop (map text (drop (at + 1) words)))
-        (ap (λ (w : Text). turn grammar w (map text (drop (at + 1) words))) stops
-        ∙ turn_stop grammar (map text (drop (at + 1) words)))
+        (ap (λ (w : Text). step grammar w (map text (drop (at + 1) words))) stops
+        ∙ step_stop grammar (map text (drop (at + 1) words)))
 
     -- a `Fail` with the error of the word there
-    pub Tells-word : (said : Turn) (fail : Fail)
-        → turn grammar (text d) (map text (drop (at + 1) words)) ≡ said
-        → Tells fail (λ fault. said ≡ faults fault)
-        → Tells fail (IsScanFault grammar (map text words))
-    Tells-word said fail is told =
-        Tells-weaker fail (λ fault. said ≡ faults fault) (IsScanFault grammar (map text words)) told
+    pub IsOutOfMemoryOr-word : (said : Step) (fail : Fail)
+        → step grammar (text d) (map text (drop (at + 1) words)) ≡ said
+        → IsOutOfMemoryOr fail (λ fault. said ≡ faults fault)
+        → IsOutOfMemoryOr fail (IsScanFault grammar (map text words))
+    IsOutOfMemoryOr-word said fail is told =
+        IsOutOfMemoryOr-weaker fail (λ fault. said ≡ faults fault) (IsScanFault grammar (map text words)) told
         (λ fault fails. read_sound grammar named (map text words) are_texts (Err fault)
         (before.reads ∙ ap (with_items before.items)
         (ap (read grammar) (texts_from text words d at there)

@@ -11,7 +11,7 @@ use Rattle.getopts.specs.Names.{Text}
 use Rattle.getopts.specs.Wrap.{Run, text_of, IsTightBreaking, IsFewestBreaking, words_of}
 use Rattle.getopts.specs.Wrap.{BreaksInto, IsDescriptionRows, joined, continued}
 use Rattle.getopts.specs.Wrap.{lines_of}
-use Rattle.getopts.specs.Held.Rows.{AddsDescription, AddsLine}
+use Rattle.getopts.specs.Stored.Rows.{AddsDescription, AddsLine}
 use Rattle.getopts.proofs.Lists.{all_zip_weaker}
 use Rattle.getopts.proofs.Wrapping.Breakings.{runs_of, runs_of-tight, runs_of-only}
 use Rattle.getopts.proofs.Wrapping.Breakings.{runs_of-is_fewest}

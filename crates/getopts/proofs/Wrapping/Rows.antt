@@ -9,7 +9,7 @@ use Rattle.std.proofs.lemmas.List.Sums.{sum_by-append, sum_by-cons}
 use Rattle.getopts.specs.Names.{Text}
 use Rattle.getopts.specs.Wrap.{Run, width_of, columns_of, text_of, IsTightBreaking, words_of}
 use Rattle.getopts.specs.Wrap.{joined, continued, parting}
-use Rattle.getopts.specs.Held.Rows.{AddsLine}
+use Rattle.getopts.specs.Stored.Rows.{AddsLine}
 use Rattle.getopts.proofs.Wrapping.Breakings.{has_room, runs_from, runs_of, runs_from-taken}
 use Rattle.getopts.proofs.Wrapping.Breakings.{runs_from-refused, runs_of-tight}
 use Rattle.getopts.proofs.Wrapping.Texts.{joined-longer, joined-next, continued-some}

@@ -10,7 +10,7 @@ use Rattle.std.proofs.lemmas.List.{take_all, take_more, drop_at}
 use Rattle.std.proofs.lemmas.List.Folds.{list_any-append}
 use Rattle.std.proofs.lemmas.Option.{slice_get_within, get_or_from_slice_get}
 use Rattle.std.proofs.lemmas.Slice.Zip.{all_zipped_more}
-use Rattle.getopts.specs.Held.Help.{group_view}
+use Rattle.getopts.specs.Stored.Help.{group_view}
 use Rattle.getopts.specs.Names.{Text, is_empty}
 use Rattle.getopts.specs.Options.{Group, Declared}
 use Rattle.getopts.specs.Only.{IsTheOnly}
@@ -18,7 +18,7 @@ use Rattle.getopts.specs.Usage.{any_short, spaces, head, next_row, padding, row_
 use Rattle.getopts.specs.Usage.{IsUsageRow, AreUsageRows, usage_text, IsUsageText}
 use Rattle.getopts.specs.Wrap.{width_of, IsDescriptionRows, joined, parting}
 use Rattle.getopts.specs.declared.help.Group.{Group as Borrowed}
-use Rattle.getopts.specs.Held.Rows.{AddsTheOnly, AddsDescription}
+use Rattle.getopts.specs.Stored.Rows.{AddsTheOnly, AddsDescription}
 use Rattle.getopts.proofs.Wrapping.Lines.{rows_exactly}
 use Rattle.getopts.proofs.Wrapping.Texts.{joined-push}
 

@@ -6,15 +6,15 @@ use Rattle.std.proofs.lemmas.Option.{slice_get_past}
 use Rattle.std.specs.Option.{option_map_or}
 use Rattle.getopts.specs.Names.{main_name}
 use Rattle.getopts.specs.Options.{Group, signatures_of}
-use Rattle.getopts.specs.Held.Matches.{IsOfSignatures}
+use Rattle.getopts.specs.Stored.Matches.{IsOfSignatures}
 use Rattle.getopts.specs.declared.matches.ReadLine.{ReadLine}
-use Rattle.getopts.specs.Matches.{found_at}
+use Rattle.getopts.specs.Matches.{occurrences_mentioning}
 use Rattle.getopts.specs.Reading.{Occurrence, holds_equals}
-use Rattle.getopts.specs.Held.Index.{index_of}
+use Rattle.getopts.specs.Stored.Index.{index_of}
 use Rattle.getopts.specs.Canon.{main_at}
-use Rattle.getopts.proofs.Parsing.Counts.{length-found_at, list_all-by_group}
+use Rattle.getopts.proofs.Parsing.Counts.{length-occurrences_mentioning, list_all-by_group}
 use Rattle.getopts.proofs.Parsing.Counts.{list_all-fails_by_group}
-use Rattle.getopts.proofs.Held.Groups.{length-signatures_of}
+use Rattle.getopts.proofs.Stored.Groups.{length-signatures_of}
 use Rattle.getopts.proofs.canon.are_plain.Goals as goal
 use Rattle.getopts.proofs.canon.are_plain.Goals.{
   else-count-gt0-via-then-count-gt0+else-holds_equals,
@@ -24,10 +24,11 @@ use Rattle.getopts.proofs.canon.are_plain.Goals.{else-count-gt0-via-else-count-g
 -- the count is that of the group's occurrences
 counted : (groups : List Group) (found : List Occurrence) (index : List (List ℕ)) (place count : ℕ)
     → index ≡ index_of (length groups) found → place < length groups
-    → count ≡ length (unwrap_or (slice_get index place) []) → count ≡ length (found_at place found)
+    → count ≡ length (unwrap_or (slice_get index place) []) → count
+    ≡ length (occurrences_mentioning place found)
 counted groups found index place count is within asked =
     asked ∙ ap (λ (index : List (List ℕ)). length (unwrap_or (slice_get index place) [])) is
-    ∙ length-found_at (length groups) found place within
+    ∙ length-occurrences_mentioning (length groups) found place within
 
 -- the index is for this number of groups
 index_is : (groups : List Group) (read : ReadLine) → IsOfSignatures (signatures_of groups) read
@@ -48,7 +49,7 @@ returns-then-holds_equals c =
     let groups = c.args.groups.now in
     let holds : holds_equals (main_at groups c.loop-place.place) ≡ true =
     sym (c.holds_equals.ensures ∙ ap holds_equals c.main.ensures) ∙ c.if-holds_equals.true in
-    let some : 0 < length (found_at c.loop-place.place c.args.read.now.line.found) =
+    let some : 0 < length (occurrences_mentioning c.loop-place.place c.args.read.now.line.found) =
     omega (
       arith,
       counted groups c.args.read.now.line.found c.args.read.now.index c.loop-place.place
@@ -67,7 +68,7 @@ loop-place-preserved c =
     let place = c.loop-place.place in
     let counted = counted groups found c.args.read.now.index place c.count.result
     (index_is groups c.args.read.now c.requires) (omega arith) c.count.ensures in
-    let passes : ℕ → Type 0 = λ group. 0 < length (found_at group found)
+    let passes : ℕ → Type 0 = λ group. 0 < length (occurrences_mentioning group found)
     → not (holds_equals (main_at groups group)) ≡ true in
     let last : passes place = elim c.else-count-gt0.branch [
       | else-count-gt0-via-then-count-gt0+else-holds_equals w ↦ λ some. ap not

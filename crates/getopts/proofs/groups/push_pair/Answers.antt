@@ -1,7 +1,7 @@
 -- Two added texts are at the end.
 use Rattle.std.proofs.Common.{arith}
 use Rattle.std.proofs.lemmas.Grind.{common_steps}
-use Rattle.getopts.proofs.Held.Texts.{two-added}
+use Rattle.getopts.proofs.Stored.Texts.{two-added}
 use Rattle.getopts.proofs.groups.push_pair.Goals as goal
 
 pub returns-clause-two : goal.returns-clause-two

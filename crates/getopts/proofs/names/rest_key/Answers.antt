@@ -1,7 +1,7 @@
 -- If there are at most six bytes, nothing follows the first seven.
 use Rattle.std.proofs.Common.{sym, ap, ◌∙◌, arith}
 use Rattle.std.proofs.lemmas.List.{drop_all}
-use Rattle.getopts.specs.Held.Names.{key_of}
+use Rattle.getopts.specs.Stored.Names.{key_of}
 use Rattle.getopts.proofs.Lookup.Keys.{key_of-nil}
 use Rattle.getopts.proofs.names.rest_key.Goals as goal
 

@@ -2,7 +2,7 @@
 use Rattle.std.proofs.Common.{◌≡◌, ◌++◌, arith}
 use Rattle.std.proofs.lemmas.Grind.{common_steps}
 use Rattle.std.specs.String.{string_bytes}
-use Rattle.getopts.proofs.Held.Occurrences.{stands-added}
+use Rattle.getopts.proofs.Stored.Occurrences.{stands-added}
 use Rattle.getopts.proofs.occurrences.push_value.Goals as goal
 use Rattle.getopts.proofs.occurrences.push_value.Goals.{
   then-start-eq0+then-not-is_empty+in_ok-reserve,

@@ -3,12 +3,13 @@ use Rattle.std.proofs.Common.{◌≡◌, List, [], ℕ, slice_get, unwrap_or, le
 use Rattle.std.proofs.Common.{arith}
 use Rattle.std.proofs.lemmas.List.{take_all}
 use Rattle.getopts.specs.Names.{Text, main_name}
-use Rattle.getopts.specs.Matches.{matched, found_at, count_fault, FitsCount}
+use Rattle.getopts.specs.Matches.{matched, occurrences_mentioning, count_fault, FitsCount}
 use Rattle.getopts.specs.declared.groups.Occur.{Occur}
-use Rattle.getopts.proofs.Parsing.Counts.{KeepsCounts-more, IsCountFault-at, length-found_at}
+use Rattle.getopts.proofs.Parsing.Counts.{KeepsCounts-more, IsCountFault-at}
+use Rattle.getopts.proofs.Parsing.Counts.{length-occurrences_mentioning}
 use Rattle.getopts.proofs.Parsing.Counts.{length-matched, signature-there}
-use Rattle.getopts.proofs.Parsing.Faults.{Tells-weaker}
-use Rattle.getopts.proofs.Held.Groups.{names_at-signature}
+use Rattle.getopts.proofs.Parsing.Faults.{IsOutOfMemoryOr-weaker}
+use Rattle.getopts.proofs.Stored.Groups.{names_at-signature}
 use Rattle.getopts.proofs.parse.check_counts.Goals as goal
 
 pub returns-clause-ok : goal.returns-clause-ok
@@ -25,10 +26,10 @@ loop-place-preserved c =
     let kinds = c.record.result.kinds in
     let count = c.count-count.result in
     let there = signature-there signatures c.loop-place.place kinds c.record.ensures.kinds in
-    let counted : count ≡ length (found_at c.loop-place.place c.args.read.now.line.found) =
+    let counted : count ≡ length (occurrences_mentioning c.loop-place.place c.args.read.now.line.found) =
     c.count-count.ensures
     ∙ ap (λ (ix : List (List ℕ)). length (unwrap_or (slice_get ix c.loop-place.place) []))
-    c.requires.index ∙ length-found_at (length c.args.signatures.now) c.args.read.now.line.found
+    c.requires.index ∙ length-occurrences_mentioning (length c.args.signatures.now) c.args.read.now.line.found
     c.loop-place.place (omega arith) in
     let fits : FitsCount kinds.occurrence count =
     c.fits_count.ensures.0 c.if-not-fits_count.false in
@@ -42,10 +43,10 @@ returns-then-not-fits_count-clause-err c =
     c.record.result.kinds
     c.record.ensures.kinds in
     let count = c.count-count.result in
-    let counted : count ≡ length (found_at c.loop-place.place c.args.read.now.line.found) =
+    let counted : count ≡ length (occurrences_mentioning c.loop-place.place c.args.read.now.line.found) =
     c.count-count.ensures
     ∙ ap (λ (ix : List (List ℕ)). length (unwrap_or (slice_get ix c.loop-place.place) []))
-    c.requires.index ∙ length-found_at (length c.args.signatures.now) c.args.read.now.line.found
+    c.requires.index ∙ length-occurrences_mentioning (length c.args.signatures.now) c.args.read.now.line.found
     c.loop-place.place (omega arith) in
     let main : c.main.result.now ≡ main_name there.0.names =
     c.main.ensures ∙ ap main_name (names_at-signature c.args.signatures.now c.loop-place.place there.0
@@ -56,7 +57,7 @@ returns-then-not-fits_count-clause-err c =
           fits),
       c.if-not-fits_count.true,
     )) in
-    Tells-weaker c.count_fault.result _ _ c.count_fault.ensures
+    IsOutOfMemoryOr-weaker c.count_fault.result _ _ c.count_fault.ensures
     (λ fault told. IsCountFault-at c.args.signatures.now c.args.read.now.line.found
     c.loop-place.place there.0 there.1
     c.loop-place.invariant count counted fault broken

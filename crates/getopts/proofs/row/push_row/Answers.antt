@@ -1,8 +1,8 @@
 -- The row is the head, its padding and the description's rows, which are unique.
 use Rattle.std.proofs.Common.{◌≡◌, ◌++◌, ◌∙◌, ap, arith, drop, length, string_bytes}
 use Rattle.std.proofs.lemmas.Result.{on_ok_weaker}
-use Rattle.getopts.specs.Held.Help.{group_view}
 use Rattle.getopts.specs.Names.{Text}
+use Rattle.getopts.specs.Stored.Help.{group_view}
 use Rattle.getopts.specs.Usage.{padding}
 use Rattle.getopts.proofs.Wrapping.Usage.{row_added}
 use Rattle.getopts.proofs.row.push_row.Goals as goal

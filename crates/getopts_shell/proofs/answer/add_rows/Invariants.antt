@@ -1,5 +1,5 @@
 use Rattle.std.proofs.Common.{◌≡◌, ◌++◌, take}
-use Rattle.getopts_shell.specs.Held.{entries_of}
+use Rattle.getopts_shell.specs.Stored.{entries_of}
 use Rattle.getopts_shell.specs.Table.{groups_as}
 use Rattle.getopts_shell.proofs.answer.add_rows.Given as goal
 

@@ -1,7 +1,7 @@
 use Rattle.std.proofs.Common.{Some, ap, string_bytes, sym, ◌∙◌}
 use Rattle.std.specs.Option.{option_map}
-use Rattle.getopts_shell.specs.Held.{asked_of, entries_of, entry_of_row}
 use Rattle.getopts_shell.specs.Program.{alone_line, done}
+use Rattle.getopts_shell.specs.Stored.{asked_of, entries_of, entry_of_row}
 use Rattle.getopts_shell.proofs.Asked.{asked_own}
 use Rattle.getopts_shell.proofs.Chosen.{at_none, at_some}
 use Rattle.getopts_shell.proofs.Written.{alone_holds_texts, alone_sets, sets_words}

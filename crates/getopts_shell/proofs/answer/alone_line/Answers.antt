@@ -3,8 +3,8 @@ use Rattle.std.specs.Str.{IsUtf8}
 use Rattle.std.proofs.lemmas.Result.{IfOk-weaker}
 use Rattle.std.proofs.lemmas.Str.{IsUtf8-string_bytes}
 use Rattle.getopts.specs.Names.{AreTexts, Text, main_name}
-use Rattle.getopts_shell.specs.Held.{entry_of_row}
 use Rattle.getopts_shell.specs.Program.{alone_line}
+use Rattle.getopts_shell.specs.Stored.{entry_of_row}
 use Rattle.getopts_shell.specs.Variables.{line_code}
 use Rattle.getopts_shell.proofs.Fronts.{on_ok}
 use Rattle.getopts_shell.proofs.answer.alone_line.Goals as goal

@@ -1,6 +1,6 @@
 use Rattle.std.proofs.Common.{refl}
-use Rattle.getopts_shell.specs.Held.{entry_of_row}
 use Rattle.getopts_shell.specs.Program.{is_help}
+use Rattle.getopts_shell.specs.Stored.{entry_of_row}
 use Rattle.getopts_shell.proofs.Lines.{list_any_map}
 use Rattle.getopts_shell.proofs.answer.asks_help.Goals as goal
 

@@ -1,7 +1,7 @@
 use Rattle.std.proofs.Common.{map, string_bytes, sym, ◌∙◌}
 use Rattle.std.proofs.lemmas.Result.{IfOk-weaker}
-use Rattle.getopts_shell.specs.HeldScript.{script_of}
 use Rattle.getopts_shell.specs.Program.{read_options}
+use Rattle.getopts_shell.specs.StoredScript.{script_of}
 use Rattle.getopts_shell.proofs.Asked.{held_signatures_are, kept_result}
 use Rattle.getopts_shell.proofs.Chosen.{at_err}
 use Rattle.getopts_shell.proofs.answer.counted_answer.Goals as goal

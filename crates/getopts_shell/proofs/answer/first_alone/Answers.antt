@@ -1,6 +1,6 @@
 use Rattle.std.proofs.Common.{true, false, sym, ◌∙◌}
-use Rattle.getopts_shell.specs.Held.{entry_of_row}
 use Rattle.getopts_shell.specs.Program.{is_alone}
+use Rattle.getopts_shell.specs.Stored.{entry_of_row}
 use Rattle.getopts_shell.proofs.First.{found_from}
 use Rattle.getopts_shell.proofs.answer.first_alone.Goals as goal
 

@@ -4,8 +4,8 @@ use Rattle.getopts.specs.Names.{Text}
 use Rattle.getopts.specs.Only.{IsTheOnly}
 use Rattle.getopts.specs.Options.{Declared}
 use Rattle.getopts.specs.Usage.{IsUsageText}
-use Rattle.getopts_shell.specs.HeldScript.{script_of}
 use Rattle.getopts_shell.specs.Program.{brief_text, help_front}
+use Rattle.getopts_shell.specs.StoredScript.{script_of}
 use Rattle.getopts_shell.proofs.answer.help_of.Goals as goal
 
 pub returns : goal.returns

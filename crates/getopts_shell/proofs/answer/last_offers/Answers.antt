@@ -3,8 +3,8 @@ use Rattle.std.specs.Prelude.{IfOk, take}
 use Rattle.std.proofs.lemmas.Result.{IfOk-weaker}
 use Rattle.getopts.specs.Options.{Declared}
 use Rattle.getopts_shell.specs.Completion.{offer}
-use Rattle.getopts_shell.specs.Held.{entries_of}
 use Rattle.getopts_shell.specs.Program.{last_word}
+use Rattle.getopts_shell.specs.Stored.{entries_of}
 use Rattle.getopts_shell.proofs.Offers.{at_last}
 use Rattle.getopts_shell.proofs.answer.last_offers.Goals as goal
 

@@ -2,8 +2,8 @@ use Rattle.std.proofs.Common.{ap, map, string_bytes, sym, ◌∙◌}
 use Rattle.std.specs.Option.{option_map}
 use Rattle.std.proofs.lemmas.Result.{IfOk-weaker}
 use Rattle.getopts.specs.Matches.{Matched}
-use Rattle.getopts_shell.specs.Held.{operand_fault_told, operands_of}
 use Rattle.getopts_shell.specs.Program.{free_fault}
+use Rattle.getopts_shell.specs.Stored.{operand_fault_told, operands_of}
 use Rattle.getopts_shell.proofs.Chosen.{at_none, at_ok, at_some}
 use Rattle.getopts_shell.proofs.answer.parsed_answer.Goals as goal
 

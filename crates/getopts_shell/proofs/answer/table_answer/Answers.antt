@@ -1,7 +1,7 @@
 use Rattle.std.proofs.Common.{map, string_bytes, ap, subst, ◌∙◌}
 use Rattle.std.proofs.lemmas.Result.{IfOk-weaker}
-use Rattle.getopts_shell.specs.Held.{answer_of, asked_of, entries_of}
 use Rattle.getopts_shell.specs.Program.{AnswersDeclared, declared, faulty, misused}
+use Rattle.getopts_shell.specs.Stored.{answer_of, asked_of, entries_of}
 use Rattle.getopts_shell.proofs.answer.table_answer.Goals as goal
 
 pub returns-in-Ok : goal.returns-in-Ok

@@ -2,7 +2,7 @@ use Rattle.std.proofs.Common.{◌≡◌, ◌++◌, ◌∙◌, ap, string_bytes}
 use Rattle.std.specs.Prelude.{codes, decimal}
 use Rattle.getopts.specs.Names.{Text}
 use Rattle.std.proofs.lemmas.Result.{IfOk-weaker}
-use Rattle.getopts_shell.specs.Held.{fault_told, operand_of}
+use Rattle.getopts_shell.specs.Stored.{fault_told, operand_of}
 use Rattle.getopts_shell.specs.Table.{late_operand, name_twice, no_option}
 use Rattle.getopts_shell.proofs.answer.table_refusal.Goals as goal
 

@@ -1,6 +1,6 @@
 use Rattle.std.proofs.Common.{ap, ◌∙◌}
-use Rattle.getopts_shell.specs.Held.{asked_of, entries_of}
 use Rattle.getopts_shell.specs.Program.{done}
+use Rattle.getopts_shell.specs.Stored.{asked_of, entries_of}
 use Rattle.getopts_shell.proofs.Asked.{asked_sets}
 use Rattle.getopts_shell.proofs.answer.variables_answer.Goals as goal
 

@@ -1,7 +1,7 @@
 use Rattle.std.proofs.Common.{◌≡◌, take}
 use Rattle.std.specs.String.{string_bytes}
 use Rattle.getopts_shell.specs.Completion.{options_lines}
-use Rattle.getopts_shell.specs.Held.{entries_of}
+use Rattle.getopts_shell.specs.Stored.{entries_of}
 use Rattle.getopts_shell.proofs.complete.options_lines.Given as goal
 
 -- the text is what the rows so far offer

@@ -1,6 +1,6 @@
 use Rattle.std.proofs.Common.{true, false, ap, refl, sym, ◌∙◌}
 use Rattle.std.specs.Prelude.{not}
-use Rattle.getopts_shell.specs.Held.{operand_of}
+use Rattle.getopts_shell.specs.Stored.{operand_of}
 use Rattle.getopts_shell.specs.Table.{comes_before}
 use Rattle.getopts_shell.proofs.First.{found_from}
 use Rattle.getopts_shell.proofs.Operands.{no_operand}

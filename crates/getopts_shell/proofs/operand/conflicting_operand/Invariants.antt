@@ -1,5 +1,5 @@
 use Rattle.std.proofs.Common.{◌≡◌, drop}
-use Rattle.getopts_shell.specs.Held.{operand_of, operands_of}
+use Rattle.getopts_shell.specs.Stored.{operand_of, operands_of}
 use Rattle.getopts_shell.specs.Table.{conflicting_operand}
 use Rattle.getopts_shell.proofs.operand.conflicting_operand.Given as goal
 

@@ -1,6 +1,6 @@
 use Rattle.std.proofs.Common.{◌≡◌, ◌≤◌, drop, length, map, string_bytes}
-use Rattle.getopts_shell.specs.Held.{operands_of}
 use Rattle.getopts_shell.specs.Program.{operand_fault}
+use Rattle.getopts_shell.specs.Stored.{operands_of}
 use Rattle.getopts_shell.proofs.operand.free_error.Given as goal
 
 -- the operands so far have their words, and the error is that of the operands from this place on

@@ -1,7 +1,7 @@
 use Rattle.std.proofs.Common.{◌≡◌, ◌++◌, codes, map, string_bytes, take}
 use Rattle.std.specs.Prelude.{◌||◌, nat_lt}
 use Rattle.getopts.specs.Wrap.{continued}
-use Rattle.getopts_shell.specs.Held.{operands_of}
+use Rattle.getopts_shell.specs.Stored.{operands_of}
 use Rattle.getopts_shell.proofs.operand.push_operands.Given as goal
 
 -- the operands so far were appended

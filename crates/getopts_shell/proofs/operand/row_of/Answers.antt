@@ -1,7 +1,7 @@
 use Rattle.std.proofs.Common.{◌++◌, ap, map, string_bytes, ◌∙◌}
 use Rattle.getopts.specs.Usage.{next_row}
 use Rattle.getopts.specs.Wrap.{joined}
-use Rattle.getopts_shell.specs.Held.{operand_of}
+use Rattle.getopts_shell.specs.Stored.{operand_of}
 use Rattle.getopts_shell.proofs.Operands.{row_made}
 use Rattle.getopts_shell.proofs.operand.row_of.Goals as goal
 

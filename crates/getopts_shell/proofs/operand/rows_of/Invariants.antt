@@ -1,5 +1,5 @@
 use Rattle.std.proofs.Common.{map, string_bytes, take}
-use Rattle.getopts_shell.specs.Held.{operands_of}
+use Rattle.getopts_shell.specs.Stored.{operands_of}
 use Rattle.getopts_shell.proofs.Operands.{AreOnlyRows}
 use Rattle.getopts_shell.proofs.operand.rows_of.Given as goal
 

@@ -1,5 +1,5 @@
 use Rattle.getopts_shell.proofs.Lines.{list_any_map}
-use Rattle.getopts_shell.specs.Held.{entry_of_row}
+use Rattle.getopts_shell.specs.Stored.{entry_of_row}
 use Rattle.getopts_shell.proofs.table.any_has_name.Goals as goal
 
 pub returns-then-not-is_empty : goal.returns-then-not-is_empty

@@ -6,7 +6,7 @@ use Rattle.std.proofs.lemmas.List.{map-append, length-map}
 use Rattle.std.proofs.lemmas.Result.{err_from_is_err_and}
 use Rattle.getopts_shell.proofs.Lines.{next_line, next_operands, no_lines, table_fault}
 use Rattle.getopts_shell.proofs.Lines.{tells_weaker}
-use Rattle.getopts_shell.specs.Held.{operands_of}
+use Rattle.getopts_shell.specs.Stored.{operands_of}
 use Rattle.getopts_shell.proofs.table.declared_in.Goals as goal
 
 pub loop-line-init : goal.loop-line-init

@@ -1,5 +1,5 @@
 use Rattle.std.proofs.Common.{◌≡◌, map}
-use Rattle.getopts_shell.specs.Held.{entries_of, operands_of}
+use Rattle.getopts_shell.specs.Stored.{entries_of, operands_of}
 use Rattle.getopts_shell.specs.Table.{operands_among}
 use Rattle.getopts_shell.proofs.Lines.{LinesSoFar}
 use Rattle.getopts_shell.proofs.table.declared_in.Given as goal

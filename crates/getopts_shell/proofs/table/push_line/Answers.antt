@@ -1,7 +1,7 @@
 use Rattle.std.proofs.Common.{◌≡◌, None, Some, ap, sym, ◌∙◌}
 use Rattle.std.specs.Prelude.{IfSome}
 use Rattle.std.proofs.lemmas.Result.{IfErr-weaker}
-use Rattle.getopts_shell.specs.Held.{entry_of_row, operands_of}
+use Rattle.getopts_shell.specs.Stored.{entry_of_row, operands_of}
 use Rattle.getopts_shell.specs.Table.{conflicting_operand, late, operand_at, trimmed, twice}
 use Rattle.getopts_shell.proofs.Fronts.{on_ok}
 use Rattle.getopts_shell.proofs.Lines.{declares_entry, declares_operand, faulty_line, no_operand_at}

@@ -1,6 +1,6 @@
 use Rattle.std.proofs.Common.{ap, refl, sym, ◌∙◌}
 use Rattle.std.specs.Option.{option_map}
-use Rattle.getopts_shell.specs.Held.{operand_of, operands_of}
+use Rattle.getopts_shell.specs.Stored.{operand_of, operands_of}
 use Rattle.getopts_shell.specs.Table.{conflicting_operand}
 use Rattle.getopts_shell.proofs.table.push_operand.Goals as goal
 

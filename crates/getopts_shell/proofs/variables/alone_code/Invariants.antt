@@ -1,6 +1,6 @@
 use Rattle.std.proofs.Common.{◌≡◌, string_bytes, take}
 use Rattle.std.specs.List.{flat_map}
-use Rattle.getopts_shell.specs.Held.{entries_of, entry_of_row}
+use Rattle.getopts_shell.specs.Stored.{entries_of, entry_of_row}
 use Rattle.getopts_shell.specs.Variables.{given_alone, option_code}
 use Rattle.getopts_shell.proofs.variables.alone_code.Given as goal
 

@@ -1,6 +1,6 @@
 use Rattle.std.proofs.Common.{◌∙◌, ap, sym, refl}
 use Rattle.std.specs.Option.{option_map}
-use Rattle.getopts_shell.specs.Held.{entry_of_row}
+use Rattle.getopts_shell.specs.Stored.{entry_of_row}
 use Rattle.getopts_shell.proofs.Assignments.{found_variable}
 use Rattle.getopts_shell.proofs.variables.row_error.Goals as goal
 

@@ -1,7 +1,7 @@
 use Rattle.std.proofs.Common.{true, false, map, sym, ◌∙◌}
 use Rattle.std.specs.Str.{bytes_eq}
 use Rattle.getopts.specs.Names.{main_name}
-use Rattle.getopts_shell.specs.Held.{entry_of_row}
+use Rattle.getopts_shell.specs.Stored.{entry_of_row}
 use Rattle.getopts_shell.specs.Table.{Entry}
 use Rattle.getopts_shell.specs.Variables.{variable_byte}
 use Rattle.getopts_shell.proofs.First.{found_from}

@@ -2,7 +2,7 @@ use Rattle.std.proofs.Common.{◌≡◌, drop, map}
 use Rattle.std.specs.List.{find}
 use Rattle.std.specs.Str.{bytes_eq}
 use Rattle.getopts.specs.Names.{main_name}
-use Rattle.getopts_shell.specs.Held.{entries_of}
+use Rattle.getopts_shell.specs.Stored.{entries_of}
 use Rattle.getopts_shell.specs.Table.{Entry}
 use Rattle.getopts_shell.specs.Variables.{variable_byte}
 use Rattle.getopts_shell.proofs.variables.row_with_variable.Given as goal

@@ -1,6 +1,6 @@
 use Rattle.std.proofs.Common.{ap, refl, sym, ◌∙◌}
 use Rattle.std.specs.Option.{option_map}
-use Rattle.getopts_shell.specs.Held.{variable_fault_told}
+use Rattle.getopts_shell.specs.Stored.{variable_fault_told}
 use Rattle.getopts_shell.proofs.Assignments.{fault_from}
 use Rattle.getopts_shell.proofs.variables.variable_error.Goals as goal
 

@@ -1,5 +1,5 @@
 use Rattle.std.proofs.Common.{◌≡◌, [], drop, take}
-use Rattle.getopts_shell.specs.Held.{entries_of}
+use Rattle.getopts_shell.specs.Stored.{entries_of}
 use Rattle.getopts_shell.specs.Variables.{first_fault}
 use Rattle.getopts_shell.proofs.variables.variable_error.Given as goal
 

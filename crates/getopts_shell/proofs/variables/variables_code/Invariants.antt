@@ -1,6 +1,6 @@
 use Rattle.std.proofs.Common.{◌≡◌, string_bytes, take}
 use Rattle.std.specs.List.{flat_map}
-use Rattle.getopts_shell.specs.Held.{entries_of}
+use Rattle.getopts_shell.specs.Stored.{entries_of}
 use Rattle.getopts_shell.specs.Variables.{given_from, HoldTexts, option_code}
 use Rattle.getopts_shell.proofs.variables.variables_code.Given as goal
 

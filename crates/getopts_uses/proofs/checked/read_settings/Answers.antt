@@ -3,7 +3,7 @@ use Rattle.std.proofs.Common.{◌≡◌, ℕ, map, Ok, Err, Vec, Global, subst, 
 use Rattle.std.proofs.lemmas.Result.{err_from_is_err_and}
 use Rattle.getopts.specs.Prelude.{Matched, parse_result}
 use Rattle.getopts_uses.specs.Checked.{AreFieldsOf, AreJobsOf, AreSetsOf, IsColorOf}
-use Rattle.getopts_uses.specs.Checked.{IsSettingsBy, checked_options}
+use Rattle.getopts_uses.specs.Checked.{IsSettingsOrError, checked_options}
 use Rattle.getopts_uses.specs.declared.checked.Color.{Color}
 use Rattle.getopts_uses.specs.declared.checked.Refusal.{Refusal}
 use Rattle.getopts_uses.specs.declared.checked.Refusal.TheVariants as refusal
@@ -12,7 +12,7 @@ use Rattle.getopts_uses.proofs.checked.read_settings.Goals as goal
 module _ (matches : Matched) (jobs : ℕ) (are_jobs : AreJobsOf matches (Ok jobs)) (color : Color)
     (is_color : IsColorOf matches (Ok color)) (fields : Vec ℕ Global)
     (are_fields : AreFieldsOf matches (Ok fields)) where
-  refused : (error : Refusal) → AreSetsOf matches (Err error) → IsSettingsBy (Ok matches) (Err error)
+  refused : (error : Refusal) → AreSetsOf matches (Err error) → IsSettingsOrError (Ok matches) (Err error)
   refused refusal.OutOfMemory are = tt
   refused (refusal.Pair told given) are =
       ((jobs, are_jobs), (color, is_color), (fields, are_fields), are)
@@ -29,7 +29,7 @@ returns-in_err-sets_of g c =
     ≡ Ok c.in_ok-matches.matches =
     rw c.in_ok-options.ensures at c.in_ok-matches.ensures.result in
     rw (left.1, left.2)
-    (subst (λ it. IsSettingsBy it (Err c.in_err-sets_of.field-0.0)) (sym line)
+    (subst (λ it. IsSettingsOrError it (Err c.in_err-sets_of.field-0.0)) (sym line)
     (refused c.in_ok-matches.matches c.in_ok-number_of.field-0 c.in_ok-number_of.ensures
     c.in_ok-color_of.field-0 c.in_ok-color_of.ensures c.in_ok-fields_of.field-0
     c.in_ok-fields_of.ensures c.in_err-sets_of.field-0.0 c.in_err-sets_of.ensures))

@@ -1,14 +1,14 @@
 -- A canonical line that is read again means the same, and is its own canonical line.
 use Rattle.std.proofs.Common.{◌≡◌, codes, refl}
 use Rattle.getopts.specs.Matches.{Matched}
-use Rattle.getopts.specs.Theorem.{HoldSame}
+use Rattle.getopts.specs.Theorem.{HaveSameValues}
 use Rattle.getopts.proofs.MainTheorem.Callers.{same_count, same_first, same_present, same_values}
 use Rattle.getopts.proofs.MainTheorem.Callers.{results_again, LinesReadAgain_lem, MayBeDeclared-plain}
 use Rattle.getopts.proofs.MainTheorem.CanonicalLines.{canonical_again}
 use Rattle.getopts_uses.specs.Logged.{build_options, said_by}
 use Rattle.getopts_uses.proofs.logged.lines_say_the_same.Goals as goal
 
-same_said : (m n : Matched) → HoldSame m n → said_by n ≡ said_by m
+same_said : (m n : Matched) → HaveSameValues m n → said_by n ≡ said_by m
 same_said m n same = λ i. record {
   jobs = same_first m n same (codes "jobs") i;
   keep_going = same_present m n same (codes "keep-going") i;

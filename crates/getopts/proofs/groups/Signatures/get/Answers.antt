@@ -3,9 +3,9 @@ use Rattle.std.proofs.Common.{◌≡◌, Some, ap, ◌∙◌}
 use Rattle.std.proofs.lemmas.Option.{same_Some}
 use Rattle.std.specs.Option.{option_map}
 use Rattle.getopts.specs.Options.{Signature}
-use Rattle.getopts.specs.Held.Groups.{kinds_of, names_view}
+use Rattle.getopts.specs.Stored.Groups.{kinds_of, names_view}
 use Rattle.getopts.proofs.Lists.{element}
-use Rattle.getopts.proofs.Held.Groups.{names_at-signature}
+use Rattle.getopts.proofs.Stored.Groups.{names_at-signature}
 use Rattle.getopts.proofs.groups.Signatures.get.Goals as goal
 
 pub returns : goal.returns

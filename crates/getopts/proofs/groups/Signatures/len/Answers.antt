@@ -2,7 +2,7 @@
 use Rattle.std.proofs.Common.{arith}
 use Rattle.std.proofs.lemmas.List.{length-map}
 use Rattle.std.specs.String.{string_bytes}
-use Rattle.getopts.specs.Held.Groups.{signature_in}
+use Rattle.getopts.specs.Stored.Groups.{signature_in}
 use Rattle.getopts.proofs.groups.Signatures.len.Goals as goal
 
 pub returns-clause-len : goal.returns-clause-len

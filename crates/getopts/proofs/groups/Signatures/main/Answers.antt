@@ -2,8 +2,8 @@
 use Rattle.std.proofs.Common.{◌≡◌, true, false, cond, ap, ◌∙◌, sym}
 use Rattle.std.proofs.lemmas.Bool.{not-true, not-false}
 use Rattle.getopts.specs.Names.{is_empty}
-use Rattle.getopts.specs.Held.Groups.{names_in}
-use Rattle.getopts.specs.Held.Names.{names_at}
+use Rattle.getopts.specs.Stored.Groups.{names_in}
+use Rattle.getopts.specs.Stored.Names.{names_at}
 use Rattle.getopts.proofs.groups.Signatures.main.Goals as goal
 
 pub returns-then-record : goal.returns-then-record

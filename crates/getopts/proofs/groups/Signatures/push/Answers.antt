@@ -10,13 +10,14 @@ use Rattle.std.specs.Str.{IsUtf8}
 use Rattle.std.specs.String.{string_bytes}
 use Rattle.getopts.specs.Names.{Text, IsLawfullyNamed}
 use Rattle.getopts.specs.Options.{Signature}
-use Rattle.getopts.specs.Held.Groups.{signature_with, signature_in, HasKeys, IsHeld, ends_of, two_at, AreEndsOf}
-use Rattle.getopts.specs.Held.Names.{key_of, short_code}
-use Rattle.getopts.specs.Held.Texts.{IsOfBytes}
+use Rattle.getopts.specs.Stored.Groups.{signature_with, signature_in, HasKeys, IsStored, ends_of}
+use Rattle.getopts.specs.Stored.Groups.{pair_at, AreEndsOf}
+use Rattle.getopts.specs.Stored.Names.{key_of, short_code}
+use Rattle.getopts.specs.Stored.Texts.{IsOfBytes}
 use Rattle.getopts.specs.declared.groups.SignatureRecord.{SignatureRecord}
 use Rattle.getopts.proofs.Lists.{AllByRecursion-append}
-use Rattle.getopts.proofs.Held.Groups.{signatures-push}
-use Rattle.getopts.proofs.Held.Texts.{IsOfBytes-utf8}
+use Rattle.getopts.proofs.Stored.Groups.{signatures-push}
+use Rattle.getopts.proofs.Stored.Texts.{IsOfBytes-utf8}
 use Rattle.getopts.proofs.groups.Signatures.push.Goals as goal
 use Rattle.getopts.proofs.groups.Signatures.push.Goals.{then-is_empty+in_ok-reserve+in_ok-reserve-2}
 use Rattle.getopts.proofs.groups.Signatures.push.Goals.{
@@ -85,7 +86,7 @@ ends_are c =
 signature_is : (c : goal.After-push_reserved)
     → signature_in (string_bytes c.push_pair-names.new.texts) (added c) ≡ signature c
 signature_is c = ap (λ (names : Text × Text). signature_with c.args.kinds names.0 names.1)
-    (ap (two_at (string_bytes c.push_pair-names.new.texts)) (ends_are c)
+    (ap (pair_at (string_bytes c.push_pair-names.new.texts)) (ends_are c)
     ∙ c.push_pair-names.ensures.two.are)
 
 has_keys : (c : goal.After-push_reserved) → HasKeys (added c) (signature c).names
@@ -96,7 +97,7 @@ has_keys c = record {
 }
 
 last : (c : goal.After-push_reserved)
-    → IsHeld (string_bytes c.push_pair-names.new.texts) (added c)
+    → IsStored (string_bytes c.push_pair-names.new.texts) (added c)
 last c = record {
   ends = subst (AreEndsOf (string_bytes c.push_pair-names.new.texts)) (sym (ends_are c))
       c.push_pair-names.ensures.two.ends;
@@ -105,7 +106,7 @@ last c = record {
 
 pushed : (c : goal.After-push_reserved)
     → let all = string_bytes c.push_pair-names.new.texts in
-    let records = c.push_reserved.new.self.items in AllByRecursion (IsHeld all) records
+    let records = c.push_reserved.new.self.items in AllByRecursion (IsStored all) records
     × (map (signature_in all) records ≡ map (signature_in (string_bytes c.self.inside.text))
     c.self.inside.records.items ++ signature c ∷ [])
 pushed c =

@@ -3,9 +3,9 @@ use Rattle.std.proofs.Common.{arith, sym, ap}
 use Rattle.std.specs.Option.{option_map}
 use Rattle.std.proofs.lemmas.List.{length-map}
 use Rattle.getopts.specs.Options.{Signature}
-use Rattle.getopts.specs.Held.Groups.{kinds_of, names_in}
-use Rattle.getopts.proofs.Held.Groups.{held_at, record_within, names_at-signature}
-use Rattle.getopts.proofs.Held.Groups.{fits_at, lawful_names}
+use Rattle.getopts.specs.Stored.Groups.{kinds_of, names_in}
+use Rattle.getopts.proofs.Stored.Groups.{stored_at, record_within, names_at-signature}
+use Rattle.getopts.proofs.Stored.Groups.{fits_at, lawful_names}
 use Rattle.getopts.proofs.groups.Signatures.record.Goals as goal
 
 pub index-requires : goal.index-requires
@@ -15,7 +15,7 @@ index-requires c =
 
 pub returns-clause-keys : goal.returns-clause-keys
 returns-clause-keys c =
-    let held = held_at _ c.self.inside.records.items _ _ c.index.result.now
+    let held = stored_at _ c.self.inside.records.items _ _ c.index.result.now
     c.self.invariant.held c.self.view_is c.requires c.index.ensures in
     rw (names_at-signature _ _ _ held.1) held.0.keys
 
@@ -27,6 +27,6 @@ returns-clause-lawful c =
 
 pub returns-clause-kinds : goal.returns-clause-kinds
 returns-clause-kinds c =
-    let held = held_at _ c.self.inside.records.items _ _ c.index.result.now
+    let held = stored_at _ c.self.inside.records.items _ _ c.index.result.now
     c.self.invariant.held c.self.view_is c.requires c.index.ensures in
     sym (ap (option_map kinds_of) held.1)

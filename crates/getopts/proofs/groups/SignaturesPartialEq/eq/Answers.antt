@@ -2,8 +2,8 @@
 use Rattle.std.proofs.Common.{sym, ◌∙◌, ◌≡◌, ◌-◌, true, cond, map, List, [], ◌∷◌, ◌==◌, ap}
 use Rattle.std.specs.Cmp.Lexicographic.{pointwise}
 use Rattle.getopts.specs.Names.{Text}
-use Rattle.getopts.specs.Held.Groups.{signature_in, same_record, same_kinds, two_at, ends_of}
-use Rattle.getopts.specs.Held.Texts.{between}
+use Rattle.getopts.specs.Stored.Groups.{signature_in, same_record, same_kinds, pair_at, ends_of}
+use Rattle.getopts.specs.Stored.Texts.{between}
 use Rattle.std.proofs.lemmas.Slice.Eq.{bytes_eq-Decides}
 use Rattle.std.specs.Str.{bytes_eq}
 use Rattle.std.specs.String.{string_bytes}
@@ -39,8 +39,8 @@ one text r q same =
     let e = eqb-true r.end q.end end.0 in
     let b = eqb-true r.short q.short short.0 in
     let s : (ends_of r).start ≡ (ends_of q).start = λ i. cond (b i == 256) (f i) (f i - 1) in
-    let names = and_from (bytes_eq (two_at text (ends_of r)).0 (two_at text (ends_of q)).0)
-    (bytes_eq (two_at text (ends_of r)).1 (two_at text (ends_of q)).1)
+    let names = and_from (bytes_eq (pair_at text (ends_of r)).0 (pair_at text (ends_of q)).0)
+    (bytes_eq (pair_at text (ends_of r)).1 (pair_at text (ends_of q)).1)
     ((bytes_eq-Decides _ _).1 (λ i. between text (s i) (f i)))
     ((bytes_eq-Decides _ _).1 (λ i. between text (f i) (e i))) in
     and_from _ (same_kinds r.kinds q.kinds) names short.1

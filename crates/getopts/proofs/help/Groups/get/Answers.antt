@@ -3,26 +3,26 @@ use Rattle.std.proofs.Common.{◌≡◌, Some, slice_get, sym, ap, ◌∙◌, ar
 use Rattle.std.proofs.lemmas.Option.{slice_get-map}
 use Rattle.std.specs.Option.{option_map}
 use Rattle.std.specs.String.{string_bytes}
-use Rattle.getopts.specs.Held.Groups.{signature_view, two_at, AreEndsOf}
+use Rattle.getopts.specs.Stored.Groups.{signature_view, pair_at, AreEndsOf}
 use Rattle.getopts.proofs.Lists.{slice_get-read, AllByRecursion-at}
-use Rattle.getopts.proofs.Held.Groups.{signatures_held, groups_with-at}
+use Rattle.getopts.proofs.Stored.Groups.{signatures_stored, groups_with-at}
 use Rattle.getopts.proofs.help.Groups.get.Goals as goal
 use Rattle.getopts.proofs.help.Groups.get.Goals.{After-index-help}
 
 pub index-help-requires : goal.index-help-requires
 index-help-requires c =
-    let many = (signatures_held c.self.inside c.args.self.now c.self.invariant c.self.view_is).1 in
+    let many = (signatures_stored c.self.inside c.args.self.now c.self.invariant c.self.view_is).1 in
     omega (arith, many, c.requires, c.self.invariant.as_many)
 
 pub get-requires : goal.get-requires
 get-requires c =
-    let many = (signatures_held c.self.inside c.args.self.now c.self.invariant c.self.view_is).1 in
+    let many = (signatures_stored c.self.inside c.args.self.now c.self.invariant c.self.view_is).1 in
     omega (arith, many, c.requires)
 
 help_there : (c : After-index-help)
     → slice_get c.self.inside.ends.items c.args.place ≡ Some c.index-help.result.now
 help_there c =
-    let many = (signatures_held c.self.inside c.args.self.now c.self.invariant c.self.view_is).1 in
+    let many = (signatures_stored c.self.inside c.args.self.now c.self.invariant c.self.view_is).1 in
     slice_get-read c.self.inside.ends.items c.args.place c.index-help.result.now
     (omega (arith, many, c.requires, c.self.invariant.as_many)) c.index-help.ensures
 
@@ -42,10 +42,10 @@ returns c =
     let at = (goal.at.returns c).After-index-help in
     let text = string_bytes c.self.inside.help in
     let all = c.self.inside.ends.items in
-    let two = slice_get-map (two_at text) all c.args.place
-    ∙ ap (option_map (two_at text)) (help_there at) in
+    let two = slice_get-map (pair_at text) all c.args.place
+    ∙ ap (option_map (pair_at text)) (help_there at) in
     let there = groups_with-at c.self.inside.signatures _ c.args.place
-    (signature_view c.get.result) (two_at text c.index-help.result.now) (sym c.get.ensures) two in
+    (signature_view c.get.result) (pair_at text c.index-help.result.now) (sym c.get.ensures) two in
     let hint = rw c.deref.ensures at c.first_at.ensures in
     let description = rw c.deref-2.ensures at c.second_at.ensures in
     rw (← c.self.view_is) ((λ i. Some (record {

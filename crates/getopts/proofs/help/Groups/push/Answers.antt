@@ -9,11 +9,11 @@ use Rattle.std.specs.Str.{IsUtf8}
 use Rattle.std.specs.String.{string_bytes}
 use Rattle.getopts.specs.Names.{Text, IsLawfullyNamed}
 use Rattle.getopts.specs.Options.{Signature, Group}
-use Rattle.getopts.specs.Held.Groups.{signature_with, two_at, AreEndsOf}
-use Rattle.getopts.specs.Held.Help.{groups_with}
+use Rattle.getopts.specs.Stored.Groups.{signature_with, pair_at, AreEndsOf}
+use Rattle.getopts.specs.Stored.Help.{groups_with}
 use Rattle.getopts.specs.declared.groups.PairEnds.{PairEnds}
-use Rattle.getopts.proofs.Held.Groups.{groups_with-push, twos-push}
 use Rattle.getopts.proofs.Lists.{AllByRecursion-append}
+use Rattle.getopts.proofs.Stored.Groups.{groups_with-push, twos-push}
 use Rattle.getopts.proofs.help.Groups.push.Goals as goal
 use Rattle.getopts.proofs.help.Groups.push.Goals.{then-is_empty+in_ok-reserve+in_ok-reserve-2}
 use Rattle.getopts.proofs.help.Groups.push.Goals.{else-is_empty+in_ok-reserve-3+in_ok-reserve-4}
@@ -47,8 +47,8 @@ signatures c = c.in_ok-push.ensures.ok
 pushed : (c : goal.After-push_reserved)
     → let text = string_bytes c.push_pair-help.new.texts in
     let ends = c.push_reserved.new.self.items in AllByRecursion (AreEndsOf text) ends
-    × (map (two_at text) ends
-    ≡ map (two_at (string_bytes c.self.inside.help)) c.self.inside.ends.items
+    × (map (pair_at text) ends
+    ≡ map (pair_at (string_bytes c.self.inside.help)) c.self.inside.ends.items
     ++ (c.args.hint.now, c.args.desc.now) ∷ [])
 pushed c =
     let text : string_bytes c.push_pair-help.new.texts
@@ -85,8 +85,8 @@ invariant_of-self-2 c = record {
 pub returns-clause-ok : goal.returns-clause-ok
 returns-clause-ok c =
     let signature = signature_with c.args.kinds c.args.short.now c.args.long.now in
-    let twos = map (two_at (string_bytes c.self.inside.help)) c.self.inside.ends.items in
-    let as_many = length-map c.self.inside.ends.items (two_at (string_bytes c.self.inside.help))
+    let twos = map (pair_at (string_bytes c.self.inside.help)) c.self.inside.ends.items in
+    let as_many = length-map c.self.inside.ends.items (pair_at (string_bytes c.self.inside.help))
     ∙ c.self.invariant.as_many in
     (λ k. groups_with (signatures c k) ((pushed c).1 k))
     ∙ groups_with-push signature (c.args.hint.now, c.args.desc.now) c.self.inside.signatures twos

@@ -3,10 +3,10 @@ use Rattle.std.proofs.Common.{◌≡◌, ◌∙◌, List, map, length, sym, ap, 
 use Rattle.std.proofs.lemmas.Bool.{not-true, not-false}
 use Rattle.std.specs.Cmp.Lexicographic.{pointwise}
 use Rattle.getopts.specs.Matches.{MatchedGroup}
-use Rattle.getopts.specs.Same.{same_signature, same_found}
+use Rattle.getopts.specs.Same.{same_signature, same_group_occurrence}
 use Rattle.getopts.proofs.Parsing.Counts.{length-matched}
-use Rattle.getopts.proofs.Held.Matches.{signatures-matched, differ_signature, differ_found}
-use Rattle.getopts.proofs.Held.Matches.{same_found_everywhere}
+use Rattle.getopts.proofs.Stored.Matches.{signatures-matched, differ_signature, differ_found}
+use Rattle.getopts.proofs.Stored.Matches.{same_found_everywhere}
 use Rattle.getopts.proofs.matches.MatchedGroups.same.Goals as goal
 use Rattle.getopts.proofs.matches.MatchedGroups.same.Goals.{After-ne}
 
@@ -33,7 +33,7 @@ returns-then-ne c = sym (differ_signature c.args.self.now c.args.other.now
 pub returns-then-not-same : goal.returns-then-not-same
 returns-then-not-same c =
     sym (differ_found c.args.self.now c.args.other.now c.loop-place.place
-    ((λ i. pointwise same_found (sym c.occurrences_at.ensures i)
+    ((λ i. pointwise same_group_occurrence (sym c.occurrences_at.ensures i)
     (sym c.occurrences_at-in-loop-place.ensures i))
     ∙ sym c.same.ensures ∙ c.if-not-same.true))
 

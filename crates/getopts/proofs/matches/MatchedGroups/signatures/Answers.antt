@@ -1,5 +1,5 @@
 -- The stored signatures are those of the groups of the matches.
-use Rattle.getopts.proofs.Held.Matches.{signatures-matched}
+use Rattle.getopts.proofs.Stored.Matches.{signatures-matched}
 use Rattle.getopts.proofs.matches.MatchedGroups.signatures.Goals as goal
 
 pub returns : goal.returns

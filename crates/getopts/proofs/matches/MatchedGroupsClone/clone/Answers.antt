@@ -1,7 +1,7 @@
 -- The copies equal the stored values.
 use Rattle.std.proofs.Common.{◌≡◌, ◌∙◌, length, sym}
 use Rattle.getopts.specs.Matches.{matched}
-use Rattle.getopts.specs.Held.Index.{index_of}
+use Rattle.getopts.specs.Stored.Index.{index_of}
 use Rattle.getopts.proofs.matches.MatchedGroupsClone.clone.Goals as goal
 
 pub invariant_of-result : goal.invariant_of-result

@@ -1,16 +1,16 @@
 -- The texts of the pairs are the values.
 use Rattle.std.proofs.Common.{◌≡◌, ◌∙◌, ℕ, Vec, String, Global, ap}
 use Rattle.std.proofs.lemmas.Result.{IfOk-weaker}
-use Rattle.getopts.specs.Accessors.{found_of, values_of}
+use Rattle.getopts.specs.Accessors.{occurrences_of_name, values_of}
 use Rattle.getopts.specs.Matches.{Matched}
-use Rattle.getopts.proofs.Held.Matches.{texts_of_held_pairs}
+use Rattle.getopts.proofs.Stored.Matches.{texts_of_held_pairs}
 use Rattle.getopts.proofs.matches.Matches.opt_strs_pos.Goals as goal
 
 pub returns-clause-texts : goal.returns-clause-texts
 returns-clause-texts c =
-    let found : c.occurrences_of.result ≡ found_of c.args.self.now.groups c.args.name.now =
+    let found : c.occurrences_of.result ≡ occurrences_of_name c.args.self.now.groups c.args.name.now =
     c.occurrences_of.ensures
-    ∙ ap (λ (matches : Matched). found_of matches.groups c.args.name.now) c.self.view_is in
+    ∙ ap (λ (matches : Matched). occurrences_of_name matches.groups c.args.name.now) c.self.view_is in
     IfOk-weaker _ _ _
     (λ (pairs : Vec (ℕ × String Global) Global) same.
     texts_of_held_pairs pairs.items c.occurrences_of.result same ∙ ap values_of found)

@@ -3,7 +3,7 @@ use Rattle.std.proofs.Common.{◌≡◌, arith}
 use Rattle.std.proofs.lemmas.Grind.{common_steps}
 use Rattle.std.proofs.lemmas.Bool.Decides.{Decides-at}
 use Rattle.getopts.specs.Same.{same_matches}
-use Rattle.getopts.proofs.Held.Same.{same_matches-decides}
+use Rattle.getopts.proofs.Stored.Same.{same_matches-decides}
 use Rattle.getopts.proofs.matches.MatchesPartialEq.eq.Goals as goal
 
 pub returns-then-same_words-clause-same : goal.returns-then-same_words-clause-same

@@ -2,7 +2,7 @@
 use Rattle.std.proofs.Common.{arith}
 use Rattle.std.proofs.lemmas.List.{length-map}
 use Rattle.std.specs.String.{string_bytes}
-use Rattle.getopts.specs.Held.Occurrences.{occurrence_in}
+use Rattle.getopts.specs.Stored.Occurrences.{occurrence_in}
 use Rattle.getopts.proofs.occurrences.LineOccurrences.len.Goals as goal
 
 pub returns : goal.returns

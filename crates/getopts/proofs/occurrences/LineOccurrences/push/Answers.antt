@@ -5,10 +5,10 @@ use Rattle.std.specs.List.{AllByRecursion}
 use Rattle.std.specs.Option.{option_copied}
 use Rattle.std.specs.String.{string_bytes}
 use Rattle.getopts.specs.Reading.{at_position}
-use Rattle.getopts.specs.Held.Occurrences.{IsSpanOf, occurrence_in, text_at}
+use Rattle.getopts.specs.Stored.Occurrences.{IsSpanOf, occurrence_in, text_at}
 use Rattle.getopts.specs.declared.occurrences.Span.{Span}
 use Rattle.getopts.specs.declared.occurrences.OccurrenceRecord.{OccurrenceRecord}
-use Rattle.getopts.proofs.Held.Occurrences.{occurrences-push}
+use Rattle.getopts.proofs.Stored.Occurrences.{occurrences-push}
 use Rattle.getopts.proofs.occurrences.LineOccurrences.push.Goals as goal
 use Rattle.getopts.proofs.occurrences.LineOccurrences.push.Goals.{
   in-Some+in_ok-value-in-Some,

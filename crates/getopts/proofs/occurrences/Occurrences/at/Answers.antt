@@ -1,9 +1,9 @@
 -- A group's nth occurrence is the line's occurrence at the nth of the group's places.
 use Rattle.std.proofs.Common.{get_or, ap, arith, ◌∙◌}
 use Rattle.std.specs.Option.{option_map}
-use Rattle.getopts.specs.Matches.{found_part}
+use Rattle.getopts.specs.Matches.{without_group}
 use Rattle.std.proofs.lemmas.Option.{slice_get-get_or}
-use Rattle.getopts.proofs.Held.Occurrences.{founds-at, place_within}
+use Rattle.getopts.proofs.Stored.Occurrences.{founds-at, place_within}
 use Rattle.getopts.proofs.occurrences.Occurrences.at.Goals as goal
 
 pub offset_bounds-self-inside-nth : goal.offset_bounds-self-inside-nth
@@ -21,4 +21,4 @@ returns c =
     rw (← c.self.view_is)
     (founds-at c.self.inside.found.now c.self.inside.places.now c.self.invariant c.args.nth place
     (slice_get-get_or c.self.inside.places.now c.args.nth 0 within)
-    ∙ ap (option_map found_part) c.at.ensures)
+    ∙ ap (option_map without_group) c.at.ensures)

@@ -1,7 +1,7 @@
 -- One more occurrence has its position.
 use Rattle.std.proofs.Common.{Some, sym, arith}
 use Rattle.std.proofs.lemmas.Grind.{common_steps}
-use Rattle.getopts.proofs.Held.Occurrences.{positions-more}
+use Rattle.getopts.proofs.Stored.Occurrences.{positions-more}
 use Rattle.getopts.proofs.occurrences.Occurrences.positions.Goals as goal
 
 pub loop-nth-preserved : goal.loop-nth-preserved

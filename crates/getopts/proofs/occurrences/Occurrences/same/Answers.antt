@@ -1,7 +1,7 @@
 -- Two lists of occurrences are equal if `get` returns equal values for each index.
 use Rattle.std.proofs.Common.{sym}
 use Rattle.std.proofs.lemmas.Bool.{not-true, not-false}
-use Rattle.getopts.proofs.Held.Occurrences.{founds-differ, founds-same}
+use Rattle.getopts.proofs.Stored.Occurrences.{founds-differ, founds-same}
 use Rattle.getopts.proofs.occurrences.Occurrences.same.Goals as goal
 
 pub returns-then-ne : goal.returns-then-ne

@@ -4,7 +4,7 @@ use Rattle.std.specs.String.{string_bytes}
 use Rattle.std.proofs.lemmas.Result.{err_from_is_err_and}
 use Rattle.getopts.specs.Options.{signatures_of}
 use Rattle.getopts.specs.Matches.{matched}
-use Rattle.getopts.proofs.Parsing.Faults.{Tells-weaker}
+use Rattle.getopts.proofs.Parsing.Faults.{IsOutOfMemoryOr-weaker}
 use Rattle.getopts.proofs.Canonical.Answered.{HasReading-line}
 use Rattle.getopts.proofs.options.Options.accepted_line.Goals as goal
 
@@ -12,7 +12,7 @@ pub returns-in_err-read-clause-refused : goal.returns-in_err-read-clause-refused
 returns-in_err-read-clause-refused g c =
     let left = err_from_is_err_and c.from_residual.result c.from_residual.ensures.1 in
     rw (left.1, left.2)
-    (Tells-weaker c.in_err-read.field-0.0 _ _ c.in_err-read.ensures.refused (λ fault is. inl is))
+    (IsOutOfMemoryOr-weaker c.in_err-read.field-0.0 _ _ c.in_err-read.ensures.refused (λ fault is. inl is))
 
 pub check_counts-requires : goal.check_counts-requires
 check_counts-requires g c = rw (c.signatures.ensures.signatures) c.in_ok-read.ensures.read.of_groups
@@ -23,7 +23,7 @@ returns-in_err-check_counts-clause-refused g c =
     let left = err_from_is_err_and c.from_residual-in_err-check_counts.result
     c.from_residual-in_err-check_counts.ensures.1 in
     rw (left.1, left.2)
-    (Tells-weaker c.in_err-check_counts.field-0.0 _ _
+    (IsOutOfMemoryOr-weaker c.in_err-check_counts.field-0.0 _ _
     (rw c.signatures.ensures.signatures at c.in_err-check_counts.ensures.err)
     (λ fault is. inr (record {
       matches = record {

@@ -2,7 +2,7 @@
 use Rattle.std.proofs.Common.{◌∙◌}
 use Rattle.std.proofs.lemmas.Result.{IfOk-weaker, IfErr-weaker, MatchResult-weaker}
 use Rattle.getopts.proofs.Canonical.Answered.{IfSome-weaker, IfNone-weaker}
-use Rattle.getopts.proofs.Parsing.Faults.{Tells-weaker}
+use Rattle.getopts.proofs.Parsing.Faults.{IsOutOfMemoryOr-weaker}
 use Rattle.getopts.proofs.options.Options.canonical.Goals as goal
 
 pub returns-clause-written : goal.returns-clause-written
@@ -23,7 +23,7 @@ pub returns-clause-refused : goal.returns-clause-refused
 returns-clause-refused g c =
     let run = c.in_ok-words.ensures in
     IfErr-weaker c.canonical_words.result _ _
-    (λ fail told. Tells-weaker fail _ _ told (λ fault is. (run.0, run.1, run.2, is)))
+    (λ fail told. IsOutOfMemoryOr-weaker fail _ _ told (λ fault is. (run.0, run.1, run.2, is)))
     (rw (c.deref.ensures.value ∙ run.3) at c.canonical_words.ensures.refused)
 
 pub returns-clause-result : goal.returns-clause-result
@@ -32,4 +32,4 @@ returns-clause-result g c =
     MatchResult-weaker c.canonical_words.result
     (rw (c.deref.ensures.value ∙ run.3) at c.canonical_words.ensures.result)
     (λ value is. (run.0, run.1, run.2, is))
-    (λ fail told. Tells-weaker fail _ _ told (λ fault is. (run.0, run.1, run.2, is)))
+    (λ fail told. IsOutOfMemoryOr-weaker fail _ _ told (λ fault is. (run.0, run.1, run.2, is)))

@@ -7,7 +7,7 @@ use Rattle.std.proofs.lemmas.Result.{err_from_is_err_and}
 use Rattle.getopts.proofs.Canonical.Answered.{IsWritten-line, IsUnwritable-line, groups_within}
 use Rattle.getopts.proofs.Canonical.Answered.{KeepsLineLaws-lawful}
 use Rattle.getopts.proofs.MainTheorem.Callers.{LinesReadAgain_lem}
-use Rattle.getopts.proofs.MainTheorem.Results.{GivesResult-canonical}
+use Rattle.getopts.proofs.MainTheorem.Results.{ReturnsResult-canonical}
 use Rattle.getopts.proofs.options.Options.canonical_words.Goals as goal
 
 pub are_plain-requires : goal.are_plain-requires
@@ -40,19 +40,19 @@ pub returns-in_err-accepted-clause-result : goal.returns-in_err-accepted-clause-
 returns-in_err-accepted-clause-result g c =
     let left = err_from_is_err_and c.from_residual.result c.from_residual.ensures.1 in
     rw (left.1, left.2)
-    (GivesResult-canonical {Y = List Text} _ _ c.in_err-accepted.ensures.results (λ line. line)
+    (ReturnsResult-canonical {Y = List Text} _ _ c.in_err-accepted.ensures.results (λ line. line)
     (Err c.in_err-accepted.field-0.0) tt tt
     c.in_err-accepted.ensures.refused)
 
 pub returns-in_ok-canonical_line-clause-result : goal.returns-in_ok-canonical_line-clause-result
 returns-in_ok-canonical_line-clause-result g c =
-    GivesResult-canonical {Y = List Text} _ _ c.in_ok-accepted.ensures.results (λ line. line)
+    ReturnsResult-canonical {Y = List Text} _ _ c.in_ok-accepted.ensures.results (λ line. line)
     (Ok (Some _))
     (returns-in_ok-canonical_line-clause-written g c) tt tt
 
 pub returns-else-are_plain-clause-result : goal.returns-else-are_plain-clause-result
 returns-else-are_plain-clause-result g c =
-    GivesResult-canonical {Y = List Text} _ _ c.in_ok-accepted.ensures.results (λ line. line)
+    ReturnsResult-canonical {Y = List Text} _ _ c.in_ok-accepted.ensures.results (λ line. line)
     (Ok None) tt (returns-else-are_plain-clause-unwritable g c) tt
 
 -- canonical lines read back, by the laws above

@@ -3,8 +3,8 @@ use Rattle.std.proofs.Common.{◌≡◌, ◌∙◌, Ok, Err}
 use Rattle.std.proofs.lemmas.Result.{err_from_is_err_and}
 use Rattle.getopts.specs.Options.{signatures_of}
 use Rattle.getopts.proofs.Canonical.Answered.{HasReading-line}
-use Rattle.getopts.proofs.Parsing.Holds.{HoldGiven-read, EndsInTrailing-read}
-use Rattle.getopts.proofs.MainTheorem.Results.{GivesResult-read}
+use Rattle.getopts.proofs.Parsing.Holds.{FitOptions-read, EndsInTrailing-read}
+use Rattle.getopts.proofs.MainTheorem.Results.{ReturnsResult-read}
 use Rattle.getopts.proofs.options.Options.parse_ignoring_counts.Goals as goal
 
 pub returns-clause-read : goal.returns-clause-read
@@ -15,7 +15,7 @@ returns-clause-read g c =
     (HasReading-line _ _ c.in_ok-read.read c.in_ok-read.ensures.read)
 
 pub returns-clause-given : goal.returns-clause-given
-returns-clause-given g c = HoldGiven-read _ _ _ (returns-clause-read g c)
+returns-clause-given g c = FitOptions-read _ _ _ (returns-clause-read g c)
 
 pub returns-clause-trailing : goal.returns-clause-trailing
 returns-clause-trailing g c = EndsInTrailing-read _ _ _ (returns-clause-read g c)
@@ -24,9 +24,9 @@ pub returns-in_err-read-clause-result : goal.returns-in_err-read-clause-result
 returns-in_err-read-clause-result g c =
     let left = err_from_is_err_and c.from_residual.result c.from_residual.ensures.1 in
     rw (left.1, left.2)
-    (GivesResult-read _ _ c.in_err-read.ensures.results (Err c.in_err-read.field-0.0) tt
+    (ReturnsResult-read _ _ c.in_err-read.ensures.results (Err c.in_err-read.field-0.0) tt
     c.in_err-read.ensures.refused)
 
 pub returns-clause-result : goal.returns-clause-result
 returns-clause-result g c =
-    GivesResult-read _ _ c.in_ok-read.ensures.results (Ok c.of_line.result) (returns-clause-read g c) tt
+    ReturnsResult-read _ _ c.in_ok-read.ensures.results (Ok c.of_line.result) (returns-clause-read g c) tt

@@ -5,10 +5,10 @@ use Rattle.getopts.specs.Options.{signatures_of}
 use Rattle.getopts.specs.ReadingLaws.{HavePositionsBelow}
 use Rattle.getopts.proofs.Canonical.Answered.{IsAccepted-line}
 use Rattle.getopts.proofs.MainTheorem.BeforeFree.{HaveLastWordsFree-accepted}
-use Rattle.getopts.proofs.MainTheorem.Results.{GivesResult-parse}
+use Rattle.getopts.proofs.MainTheorem.Results.{ReturnsResult-parse}
 use Rattle.getopts.proofs.Parsing.Parsed.{positions_below-read, keeps_laws}
 use Rattle.getopts.proofs.Scanner.Loop.{length-texts}
-use Rattle.getopts.proofs.Parsing.Holds.{HoldDeclared-accepted, EndsInTrailing-read}
+use Rattle.getopts.proofs.Parsing.Holds.{FitOptionsAndCounts-accepted, EndsInTrailing-read}
 use Rattle.getopts.proofs.options.Options.parse_words.Goals as goal
 
 pub returns-clause-accepted : goal.returns-clause-accepted
@@ -19,7 +19,7 @@ returns-clause-accepted g c =
     (IsAccepted-line _ _ c.in_ok-accepted.accepted c.in_ok-accepted.ensures.accepted)
 
 pub returns-clause-declared : goal.returns-clause-declared
-returns-clause-declared g c = HoldDeclared-accepted _ _ _ (returns-clause-accepted g c)
+returns-clause-declared g c = FitOptionsAndCounts-accepted _ _ _ (returns-clause-accepted g c)
 
 pub returns-clause-positions_below : goal.returns-clause-positions_below
 returns-clause-positions_below g c =
@@ -40,10 +40,10 @@ pub returns-in_err-accepted-clause-result : goal.returns-in_err-accepted-clause-
 returns-in_err-accepted-clause-result g c =
     let left = err_from_is_err_and c.from_residual.result c.from_residual.ensures.1 in
     rw (left.1, left.2)
-    (GivesResult-parse _ _ c.in_err-accepted.ensures.results (Err c.in_err-accepted.field-0.0) tt
+    (ReturnsResult-parse _ _ c.in_err-accepted.ensures.results (Err c.in_err-accepted.field-0.0) tt
     c.in_err-accepted.ensures.refused)
 
 pub returns-clause-result : goal.returns-clause-result
 returns-clause-result g c =
-    GivesResult-parse _ _ c.in_ok-accepted.ensures.results (Ok c.of_line.result)
+    ReturnsResult-parse _ _ c.in_ok-accepted.ensures.results (Ok c.of_line.result)
     (returns-clause-accepted g c) tt

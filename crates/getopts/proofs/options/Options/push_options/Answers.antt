@@ -1,8 +1,8 @@
 use Rattle.std.proofs.Common.{◌≡◌, ◌≤◌, ◌++◌, ◌∷◌, List, [], ap, ◌∙◌, sym, append-nil, arith, codes}
 use Rattle.std.proofs.Common.{length, map, string_bytes, take}
 use Rattle.std.proofs.lemmas.List.{length-map, length-take-le, map-append, take_all}
-use Rattle.getopts.specs.Held.Help.{group_view}
 use Rattle.getopts.specs.Options.{Group}
+use Rattle.getopts.specs.Stored.Help.{group_view}
 use Rattle.getopts.specs.Usage.{option_text}
 use Rattle.getopts.specs.Wrap.{joined}
 use Rattle.getopts.proofs.Wrapping.Usage.{group_more, text_more}

@@ -1,9 +1,9 @@
 -- The line that was read, and its scan error, belong to the declared options.
 use Rattle.std.proofs.lemmas.Result.{err_from_is_err_and}
 use Rattle.getopts.proofs.MainTheorem.Results.{HasResults-declared}
-use Rattle.getopts.proofs.Parsing.Faults.{Tells-weaker}
+use Rattle.getopts.proofs.Parsing.Faults.{IsOutOfMemoryOr-weaker}
 use Rattle.getopts.proofs.Parsing.Parsed.{HasNoReading-fault}
-use Rattle.getopts.proofs.Held.Groups.{names-signatures_of}
+use Rattle.getopts.proofs.Stored.Groups.{names-signatures_of}
 use Rattle.getopts.proofs.options.Options.read_line.Goals as goal
 
 pub scan-requires : goal.scan-requires
@@ -23,7 +23,7 @@ returns-in_err-line-clause-refused g c =
     let left = err_from_is_err_and c.from_residual-in_err-line.result
     c.from_residual-in_err-line.ensures.1 in
     rw (left.1, left.2)
-    (Tells-weaker c.in_err-line.field-0.0 _ _ c.in_err-line.ensures.err
+    (IsOutOfMemoryOr-weaker c.in_err-line.field-0.0 _ _ c.in_err-line.ensures.err
     (HasNoReading-fault _ c.signatures-signatures.ensures.declared _ c.are_texts.ensures.texts))
 
 pub returns-clause-read : goal.returns-clause-read

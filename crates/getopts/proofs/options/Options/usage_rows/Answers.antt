@@ -1,7 +1,7 @@
 use Rattle.std.proofs.Common.{◌≡◌, ◌∷◌, [], ◌++◌, ap, ◌∙◌, sym, subst, arith, map, string_bytes}
 use Rattle.std.proofs.Common.{◌≤◌, List, length}
 use Rattle.std.proofs.lemmas.List.{map-append}
-use Rattle.getopts.specs.Held.Help.{group_view}
+use Rattle.getopts.specs.Stored.Help.{group_view}
 use Rattle.getopts.specs.Names.{Text}
 use Rattle.getopts.specs.Options.{Group}
 use Rattle.getopts.specs.Only.{IsTheOnly}

@@ -3,7 +3,7 @@
 use Rattle.std.proofs.Common.{arith}
 use Rattle.std.proofs.lemmas.Grind.{common_steps}
 use Rattle.std.proofs.lemmas.Bool.Decides.{Decides-at}
-use Rattle.getopts.proofs.Held.Same.{same_options-decides}
+use Rattle.getopts.proofs.Stored.Same.{same_options-decides}
 use Rattle.getopts.proofs.options.OptionsPartialEq.eq.Goals as goal
 
 pub returns-then-eq-2-clause-answer : goal.returns-then-eq-2-clause-answer

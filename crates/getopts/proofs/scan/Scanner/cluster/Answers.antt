@@ -7,10 +7,10 @@ use Rattle.std.proofs.lemmas.Result.{err_from_is_err_and}
 use Rattle.getopts.specs.Fail.{unrecognized_option}
 use Rattle.getopts.specs.declared.groups.HasArg.{HasArg}
 use Rattle.getopts.specs.Reading.{cluster, ends_in}
-use Rattle.getopts.specs.Turn.{faults, first_char, chosen_turn}
-use Rattle.getopts.proofs.Parsing.Faults.{Tells-one, Tells-weaker}
+use Rattle.getopts.specs.Step.{faults, first_char, chosen_step}
+use Rattle.getopts.proofs.Parsing.Faults.{IsOutOfMemoryOr-one, IsOutOfMemoryOr-weaker}
 use Rattle.getopts.proofs.Scanner.Clusters.{FlagsRead-none, FlagsRead-more, AddsItem-flags}
-use Rattle.getopts.proofs.Scanner.Clusters.{AddsItem-ends, cluster_turn-byte, cluster_turn-ends}
+use Rattle.getopts.proofs.Scanner.Clusters.{AddsItem-ends, cluster_step-byte, cluster_step-ends}
 use Rattle.getopts.proofs.Scanner.Clusters.{text_from}
 use Rattle.getopts.proofs.Scanner.Words.{slice_range-one}
 use Rattle.getopts.proofs.scan.Scanner.cluster.Goals as goal
@@ -25,8 +25,8 @@ returns-in-None-clause-err g c =
     let first = c.first_character-name.ensures
     ∙ ap first_char (c.range_from.ensures.value
     ∙ text_from c.args.text.now c.names.at (omega arith)) in
-    Tells-one c.unrecognized_option.result _ _ c.unrecognized_option.ensures
-    (cluster_turn-byte (omega arith) c.names.invariant None
+    IsOutOfMemoryOr-one c.unrecognized_option.result _ _ c.unrecognized_option.ensures
+    (cluster_step-byte (omega arith) c.names.invariant None
     (rw c.as_bytes.ensures.value at c.in-None.ensures.option)
     ∙ ap (λ name. faults (unrecognized_option name)) (sym first))
 
@@ -64,11 +64,11 @@ returns-in_err-argument-in-Some-clause-err g c =
     ∙ slice_range-one c.args.text.now c.names.at (omega arith) in
     let bytes = take c.names.at c.args.text.now in
     let byte = slice_index c.args.text.now c.names.at in
-    rw (left.1, left.2) (Tells-weaker c.in_err-argument-in-Some.field-0.0 _ _
+    rw (left.1, left.2) (IsOutOfMemoryOr-weaker c.in_err-argument-in-Some.field-0.0 _ _
     (rw (name, c.range_from-in-Some.ensures.value) at c.in_err-argument-in-Some.ensures.err)
-    (λ fault told. cluster_turn-ends (omega arith) c.names.invariant
+    (λ fault told. cluster_step-ends (omega arith) c.names.invariant
     c.in-Some.field-0.kind (search rules) option.kind
-    ∙ ap (chosen_turn (λ a. cluster bytes (ends_in byte a))) told))
+    ∙ ap (chosen_step (λ a. cluster bytes (ends_in byte a))) told))
 
 pub names-preserved : goal.names-preserved
 names-preserved g c =

@@ -2,11 +2,12 @@
 use Rattle.std.proofs.Common.{map, Some, None, refl, rules}
 use Rattle.std.specs.Option.{option_copied}
 use Rattle.getopts.specs.Fail.{argument_missing, unrecognized_option, unexpected_argument}
-use Rattle.getopts.specs.Held.Scan.{scanner_grammar}
 use Rattle.getopts.specs.Reading.{none, attached, separate}
-use Rattle.getopts.specs.Turn.{chosen_long, Chooses}
+use Rattle.getopts.specs.Step.{chosen_long, Chooses}
+use Rattle.getopts.specs.Stored.Scan.{scanner_grammar}
 use Rattle.getopts.specs.declared.groups.HasArg.TheVariants.{Yes, No}
-use Rattle.getopts.proofs.Scanner.Items.{Chooses-ok, Chooses-maybe, Tells-long, AddsItem-long}
+use Rattle.getopts.proofs.Scanner.Items.{Chooses-ok, Chooses-maybe, IsOutOfMemoryOr-long}
+use Rattle.getopts.proofs.Scanner.Items.{AddsItem-long}
 use Rattle.getopts.proofs.Scanner.Items.{texts-first, texts-none}
 use Rattle.getopts.proofs.scan.Scanner.read_long.Goals as goal
 use Rattle.getopts.proofs.scan.Scanner.read_long.Goals.{in-No-None, in-Yes-None+in-Some-first}
@@ -46,7 +47,7 @@ pub returns-in-None-clause-err : goal.returns-in-None-clause-err
 returns-in-None-clause-err g c = λ dashes.
     let name = c.name_and_argument.result.0.now in
     let cut = c.name_and_argument.ensures in
-    Tells-long (scanner_grammar c.args.self.now) dashes c.args.text.now name
+    IsOutOfMemoryOr-long (scanner_grammar c.args.self.now) dashes c.args.text.now name
     (option_copied c.name_and_argument.result.1) (map g.S.AsStr.text c.args.after.now) cut.text cut.name None
     c.in-None.ensures c.unrecognized_option.result
     (unrecognized_option name) refl c.unrecognized_option.ensures
@@ -55,7 +56,7 @@ pub returns-in-No-Some-clause-err : goal.returns-in-No-Some-clause-err
 returns-in-No-Some-clause-err g c = λ dashes.
     let name = c.name_and_argument.result.0.now in
     let cut = c.name_and_argument.ensures in
-    Tells-long (scanner_grammar c.args.self.now) dashes c.args.text.now name
+    IsOutOfMemoryOr-long (scanner_grammar c.args.self.now) dashes c.args.text.now name
     (Some c.in-No-Some.field-0-1.now) (map g.S.AsStr.text c.args.after.now)
     (rw c.in-No-Some.is-1 at cut.text) cut.name
     (Some No) (rw c.in-No-Some.is-0 at c.in-Some.ensures.kind) c.unexpected_argument.result
@@ -65,7 +66,7 @@ pub returns-in-None-first-clause-err : goal.returns-in-None-first-clause-err
 returns-in-None-first-clause-err g c = λ dashes.
     let name = c.name_and_argument.result.0.now in
     let cut = c.name_and_argument.ensures in
-    Tells-long (scanner_grammar c.args.self.now) dashes c.args.text.now name None
+    IsOutOfMemoryOr-long (scanner_grammar c.args.self.now) dashes c.args.text.now name None
     (map g.S.AsStr.text c.args.after.now) (rw c.in-Yes-None.is-1 at cut.text) cut.name (Some Yes)
     (rw c.in-Yes-None.is-0 at c.in-Some.ensures.kind) c.argument_missing.result (argument_missing name)
     (rw (texts-none g.S.AsStr.text c.args.after.now (search rules)) refl) c.argument_missing.ensures

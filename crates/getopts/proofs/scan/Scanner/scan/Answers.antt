@@ -4,17 +4,18 @@ use Rattle.std.specs.String.{string_bytes}
 use Rattle.std.proofs.lemmas.List.{drop-map, append-nil, drop_all, length-map}
 use Rattle.std.proofs.lemmas.Option.{slice_get_read}
 use Rattle.std.proofs.lemmas.Result.{err_from_is_err_and}
-use Rattle.getopts.specs.Held.Scan.{scanner_grammar, IsLawfulScanner}
 use Rattle.getopts.specs.Reading.{line_end, stop, rest, free_items}
+use Rattle.getopts.specs.Stored.Scan.{scanner_grammar, IsLawfulScanner}
 use Rattle.getopts.specs.declared.groups.ParsingStyle.TheVariants.{FloatingFrees, StopAtFirstFree}
 use Rattle.getopts.specs.declared.scan.Scanner.{Scanner}
 use Rattle.getopts.proofs.Lists.{take-drop}
 use Rattle.getopts.proofs.Lookup.Names.{named_grammar}
+use Rattle.getopts.proofs.Reading.Reader.{IsNamed, read}
 use Rattle.getopts.proofs.Reading.Readings.{read_nil}
-use Rattle.getopts.proofs.Reading.Steps.{turn_long, turn_short}
-use Rattle.getopts.proofs.Reading.Turns.{IsNamed, read}
+use Rattle.getopts.proofs.Reading.Steps.{step_long, step_short}
 use Rattle.getopts.proofs.Scanner.Loop.{ReadSoFar-none, ReadSoFar-free, ReadSoFar-added}
-use Rattle.getopts.proofs.Scanner.Loop.{IsReading-tail, IsReading-rest, IsReading-stop, Tells-word}
+use Rattle.getopts.proofs.Scanner.Loop.{IsReading-tail, IsReading-rest, IsReading-stop}
+use Rattle.getopts.proofs.Scanner.Loop.{IsOutOfMemoryOr-word}
 use Rattle.getopts.proofs.Scanner.Loop.{used-within, length-texts, trailing_after-stop}
 use Rattle.getopts.proofs.scan.Scanner.scan.Goals as goal
 
@@ -95,10 +96,10 @@ pub returns-in_err-read_long-in-Long-clause-err : goal.returns-in_err-read_long-
 returns-in_err-read_long-in-Long-clause-err g c =
     let left = err_from_is_err_and c.from_residual-in_err-read_long-in-Long.result
     c.from_residual-in_err-read_long-in-Long.ensures.1 in
-    rw (left.1, left.2) (Tells-word (named _ c.requires.lawful) g.S.AsStr.text _ c.requires.texts
+    rw (left.1, left.2) (IsOutOfMemoryOr-word (named _ c.requires.lawful) g.S.AsStr.text _ c.requires.texts
     c.items.invariant.read _ (slice_get_read c.args.words.now _ c.items.at _ refl (omega arith)
     c.index-words-at.is) _ c.in_err-read_long-in-Long.field-0.0
-    (turn_long _ _ _ _ _ (rw c.as_str-word.ensures at c.in-Long.ensures.1))
+    (step_long _ _ _ _ _ (rw c.as_str-word.ensures at c.in-Long.ensures.1))
     (rw (take-drop c.args.words.now (c.items.at + 1)) at c.in_err-read_long-in-Long.ensures.err
     c.in-Long.ensures.0))
 
@@ -106,10 +107,10 @@ pub returns-in_err-at-in-Cluster-clause-err : goal.returns-in_err-at-in-Cluster-
 returns-in_err-at-in-Cluster-clause-err g c =
     let left = err_from_is_err_and c.from_residual-in_err-at-in-Cluster.result
     c.from_residual-in_err-at-in-Cluster.ensures.1 in
-    rw (left.1, left.2) (Tells-word (named _ c.requires.lawful) g.S.AsStr.text _ c.requires.texts
+    rw (left.1, left.2) (IsOutOfMemoryOr-word (named _ c.requires.lawful) g.S.AsStr.text _ c.requires.texts
     c.items.invariant.read _ (slice_get_read c.args.words.now _ c.items.at _ refl (omega arith)
     c.index-words-at.is) _ c.in_err-at-in-Cluster.field-0.0
-    (turn_short _ _ _ _ (rw c.as_str-word.ensures at c.in-Cluster.ensures))
+    (step_short _ _ _ _ (rw c.as_str-word.ensures at c.in-Cluster.ensures))
     (rw (take-drop c.args.words.now (c.items.at + 1)) at c.in_err-at-in-Cluster.ensures.err))
 
 pub overflow_add-at-in-Long-2 : goal.overflow_add-at-in-Long-2
@@ -117,7 +118,7 @@ overflow_add-at-in-Long-2 g c =
     let within = used-within (named _ c.requires.lawful) g.S.AsStr.text _ c.requires.texts
     c.items.invariant.read _ (slice_get_read c.args.words.now _ c.items.at _ refl (omega arith)
     c.index-words-at.is) _ c.in_ok-read_long-in-Long.field-0 _
-    (turn_long _ _ _ _ _ (rw c.as_str-word.ensures at c.in-Long.ensures.1))
+    (step_long _ _ _ _ _ (rw c.as_str-word.ensures at c.in-Long.ensures.1))
     (rw (take-drop c.args.words.now (c.items.at + 1)) at c.in_ok-read_long-in-Long.ensures.ok
     c.in-Long.ensures.0) in omega (arith, within)
 
@@ -126,7 +127,7 @@ overflow_add-at-in-Cluster-2 g c =
     let within = used-within (named _ c.requires.lawful) g.S.AsStr.text _ c.requires.texts
     c.items.invariant.read _ (slice_get_read c.args.words.now _ c.items.at _ refl (omega arith)
     c.index-words-at.is) _ c.in_ok-at-in-Cluster.field-0 _
-    (turn_short _ _ _ _ (rw c.as_str-word.ensures at c.in-Cluster.ensures))
+    (step_short _ _ _ _ (rw c.as_str-word.ensures at c.in-Cluster.ensures))
     (rw (take-drop c.args.words.now (c.items.at + 1)) at c.in_ok-at-in-Cluster.ensures.ok) in
     omega (arith, within)
 
@@ -146,7 +147,7 @@ items-preserved-in_ok-read_long-in-Long g c = record {
   read = ReadSoFar-added (named _ c.requires.lawful) g.S.AsStr.text _ c.requires.texts c.items.invariant.read _
       (slice_get_read c.args.words.now _ c.items.at _ refl (omega arith)
       c.index-words-at.is) _ c.in_ok-read_long-in-Long.field-0 _
-      (turn_long _ _ _ _ _ (rw c.as_str-word.ensures at c.in-Long.ensures.1))
+      (step_long _ _ _ _ _ (rw c.as_str-word.ensures at c.in-Long.ensures.1))
       (rw (take-drop c.args.words.now (c.items.at + 1)) at c.in_ok-read_long-in-Long.ensures.ok
       c.in-Long.ensures.0);
   trailing = c.items.invariant.trailing;
@@ -157,7 +158,7 @@ items-preserved g c = record {
   read = ReadSoFar-added (named _ c.requires.lawful) g.S.AsStr.text _ c.requires.texts c.items.invariant.read _
       (slice_get_read c.args.words.now _ c.items.at _ refl (omega arith)
       c.index-words-at.is) _ c.in_ok-at-in-Cluster.field-0 _
-      (turn_short _ _ _ _ (rw c.as_str-word.ensures at c.in-Cluster.ensures))
+      (step_short _ _ _ _ (rw c.as_str-word.ensures at c.in-Cluster.ensures))
       (rw (take-drop c.args.words.now (c.items.at + 1)) at c.in_ok-at-in-Cluster.ensures.ok);
   trailing = c.items.invariant.trailing;
 }

@@ -1,7 +1,7 @@
 -- The words before this place spell items, whose occurrences and free words were taken.
 use Rattle.std.proofs.Common.{◌≡◌, None, length, map, ◌-◌}
 use Rattle.std.specs.String.{string_bytes}
-use Rattle.getopts.specs.Held.Scan.{scanner_grammar}
+use Rattle.getopts.specs.Stored.Scan.{scanner_grammar}
 use Rattle.getopts.proofs.Scanner.Loop.{ReadSoFar}
 use Rattle.getopts.proofs.scan.Scanner.scan.Given as goal
 

@@ -7,17 +7,17 @@ use Rattle.std.specs.String.{string_bytes}
 use Rattle.getopts.specs.Names.{Text, Names, IsLawfullyNamed, is_empty, main_name}
 use Rattle.getopts.specs.Options.{Signature}
 use Rattle.getopts.specs.Same.{same_signature}
-use Rattle.getopts.specs.Held.Texts.{between}
-use Rattle.getopts.specs.Held.Names.{key_of, short_code}
-use Rattle.getopts.specs.declared.names.Names.{Names as HeldNames}
+use Rattle.getopts.specs.Stored.Texts.{between}
+use Rattle.getopts.specs.Stored.Names.{key_of, short_code}
+use Rattle.getopts.specs.declared.names.Names.{Names as BorrowedNames}
 use Rattle.getopts.specs.declared.groups.Kinds.{Kinds}
 use Rattle.getopts.specs.declared.groups.PairEnds.{PairEnds}
 use Rattle.getopts.specs.declared.groups.SignatureRecord.{SignatureRecord}
-use Rattle.getopts.specs.declared.groups.Signature.{Signature as HeldSignature}
+use Rattle.getopts.specs.declared.groups.Signature.{Signature as BorrowedSignature}
 use Rattle.getopts.specs.declared.groups.Signatures.TheInside.{Inside}
 
 -- two borrowed names
-abbrev pub names_view : HeldNames → Names
+abbrev pub names_view : BorrowedNames → Names
 names_view held = record { short = held.short.now; long = held.long.now }
 
 -- the signature of a group with these kinds and names
@@ -55,8 +55,8 @@ same_record = eq_of_both (on (λ group. group.long) ◌==◌)
     (eq_of_both (on (λ group. group.short) ◌==◌) (on (λ group. group.kinds) same_kinds)))
 
 -- the two texts at these places
-abbrev pub two_at : Text → PairEnds → Text × Text
-two_at text e = (between text e.start e.first, between text e.first e.second)
+abbrev pub pair_at : Text → PairEnds → Text × Text
+pair_at text e = (between text e.start e.first, between text e.first e.second)
 
 -- The places are in order, and between characters.
 pub record AreEndsOf (text : Text) (e : PairEnds) : Type 0 where
@@ -65,14 +65,14 @@ pub record AreEndsOf (text : Text) (e : PairEnds) : Type 0 where
   pub second : (e.first ≤ e.second) × IsCharBoundary text e.second
 
 -- These two texts are at these places.
-pub record StandAt (text : Text) (e : PairEnds) (two : Text × Text) : Type 0 where
+pub record IsPairAt (text : Text) (e : PairEnds) (two : Text × Text) : Type 0 where
   pub ends : AreEndsOf text e
-  pub are : two_at text e ≡ two
+  pub are : pair_at text e ≡ two
 
 -- the signature of a record, by the text of all names
 abbrev pub signature_in : Text → SignatureRecord → Signature
 signature_in text group =
-    let names = two_at text (ends_of group) in signature_with group.kinds names.0 names.1
+    let names = pair_at text (ends_of group) in signature_with group.kinds names.0 names.1
 
 -- the names and kinds that are stored
 abbrev pub signatures_view : Inside → List Signature
@@ -91,19 +91,19 @@ pub record HasKeys (group : SignatureRecord) (names : Names) : Type 0 where
   pub has_long : group.has_long ≡ not (is_empty names.long)
 
 -- The names of the record are in the text of all names, and it has their keys.
-pub record IsHeld (text : Text) (group : SignatureRecord) : Type 0 where
+pub record IsStored (text : Text) (group : SignatureRecord) : Type 0 where
   pub ends : AreEndsOf text (ends_of group)
   pub keys : HasKeys group (signature_in text group).names
 
 -- Each record has its names and keys, and the groups are valid.
 pub record HoldSignatures (inside : Inside) : Type 0 where
-  pub held : AllByRecursion (IsHeld (string_bytes inside.text)) inside.records.items
+  pub held : AllByRecursion (IsStored (string_bytes inside.text)) inside.records.items
   pub lawful : AreLawfulSignatures (signatures_view inside)
 
 -- the signature of a borrowed group
-abbrev pub signature_view : HeldSignature → Signature
+abbrev pub signature_view : BorrowedSignature → Signature
 signature_view held = signature_with held.kinds held.names.short.now held.names.long.now
 
 -- whether the signatures of two borrowed groups are the same
-abbrev pub same_signature_view : HeldSignature → HeldSignature → Bool
+abbrev pub same_signature_view : BorrowedSignature → BorrowedSignature → Bool
 same_signature_view = on signature_view same_signature

@@ -5,9 +5,9 @@ use Rattle.std.specs.List.{AllByRecursion, filter_map}
 use Rattle.std.specs.Str.{IsCharBoundary}
 use Rattle.std.specs.String.{string_bytes}
 use Rattle.getopts.specs.Names.{Text}
-use Rattle.getopts.specs.Matches.{Found, found_part}
+use Rattle.getopts.specs.Matches.{GroupOccurrence, without_group}
 use Rattle.getopts.specs.Reading.{Occurrence}
-use Rattle.getopts.specs.Held.Texts.{between}
+use Rattle.getopts.specs.Stored.Texts.{between}
 use Rattle.getopts.specs.declared.occurrences.Span.{Span}
 use Rattle.getopts.specs.declared.occurrences.OccurrenceRecord.{OccurrenceRecord}
 use Rattle.getopts.specs.declared.occurrences.LineOccurrences.TheInside.{Inside}
@@ -23,7 +23,7 @@ IsSpanOf text span = span.start ≤ span.end
     → IsCharBoundary text span.start × IsCharBoundary text span.end
 
 -- This text is at this place.
-pub record StandsAt (text : Text) (span : Span) (part : Text) : Type 0 where
+pub record IsTextAt (text : Text) (span : Span) (part : Text) : Type 0 where
   pub span_of : IsSpanOf text span
   pub is : text_at text span ≡ Some part
 
@@ -44,9 +44,9 @@ HaveTheirValues inside =
     AllByRecursion (λ held. IsSpanOf (string_bytes inside.values) held.value) inside.records.items
 
 -- the occurrences at these places
-abbrev pub founds_at : List Occurrence → List ℕ → List Found
-founds_at occurrences places =
-    map found_part (filter_map (λ place. slice_get occurrences place) places)
+abbrev pub occurrences_at_places : List Occurrence → List ℕ → List GroupOccurrence
+occurrences_at_places occurrences places =
+    map without_group (filter_map (λ place. slice_get occurrences place) places)
 
 -- These are places of occurrences.
 abbrev pub ArePlacesOf : List Occurrence → List ℕ → Type 0

@@ -12,16 +12,16 @@ use Rattle.std.specs.Str.{IsUtf8}
 use Rattle.std.proofs.lemmas.Bool.{cases_Bool, cond-false, cond-true, le-leb, leb-true}
 use Rattle.std.proofs.lemmas.Str.{IsCharBoundary-end}
 use Rattle.getopts.specs.Names.{Text}
-use Rattle.getopts.specs.Matches.{Found, found_part}
-use Rattle.getopts.specs.Accessors.{positions_of, values_of, pair_of, pairs_of, held_found}
+use Rattle.getopts.specs.Matches.{GroupOccurrence, without_group}
+use Rattle.getopts.specs.Accessors.{positions_of, values_of, pair_of, pairs_of, borrowed_occurrence}
 use Rattle.getopts.specs.Reading.{Occurrence}
-use Rattle.getopts.specs.Same.{same_found}
-use Rattle.getopts.specs.Held.Occurrences.{text_at, IsSpanOf, StandsAt, occurrence_in}
+use Rattle.getopts.specs.Same.{same_group_occurrence}
+use Rattle.getopts.specs.Stored.Occurrences.{text_at, IsSpanOf, IsTextAt, occurrence_in}
 use Rattle.getopts.specs.declared.occurrences.Span.{Span}
 use Rattle.getopts.specs.declared.occurrences.OccurrenceRecord.{OccurrenceRecord}
 use Rattle.getopts.proofs.Lists.{element, take-more, pointwise-differ, pointwise-take_more}
 use Rattle.getopts.proofs.Lists.{AllByRecursion-append, each_kept}
-use Rattle.getopts.proofs.Held.Texts.{IsCharBoundary-append, between-append, between-added}
+use Rattle.getopts.proofs.Stored.Texts.{IsCharBoundary-append, between-append, between-added}
 
 -- a text is still there with more after it
 span-append : (text more : Text) → IsUtf8 more → (span : Span) → IsSpanOf text span
@@ -44,7 +44,7 @@ span-append text more utf8 span of = (
 
 -- an added text is at the end
 pub stands-added : (text more : Text) → IsUtf8 more → (span : Span) → span.start ≡ length text
-    → span.end ≡ length (text ++ more) → StandsAt (text ++ more) span more
+    → span.end ≡ length (text ++ more) → IsTextAt (text ++ more) span more
 stands-added text more utf8 span starts ends = rw (starts, ends) (record {
   span_of = λ _. (
     IsCharBoundary-append text more utf8 (length text) (IsCharBoundary-end text),
@@ -117,55 +117,57 @@ slice_get-at_places {X} xs (p ∷ places) (suc i) place all at =
 module _ (occurrences : List Occurrence) (places : List ℕ)
     (all : AllByRecursion (λ place. place < length occurrences) places) where
   -- the occurrences at these places
-  abbrev founds : List Found
-  founds = map found_part (filter_map (λ place. slice_get occurrences place) places)
+  abbrev founds : List GroupOccurrence
+  founds = map without_group (filter_map (λ place. slice_get occurrences place) places)
 
   -- as many occurrences as places
   pub length-founds : length founds ≡ length places
-  length-founds = length-map (filter_map (λ place. slice_get occurrences place) places) found_part
+  length-founds = length-map (filter_map (λ place. slice_get occurrences place) places) without_group
       ∙ length-at_places occurrences places all
 
   -- an existing occurrence has its place
-  pub place_within : (seen : List Found) (i : ℕ) → founds ≡ seen → i < length seen
+  pub place_within : (seen : List GroupOccurrence) (i : ℕ) → founds ≡ seen → i < length seen
       → i < length places
   place_within seen i are within =
-      omega (arith, within, length-founds, ap (λ (fs : List Found). length fs) are)
+      omega (arith, within, length-founds, ap (λ (fs : List GroupOccurrence). length fs) are)
 
   -- the occurrence at one of the places
   pub founds-at : (i place : ℕ) → slice_get places i ≡ Some place
-      → slice_get founds i ≡ option_map found_part (slice_get occurrences place)
+      → slice_get founds i ≡ option_map without_group (slice_get occurrences place)
   founds-at i place at =
-      slice_get-map found_part (filter_map (λ place. slice_get occurrences place) places) i
-      ∙ ap (λ (o : Option Occurrence). option_map found_part o)
+      slice_get-map without_group (filter_map (λ place. slice_get occurrences place) places) i
+      ∙ ap (λ (o : Option Occurrence). option_map without_group o)
       (slice_get-at_places occurrences places i place all at)
 
-module _ (founds : List Found) (i : ℕ) (next : Option (ℕ × Option (Bor Text)))
-    (is : option_map held_found next ≡ slice_get founds i) where
+module _ (founds : List GroupOccurrence) (i : ℕ) (next : Option (ℕ × Option (Bor Text)))
+    (is : option_map borrowed_occurrence next ≡ slice_get founds i) where
   -- one more occurrence of a prefix, as it is read
   pub founds-more : take (i + 1) founds
-      ≡ take i founds ++ cons_option (option_map held_found next) []
+      ≡ take i founds ++ cons_option (option_map borrowed_occurrence next) []
   founds-more = take-more founds i
-      ∙ ap (λ (o : Option Found). take i founds ++ cons_option o []) (sym is)
+      ∙ ap (λ (o : Option GroupOccurrence). take i founds ++ cons_option o []) (sym is)
 
   -- its position
   pub positions-more : positions_of (take (i + 1) founds)
-      ≡ positions_of (take i founds) ++ positions_of (cons_option (option_map held_found next) [])
+      ≡ positions_of (take i founds) ++ positions_of
+      (cons_option (option_map borrowed_occurrence next) [])
   positions-more = ap positions_of founds-more
-      ∙ map-append (λ (found : Found). found.position) (take i founds)
-      (cons_option (option_map held_found next) [])
+      ∙ map-append (λ (found : GroupOccurrence). found.position) (take i founds)
+      (cons_option (option_map borrowed_occurrence next) [])
 
   -- its value
   pub values-more : values_of (take (i + 1) founds)
-      ≡ values_of (take i founds) ++ values_of (cons_option (option_map held_found next) [])
+      ≡ values_of (take i founds) ++ values_of
+      (cons_option (option_map borrowed_occurrence next) [])
   values-more = ap values_of founds-more
-      ∙ filter_map-append (λ (found : Found). found.value) (take i founds)
-      (cons_option (option_map held_found next) [])
+      ∙ filter_map-append (λ (found : GroupOccurrence). found.value) (take i founds)
+      (cons_option (option_map borrowed_occurrence next) [])
 
   -- its position and value
   pub pairs-more : pairs_of (take (i + 1) founds)
-      ≡ pairs_of (take i founds) ++ pairs_of (cons_option (option_map held_found next) [])
+      ≡ pairs_of (take i founds) ++ pairs_of (cons_option (option_map borrowed_occurrence next) [])
   pairs-more = ap pairs_of founds-more
-      ∙ filter_map-append pair_of (take i founds) (cons_option (option_map held_found next) [])
+      ∙ filter_map-append pair_of (take i founds) (cons_option (option_map borrowed_occurrence next) [])
 
 -- two occurrences as they are read, compared like in the code
 abbrev pub same_read : Option (ℕ × Option (Bor Text)) → Option (ℕ × Option (Bor Text)) → Bool
@@ -175,7 +177,8 @@ same_read =
 
 -- this comparison is that of occurrences
 same_read-found : (a b : Option (ℕ × Option (Bor Text)))
-    → option_eq same_found (option_map held_found a) (option_map held_found b) ≡ same_read a b
+    → option_eq same_group_occurrence (option_map borrowed_occurrence a)
+    (option_map borrowed_occurrence b) ≡ same_read a b
 same_read-found None None = refl
 same_read-found None (Some b) = refl
 same_read-found (Some a) None = refl
@@ -188,18 +191,18 @@ same_read-found (Some a) (Some b) = ap (λ (same : Bool). a.0 == b.0 && same) (v
   values (Some v) None = refl
   values (Some v) (Some w) = refl
 
-module _ (founds others : List Found) (i : ℕ) (a b : Option (ℕ × Option (Bor Text)))
-    (is : option_map held_found a ≡ slice_get founds i)
-    (other_is : option_map held_found b ≡ slice_get others i) where
-  here : option_eq same_found (slice_get founds i) (slice_get others i) ≡ same_read a b
-  here = (λ j. option_eq same_found (sym is j) (sym other_is j)) ∙ same_read-found a b
+module _ (founds others : List GroupOccurrence) (i : ℕ) (a b : Option (ℕ × Option (Bor Text)))
+    (is : option_map borrowed_occurrence a ≡ slice_get founds i)
+    (other_is : option_map borrowed_occurrence b ≡ slice_get others i) where
+  here : option_eq same_group_occurrence (slice_get founds i) (slice_get others i) ≡ same_read a b
+  here = (λ j. option_eq same_group_occurrence (sym is j) (sym other_is j)) ∙ same_read-found a b
 
   -- occurrences that read as different
-  pub founds-differ : same_read a b ≡ false → pointwise same_found founds others ≡ false
-  founds-differ differ = pointwise-differ same_found founds others i (here ∙ differ)
+  pub founds-differ : same_read a b ≡ false → pointwise same_group_occurrence founds others ≡ false
+  founds-differ differ = pointwise-differ same_group_occurrence founds others i (here ∙ differ)
 
   -- one more occurrence that reads as equal
   pub founds-same : same_read a b ≡ true
-      → pointwise same_found (take i founds) (take i others) ≡ true
-      → pointwise same_found (take (i + 1) founds) (take (i + 1) others) ≡ true
-  founds-same same before = pointwise-take_more same_found founds others i before (here ∙ same)
+      → pointwise same_group_occurrence (take i founds) (take i others) ≡ true
+      → pointwise same_group_occurrence (take (i + 1) founds) (take (i + 1) others) ≡ true
+  founds-same same before = pointwise-take_more same_group_occurrence founds others i before (here ∙ same)

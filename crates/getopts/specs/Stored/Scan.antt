@@ -3,11 +3,11 @@ use Rattle.std.specs.Prelude.{◌≡◌, false, None, Some, List, [], map}
 use Rattle.std.specs.String.{string_bytes}
 use Rattle.getopts.specs.Names.{Text}
 use Rattle.getopts.specs.Options.{Grammar, MayBeDeclared, names_of, grammar_of}
-use Rattle.getopts.specs.Held.Table.{IsTableOf}
+use Rattle.getopts.specs.Stored.Table.{IsTableOf}
 use Rattle.getopts.specs.Canon.{Content}
 use Rattle.getopts.specs.Reading.{Dashes, is_dashed, stop_word, Reading, IsReading}
 use Rattle.getopts.specs.Reading.{occurrences_of, free_words, trailing_start}
-use Rattle.getopts.specs.Turn.{IsInLongForm, IsShortForm}
+use Rattle.getopts.specs.Step.{IsInLongForm, IsShortForm}
 use Rattle.getopts.specs.declared.scan.Line.{Line}
 use Rattle.getopts.specs.declared.scan.Named.{Named}
 use Rattle.getopts.specs.declared.scan.Scanner.{Scanner}

@@ -3,13 +3,14 @@ use Rattle.std.specs.Prelude.{◌≡◌, List, Result, Ok, Err, MatchResult}
 use Rattle.getopts.specs.Only.{IsTheOnly}
 use Rattle.getopts.specs.Names.{Text}
 use Rattle.getopts.specs.Options.{Declared}
-use Rattle.getopts.specs.Fail.{Fault, Tells}
+use Rattle.getopts.specs.Fail.{Fault, IsOutOfMemoryOr}
 use Rattle.getopts.specs.Reading.{Reading}
 use Rattle.getopts.specs.Matches.{Matched}
 use Rattle.getopts.specs.Parse.{Reads, HasReading, HasNoReading, IsRefused}
 use Rattle.getopts.specs.Canon.{IsCountKeeping}
 use Rattle.getopts.specs.CanonAnswers.{IsParseAnswer, IsCanonicalAnswer, IsOrderAnswer}
-use Rattle.getopts.specs.Results.{reading_result, line_result, read_result, parse_result}
+use Rattle.getopts.specs.Results.{reading_or_error, accepted_reading, parse_ignoring_counts_result}
+use Rattle.getopts.specs.Results.{parse_result}
 use Rattle.getopts.specs.Results.{canonical_result, parse_in_order_result}
 use Rattle.getopts.specs.declared.fail.Fail.{Fail}
 
@@ -30,18 +31,19 @@ IsReadAnswer options words answer =
 
 -- Each function computes the only result that its relation allows.
 pub record HasResults (options : Declared) (words : List Text) : Type 0 where
-  pub reading : IsTheOnly (IsReadingOf options words) (reading_result options words)
-  pub line : IsTheOnly (IsLineOf options words) (line_result options words)
+  pub reading : IsTheOnly (IsReadingOf options words) (reading_or_error options words)
+  pub line : IsTheOnly (IsLineOf options words) (accepted_reading options words)
   pub parse : IsTheOnly (IsParseAnswer options words) (parse_result options words)
-  pub read : IsTheOnly (IsReadAnswer options words) (read_result options words)
+  pub read : IsTheOnly (IsReadAnswer options words) (parse_ignoring_counts_result options words)
   pub canonical : IsTheOnly (IsCanonicalAnswer options words) (canonical_result options words)
   pub order : IsTheOnly (IsOrderAnswer options words) (parse_in_order_result options words)
 
--- The call's answer is out of memory or, with its value converted by `see`, has the property `Is`.
-abbrev pub GivesAs : {A X : Type 0} → (A → X) → Result A Fail → (Result X Fault → Type 0) → Type 0
-GivesAs see answer Is =
-    MatchResult answer (λ value. Is (Ok (see value))) (λ fail. Tells fail (λ fault. Is (Err fault)))
+-- The call's answer is out of memory or, with its value converted, has the property `Is`.
+abbrev pub ReturnsConverted : {A X : Type 0} → (A → X) → Result A Fail → (Result X Fault → Type 0)
+    → Type 0
+ReturnsConverted convert answer Is =
+    MatchResult answer (λ value. Is (Ok (convert value))) (λ fail. IsOutOfMemoryOr fail (λ fault. Is (Err fault)))
 
 -- The call's answer is out of memory, or this result.
-abbrev pub GivesResult : {X : Type 0} → Result X Fail → Result X Fault → Type 0
-GivesResult answer result = GivesAs (λ value. value) answer (λ it. result ≡ it)
+abbrev pub ReturnsResult : {X : Type 0} → Result X Fail → Result X Fault → Type 0
+ReturnsResult answer result = ReturnsConverted (λ value. value) answer (λ it. result ≡ it)

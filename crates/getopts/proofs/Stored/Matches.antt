@@ -15,16 +15,18 @@ use Rattle.std.proofs.lemmas.List.Elements.{recursion_from_All}
 use Rattle.std.proofs.lemmas.Option.{slice_get_past}
 use Rattle.getopts.specs.Names.{Text, Names, IsLawfullyNamed, resolution}
 use Rattle.getopts.specs.Options.{Signature}
-use Rattle.getopts.specs.Held.Groups.{names_in}
-use Rattle.getopts.specs.Held.Index.{places_of, index_of}
+use Rattle.getopts.specs.Stored.Groups.{names_in}
+use Rattle.getopts.specs.Stored.Index.{places_of, index_of}
 use Rattle.getopts.specs.Reading.{Occurrence}
-use Rattle.getopts.specs.Matches.{Found, MatchedGroup, found_at, matched, found_part}
-use Rattle.getopts.specs.Accessors.{AreHeldLawfully, found_in, place_of, values_of, pairs_of}
-use Rattle.getopts.specs.Same.{same_signature, same_found, same_matched_group}
+use Rattle.getopts.specs.Matches.{GroupOccurrence, MatchedGroup, occurrences_mentioning, matched}
+use Rattle.getopts.specs.Matches.{without_group}
+use Rattle.getopts.specs.Accessors.{HaveLawfulNames, occurrences_of_group, place_of, values_of}
+use Rattle.getopts.specs.Accessors.{pairs_of}
+use Rattle.getopts.specs.Same.{same_signature, same_group_occurrence, same_matched_group}
 use Rattle.getopts.specs.Accessors.{pair_view}
 use Rattle.getopts.proofs.Parsing.Counts.{length-matched}
-use Rattle.getopts.proofs.Held.Index.{filter_map-places_of, places_of-within}
-use Rattle.getopts.proofs.Held.Index.{slice_get-places_by_group, length-places_by_group}
+use Rattle.getopts.proofs.Stored.Index.{filter_map-places_of, places_of-within}
+use Rattle.getopts.proofs.Stored.Index.{slice_get-places_by_group, length-places_by_group}
 
 -- the names of the groups in the matches
 names-matched : (first : ℕ) (signatures : List Signature) (occurrences : List Occurrence)
@@ -47,22 +49,23 @@ signatures-matched first (signature ∷ signatures) occurrences =
 -- the occurrences of the group at a place
 found-matched : (first : ℕ) (signatures : List Signature) (occurrences : List Occurrence) (i : ℕ)
     → i < length signatures
-    → found_in (matched first signatures occurrences) i ≡ found_at (first + i) occurrences
+    → occurrences_of_group (matched first signatures occurrences) i
+    ≡ occurrences_mentioning (first + i) occurrences
 found-matched first [] occurrences i within = absurd (omega arith)
 found-matched first (signature ∷ signatures) occurrences zero within =
-    ap (λ (n : ℕ). found_at n occurrences) (omega arith)
+    ap (λ (n : ℕ). occurrences_mentioning n occurrences) (omega arith)
 found-matched first (signature ∷ signatures) occurrences (suc i) within =
     found-matched (first + 1) signatures occurrences i (omega arith)
-    ∙ ap (λ (n : ℕ). found_at n occurrences) (omega arith)
+    ∙ ap (λ (n : ℕ). occurrences_mentioning n occurrences) (omega arith)
 
 -- if groups have valid names, so do the groups in the matches
-pub AreHeldLawfully-matched : (first : ℕ) (signatures : List Signature)
+pub HaveLawfulNames-matched : (first : ℕ) (signatures : List Signature)
     (occurrences : List Occurrence)
     → AllByRecursion (λ signature. IsLawfullyNamed signature.names) signatures
-    → AreHeldLawfully (matched first signatures occurrences)
-AreHeldLawfully-matched first [] occurrences lawful = tt
-AreHeldLawfully-matched first (signature ∷ signatures) occurrences lawful =
-    (lawful.0, AreHeldLawfully-matched (first + 1) signatures occurrences lawful.1)
+    → HaveLawfulNames (matched first signatures occurrences)
+HaveLawfulNames-matched first [] occurrences lawful = tt
+HaveLawfulNames-matched first (signature ∷ signatures) occurrences lawful =
+    (lawful.0, HaveLawfulNames-matched (first + 1) signatures occurrences lawful.1)
 
 -- a name resolves among the groups in the matches as among their names
 pub place_of-matched : (signatures : List Signature) (occurrences : List Occurrence) (name : Text)
@@ -72,19 +75,19 @@ place_of-matched signatures occurrences name = ap (λ (names : List Names). reso
 
 module _ (signatures : List Signature) (occurrences : List Occurrence) (place : ℕ) where
   -- the places of the occurrences of the group at this place
-  abbrev pub held_places : List ℕ
-  held_places = unwrap_or (slice_get (index_of (length signatures) occurrences) place) []
+  abbrev pub indexed_places : List ℕ
+  indexed_places = unwrap_or (slice_get (index_of (length signatures) occurrences) place) []
 
   -- for an existing group, those with its number
   places-there : place < length signatures
-      → held_places ≡ places_of place (map (λ (o : Occurrence). o.mention.group) occurrences)
+      → indexed_places ≡ places_of place (map (λ (o : Occurrence). o.mention.group) occurrences)
   places-there there =
       ap (λ (o : Option (List ℕ)). unwrap_or o [])
       (slice_get-places_by_group (length signatures) place
       (map (λ (o : Occurrence). o.mention.group) occurrences) there)
 
   -- for any other, none
-  places-past : length signatures ≤ place → held_places ≡ []
+  places-past : length signatures ≤ place → indexed_places ≡ []
   places-past past =
       let mentioned = map (λ (o : Occurrence). o.mention.group) occurrences in
       ap (λ (o : Option (List ℕ)). unwrap_or o [])
@@ -92,8 +95,8 @@ module _ (signatures : List Signature) (occurrences : List Occurrence) (place : 
       (omega (arith, length-places_by_group (length signatures) mentioned)))
 
   -- they are within the occurrences
-  pub held_places-within : AllByRecursion (λ p. p < length occurrences) held_places
-  held_places-within = elim (cases_lt place (length signatures)) [
+  pub indexed_places-within : AllByRecursion (λ p. p < length occurrences) indexed_places
+  indexed_places-within = elim (cases_lt place (length signatures)) [
     | inl there ↦
         let mentioned = map (λ (o : Occurrence). o.mention.group) occurrences in
         let within = recursion_from_All (λ p. p < length mentioned) (places_of place mentioned)
@@ -105,19 +108,20 @@ module _ (signatures : List Signature) (occurrences : List Occurrence) (place : 
   ]
 
   -- they are the occurrences of that group
-  pub held_places-found : map found_part (filter_map (λ p. slice_get occurrences p) held_places)
-      ≡ found_in (matched 0 signatures occurrences) place
-  held_places-found = elim (cases_lt place (length signatures)) [
+  pub indexed_places-found : map without_group
+      (filter_map (λ p. slice_get occurrences p) indexed_places)
+      ≡ occurrences_of_group (matched 0 signatures occurrences) place
+  indexed_places-found = elim (cases_lt place (length signatures)) [
     | inl there ↦
-        ap (λ (ps : List ℕ). map found_part (filter_map (λ p. slice_get occurrences p) ps))
+        ap (λ (ps : List ℕ). map without_group (filter_map (λ p. slice_get occurrences p) ps))
         (places-there there)
-        ∙ ap (map found_part) (filter_map-places_of
+        ∙ ap (map without_group) (filter_map-places_of
         (λ (o : Occurrence). o.mention.group) place occurrences)
-        ∙ ap (λ n. found_at n occurrences) (sym (zero-add place))
+        ∙ ap (λ n. occurrences_mentioning n occurrences) (sym (zero-add place))
         ∙ sym (found-matched 0 signatures occurrences place
         there)
     | inr past ↦
-        ap (λ (ps : List ℕ). map found_part (filter_map (λ p. slice_get occurrences p) ps))
+        ap (λ (ps : List ℕ). map without_group (filter_map (λ p. slice_get occurrences p) ps))
         (places-past past)
         ∙ sym (ap (λ (o : Option MatchedGroup). option_map_or
         (λ (group : MatchedGroup). group.found) o [])
@@ -126,7 +130,7 @@ module _ (signatures : List Signature) (occurrences : List Occurrence) (place : 
   ]
 
 -- values are the texts of the pairs
-texts_of_pairs : (founds : List Found)
+texts_of_pairs : (founds : List GroupOccurrence)
     → map (λ (pair : ℕ × Text). pair.1) (pairs_of founds) ≡ values_of founds
 texts_of_pairs [] = refl
 texts_of_pairs (found ∷ founds) = of_value found.value (texts_of_pairs founds) where
@@ -139,7 +143,7 @@ texts_of_pairs (found ∷ founds) = of_value found.value (texts_of_pairs founds)
   of_value (Some text) same = ap (λ (more : List Text). text ∷ more) same
 
 -- the same for pairs as the code stores them
-pub texts_of_held_pairs : (pairs : List (ℕ × String Global)) (founds : List Found)
+pub texts_of_held_pairs : (pairs : List (ℕ × String Global)) (founds : List GroupOccurrence)
     → map pair_view pairs ≡ pairs_of founds
     → map (λ (pair : ℕ × String Global). string_bytes pair.1) pairs ≡ values_of founds
 texts_of_held_pairs pairs founds same = views pairs ∙ ap (map (λ (pair : ℕ × Text). pair.1)) same
@@ -160,13 +164,14 @@ differ_signature [] (b ∷ others) differ = refl
 differ_signature (a ∷ groups) [] differ = refl
 differ_signature (a ∷ groups) (b ∷ others) differ =
     elim (and_cases (same_signature a.signature b.signature) _ differ) [
-      | inl first ↦ and_left _ _ (and_left _ (pointwise same_found a.found b.found) first)
+      | inl first ↦ and_left _ _ (and_left _ (pointwise same_group_occurrence a.found b.found) first)
       | inr rest ↦ and_right (same_matched_group a b) _ (differ_signature groups others rest)
     ]
 
 -- or if the occurrences at some place do
 pub differ_found : (groups others : List MatchedGroup) (i : ℕ)
-    → pointwise same_found (found_in groups i) (found_in others i) ≡ false
+    → pointwise same_group_occurrence (occurrences_of_group groups i)
+    (occurrences_of_group others i) ≡ false
     → pointwise same_matched_group groups others ≡ false
 differ_found [] [] i differ = absurd (true≢false differ)
 differ_found [] (b ∷ others) i differ = refl
@@ -181,7 +186,8 @@ pub same_found_everywhere : (groups others : List MatchedGroup)
     → pointwise same_signature (map (λ (group : MatchedGroup). group.signature) groups)
     (map (λ (group : MatchedGroup). group.signature) others) ≡ true
     → ((i : ℕ) → i < length groups
-    → pointwise same_found (found_in groups i) (found_in others i)
+    → pointwise same_group_occurrence (occurrences_of_group groups i)
+    (occurrences_of_group others i)
     ≡ true) → pointwise same_matched_group groups others ≡ true
 same_found_everywhere [] [] signature found = refl
 same_found_everywhere [] (b ∷ others) signature found = signature

@@ -6,8 +6,8 @@ use Rattle.std.specs.String.{string_bytes}
 use Rattle.getopts.specs.Names.{Text}
 use Rattle.getopts.specs.Options.{Signature, Group}
 use Rattle.getopts.specs.Same.{same_group}
-use Rattle.getopts.specs.Held.Groups.{two_at, AreEndsOf, AreLawfulSignatures, signature_view}
-use Rattle.getopts.specs.declared.help.Group.{Group as HeldGroup}
+use Rattle.getopts.specs.Stored.Groups.{pair_at, AreEndsOf, AreLawfulSignatures, signature_view}
+use Rattle.getopts.specs.declared.help.Group.{Group as BorrowedGroup}
 use Rattle.getopts.specs.declared.help.Groups.TheInside.{Inside}
 
 -- groups with these signatures, each with the next two texts
@@ -22,7 +22,7 @@ groups_with signatures more = []
 -- the groups that are stored
 abbrev pub groups_view : Inside → List Group
 groups_view inside =
-    groups_with inside.signatures (map (two_at (string_bytes inside.help)) inside.ends.items)
+    groups_with inside.signatures (map (pair_at (string_bytes inside.help)) inside.ends.items)
 
 -- The groups have valid names, and each has a hint and a description in the text of all.
 pub record HoldGroups (inside : Inside) : Type 0 where
@@ -31,7 +31,7 @@ pub record HoldGroups (inside : Inside) : Type 0 where
   pub lawful : AreLawfulSignatures inside.signatures
 
 -- a borrowed group
-abbrev pub group_view : HeldGroup → Group
+abbrev pub group_view : BorrowedGroup → Group
 group_view held = record {
   signature = signature_view held.signature;
   hint = held.hint.now;
@@ -39,5 +39,5 @@ group_view held = record {
 }
 
 -- whether two borrowed groups are the same
-abbrev pub same_group_view : HeldGroup → HeldGroup → Bool
+abbrev pub same_group_view : BorrowedGroup → BorrowedGroup → Bool
 same_group_view = on group_view same_group

@@ -6,22 +6,23 @@ use Rattle.getopts.specs.Fail.{Fault}
 use Rattle.getopts.specs.Matches.{Matched}
 use Rattle.getopts.specs.Names.{Text}
 use Rattle.getopts.specs.Options.{Declared}
-use Rattle.getopts.specs.Results.{parse_result, read_result}
+use Rattle.getopts.specs.Results.{parse_ignoring_counts_result, parse_result}
 use Rattle.getopts.specs.declared.request.Request.{Request}
 use Rattle.getopts.specs.declared.request.Request.TheVariants.{Help, Version, Parsed}
 
 -- The two results are those without and with counts checked: if the flag is given, an option may be
 -- missing or be given too often.
 -- a command line's error; or its matches, or none if it gives the flag
-abbrev pub asked_of : Text → Result Matched Fault → Result Matched Fault → Result (Option Matched) Fault
-asked_of flag (Err fault) line = Err fault
-asked_of flag (Ok read) line = if is_present read.groups flag then Ok None
+abbrev pub unless_given : Text → Result Matched Fault → Result Matched Fault
+    → Result (Option Matched) Fault
+unless_given flag (Err fault) line = Err fault
+unless_given flag (Ok read) line = if is_present read.groups flag then Ok None
     else result_map_both Some (λ fault. fault) line
 
 -- the result of `parse_unless`
-abbrev pub asked_result : Declared → Text → List Text → Result (Option Matched) Fault
-asked_result options flag words =
-    asked_of flag (read_result options words) (parse_result options words)
+abbrev pub parse_unless_result : Declared → Text → List Text → Result (Option Matched) Fault
+parse_unless_result options flag words =
+    unless_given flag (parse_ignoring_counts_result options words) (parse_result options words)
 
 -- The two results are those without and with counts checked. Help takes precedence.
 -- a command line's error; or its request: help, the version, or its matches
@@ -34,7 +35,7 @@ request_of (Ok read) line = if is_present read.groups (codes "help") then Ok Hel
 -- the result of `parse_request`
 abbrev pub parse_request_result : Declared → List Text → Result (Request Matched) Fault
 parse_request_result options words =
-    request_of (read_result options words) (parse_result options words)
+    request_of (parse_ignoring_counts_result options words) (parse_result options words)
 
 -- If neither help nor the version is requested, what was parsed has this property.
 abbrev pub IfParsed : {T : Type 0} → Request T → (T → Type 0) → Type 0

@@ -1,4 +1,4 @@
--- One step of reading, called a *turn*: what the first word of a command line gives, with the words
+-- One step of reading: what the first word of a command line gives, with the words
 -- after it. Clauses of `scan` say that the code takes these steps, and lemmas show that they agree
 -- with `Reading`.
 use Rattle.std.specs.Prelude.{◌≡◌, ◌≢◌, ◌==◌, ℕ, List, [], ◌∷◌, ◌++◌, length, map, Option}
@@ -10,18 +10,18 @@ use Rattle.getopts.specs.Options.{Grammar}
 use Rattle.getopts.specs.Fail.{Fault, argument_missing, unrecognized_option, unexpected_argument}
 use Rattle.getopts.specs.Reading.{dash, begins_with_dash, equals_sign, is_dashed, Argument, none}
 use Rattle.getopts.specs.Reading.{attached, separate, Dashes, dash_text, flags, ends_in, Item, long, cluster}
-use Rattle.getopts.specs.Reading.{value_of, argument_words, MayStandBefore, free_items, Tail}
+use Rattle.getopts.specs.Reading.{value_of, argument_words, MayPrecede, free_items, Tail}
 use Rattle.getopts.specs.Reading.{Occurrence, at_position, mentions}
 use Rattle.getopts.specs.declared.groups.HasArg.{HasArg}
 use Rattle.getopts.specs.declared.groups.HasArg.TheVariants.{Yes, No, Maybe}
 
--- A turn ends the line with a tail; takes an item, and says whether the argument of its last option
+-- A step ends the line with a tail; takes an item, and says whether the argument of its last option
 -- is the next word; or is an error.
 -- one step of reading
-pub data Turn : Type 0 where
-  ends : Tail → Turn
-  takes : Item → Argument → Turn
-  faults : Fault → Turn
+pub data Step : Type 0 where
+  ends : Tail → Step
+  takes : Item → Argument → Step
+  faults : Fault → Step
 
 -- `=` and the attached argument, if there is one
 abbrev pub with_equals : Option Text → Text
@@ -30,7 +30,7 @@ with_equals argument = option_map_or (λ text. equals_sign ∷ text) argument []
 -- These dashes may precede this text, which isn't empty.
 -- The word is in long form: its dashes, and this text.
 pub record IsInLongForm (grammar : Grammar) (dashes : Dashes) (word text : Text) : Type 0 where
-  pub before : MayStandBefore grammar.long_only dashes text
+  pub before : MayPrecede grammar.long_only dashes text
   pub word_is : word ≡ dash_text dashes ++ text
   pub filled : word ≢ dash_text dashes
 
@@ -64,15 +64,15 @@ chosen_end Maybe name [] [] = Ok none
 chosen_end Maybe name [] (word ∷ after) = if is_dashed word then Ok none else Ok (separate word)
 
 -- an item with the argument that was chosen, or the error
-abbrev pub chosen_turn : (Argument → Item) → Result Argument Fault → Turn
-chosen_turn item (Ok argument) = takes (item argument) argument
-chosen_turn item (Err fault) = faults fault
+abbrev pub chosen_step : (Argument → Item) → Result Argument Fault → Step
+chosen_step item (Ok argument) = takes (item argument) argument
+chosen_step item (Err fault) = faults fault
 
--- the turn of a name in long form, by its kind and the argument attached to it
-abbrev pub named_turn : Option HasArg → Dashes → Text → Option Text → List Text → Turn
-named_turn None dashes name argument after = faults (unrecognized_option name)
-named_turn (Some kind) dashes name argument after =
-    chosen_turn (λ a. long dashes name a) (chosen_long kind name argument after)
+-- the step of a name in long form, by its kind and the argument attached to it
+abbrev pub named_step : Option HasArg → Dashes → Text → Option Text → List Text → Step
+named_step None dashes name argument after = faults (unrecognized_option name)
+named_step (Some kind) dashes name argument after =
+    chosen_step (λ a. long dashes name a) (chosen_long kind name argument after)
 
 -- a text in long form, split at its first `=`: the name, and the argument attached to it
 abbrev pub cut_at_equals : Text → Text × Option Text
@@ -80,11 +80,11 @@ cut_at_equals [] = ([], None)
 cut_at_equals (c ∷ text) = if c == equals_sign then ([], Some text)
     else (c ∷ (cut_at_equals text).0, (cut_at_equals text).1)
 
--- the turn of a word in long form, by its text after the dashes
-abbrev pub long_turn : Grammar → Dashes → Text → List Text → Turn
-long_turn grammar dashes text after =
+-- the step of a word in long form, by its text after the dashes
+abbrev pub long_step : Grammar → Dashes → Text → List Text → Step
+long_step grammar dashes text after =
     let cut = cut_at_equals text in
-    named_turn (grammar.kind cut.0) dashes cut.0 cut.1 after
+    named_step (grammar.kind cut.0) dashes cut.0 cut.1 after
 
 -- the first character of a text
 abbrev pub first_char : Text → Text
@@ -93,19 +93,19 @@ first_char text = of_chars (chars text) where
   of_chars [] = []
   of_chars (c ∷ cs) = encode_utf8 c
 
--- the turn of a cluster at a byte after flags, by the byte's kind; `more` if the byte is a flag too
-abbrev pub byte_turn : Option HasArg → List ℕ → ℕ → Text → List Text → Turn → Turn
-byte_turn None bytes byte text after more = faults (unrecognized_option (first_char (byte ∷ text)))
-byte_turn (Some No) bytes byte text after more = more
-byte_turn (Some kind) bytes byte text after more =
-    chosen_turn (λ a. cluster bytes (ends_in byte a)) (chosen_end kind (byte ∷ []) text after)
+-- the step of a cluster at a byte after flags, by the byte's kind; `more` if the byte is a flag too
+abbrev pub byte_step : Option HasArg → List ℕ → ℕ → Text → List Text → Step → Step
+byte_step None bytes byte text after more = faults (unrecognized_option (first_char (byte ∷ text)))
+byte_step (Some No) bytes byte text after more = more
+byte_step (Some kind) bytes byte text after more =
+    chosen_step (λ a. cluster bytes (ends_in byte a)) (chosen_end kind (byte ∷ []) text after)
 
--- the turn of a cluster, by the flags that were read and the remaining text
-unfoldable pub cluster_turn : Grammar → List ℕ → Text → List Text → Turn
-cluster_turn grammar bytes [] after = takes (cluster bytes flags) none
-cluster_turn grammar bytes (byte ∷ text) after =
-    byte_turn (grammar.kind (byte ∷ [])) bytes byte text after
-    (cluster_turn grammar (bytes ++ byte ∷ []) text after)
+-- the step of a cluster, by the flags that were read and the remaining text
+unfoldable pub cluster_step : Grammar → List ℕ → Text → List Text → Step
+cluster_step grammar bytes [] after = takes (cluster bytes flags) none
+cluster_step grammar bytes (byte ∷ text) after =
+    byte_step (grammar.kind (byte ∷ [])) bytes byte text after
+    (cluster_step grammar (bytes ++ byte ∷ []) text after)
 
 -- An argument was chosen, which gives this value and uses this many words.
 pub record Chooses (chosen : Result Argument Fault) (value : Option Text) (used : ℕ) : Type 0 where
@@ -115,11 +115,11 @@ pub record Chooses (chosen : Result Argument Fault) (value : Option Text) (used 
   pub used_is : used ≡ length (argument_words argument)
 
 -- A dashed word begins an item, which uses this many words after it and adds its occurrences.
-pub record AddsItem (grammar : Grammar) (turn : Turn) (position used : ℕ)
+pub record AddsItem (grammar : Grammar) (step : Step) (position used : ℕ)
     (old new : List Occurrence) : Type 0 where
   pub item : Item
   pub argument : Argument
-  pub turn_is : turn ≡ takes item argument
+  pub step_is : step ≡ takes item argument
   pub used_is : used ≡ length (argument_words argument)
   pub no_free : free_items (item ∷ []) ≡ []
   pub added : new ≡ old ++ map (at_position position) (mentions grammar item)

@@ -12,9 +12,9 @@ use Rattle.getopts_shell.specs.Variables.{VariableFault, arrays_only, no_prefix,
 use Rattle.getopts_shell.specs.Variables.{variable_twice}
 use Rattle.getopts_shell.specs.Table.{Entry, Operand, TableFault, groups_as, late_operand}
 use Rattle.getopts_shell.specs.Table.{name_twice, no_option}
-use Rattle.getopts_shell.specs.declared.script.Asked.{Asked as AskedHeld}
+use Rattle.getopts_shell.specs.declared.script.Asked.{Asked as StoredAsked}
 use Rattle.getopts_shell.specs.declared.answer.Outcome.{Outcome}
-use Rattle.getopts_shell.specs.declared.operand.Operand.{Operand as OperandHeld}
+use Rattle.getopts_shell.specs.declared.operand.Operand.{Operand as StoredOperand}
 use Rattle.getopts_shell.specs.declared.operand.OperandError.{OperandError}
 use Rattle.getopts_shell.specs.declared.operand.OperandError.TheVariants as operand
 use Rattle.getopts_shell.specs.declared.row.Row.{Row}
@@ -38,10 +38,10 @@ abbrev pub entries_of : List Row → List Entry
 entries_of rows = map entry_of_row rows
 
 -- the operand that the code stores
-abbrev pub operand_of : OperandHeld → Operand
+abbrev pub operand_of : StoredOperand → Operand
 operand_of operand = record { item = operand.item.now; description = operand.description.now }
 
-abbrev pub operands_of : List OperandHeld → List Operand
+abbrev pub operands_of : List StoredOperand → List Operand
 operands_of operands = map operand_of operands
 
 -- the groups that rows are parsed by
@@ -57,15 +57,15 @@ fault_told (error.LateOperand number operand earlier) =
 fault_told error.OutOfMemory = None
 
 -- The error that a `TableError` reports has this property, unless it is out of memory.
-abbrev pub TellsFault : TableError → (TableFault → Type 0) → Type 0
-TellsFault error P = MatchOption (fault_told error) ⊤ P
+abbrev pub IsOutOfMemoryOrFault : TableError → (TableFault → Type 0) → Type 0
+IsOutOfMemoryOrFault error P = MatchOption (fault_told error) ⊤ P
 
 -- the answer that the code stores
 abbrev pub answer_of : Outcome → Answer
 answer_of outcome = record { text = string_bytes outcome.text; status = outcome.status }
 
 -- what is asked for, as the code stores it
-abbrev pub asked_of : AskedHeld → Asked
+abbrev pub asked_of : StoredAsked → Asked
 asked_of asked = record {
   brief = option_map string_bytes asked.brief;
   stop = asked.stop;

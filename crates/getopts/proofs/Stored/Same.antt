@@ -6,8 +6,8 @@ use Rattle.std.specs.Option.{option_eq}
 use Rattle.std.proofs.lemmas.Bool.{false≢true}
 use Rattle.std.proofs.lemmas.Bool.Decides.{Decides-and, Decides-like, Decides-eqb}
 use Rattle.std.specs.Cmp.{booleans_Decides}
-use Rattle.getopts.specs.Matches.{Found, MatchedGroup, Matched}
-use Rattle.getopts.specs.Same.{same_found, same_matched_group, same_matches, kind_index}
+use Rattle.getopts.specs.Matches.{GroupOccurrence, MatchedGroup, Matched}
+use Rattle.getopts.specs.Same.{same_group_occurrence, same_matched_group, same_matches, kind_index}
 use Rattle.getopts.specs.Same.{occurrence_index, style_index, same_names, same_signature}
 use Rattle.getopts.specs.Same.{same_group, same_options}
 use Rattle.getopts.specs.Names.{Names}
@@ -104,8 +104,9 @@ options_decide E decides (Some x) (Some y) =
     (λ e. ap (λ z. Some z) ((decides x y).0 e), λ e. (decides x y).1 (cc e))
 
 -- the comparison of two occurrences decides equality
-same_found-decides : (a b : Found) → Decides (same_found a b) (a ≡ b)
-same_found-decides a b = Decides-like (same_found a b)
+same_group_occurrence-decides : (a b : GroupOccurrence)
+    → Decides (same_group_occurrence a b) (a ≡ b)
+same_group_occurrence-decides a b = Decides-like (same_group_occurrence a b)
     (λ h. λ i. record { position = h.0 i; value = h.1 i })
     (λ e. (ap (λ f. f.position) e, ap (λ f. f.value) e))
     (Decides-and _ _ (Decides-eqb a.position b.position)
@@ -117,7 +118,7 @@ same_matched_group-decides a b = Decides-like (same_matched_group a b)
     (λ h. λ i. record { signature = h.0 i; found = h.1 i })
     (λ e. (ap (λ g. g.signature) e, ap (λ g. g.found) e))
     (Decides-and _ _ (same_signature-decides _ _)
-    (pointwise_decides same_found-decides a.found b.found))
+    (pointwise_decides same_group_occurrence-decides a.found b.found))
 
 -- the comparison of two matches decides equality
 pub same_matches-decides : (a b : Matched) → Decides (same_matches a b) (a ≡ b)

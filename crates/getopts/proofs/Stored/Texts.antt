@@ -12,8 +12,8 @@ use Rattle.std.proofs.lemmas.List.Elements.{All-append, All-from_recursion, All-
 use Rattle.std.proofs.Math.Seq.{drop-append_seam}
 use Rattle.std.proofs.Math.Utf8.{encode, encodes, scalar, scalars, scalar_cases}
 use Rattle.getopts.specs.Names.{Text}
-use Rattle.getopts.specs.Held.Texts.{between, IsOfBytes}
-use Rattle.getopts.specs.Held.Groups.{two_at, AreEndsOf, StandAt}
+use Rattle.getopts.specs.Stored.Texts.{between, IsOfBytes}
+use Rattle.getopts.specs.Stored.Groups.{pair_at, AreEndsOf, IsPairAt}
 use Rattle.getopts.specs.declared.groups.PairEnds.{PairEnds}
 
 -- a text may still be split at a place with more after it
@@ -87,7 +87,7 @@ IsOfBytes-utf8 text utf8 = subst IsOfBytes utf8.1.1 (encodes-bytes utf8.0 utf8.1
 
 -- two texts are there too
 pub two-append : (text more : Text) → IsUtf8 more → (e : PairEnds) → AreEndsOf text e
-    → StandAt (text ++ more) e (two_at text e)
+    → IsPairAt (text ++ more) e (pair_at text e)
 two-append text more utf8 e ends = record {
   ends = record {
     start = IsCharBoundary-append text more utf8 e.start ends.start;
@@ -104,7 +104,7 @@ two-append text more utf8 e ends = record {
 pub two-added : (text first second : Text) → IsUtf8 first → IsUtf8 second → (e : PairEnds)
     → e.start ≡ length text → e.first ≡ length (text ++ first)
     → e.second ≡ length ((text ++ first) ++ second)
-    → StandAt ((text ++ first) ++ second) e (first, second)
+    → IsPairAt ((text ++ first) ++ second) e (first, second)
 two-added text first second first_utf8 second_utf8 e starts first_ends second_ends =
     let one = text ++ first in
     let from_start = IsCharBoundary-append text first first_utf8 (length text)

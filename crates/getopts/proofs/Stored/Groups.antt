@@ -12,17 +12,19 @@ use Rattle.std.proofs.lemmas.Option.{same_Some, slice_get-map}
 use Rattle.getopts.specs.Names.{Text, Names, IsLawfullyNamed, main_name}
 use Rattle.getopts.specs.Options.{Signature, Group, MayBeDeclared, signatures_of, names_of}
 use Rattle.getopts.specs.Canon.{main_at}
-use Rattle.getopts.specs.Held.Names.{names_at, HaveNamesOfBytes}
-use Rattle.getopts.specs.Held.Groups.{signature_with, names_in, two_at, AreEndsOf, StandAt, ends_of}
-use Rattle.getopts.specs.Held.Groups.{signature_in, AreLawfulSignatures, HasKeys, IsHeld, kinds_of}
-use Rattle.getopts.specs.Held.Help.{groups_with, groups_view, HoldGroups}
+use Rattle.getopts.specs.Stored.Names.{names_at, HaveNamesOfBytes}
+use Rattle.getopts.specs.Stored.Groups.{signature_with, names_in, pair_at, AreEndsOf, IsPairAt}
+use Rattle.getopts.specs.Stored.Groups.{ends_of}
+use Rattle.getopts.specs.Stored.Groups.{signature_in, AreLawfulSignatures, HasKeys, IsStored}
+use Rattle.getopts.specs.Stored.Groups.{kinds_of}
+use Rattle.getopts.specs.Stored.Help.{groups_with, groups_view, HoldGroups}
 use Rattle.getopts.specs.declared.help.Groups.TheInside.{Inside}
 use Rattle.getopts.specs.declared.groups.PairEnds.{PairEnds}
 use Rattle.getopts.specs.declared.groups.SignatureRecord.{SignatureRecord}
 use Rattle.getopts.specs.declared.groups.Kinds.{Kinds}
 use Rattle.getopts.proofs.Lists.{AllByRecursion-map, AllByRecursion-unmap, AllByRecursion-at}
 use Rattle.getopts.proofs.Lists.{AllByRecursion-append, slice_get-read, each_kept}
-use Rattle.getopts.proofs.Held.Texts.{IsOfBytes-utf8, two-append}
+use Rattle.getopts.proofs.Stored.Texts.{IsOfBytes-utf8, two-append}
 
 -- there are as many signatures as groups
 pub length-signatures_of : (groups : List Group) → length (signatures_of groups) ≡ length groups
@@ -63,15 +65,15 @@ record_within text records signatures place are within =
     )
 
 -- the record at a place, and the signature there
-pub held_at : (text : Text) (records : List SignatureRecord) (signatures : List Signature)
-    (place : ℕ) (r : SignatureRecord) → AllByRecursion (IsHeld text) records
+pub stored_at : (text : Text) (records : List SignatureRecord) (signatures : List Signature)
+    (place : ℕ) (r : SignatureRecord) → AllByRecursion (IsStored text) records
     → map (signature_in text) records ≡ signatures → place < length signatures
     → r ≡ get_or records place r
-    → IsHeld text r × (slice_get signatures place ≡ Some (signature_in text r))
-held_at text records signatures place r held are within is =
+    → IsStored text r × (slice_get signatures place ≡ Some (signature_in text r))
+stored_at text records signatures place r held are within is =
     let at = slice_get-read records place r
     (record_within text records signatures place are within) is in (
-      AllByRecursion-at (IsHeld text) records place r held at,
+      AllByRecursion-at (IsStored text) records place r held at,
       rw (← are) (slice_get-map (signature_in text) records place
           ∙ ap (option_map (signature_in text)) at),
     )
@@ -120,13 +122,13 @@ HaveNamesOfBytes-lawful (s ∷ more) lawful (suc place) = HaveNamesOfBytes-lawfu
 
 -- with more text, records are held as before, and one more is the last
 pub signatures-push : (text more : Text) → IsUtf8 more → (records : List SignatureRecord)
-    → AllByRecursion (IsHeld text) records
-    → (added : SignatureRecord) → IsHeld (text ++ more) added
-    → AllByRecursion (IsHeld (text ++ more)) (records ++ added ∷ [])
+    → AllByRecursion (IsStored text) records
+    → (added : SignatureRecord) → IsStored (text ++ more) added
+    → AllByRecursion (IsStored (text ++ more)) (records ++ added ∷ [])
     × (map (signature_in (text ++ more)) (records ++ added ∷ [])
     ≡ map (signature_in text) records ++ signature_in (text ++ more) added ∷ [])
 signatures-push text more utf8 records held added last =
-    let kept = each_kept (IsHeld text) (IsHeld (text ++ more)) (signature_in text)
+    let kept = each_kept (IsStored text) (IsStored (text ++ more)) (signature_in text)
     (signature_in (text ++ more)) (λ r held.
     let stand = two-append text more utf8 (ends_of r) held.ends in
     let same : signature_in (text ++ more) r ≡ signature_in text r =
@@ -137,7 +139,7 @@ signatures-push text more utf8 records held added last =
       },
       same,
     )) records held in (
-      AllByRecursion-append (IsHeld (text ++ more)) records (added ∷ []) kept.0 (last, tt),
+      AllByRecursion-append (IsStored (text ++ more)) records (added ∷ []) kept.0 (last, tt),
       map-append (signature_in (text ++ more)) records (added ∷ [])
           ∙ ap (λ (ss : List Signature). ss ++ signature_in (text ++ more) added ∷ []) kept.1,
     )
@@ -145,15 +147,15 @@ signatures-push text more utf8 records held added last =
 -- with more text, the two texts of each group are as before, and two more are the last
 pub twos-push : (text more : Text) → IsUtf8 more → (ends : List PairEnds)
     → AllByRecursion (AreEndsOf text) ends → (added : PairEnds) (two : Text × Text)
-    → StandAt (text ++ more) added two
+    → IsPairAt (text ++ more) added two
     → AllByRecursion (AreEndsOf (text ++ more)) (ends ++ added ∷ [])
-    × (map (two_at (text ++ more)) (ends ++ added ∷ []) ≡ map (two_at text) ends ++ two ∷ [])
+    × (map (pair_at (text ++ more)) (ends ++ added ∷ []) ≡ map (pair_at text) ends ++ two ∷ [])
 twos-push text more utf8 ends held added two last =
-    let kept = each_kept (AreEndsOf text) (AreEndsOf (text ++ more)) (two_at text)
-    (two_at (text ++ more)) (λ e held. let stand = two-append text more utf8 e held in
+    let kept = each_kept (AreEndsOf text) (AreEndsOf (text ++ more)) (pair_at text)
+    (pair_at (text ++ more)) (λ e held. let stand = two-append text more utf8 e held in
     (stand.ends, stand.are)) ends held in (
       AllByRecursion-append (AreEndsOf (text ++ more)) ends (added ∷ []) kept.0 (last.ends, tt),
-      map-append (two_at (text ++ more)) ends (added ∷ [])
+      map-append (pair_at (text ++ more)) ends (added ∷ [])
           ∙ (λ i. kept.1 i ++ last.are i ∷ []),
     )
 
@@ -217,12 +219,12 @@ length-groups_with signatures twos as_many =
     (signatures_of-with signatures twos as_many)
 
 -- the signatures that are held are those of the groups
-pub signatures_held : (inside : Inside) (groups : List Group) → HoldGroups inside
+pub signatures_stored : (inside : Inside) (groups : List Group) → HoldGroups inside
     → groups_view inside ≡ groups
     → (inside.signatures ≡ signatures_of groups) × (length groups ≡ length inside.signatures)
-signatures_held inside groups holds are =
-    let twos = map (two_at (string_bytes inside.help)) inside.ends.items in
-    let as_many = length-map inside.ends.items (two_at (string_bytes inside.help))
+signatures_stored inside groups holds are =
+    let twos = map (pair_at (string_bytes inside.help)) inside.ends.items in
+    let as_many = length-map inside.ends.items (pair_at (string_bytes inside.help))
     ∙ holds.as_many in (
       sym (ap signatures_of (sym are) ∙ signatures_of-with inside.signatures twos as_many),
       ap (λ (groups : List Group). length groups) (sym are)

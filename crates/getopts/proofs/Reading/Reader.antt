@@ -4,9 +4,9 @@ use Rattle.std.proofs.Common.{◌≡◌, ◌⊎◌, ℕ, ◌<◌, List, [], ◌�
 use Rattle.getopts.specs.Names.{Text}
 use Rattle.getopts.specs.Options.{Grammar}
 use Rattle.getopts.specs.Reading.{Item, item_words}
-pub use Rattle.getopts.specs.Results.{free_turn, two_dashes_turn, one_dash_turn, with_items}
-pub use Rattle.getopts.specs.Results.{after_turn}
-unfoldable pub use Rattle.getopts.specs.Results.{turn, read_both, read}
+pub use Rattle.getopts.specs.Results.{free_step, two_dashes_step, one_dash_step, with_items}
+pub use Rattle.getopts.specs.Results.{after_step}
+unfoldable pub use Rattle.getopts.specs.Results.{step, read_both, read}
 
 -- the words of an item, before those that follow
 abbrev pub spelled : Item → List Text → List Text

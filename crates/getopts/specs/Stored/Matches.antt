@@ -4,10 +4,10 @@ use Rattle.std.specs.Prelude.{◌≡◌, List, length}
 use Rattle.getopts.specs.Names.{Text}
 use Rattle.getopts.specs.Options.{Signature, Declared, MayBeDeclared, signatures_of, grammar_of}
 use Rattle.getopts.specs.Matches.{MatchedGroup, matched, KeepsCounts}
-use Rattle.getopts.specs.Held.Groups.{names_in}
-use Rattle.getopts.specs.Held.Index.{index_of}
-use Rattle.getopts.specs.Held.Scan.{ReadsLine}
-use Rattle.getopts.specs.Held.Table.{IsTableOf}
+use Rattle.getopts.specs.Stored.Groups.{names_in}
+use Rattle.getopts.specs.Stored.Index.{index_of}
+use Rattle.getopts.specs.Stored.Scan.{ReadsLine}
+use Rattle.getopts.specs.Stored.Table.{IsTableOf}
 use Rattle.getopts.specs.declared.matches.MatchedGroups.TheInside.{Inside}
 use Rattle.getopts.specs.declared.matches.ReadLine.{ReadLine}
 
