@@ -23,7 +23,7 @@
  * getopts_read or getopts_delete on it.
  *
  * `pkg-config --cflags --libs getopts` prints the flags for the shared library. For the static
- * library, write `getopts-static`; a program then grows by 95 KB at most.
+ * library, write `getopts-static`; a program then grows by 100 KB at most.
  * PREFIX/share/doc/getopts/head.c is a complete program. */
 #ifndef GETOPTS_H
 #define GETOPTS_H
