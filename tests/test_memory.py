@@ -18,8 +18,8 @@ def words_of(line):
 
 
 def test_library_when_allocations_fail(vectors, failing_malloc):
-    """All calls of the library. After a failure, the row is answered again, which shows that borrowed values didn't
-    change."""
+    """All calls of the library but those that the Rust tests make (allocations.rs). After a failure, the row is answered
+    again, which shows that borrowed values didn't change."""
     rows = VECTORS / "data/allocations.rows"
     done = subprocess.run([vectors, rows], stdout=subprocess.PIPE, check=True)
     assert fail_each_allocation(failing_malloc, [vectors, rows], (done.stdout, 3), marks=True) > 600

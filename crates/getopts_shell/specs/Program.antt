@@ -356,13 +356,14 @@ AnswersAlone script entry answer = MatchOption script.asked.variables
     (SetsWords (alone_line entry) × (answer ≡ done (line_code (alone_line entry))))
     (λ prefix. IsVariablesCode script prefix (given_alone script.entries entry) [] answer)
 
--- This is the answer to accepted words: their canonical line, or variables.
+-- This is the answer to accepted words if no variables are asked for: their canonical line.
 abbrev pub AnswersLine : Script → List Text → Answer → Type 0
 AnswersLine script words answer = MatchResult (canonical_result (read_options script) words)
     (λ written. MatchOption written ⊥ (λ line. IsCanonicalLineOf (read_options script) words line
     × (answer ≡ done (line_code line))))
     (λ fault. answer ≡ refused script fault)
 
+-- This is the answer to accepted words: their canonical line, or variables.
 abbrev pub AnswersAccepted : Script → List Text → Matched → Answer → Type 0
 AnswersAccepted script words matches answer = MatchOption script.asked.variables
     (AnswersLine script words answer)
