@@ -28,10 +28,10 @@ IMPORTS list those of Rust; each is trusted to do in Rust what its contract in R
 means something else in each language. Rattle's guides list such code, and `tests/eraser` has an example of each:
 
     a range without an end, which in Rust goes past the last number; `S { a, ..v[1] }`, for which Rust evaluates `v[1]`;
-    sizes of types and capacities of lists; casts to `usize`, which lose bits on 32 bits; sorting by no order;
-    `lines`, which old versions of Rust split differently; fields whose names would change, since `{:?}` prints them;
-    types, imports and paths that mean something else; a `drop` with side effects; traits and impl bounds that could
-    change method resolution; comments and texts that could end a contract in one language only
+    sizes of types and capacities of lists; casts to `usize`, which lose bits on 32 bits; sorting by no order; fields
+    whose names would change, since `{:?}` prints them; types, imports and paths that mean something else; a `drop` with
+    side effects; traits and impl bounds that could change method resolution; comments and texts that could end a
+    contract in one language only
 
 It accepts any call of a name that is defined here. If the call means a function of Rust that allocates, rustc rejects
 it: erased source has to compile over `core` and the types in `tests/eraser/types`, which have no such functions. Rustc
@@ -94,7 +94,7 @@ IMPORTS = set("""std::alloc std::cmp::Ordering std::convert::AsStr std::env std:
 KNOWN_CALLS = set("""all alloc allocator any arg as_bytes as_slice as_str binary_search_by binary_search_by_key
     capacity chars clone cmp contains count dedup_by encode_utf8 ends_with enumerate
     extend_from_slice first flush format get into_iter is_ascii is_ascii_alphanumeric is_ascii_digit is_empty is_eq
-    is_some iter iter_mut kind len len_utf8 lines map_or matches max min next ok_or parse position push push_reserved
+    is_some iter iter_mut kind len len_utf8 map_or matches max min next ok_or parse position push push_reserved
     push_str reserve reserve_exact resize rsplit_once saturating_add saturating_mul saturating_sub size_hint
     sort_by split split_at split_at_mut split_off split_once split_whitespace starts_with stderr strip_prefix strip_suffix
     then_some trim_ascii truncate unreachable unwrap_or vec width write writeln Err FnMut Ok Some bytes""".split())
@@ -472,8 +472,6 @@ class Eraser:
             self.stop(at, "another number in Rust; it may only decide how much to reserve")
         if self.has(at, "crate::") and self.file.stem in ("lib", "main"):
             self.stop(at, "it would become the path of another module")
-        if text == "lines" and before == "." and self.file.stem != "wrap":
-            self.stop(at, "before 1.66, Rust strips a carriage return at the end of the text")
         ordered = any(self.has(at - 1, ".sort_by(" + order) for order in ORDERS)
         if re.fullmatch(r"sort(_unstable)?_by|select_nth_unstable_by", text) and not ordered and before != "fn":
             self.stop(at, "Rust may panic if this isn't an order")

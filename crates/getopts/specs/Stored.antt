@@ -18,5 +18,5 @@ pub mod Occurrences
 pub mod Scan
 -- command lines that were read, and groups with their occurrences
 pub mod Matches
--- texts that grow by rows
+-- rows that are added line by line
 pub mod Rows

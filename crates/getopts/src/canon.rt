@@ -8,14 +8,11 @@ ghost use Rattle.std.specs.String.{string_bytes};
 ghost use Rattle.getopts.specs.Reading.{holds_equals, long_word, two};
 ghost use Rattle.getopts.specs.Canon.{canonical_line, canonical_word, main_at};
 ghost use Rattle.getopts.specs.Fail.{IsOutOfMemoryOr};
-ghost use Rattle.getopts.specs.Stored.Matches.{IsOfSignatures};
 ghost use Rattle.getopts.specs.Names.{texts};
-ghost use Rattle.getopts.specs.Options.{signatures_of};
 ghost use Rattle.getopts.specs.Stored.Scan.{line_content};
 
 use crate::fail::Fail;
 use crate::help::Groups;
-use crate::matches::ReadLine;
 use crate::occurrences::LineOccurrences;
 use crate::options::Options;
 use crate::parse::words_from;
@@ -31,14 +28,13 @@ fn holds_equals(text: &str) -> bool
 }
 
 /// Whether no main name of an option in the command line contains `=`.
-fn are_plain(groups: &Groups, read: &ReadLine) -> bool
-    requires { IsOfSignatures (signatures_of groups.now) read.now }
+fn are_plain(groups: &Groups, found: &LineOccurrences) -> bool
+    requires { AllByRecursion (λ o. o.mention.group < length groups.now) found.now }
     ensures { result
-        ≡ list_all (λ o. not (holds_equals (main_at groups.now o.mention.group)))
-        read.now.line.found }
+        ≡ list_all (λ o. not (holds_equals (main_at groups.now o.mention.group))) found.now }
 {
-    for place in 0..groups.len() {
-        if read.index.count(place) > 0 && holds_equals(groups.main(place)) {
+    for place in 0..found.len() {
+        if holds_equals(groups.main(found.at(place).group)) {
             return false;
         }
     }
@@ -204,7 +200,7 @@ impl Options {
     {
         let accepted = self.accepted_line(alloc, words)?;
         let groups = self.groups();
-        if are_plain(groups, &accepted) {
+        if are_plain(groups, &accepted.line.found) {
             Ok(Some(canonical_line(alloc, groups, accepted.line)?))
         } else {
             Ok(None)

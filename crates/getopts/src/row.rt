@@ -1,17 +1,17 @@
 //! One group's row in a usage text: its head, with the description beside or below it.
-ghost use Rattle.std.specs.Prelude.{◌≡◌, ◌++◌, string_bytes, OnOk};
+ghost use Rattle.std.specs.Prelude.{◌≡◌, ◌++◌, string_bytes, IfOk, OnOk};
 ghost use Rattle.getopts.specs.Wrap.{width_of};
 ghost use Rattle.getopts.specs.Usage.{IsUsageRow, argument_part, has_columns, head};
 ghost use Rattle.getopts.specs.Usage.{long_part, padding, short_part};
 ghost use Rattle.getopts.specs.Stored.Groups.{names_view};
 ghost use Rattle.getopts.specs.Stored.Help.{group_view};
-ghost use Rattle.getopts.specs.Stored.Rows.{AddsTheOnly};
+ghost use Rattle.getopts.specs.Only.{IsTheOnly};
 
 use crate::groups::{HasArg, Signature};
 use crate::help::Group;
 use crate::names::Names;
-use crate::wrap::push_description;
-use std::alloc::AllocError;
+use crate::wrap::{each_split_within, push_joined};
+use std::alloc::{AllocError, Global};
 use unicode_width::UnicodeWidthStr;
 
 /// The number of columns before a description.
@@ -30,21 +30,22 @@ pub(crate) struct Layout {
     pub any_short: bool,
 }
 
-/// Appends the row of one group.
-pub(crate) fn push_row(
-    text: &mut String,
-    layout: Layout,
-    group: Group<'_>,
-) -> Result<(), AllocError>
-    ensures { OnOk result (AddsTheOnly
+/// The bytes that most rows need. Without this guess, the job `usage` takes 40 % more instructions.
+const ROW_ROOM: usize = 80;
+
+/// The row of one group.
+pub(crate) fn row_of(alloc: Global, layout: Layout, group: Group<'_>) -> Result<String, AllocError>
+    ensures { IfOk result (λ row. IsTheOnly
         (IsUsageRow layout.long_only layout.any_short (group_view group.entry))
-        (string_bytes text.old) (string_bytes text.new)) }
+        (string_bytes row)) }
 {
-    let start = text.len();
-    push_head(text, layout, group)?;
-    let padding = padding_after(&text.as_str()[start..]);
-    text.push_str(padding)?;
-    push_description(text, group.desc, DESCRIPTION_COLUMNS, NEXT_ROW)
+    let mut row = String::with_capacity(alloc, ROW_ROOM)?;
+    push_head(&mut row, layout, group)?;
+    let padding = padding_after(row.as_str());
+    row.push_str(padding)?;
+    let rows = each_split_within(alloc, group.desc, DESCRIPTION_COLUMNS)?;
+    push_joined(&mut row, &rows, NEXT_ROW)?;
+    Ok(row)
 }
 
 /// Appends the head of a group's row, which precedes the description.

@@ -8,20 +8,16 @@ ghost use Rattle.getopts.specs.Only.{IsTheOnly};
 ghost use Rattle.getopts.specs.Usage.{AreUsageRows, IsUsageText, any_short};
 ghost use Rattle.getopts.specs.Usage.{option_name, option_text, short_usage_text};
 ghost use Rattle.getopts.specs.Wrap.{joined};
-ghost use Rattle.getopts.specs.Stored.Rows.{AddsRows};
 
 use crate::groups::{HasArg, Occur, Signature};
 use crate::help::Group;
 use crate::names::Names;
 use crate::options::Options;
-use crate::row::{Layout, push_argument, push_row};
-use crate::wrap::push_parting;
+use crate::row::{Layout, push_argument, row_of};
+use crate::wrap::push_joined;
 use std::alloc::{AllocError, Global};
 use std::marker::Model;
 use std::vec;
-
-/// The bytes that most rows need. Without this guess, the job `usage` takes 15 % more instructions.
-const ROW_ROOM: usize = 80;
 
 /// The rows of a usage text, one for each option group, in order of declaration.
 ///
@@ -75,11 +71,12 @@ impl Options {
         ensures text { IfOk result (λ text.
             string_bytes text ≡ short_usage_text self.now program_name.now) }
     {
+        let options = self.option_texts(alloc)?;
         let mut text = String::new(alloc);
         text.push_str("Usage: ")?;
         text.push_str(program_name)?;
         text.push(' ')?;
-        self.push_options(&mut text)?;
+        push_joined(&mut text, &options, " ")?;
         Ok(text)
     }
 
@@ -111,12 +108,10 @@ impl Options {
         ensures text { IfOk result (λ text.
             IsTheOnly (IsUsageText self.now brief.now) (string_bytes text)) }
     {
-        // This is a guess: if it is too small, the text grows.
-        let rows = self.groups().len().saturating_mul(ROW_ROOM);
-        let mut text = String::with_capacity(alloc, brief.len().saturating_add(rows))?;
-        text.push_str(brief)?;
+        let rows = self.usage_rows(alloc)?;
+        let mut text = String::from_str(alloc, brief)?;
         text.push_str("\n\nOptions:\n")?;
-        self.push_rows(&mut text)?;
+        push_joined(&mut text, &rows, "\n")?;
         text.push('\n')?;
         Ok(text)
     }
@@ -163,37 +158,24 @@ impl Options {
         let groups = self.groups();
         let mut rows = Vec::with_capacity(alloc, groups.len())?;
         for place in 0..groups.len() {
-            let mut row = String::with_capacity(alloc, ROW_ROOM)?;
-            push_row(&mut row, layout, groups.get(place))?;
-            rows.push(row)?;
+            rows.push(row_of(alloc, layout, groups.get(place))?)?;
         }
         Ok(rows)
     }
 
-    /// Appends the rows of the usage text, separated by line ends.
-    fn push_rows(&self, text: &mut String) -> Result<(), AllocError>
-        ensures { OnOk result (AddsRows self.now (string_bytes text.old) (string_bytes text.new)) }
-    {
-        let layout = self.layout();
-        let groups = self.groups();
-        for place in 0..groups.len() {
-            push_parting(text, place > 0, "\n")?;
-            push_row(text, layout, groups.get(place))?;
-        }
-        Ok(())
-    }
-
-    /// Appends the options of the short usage, separated by spaces.
-    fn push_options(&self, text: &mut String) -> Result<(), AllocError>
-        ensures { OnOk result (string_bytes text.new ≡ string_bytes text.old
-            ++ joined (codes " ") (map option_text self.now.groups)) }
+    /// The options of the short usage, in order.
+    fn option_texts(&self, alloc: Global) -> Result<Vec<String>, AllocError>
+        ensures { IfOk result (λ texts.
+            map string_bytes texts.items ≡ map option_text self.now.groups) }
     {
         let groups = self.groups();
+        let mut texts = Vec::with_capacity(alloc, groups.len())?;
         for place in 0..groups.len() {
-            push_parting(text, place > 0, " ")?;
-            push_option(text, groups.get(place))?;
+            let mut text = String::new(alloc);
+            push_option(&mut text, groups.get(place))?;
+            texts.push(text)?;
         }
-        Ok(())
+        Ok(texts)
     }
 
     /// What the heads of all rows have in common.

@@ -1,10 +1,9 @@
 //! Descriptions in rows: each line is broken into as few rows as its words allow.
-ghost use Rattle.std.specs.Prelude.{◌≡◌, ◌+◌, ◌<◌, ◌≤◌, ◌∷◌, ◌++◌, map, string_bytes, IfOk, OnOk};
-ghost use Rattle.std.specs.Str.Lines.{lines};
+ghost use Rattle.std.specs.Prelude.{◌≡◌, ◌++◌, map, string_bytes, IfOk, OnOk};
 ghost use Rattle.getopts.specs.Wrap.{BreaksInto, IsDescriptionRows};
-ghost use Rattle.getopts.specs.Wrap.{IsFewestBreaking, parting, width_of};
+ghost use Rattle.getopts.specs.Wrap.{IsFewestBreaking, joined, parting};
 ghost use Rattle.getopts.specs.Only.{IsTheOnly};
-ghost use Rattle.getopts.specs.Stored.Rows.{AddsDescription, AddsLine};
+ghost use Rattle.getopts.specs.Stored.Rows.{AddsLine};
 
 use std::alloc::{AllocError, Global};
 use unicode_width::UnicodeWidthStr;
@@ -41,109 +40,68 @@ pub fn each_split_within(alloc: Global, desc: &str, lim: usize) -> Result<Vec<St
     ensures fewest { IfOk result (λ rows.
         BreaksInto (IsFewestBreaking lim) desc.now (map string_bytes rows.items)) }
 {
-    // No row contains a line end, and all rows together are no longer than the description.
-    let mut text = String::with_capacity(alloc, desc.len())?;
-    push_description(&mut text, desc, lim, "\n")?;
-    rows_in(alloc, text.as_str())
-}
-
-/// The lines of a text.
-fn rows_in(alloc: Global, text: &str) -> Result<Vec<String>, AllocError>
-    ensures { IfOk result (λ rows. map string_bytes rows.items ≡ lines text.now) }
-{
     let mut rows = Vec::new(alloc);
-    for line in text.lines() {
-        let row = String::from_str(alloc, line)?;
-        rows.push(row)?;
+    for line in desc.split('\n') {
+        push_line(alloc, &mut rows, line, lim)?;
     }
     Ok(rows)
 }
 
-/// Appends the rows of a description, with the separator between them. If an allocation fails, the
-/// contract says nothing about the text.
-pub(crate) fn push_description(
-    text: &mut String,
-    desc: &str,
-    lim: usize,
-    separator: &str,
-) -> Result<(), AllocError>
-    ensures { OnOk result (AddsDescription lim separator.now desc.now
-        (string_bytes text.old) (string_bytes text.new)) }
-{
-    let mut begun = false;
-    for line in desc.split('\n') {
-        begun = push_line(text, begun, line, lim, separator)?;
-    }
-    Ok(())
-}
-
-/// Appends the rows of one line. `begun` says whether there are rows before them, the result
-/// whether there are any now.
+/// Appends the rows of one line. If an allocation fails, the contract says nothing about the rows.
 fn push_line(
-    text: &mut String,
-    begun: bool,
+    alloc: Global,
+    rows: &mut Vec<String>,
     line: &str,
     lim: usize,
-    separator: &str,
-) -> Result<bool, AllocError>
-    ensures { IfOk result (λ now_begun. AddsLine lim separator.now line.now begun now_begun
-        (string_bytes text.old) (string_bytes text.new)) }
+) -> Result<(), AllocError>
+    ensures { OnOk result (AddsLine lim line.now
+        (map string_bytes rows.old.items) (map string_bytes rows.new.items)) }
 {
     let mut words = line.split_whitespace();
     let first = match words.next() {
         Some(first) => first,
-        None => return Ok(begun),
+        None => return Ok(()),
     };
-    push_parting(text, begun, separator)?;
-    text.push_str(first)?;
+    let mut row = String::from_str(alloc, first)?;
     let mut columns = first.width();
     for word in words {
-        columns = push_word(text, columns, word, lim, separator)?;
+        let width = word.width();
+        if columns < lim && width < lim - columns {
+            row.push(' ')?;
+            columns += 1 + width;
+        } else {
+            rows.push(row)?;
+            row = String::new(alloc);
+            columns = width;
+        }
+        row.push_str(word)?;
     }
-    Ok(true)
+    rows.push(row)?;
+    Ok(())
 }
 
-/// Appends a word after a row of this many columns: to that row if it fits there, otherwise to a
-/// new one. Returns the number of columns of the word's row.
-#[tactic(auto, unfolding(crate::specs::Wrap::width_of))]
-fn push_word(
+/// Appends texts, with the separator between them.
+pub(crate) fn push_joined(
     text: &mut String,
-    columns: usize,
-    word: &str,
-    lim: usize,
-    separator: &str,
-) -> Result<usize, AllocError>
-    ensures joins { columns + (1 + width_of word.now) ≤ lim → IfOk result (λ now.
-        (now ≡ columns + (1 + width_of word.now))
-        × (string_bytes text.new ≡ string_bytes text.old ++ 32 ∷ word.now)) }
-    ensures begins { lim < columns + (1 + width_of word.now) → IfOk result (λ now.
-        (now ≡ width_of word.now)
-        × (string_bytes text.new ≡ string_bytes text.old ++ (separator.now ++ word.now))) }
-{
-    let width = word.width();
-    let mut now = width;
-    if columns < lim && width < lim - columns {
-        text.push(' ')?;
-        now += 1 + columns;
-    } else {
-        text.push_str(separator)?;
-    }
-    text.push_str(word)?;
-    Ok(now)
-}
-
-/// Appends the separator if `begun` says that something precedes it.
-pub(crate) fn push_parting(
-    text: &mut String,
-    begun: bool,
+    texts: &[String],
     separator: &str,
 ) -> Result<(), AllocError>
     ensures { OnOk result (string_bytes text.new ≡ string_bytes text.old
+        ++ joined separator.now (map string_bytes texts.now)) }
+{
+    let mut begun = false;
+    for part in texts {
+        push_parting(text, begun, separator)?;
+        text.push_str(part.as_str())?;
+        begun = true;
+    }
+    Ok(())
+}
+
+/// Appends the separator if `begun` says that something precedes it.
+fn push_parting(text: &mut String, begun: bool, separator: &str) -> Result<(), AllocError>
+    ensures { OnOk result (string_bytes text.new ≡ string_bytes text.old
         ++ parting begun separator.now) }
 {
-    if begun {
-        text.push_str(separator)
-    } else {
-        Ok(())
-    }
+    text.push_str(if begun { separator } else { "" })
 }

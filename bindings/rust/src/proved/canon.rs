@@ -6,7 +6,6 @@ use crate::fallible::*;
 
 use super::fail::Fail;
 use super::help::Groups;
-use super::matches::ReadLine;
 use super::occurrences::LineOccurrences;
 use super::options::Options;
 use super::parse::words_from;
@@ -20,9 +19,9 @@ fn holds_equals(text: &str) -> bool {
 }
 
 /// Whether no main name of an option in the command line contains `=`.
-fn are_plain(groups: &Groups, read: &ReadLine) -> bool {
-    for place in 0..groups.len() {
-        if read.index.count(place) > 0 && holds_equals(groups.main(place)) {
+fn are_plain(groups: &Groups, found: &LineOccurrences) -> bool {
+    for place in 0..found.len() {
+        if holds_equals(groups.main(found.at(place).group)) {
             return false;
         }
     }
@@ -133,7 +132,7 @@ impl Options {
     ) -> Result<Option<Vec<String>>, Fail> {
         let accepted = self.accepted_line(alloc, words)?;
         let groups = self.groups();
-        if are_plain(groups, &accepted) {
+        if are_plain(groups, &accepted.line.found) {
             Ok(Some(canonical_line(alloc, groups, accepted.line)?))
         } else {
             Ok(None)

@@ -6,8 +6,8 @@ use crate::fallible::*;
 use super::groups::{HasArg, Signature};
 use super::help::Group;
 use super::names::Names;
-use super::wrap::push_description;
-use crate::alloc::AllocError;
+use super::wrap::{each_split_within, push_joined};
+use crate::alloc::{AllocError, Global};
 use crate::width::UnicodeWidthStr;
 
 /// The number of columns before a description.
@@ -26,17 +26,22 @@ pub(crate) struct Layout {
     pub any_short: bool,
 }
 
-/// Appends the row of one group.
-pub(crate) fn push_row(
-    text: &mut String,
+/// The bytes that most rows need. Without this guess, the job `usage` takes 40 % more instructions.
+const ROW_ROOM: usize = 80;
+
+/// The row of one group.
+pub(crate) fn row_of(
+    alloc: Global,
     layout: Layout,
     group: Group<'_>,
-) -> Result<(), AllocError> {
-    let start = text.len();
-    push_head(text, layout, group)?;
-    let padding = padding_after(&text.as_str()[start..]);
-    text.try_push_str(padding)?;
-    push_description(text, group.desc, DESCRIPTION_COLUMNS, NEXT_ROW)
+) -> Result<String, AllocError> {
+    let mut row = String::of_capacity(alloc, ROW_ROOM)?;
+    push_head(&mut row, layout, group)?;
+    let padding = padding_after(row.as_str());
+    row.try_push_str(padding)?;
+    let rows = each_split_within(alloc, group.desc, DESCRIPTION_COLUMNS)?;
+    push_joined(&mut row, &rows, NEXT_ROW)?;
+    Ok(row)
 }
 
 /// Appends the head of a group's row, which precedes the description.

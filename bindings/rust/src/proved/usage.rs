@@ -7,13 +7,10 @@ use super::groups::{HasArg, Occur, Signature};
 use super::help::Group;
 use super::names::Names;
 use super::options::Options;
-use super::row::{Layout, push_argument, push_row};
-use super::wrap::push_parting;
+use super::row::{Layout, push_argument, row_of};
+use super::wrap::push_joined;
 use crate::alloc::{AllocError, Global};
 use crate::heap::vec;
-
-/// The bytes that most rows need. Without this guess, the job `usage` takes 15 % more instructions.
-const ROW_ROOM: usize = 80;
 
 /// The rows of a usage text, one for each option group, in order of declaration.
 ///
@@ -50,11 +47,12 @@ impl Options {
     ///
     /// Fails only if an allocation fails. In the Rust crate this method can't fail.
     pub fn short_usage(&self, alloc: Global, program_name: &str) -> Result<String, AllocError> {
+        let options = self.option_texts(alloc)?;
         let mut text = String::empty(alloc);
         text.try_push_str("Usage: ")?;
         text.try_push_str(program_name)?;
         text.try_push(' ')?;
-        self.push_options(&mut text)?;
+        push_joined(&mut text, &options, " ")?;
         Ok(text)
     }
 
@@ -82,12 +80,10 @@ impl Options {
     /// In the Rust crate this method can't fail. That crate leaves out a short name that takes no
     /// column, such as a tab in old width tables. Here every short name that isn't empty is shown.
     pub fn usage(&self, alloc: Global, brief: &str) -> Result<String, AllocError> {
-        // This is a guess: if it is too small, the text grows.
-        let rows = self.groups().len().saturating_mul(ROW_ROOM);
-        let mut text = String::of_capacity(alloc, brief.len().saturating_add(rows))?;
-        text.try_push_str(brief)?;
+        let rows = self.usage_rows(alloc)?;
+        let mut text = String::copy_of(alloc, brief)?;
         text.try_push_str("\n\nOptions:\n")?;
-        self.push_rows(&mut text)?;
+        push_joined(&mut text, &rows, "\n")?;
         text.try_push('\n')?;
         Ok(text)
     }
@@ -124,32 +120,21 @@ impl Options {
         let groups = self.groups();
         let mut rows = Vec::of_capacity(alloc, groups.len())?;
         for place in 0..groups.len() {
-            let mut row = String::of_capacity(alloc, ROW_ROOM)?;
-            push_row(&mut row, layout, groups.get(place))?;
-            rows.try_push(row)?;
+            rows.try_push(row_of(alloc, layout, groups.get(place))?)?;
         }
         Ok(rows)
     }
 
-    /// Appends the rows of the usage text, separated by line ends.
-    fn push_rows(&self, text: &mut String) -> Result<(), AllocError> {
-        let layout = self.layout();
+    /// The options of the short usage, in order.
+    fn option_texts(&self, alloc: Global) -> Result<Vec<String>, AllocError> {
         let groups = self.groups();
+        let mut texts = Vec::of_capacity(alloc, groups.len())?;
         for place in 0..groups.len() {
-            push_parting(text, place > 0, "\n")?;
-            push_row(text, layout, groups.get(place))?;
+            let mut text = String::empty(alloc);
+            push_option(&mut text, groups.get(place))?;
+            texts.try_push(text)?;
         }
-        Ok(())
-    }
-
-    /// Appends the options of the short usage, separated by spaces.
-    fn push_options(&self, text: &mut String) -> Result<(), AllocError> {
-        let groups = self.groups();
-        for place in 0..groups.len() {
-            push_parting(text, place > 0, " ")?;
-            push_option(text, groups.get(place))?;
-        }
-        Ok(())
+        Ok(texts)
     }
 
     /// What the heads of all rows have in common.

@@ -29,90 +29,59 @@ use crate::width::UnicodeWidthStr;
 /// Here it is public and measures word by word; it promises nothing about the width of a row as one
 /// text.
 pub fn each_split_within(alloc: Global, desc: &str, lim: usize) -> Result<Vec<String>, AllocError> {
-    // No row contains a line end, and all rows together are no longer than the description.
-    let mut text = String::of_capacity(alloc, desc.len())?;
-    push_description(&mut text, desc, lim, "\n")?;
-    rows_in(alloc, text.as_str())
-}
-
-/// The lines of a text.
-fn rows_in(alloc: Global, text: &str) -> Result<Vec<String>, AllocError> {
     let mut rows = Vec::empty(alloc);
-    for line in text.lines() {
-        let row = String::copy_of(alloc, line)?;
-        rows.try_push(row)?;
+    for line in desc.split('\n') {
+        push_line(alloc, &mut rows, line, lim)?;
     }
     Ok(rows)
 }
 
-/// Appends the rows of a description, with the separator between them. If an allocation fails, the
-/// contract says nothing about the text.
-pub(crate) fn push_description(
-    text: &mut String,
-    desc: &str,
+/// Appends the rows of one line. If an allocation fails, the contract says nothing about the rows.
+fn push_line(
+    alloc: Global,
+    rows: &mut Vec<String>,
+    line: &str,
     lim: usize,
+) -> Result<(), AllocError> {
+    let mut words = line.split_whitespace();
+    let first = match words.next() {
+        Some(first) => first,
+        None => return Ok(()),
+    };
+    let mut row = String::copy_of(alloc, first)?;
+    let mut columns = first.width();
+    for word in words {
+        let width = word.width();
+        if columns < lim && width < lim - columns {
+            row.try_push(' ')?;
+            columns += 1 + width;
+        } else {
+            rows.try_push(row)?;
+            row = String::empty(alloc);
+            columns = width;
+        }
+        row.try_push_str(word)?;
+    }
+    rows.try_push(row)?;
+    Ok(())
+}
+
+/// Appends texts, with the separator between them.
+pub(crate) fn push_joined(
+    text: &mut String,
+    texts: &[String],
     separator: &str,
 ) -> Result<(), AllocError> {
     let mut begun = false;
-    for line in desc.split('\n') {
-        begun = push_line(text, begun, line, lim, separator)?;
+    for part in texts {
+        push_parting(text, begun, separator)?;
+        text.try_push_str(part.as_str())?;
+        begun = true;
     }
     Ok(())
 }
 
-/// Appends the rows of one line. `begun` says whether there are rows before them, the result
-/// whether there are any now.
-fn push_line(
-    text: &mut String,
-    begun: bool,
-    line: &str,
-    lim: usize,
-    separator: &str,
-) -> Result<bool, AllocError> {
-    let mut words = line.split_whitespace();
-    let first = match words.next() {
-        Some(first) => first,
-        None => return Ok(begun),
-    };
-    push_parting(text, begun, separator)?;
-    text.try_push_str(first)?;
-    let mut columns = first.width();
-    for word in words {
-        columns = push_word(text, columns, word, lim, separator)?;
-    }
-    Ok(true)
-}
-
-/// Appends a word after a row of this many columns: to that row if it fits there, otherwise to a
-/// new one. Returns the number of columns of the word's row.
-fn push_word(
-    text: &mut String,
-    columns: usize,
-    word: &str,
-    lim: usize,
-    separator: &str,
-) -> Result<usize, AllocError> {
-    let width = word.width();
-    let mut now = width;
-    if columns < lim && width < lim - columns {
-        text.try_push(' ')?;
-        now += 1 + columns;
-    } else {
-        text.try_push_str(separator)?;
-    }
-    text.try_push_str(word)?;
-    Ok(now)
-}
-
 /// Appends the separator if `begun` says that something precedes it.
-pub(crate) fn push_parting(
-    text: &mut String,
-    begun: bool,
-    separator: &str,
-) -> Result<(), AllocError> {
-    if begun {
-        text.try_push_str(separator)
-    } else {
-        Ok(())
-    }
+fn push_parting(text: &mut String, begun: bool, separator: &str) -> Result<(), AllocError> {
+    text.try_push_str(if begun { separator } else { "" })
 }

@@ -16,12 +16,14 @@ use Rattle.getopts.specs.ReadingLaws.{mentions_of}
 use Rattle.getopts.specs.Stored.Scan.{line_content}
 use Rattle.getopts.specs.Matches.{Matched, MatchedGroup, matches_of, matched, KeepsCount}
 use Rattle.getopts.specs.Matches.{KeepsCounts, IsCountFault}
-use Rattle.getopts.specs.Parse.{Reads, IsAccepted, HasReading, IsRefused}
+use Rattle.std.specs.Prelude.{MatchOption, MatchResult}
+use Rattle.getopts.specs.Parse.{Reads, IsAccepted, HasReading, HasNoReading, IsRefused}
+use Rattle.getopts.specs.Returns.{IsReadAnswer}
 use Rattle.getopts.specs.Canon.{Content, IsCountKeeping, content_of, main_at, IsPlain}
 use Rattle.getopts.specs.Canon.{canonical_line, IsAcceptedWith, Says}
 use Rattle.getopts.specs.Stored.Matches.{IsReadLine, IsAcceptedLine}
 use Rattle.getopts.specs.CanonAnswers.{IsWritten, IsUnwritable, IsParseAnswer}
-use Rattle.getopts.specs.CanonAnswers.{IsCanonicalAnswer, IsOrderAnswer, KeepsLineLaws}
+use Rattle.getopts.specs.CanonAnswers.{IsCanonicalAnswer, IsOrderAnswer, IsOrder, KeepsLineLaws}
 use Rattle.getopts.specs.declared.matches.ReadLine.{ReadLine}
 use Rattle.getopts.proofs.Canonical.Lines.{is_plain-true, is_plain-false, HasCanonicalLine-says}
 use Rattle.getopts.proofs.Canonical.Lines.{Says-accepted, IsSound-says, HasUnwritable-content}
@@ -212,6 +214,18 @@ no_count_fault : (groups : List MatchedGroup) (fault : Fault) → KeepsCounts gr
 no_count_fault groups fault keeps is =
     is.broken (KeepsCount-at is.before is.group is.after (subst KeepsCounts is.groups_are keeps))
 
+-- two results are equal if values are, errors are, and no value has an error beside it
+only_result : {X : Type 0} {Is : X → Type 0} (No : Fault → Type 0)
+    → ((x : X) (fault : Fault) → Is x → No fault → ⊥)
+    → ((fault other : Fault) → No fault → No other → fault ≡ other)
+    → ((x y : X) → Is x → Is y → x ≡ y) → (answer other : Result X Fault)
+    → MatchResult answer Is No → MatchResult other Is No → answer ≡ other
+only_result No apart only_no only (Ok x) (Ok y) is also = ap Ok (only x y is also)
+only_result No apart only_no only (Ok x) (Err fault) is refused = absurd (apart x fault is refused)
+only_result No apart only_no only (Err fault) (Ok x) refused is = absurd (apart x fault is refused)
+only_result No apart only_no only (Err fault) (Err other) refused also =
+    ap Err (only_no fault other refused also)
+
 module _ (options : Declared) (words : List Text) where
   -- words that have a reading have it
   pub reads_of : (m : Matched) (has : HasReading options words m) → Reads options words has.reading
@@ -255,16 +269,36 @@ module _ (options : Declared) (words : List Text) where
       no_count_fault is.matches.groups fault
       (subst (λ (m : Matched). KeepsCounts m.groups) same keeps.keeps) is.breaks
 
+  -- words have one error, and none if something was made of a reading that keeps the counts
+  pub only_answer : {X : Type 0} {Is : X → Type 0}
+      → ((x : X) → Is x → (reading : Reading) × IsCountKeeping options reading words)
+      → ((x y : X) → Is x → Is y → x ≡ y) → (answer other : Result X Fault)
+      → MatchResult answer Is (IsRefused options words)
+      → MatchResult other Is (IsRefused options words) → answer ≡ other
+  only_answer {Is = Is} reading = only_result {Is = Is} (IsRefused options words)
+      (λ x fault is refused. let keeps = reading x is in not_refused keeps.0 fault keeps.1 refused)
+      only_refusal
+
   -- words have one result of `parse`
   pub only_parse_answer : (answer other : Result Matched Fault) → IsParseAnswer options words answer
       → IsParseAnswer options words other → answer ≡ other
-  only_parse_answer (Ok m) (Ok n) is is_other = ap Ok (only_matches m n is.read is_other.read)
-  only_parse_answer (Ok m) (Err other) is is_other =
-      absurd (not_refused is.read.reading other (keeps_accepted m is) is_other)
-  only_parse_answer (Err fault) (Ok n) is is_other =
-      absurd (not_refused is_other.read.reading fault (keeps_accepted n is_other) is)
-  only_parse_answer (Err fault) (Err other) is is_other =
-      ap Err (only_refusal fault other is is_other)
+  only_parse_answer = only_answer {Is = IsAccepted options words} (λ m is. (is.read.reading, keeps_accepted m is))
+      (λ m n is also. only_matches m n is.read also.read)
+
+  -- words have one scan error, and none if they have a reading
+  pub only_of_reading : {X : Type 0} {Is : X → Type 0}
+      → ((x : X) → Is x → (reading : Reading) × Reads options words reading)
+      → ((x y : X) → Is x → Is y → x ≡ y) → (answer other : Result X Fault)
+      → MatchResult answer Is (HasNoReading options words)
+      → MatchResult other Is (HasNoReading options words) → answer ≡ other
+  only_of_reading {Is = Is} reading = only_result {Is = Is} (HasNoReading options words)
+      (λ x fault is none. let reads = reading x is in none.no_reading reads.0 reads.1)
+      (λ fault other is also. (also.only fault).0 ((is.only fault).1 refl))
+
+  -- words have one result of `parse_ignoring_counts`
+  pub only_read_answer : (answer other : Result Matched Fault) → IsReadAnswer options words answer
+      → IsReadAnswer options words other → answer ≡ other
+  only_read_answer = only_of_reading {Is = HasReading options words} (λ m has. (has.reading, reads_of m has)) only_matches
 
   -- words are accepted with one content
   pub only_content : (content other : Content) → IsAcceptedWith options words content
@@ -284,18 +318,11 @@ module _ (options : Declared) (words : List Text) where
   -- words have one result of `parse_in_order`
   pub only_order_answer : (answer other : Result (List ℕ) Fault)
       → IsOrderAnswer options words answer → IsOrderAnswer options words other → answer ≡ other
-  only_order_answer (Ok places) (Ok others) is is_other = ap Ok
-      (is.places_are ∙ ap (λ (content : Content). map (λ (m : Mention). m.group) content.mentions)
-      (only_content is.content is_other.content is.accepted is_other.accepted)
-      ∙ sym is_other.places_are)
-  only_order_answer (Ok places) (Err other) is is_other =
-      absurd (not_refused is.accepted.reading other
-      (count_keeping options words is.content is.accepted) is_other)
-  only_order_answer (Err fault) (Ok others) is is_other =
-      absurd (not_refused is_other.accepted.reading fault
-      (count_keeping options words is_other.content is_other.accepted) is)
-  only_order_answer (Err fault) (Err other) is is_other =
-      ap Err (only_refusal fault other is is_other)
+  only_order_answer = only_answer {Is = IsOrder options words}
+      (λ places is. (is.accepted.reading, count_keeping options words is.content is.accepted))
+      (λ places others is also. is.places_are
+      ∙ ap (λ (content : Content). map (λ (m : Mention). m.group) content.mentions)
+      (only_content is.content also.content is.accepted also.accepted) ∙ sym also.places_are)
 
   -- words aren't both written and unwritable
   not_both : (line : List Text) → IsWritten options words line → IsUnwritable options words → ⊥
@@ -306,23 +333,19 @@ module _ (options : Declared) (words : List Text) where
   pub only_canonical_answer : (answer other : Result (Option (List Text)) Fault)
       → IsCanonicalAnswer options words answer → IsCanonicalAnswer options words other
       → answer ≡ other
-  only_canonical_answer (Ok (Some line)) (Ok (Some other)) is is_other =
-      ap (λ (l : List Text). Ok (Some l)) (only_line line other is is_other)
-  only_canonical_answer (Ok (Some line)) (Ok None) is is_other = absurd (not_both line is is_other)
-  only_canonical_answer (Ok None) (Ok (Some other)) is is_other =
-      absurd (not_both other is_other is)
-  only_canonical_answer (Ok None) (Ok None) is is_other = refl
-  only_canonical_answer (Ok (Some line)) (Err other) is is_other =
-      absurd (not_refused is.accepted.reading other
-      (count_keeping options words is.content is.accepted) is_other)
-  only_canonical_answer (Ok None) (Err other) is is_other =
-      absurd (not_refused is.accepted.reading other
-      (count_keeping options words is.content is.accepted) is_other)
-  only_canonical_answer (Err fault) (Ok (Some other)) is is_other =
-      absurd (not_refused is_other.accepted.reading fault
-      (count_keeping options words is_other.content is_other.accepted) is)
-  only_canonical_answer (Err fault) (Ok None) is is_other =
-      absurd (not_refused is_other.accepted.reading fault
-      (count_keeping options words is_other.content is_other.accepted) is)
-  only_canonical_answer (Err fault) (Err other) is is_other =
-      ap Err (only_refusal fault other is is_other)
+  only_canonical_answer =
+      only_answer {Is = λ written. MatchOption written (IsUnwritable options words) (IsWritten options words)}
+      keeps only where
+        keeps : (written : Option (List Text))
+            → MatchOption written (IsUnwritable options words) (IsWritten options words)
+            → (reading : Reading) × IsCountKeeping options reading words
+        keeps (Some line) is = (is.accepted.reading, count_keeping options words is.content is.accepted)
+        keeps None is = (is.accepted.reading, count_keeping options words is.content is.accepted)
+
+        only : (written other : Option (List Text))
+            → MatchOption written (IsUnwritable options words) (IsWritten options words)
+            → MatchOption other (IsUnwritable options words) (IsWritten options words) → written ≡ other
+        only (Some line) (Some other) is also = ap Some (only_line line other is also)
+        only (Some line) None is also = absurd (not_both line is also)
+        only None (Some other) is also = absurd (not_both other also is)
+        only None None is also = refl

@@ -1,15 +1,14 @@
 -- The counts of groups, one after the other.
-use Rattle.std.proofs.Common.{◌≡◌, ◌==◌, ◌&&◌, ◌<◌, ◌+◌, ℕ, zero, suc, Bool, true, false, cond}
+use Rattle.std.proofs.Common.{◌≡◌, ◌==◌, ◌<◌, ◌+◌, ℕ, zero, suc}
 use Rattle.std.proofs.Common.{List, [], ◌∷◌, ◌++◌, length, map, take, drop, slice_get, unwrap_or}
 use Rattle.std.proofs.Common.{Option, Some, option_map, refl, ap, ◌∙◌, sym}
-use Rattle.std.proofs.Common.{subst, inl, inr, arith, add-zero, zero-add}
-use Rattle.std.specs.List.{filter, list_all}
-use Rattle.std.proofs.lemmas.Bool.{and_from, cases_eq, eq-eqb, ne_eqb}
+use Rattle.std.proofs.Common.{subst, arith, add-zero, zero-add}
+use Rattle.std.specs.List.{filter}
 use Rattle.std.proofs.lemmas.List.{length-map, take-append-drop}
 use Rattle.getopts.specs.Options.{Signature}
 use Rattle.getopts.specs.Fail.{Fault}
 use Rattle.getopts.specs.Reading.{Occurrence}
-use Rattle.getopts.specs.Matches.{GroupOccurrence, MatchedGroup, occurrences_mentioning, matched}
+use Rattle.getopts.specs.Matches.{MatchedGroup, occurrences_mentioning, matched}
 use Rattle.getopts.specs.Matches.{KeepsCount, KeepsCounts}
 use Rattle.getopts.specs.Matches.{FitsCount, IsCountFault}
 pub use Rattle.getopts.specs.Results.{broken_count}
@@ -112,41 +111,3 @@ signature-there (signature ∷ signatures) zero kinds there =
     (signature, refl, sym (ap (λ (k : Kinds). k.occurrence) same))
 signature-there (signature ∷ signatures) (suc i) kinds there =
     signature-there signatures i kinds there
-
--- a test that passes for each group with occurrences passes for each occurrence
-pub list_all-by_group : (p : ℕ → Bool) (occurrences : List Occurrence)
-    → ((group : ℕ) → 0 < length (occurrences_mentioning group occurrences) → p group ≡ true)
-    → list_all (λ o. p o.mention.group) occurrences ≡ true
-list_all-by_group p [] each = refl
-list_all-by_group p (o ∷ occurrences) each =
-    let founds : ℕ → Bool → List GroupOccurrence = λ group b. map
-    (λ (o : Occurrence). record { position = o.position; value = o.mention.value })
-    (cond b (o ∷ filter (λ (o : Occurrence). o.mention.group == group) occurrences)
-    (filter (λ (o : Occurrence). o.mention.group == group) occurrences)) in
-    let same : (o.mention.group == o.mention.group) ≡ true =
-    eq-eqb o.mention.group o.mention.group refl in
-    let here : 0 < length (occurrences_mentioning o.mention.group (o ∷ occurrences)) = rw same (omega arith) in
-    and_from (p o.mention.group) (list_all (λ o. p o.mention.group) occurrences)
-    (each o.mention.group here)
-    (list_all-by_group p occurrences
-    (λ group some. each group
-    (elim (o.mention.group == group) as (λ b. 0 < length (founds group b)) [
-      | true ↦
-          omega arith
-      | false ↦ some
-    ])))
-
--- a test that fails for a group with occurrences fails for one of them
-pub list_all-fails_by_group : (p : ℕ → Bool) (group : ℕ) (occurrences : List Occurrence)
-    → p group ≡ false → 0 < length (occurrences_mentioning group occurrences)
-    → list_all (λ o. p o.mention.group) occurrences ≡ false
-list_all-fails_by_group p group [] fails some = absurd (omega arith)
-list_all-fails_by_group p group (o ∷ occurrences) fails some =
-    elim (cases_eq o.mention.group group) [
-      | inl same ↦ rw (same, fails) refl
-      | inr other ↦
-          let apart : (o.mention.group == group) ≡ false = ne_eqb o.mention.group group other in
-          let rest = list_all-fails_by_group p group occurrences fails (rw apart at some) in
-          elim (p o.mention.group) as (λ b. (b && list_all (λ o. p o.mention.group) occurrences)
-          ≡ false) [ true ↦ rest | false ↦ refl ]
-    ]

@@ -1,18 +1,14 @@
--- The rows of a line in a text, while they are filled word after word.
-use Rattle.std.proofs.Common.{◌≡◌, ℕ, ◌+◌, ◌<◌, ◌≤◌, Bool, true, false, List, [], ◌∷◌, ◌++◌, length}
-use Rattle.std.proofs.Common.{map, refl, sym, ap, ◌∙◌, subst, append_assoc, append-nil, arith}
-use Rattle.std.proofs.Common.{length-append}
+-- The rows of a line, while they are filled word after word.
+use Rattle.std.proofs.Common.{◌≡◌, ℕ, ◌+◌, ◌<◌, ◌≤◌, true, false, List, [], ◌∷◌, ◌++◌, length, map}
+use Rattle.std.proofs.Common.{refl, sym, ap, ◌∙◌, subst, append_assoc, append-nil, arith, length-append}
 use Rattle.std.specs.Str.{IsUtf8}
-use Rattle.std.proofs.Math.Bool.{or-false}
-use Rattle.std.proofs.lemmas.Bool.{le-leb, lt-leb, lt-ltb, or_right}
+use Rattle.std.proofs.lemmas.Bool.{le-leb, lt-leb}
 use Rattle.std.proofs.lemmas.List.Sums.{sum_by-append, sum_by-cons}
 use Rattle.getopts.specs.Names.{Text}
 use Rattle.getopts.specs.Wrap.{Run, width_of, columns_of, text_of, IsTightBreaking, words_of}
-use Rattle.getopts.specs.Wrap.{joined, continued, parting}
 use Rattle.getopts.specs.Stored.Rows.{AddsLine}
 use Rattle.getopts.proofs.Wrapping.Breakings.{has_room, runs_from, runs_of, runs_from-taken}
 use Rattle.getopts.proofs.Wrapping.Breakings.{runs_from-refused, runs_of-tight}
-use Rattle.getopts.proofs.Wrapping.Texts.{joined-longer, joined-next, continued-some}
 
 -- one more word at the end of a run: columns and text
 columns_of-push : (run : Run) (word : Text) → 0 < length run
@@ -21,143 +17,100 @@ columns_of-push run word has_word =
     omega (arith, sum_by-append width_of run (word ∷ []), length-append run (word ∷ []))
 
 text_of-push : (run : Run) (word : Text) → 0 < length run
-    → text_of (run ++ word ∷ []) ≡ text_of run ++ 32 ∷ word
+    → text_of (run ++ word ∷ []) ≡ (text_of run ++ 32 ∷ []) ++ word
 text_of-push [] word has_word = absurd (omega arith)
-text_of-push (first ∷ []) word has_word = refl
+text_of-push (first ∷ []) word has_word = sym (append_assoc first (32 ∷ []) word)
 text_of-push (first ∷ second ∷ run) word has_word =
-    ap (λ (more : List ℕ). first ++ 32 ∷ more) (text_of-push (second ∷ run) word (omega arith))
+    ap (λ (more : Text). first ++ 32 ∷ more) (text_of-push (second ∷ run) word (omega arith))
     ∙ simp append_assoc
 
--- The text so far has rows and the current row. Together with the rows of the words to come, these
--- are the line's rows.
-pub record RowsSoFar (limit : ℕ) (separator line start text : List ℕ) (columns : ℕ)
-    (rest : List ℕ) : Type 0 where
-  pub rows : List (List ℕ)
+-- The rows so far, the current row, and the rows of the words to come are the rows before, and
+-- those of the line.
+pub record RowsSoFar (limit : ℕ) (line : Text) (before rows : List Text) (row : Text) (columns : ℕ)
+    (rest : Text) : Type 0 where
   pub run : Run
   pub has_word : 0 < length run
-  pub text_is : text ≡ start ++ joined separator (rows ++ text_of run ∷ [])
+  pub row_is : row ≡ text_of run
   pub columns_are : columns ≡ columns_of run
   pub utf8 : IsUtf8 rest
   pub to_come : rows ++ map text_of (runs_from limit run (words_of rest))
-      ≡ map text_of (runs_of limit (words_of line))
+      ≡ before ++ map text_of (runs_of limit (words_of line))
 
 -- a line without words adds nothing
-pub adds_none : (limit : ℕ) (separator line : List ℕ) (begun : Bool) (text : List ℕ)
-    → words_of line ≡ [] → AddsLine limit separator line begun begun text text
-adds_none limit separator line begun text none = (
+pub adds_none : (limit : ℕ) (line : Text) (rows : List Text) → words_of line ≡ []
+    → AddsLine limit line rows rows
+adds_none limit line rows none = (
   [],
-  (
-    [],
-    subst (λ (words : List Text). IsTightBreaking limit words []) (sym none)
-        (runs_of-tight limit []),
-    refl,
-  ),
-  sym (or-false begun),
-  sym (ap (λ (more : List ℕ). text ++ more) (nothing begun) ∙ append-nil text),
+  subst (λ (words : List Text). IsTightBreaking limit words []) (sym none) (runs_of-tight limit []),
+  sym (append-nil rows),
 )
-  where
-    nothing : (begun : Bool) → continued begun separator [] ≡ []
-    nothing true = refl
-    nothing false = refl
 
 -- the first word begins a row
-pub rows_begin : (limit : ℕ) (separator line start text word : List ℕ) (columns : ℕ) (rest : List ℕ)
-    → IsUtf8 rest × (words_of line ≡ word ∷ words_of rest) → text ≡ start ++ word
-    → columns ≡ width_of word → RowsSoFar limit separator line start text columns rest
-rows_begin limit separator line start text word columns rest next text_is columns_are = record {
-  rows = [];
+pub rows_begin : (limit : ℕ) (line : Text) (rows : List Text) (row word : Text) (columns : ℕ)
+    (rest : Text) → IsUtf8 rest × (words_of line ≡ word ∷ words_of rest) → row ≡ word
+    → columns ≡ width_of word → RowsSoFar limit line rows rows row columns rest
+rows_begin limit line rows row word columns rest next row_is columns_are = record {
   run = word ∷ [];
   has_word = omega arith;
-  text_is = text_is ∙ ap (λ (row : List ℕ). start ++ row) (sym (append-nil word));
+  row_is = row_is;
   columns_are = omega (arith, sum_by-cons width_of word []);
   utf8 = next.0;
-  to_come = ap (λ (words : List Text). map text_of (runs_of limit words)) (sym next.1);
+  to_come = ap (λ (words : List Text). rows ++ map text_of (runs_of limit words)) (sym next.1);
 }
 
-module _ {limit : ℕ} {separator line start text : List ℕ} {columns : ℕ} {rest : List ℕ}
-    (so_far : RowsSoFar limit separator line start text columns rest) where
+module _ {limit : ℕ} {line : Text} {before rows : List Text} {row : Text} {columns : ℕ} {rest : Text}
+    (so_far : RowsSoFar limit line before rows row columns rest)
+    (word after : Text) (next : IsUtf8 after × (words_of rest ≡ word ∷ words_of after)) where
   -- a word that fits joins the current row
-  pub rows_take : (word after new_text : List ℕ) (new_columns : ℕ)
-      → IsUtf8 after × (words_of rest ≡ word ∷ words_of after)
-      → columns + (1 + width_of word) ≤ limit
-      → (new_columns ≡ columns + (1 + width_of word)) × (new_text ≡ text ++ 32 ∷ word)
-      → RowsSoFar limit separator line start new_text new_columns after
-  rows_take word after new_text new_columns next fits taken =
-      let rows = so_far.rows in
+  pub rows_take : columns + (1 + width_of word) ≤ limit
+      → RowsSoFar limit line before rows ((row ++ 32 ∷ []) ++ word) (columns + (1 + width_of word)) after
+  rows_take fits =
       let run = so_far.run in
       let pushed = columns_of-push run word so_far.has_word in
-      let room : has_room limit run word ≡ true = le-leb _ _ (omega (arith, so_far.columns_are)) in
+      let taken : has_room limit run word ≡ true = le-leb _ _ (omega (arith, so_far.columns_are)) in
       record {
-        rows = rows;
         run = run ++ word ∷ [];
         has_word = omega (arith, length-append run (word ∷ []));
-        text_is =
-            taken.1
-            ∙ ap (λ (text : List ℕ). text ++ 32 ∷ word) so_far.text_is
-            ∙ append_assoc start (joined separator (rows ++ text_of run ∷ [])) (32 ∷ word)
-            ∙ ap (λ (row : List ℕ). start ++ row)
-            (sym (joined-longer separator rows (text_of run) (32 ∷ word)))
-            ∙ ap (λ (row : List ℕ). start ++ joined separator (rows ++ row ∷ []))
-            (sym (text_of-push run word so_far.has_word));
+        row_is = ap (λ (row : Text). (row ++ 32 ∷ []) ++ word) so_far.row_is
+            ∙ sym (text_of-push run word so_far.has_word);
         columns_are = omega (arith, so_far.columns_are);
         utf8 = next.0;
-        to_come =
-            ap (λ (runs : List Run). rows ++ map text_of runs)
-            (sym (ap (runs_from limit run) next.1
-            ∙ runs_from-taken limit run word (words_of after) room))
+        to_come = ap (λ (runs : List Run). rows ++ map text_of runs)
+            (sym (ap (runs_from limit run) next.1 ∙ runs_from-taken limit run word (words_of after) taken))
             ∙ so_far.to_come;
       }
 
   -- a word that doesn't fit ends the current row and begins a new one
-  pub rows_end : (word after new_text : List ℕ) (new_columns : ℕ)
-      → IsUtf8 after × (words_of rest ≡ word ∷ words_of after)
-      → limit < columns + (1 + width_of word)
-      → (new_columns ≡ width_of word) × (new_text ≡ text ++ (separator ++ word))
-      → RowsSoFar limit separator line start new_text new_columns after
-  rows_end word after new_text new_columns next long made =
-      let rows = so_far.rows in
+  pub rows_end : limit < columns + (1 + width_of word)
+      → RowsSoFar limit line before (rows ++ row ∷ []) word (width_of word) after
+  rows_end long =
       let run = so_far.run in
       let pushed = columns_of-push run word so_far.has_word in
-      let refused : has_room limit run word ≡ false =
-      lt-leb _ _ (omega (arith, so_far.columns_are)) in
+      let refused : has_room limit run word ≡ false = lt-leb _ _ (omega (arith, so_far.columns_are)) in
       record {
-        rows = rows ++ text_of run ∷ [];
         run = word ∷ [];
         has_word = omega arith;
-        text_is =
-            made.1
-            ∙ ap (λ (text : List ℕ). text ++ (separator ++ word)) so_far.text_is
-            ∙ append_assoc start (joined separator (rows ++ text_of run ∷ [])) (separator ++ word)
-            ∙ ap (λ (row : List ℕ). start ++ row)
-            (sym (joined-next separator rows (text_of run) word));
+        row_is = refl;
         columns_are = omega (arith, sum_by-cons width_of word []);
         utf8 = next.0;
         to_come =
-            append_assoc rows (text_of run ∷ [])
-            (map text_of (runs_from limit (word ∷ []) (words_of after)))
+            ap (λ (row : Text). (rows ++ row ∷ []) ++ map text_of (runs_from limit (word ∷ []) (words_of after)))
+            so_far.row_is
+            ∙ append_assoc rows (text_of run ∷ []) (map text_of (runs_from limit (word ∷ []) (words_of after)))
             ∙ ap (λ (runs : List Run). rows ++ map text_of runs)
             (sym (ap (runs_from limit run) next.1
             ∙ runs_from-refused limit run word (words_of after) refused))
             ∙ so_far.to_come;
       }
 
-  -- with no words left, the current row is the last
-  pub rows_finish : (begun : Bool) (old : List ℕ) → words_of rest ≡ []
-      → start ≡ old ++ parting begun separator → AddsLine limit separator line begun true old text
-  rows_finish begun old none start_is =
-      let rows = so_far.rows ++ text_of so_far.run ∷ [] in
-      let some : 0 < length rows =
-      omega (arith, length-append so_far.rows (text_of so_far.run ∷ [])) in (
-        rows,
-        (
-          runs_of limit (words_of line),
-          runs_of-tight limit (words_of line),
-          ap (λ (words : List Text). so_far.rows ++ map text_of (runs_from limit so_far.run words))
-              (sym none) ∙ so_far.to_come,
-        ),
-        sym (or_right begun _ (lt-ltb 0 (length rows) some)),
-        so_far.text_is
-            ∙ ap (λ (start : List ℕ). start ++ joined separator rows) start_is
-            ∙ append_assoc old (parting begun separator) (joined separator rows)
-            ∙ ap (λ (added : List ℕ). old ++ added) (continued-some begun separator rows some),
-      )
+-- with no words left, the current row is the last
+pub rows_finish : (limit : ℕ) (line : Text) (before rows : List Text) (row : Text) (columns : ℕ)
+    (rest : Text) → RowsSoFar limit line before rows row columns rest → words_of rest ≡ []
+    → AddsLine limit line before (rows ++ row ∷ [])
+rows_finish limit line before rows row columns rest so_far none = (
+  runs_of limit (words_of line),
+  runs_of-tight limit (words_of line),
+  ap (λ (row : Text). rows ++ row ∷ []) so_far.row_is
+      ∙ ap (λ (words : List Text). rows ++ map text_of (runs_from limit so_far.run words)) (sym none)
+      ∙ so_far.to_come,
+)

@@ -1,12 +1,12 @@
 -- Groups one after the other, and the rows of a usage text.
 use Rattle.std.proofs.Common.{◌≡◌, ℕ, zero, suc, ◌+◌, ◌-◌, ◌<◌, ◌≤◌, Bool, true, not, ◌||◌, List}
 use Rattle.std.proofs.Common.{[], ◌∷◌, ◌++◌, Some, length, take, drop, refl, ap, sym}
-use Rattle.std.proofs.Common.{◌∙◌, subst, arith, codes, append_assoc}
+use Rattle.std.proofs.Common.{◌∙◌, subst, arith, append_assoc}
 use Rattle.std.specs.Prelude.{Result, Ok, Err, OnOk, slice_get, nat_lt, if◌then◌else◌}
 use Rattle.std.specs.List.{AllZip}
 use Rattle.std.proofs.Math.Bool.{or-false}
 use Rattle.std.proofs.lemmas.Bool.Decides.{nat_tests}
-use Rattle.std.proofs.lemmas.List.{take_all, take_more, drop_at}
+use Rattle.std.proofs.lemmas.List.{take_all, take_more}
 use Rattle.std.proofs.lemmas.List.Folds.{list_any-append}
 use Rattle.std.proofs.lemmas.Option.{slice_get_within, get_or_from_slice_get}
 use Rattle.std.proofs.lemmas.Slice.Zip.{all_zipped_more}
@@ -16,11 +16,8 @@ use Rattle.getopts.specs.Options.{Group, Declared}
 use Rattle.getopts.specs.Only.{IsTheOnly}
 use Rattle.getopts.specs.Usage.{any_short, spaces, head, next_row, padding, row_text}
 use Rattle.getopts.specs.Usage.{IsUsageRow, AreUsageRows, usage_text, IsUsageText}
-use Rattle.getopts.specs.Wrap.{width_of, IsDescriptionRows, joined, parting}
+use Rattle.getopts.specs.Wrap.{width_of, IsDescriptionRows, joined}
 use Rattle.getopts.specs.declared.help.Group.{Group as Borrowed}
-use Rattle.getopts.specs.Stored.Rows.{AddsTheOnly, AddsDescription}
-use Rattle.getopts.proofs.Wrapping.Lines.{rows_exactly}
-use Rattle.getopts.proofs.Wrapping.Texts.{joined-push}
 
 -- a property that always holds, holds if the result is `Ok`
 pub on_ok : {T E P : Type 0} (r : Result T E) → P → OnOk r P
@@ -87,20 +84,6 @@ any_short_more groups place group at so_far now so_far_is now_is =
     ∙ sym (list_any-append has_short (take place groups) (group ∷ []))
     ∙ ap any_short (sym (group_more groups place group (sym at)))
 
--- one more text after those of the groups before it
-pub text_more : (separator : Text) (texts : List Text) (place : ℕ)
-    (old so_far parted new text : Text) → length texts ≡ place
-    → so_far ≡ old ++ joined separator texts → parted ≡ so_far ++ parting (nat_lt 0 place) separator
-    → new ≡ parted ++ text → new ≡ old ++ joined separator (texts ++ text ∷ [])
-text_more separator texts place old so_far parted new text count so_far_is parted_is new_is =
-    new_is
-    ∙ ap (λ (parted : Text). parted ++ text) (parted_is
-    ∙ ap (λ (so_far : Text). so_far ++ parting (nat_lt 0 place) separator) so_far_is
-    ∙ ap (λ place. (old ++ joined separator texts) ++ parting (nat_lt 0 place) separator)
-    (sym count))
-    ∙ simp append_assoc refl
-    ∙ ap (λ (added : Text). old ++ added) (sym (joined-push separator texts text))
-
 -- ---- padding
 
 drop-spaces : (m n total : ℕ) → total ≡ m + n → drop m (spaces total) ≡ spaces n
@@ -121,24 +104,17 @@ padding_narrow own columns is narrow =
 -- ---- rows
 
 -- a row made of the only description rows is the only row
-pub row_added : (long_only among_shorts : Bool) (group : Group) (old headed padded new : Text)
-    → headed ≡ old ++ head long_only among_shorts group
-    → padded ≡ headed ++ padding (drop (length old) headed)
-    → AddsDescription 54 next_row group.description padded new
-    → AddsTheOnly (IsUsageRow long_only among_shorts group) old new
-row_added long_only among_shorts group old headed padded new headed_is padded_is adds =
-    let own = head long_only among_shorts group in
-    let own_is : drop (length old) headed ≡ own = ap (drop (length old)) headed_is
-    ∙ drop_at old own _ refl in (
-      row_text own adds.0,
-      made_of_the_only (IsDescriptionRows 54 group.description) (row_text own) adds.0 _
-          (λ others. rows_exactly 54 group.description adds.0 others adds.1) refl,
-      adds.2
-          ∙ ap (λ (padded : Text). padded ++ joined next_row adds.0)
-          (padded_is ∙ ap (λ (head : Text). headed ++ padding head) own_is
-          ∙ ap (λ (headed : Text). headed ++ padding own) headed_is)
-          ∙ simp append_assoc refl,
-    )
+pub row_is_the_only : (long_only among_shorts : Bool) (group : Group) (rows : List Text)
+    (headed row : Text)
+    → headed ≡ head long_only among_shorts group
+    → IsTheOnly (IsDescriptionRows 54 group.description) rows
+    → row ≡ (headed ++ padding headed) ++ joined next_row rows
+    → IsTheOnly (IsUsageRow long_only among_shorts group) row
+row_is_the_only long_only among_shorts group rows headed row headed_is only row_is =
+    made_of_the_only (IsDescriptionRows 54 group.description)
+    (row_text (head long_only among_shorts group)) rows row only
+    (row_is ∙ append_assoc headed (padding headed) (joined next_row rows)
+    ∙ ap (λ (headed : Text). row_text headed rows) headed_is)
 
 -- the only rows of the groups before a place, in order
 abbrev pub AreRowsBefore : Declared → ℕ → List Text → Type 0
@@ -171,13 +147,6 @@ rows_all options place rows all each =
     each_is_the_only Row options.groups rows
     (subst (λ (groups : List Group). AllZip (λ group row. IsTheOnly (Row group) row) groups rows)
     (take_all place options.groups all) each)
-
--- the text has grown by the rows of the groups before a place, separated by newlines
-pub record RowsInText (options : Declared) (place : ℕ) (old text : Text) : Type 0 where
-  pub rows : List Text
-  pub count : length rows ≡ place
-  pub each : AreRowsBefore options place rows
-  pub text_is : text ≡ old ++ joined (codes "\n") rows
 
 -- a text made of the only usage rows is the only usage text
 pub text_is_the_only : (options : Declared) (brief : Text) (rows : List Text) (text : Text)

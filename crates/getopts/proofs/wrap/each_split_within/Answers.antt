@@ -1,33 +1,38 @@
--- The text has the rows, and its lines are these rows.
-use Rattle.std.proofs.Common.{ℕ, [], List, ◌∙◌, ap, ◌∷◌, ◌++◌, map, string_bytes, subst, sym}
-use Rattle.std.specs.Prelude.{IfOk}
-use Rattle.std.specs.Str.Lines.{lines}
-use Rattle.std.proofs.lemmas.Result.{IfOk-weaker}
-use Rattle.getopts.specs.Wrap.{IsDescriptionRows, joined}
-use Rattle.getopts.proofs.Wrapping.Lines.{rows_exactly, rows_fewest}
-use Rattle.getopts.proofs.Wrapping.Texts.{lines_joined}
+-- The rows are those of all lines.
+use Rattle.std.proofs.Common.{[], ◌∷◌, map, string_bytes, lit<, ap, ◌∙◌, subst, sym}
+use Rattle.std.specs.Str.Iter.{split_text, split_has_more, split_pattern}
+use Rattle.std.proofs.lemmas.Iterator.Consumers.{YieldsList-end}
+use Rattle.std.proofs.lemmas.Iterator.Splits.{YieldsList-from_str_split}
+use Rattle.std.proofs.lemmas.List.{map-append}
+use Rattle.getopts.specs.Wrap.{IsDescriptionRows}
+use Rattle.getopts.proofs.Wrapping.Lines.{rows_of, rows_of-push, rows_of-are, rows_exactly}
+use Rattle.getopts.proofs.Wrapping.Lines.{rows_fewest}
 use Rattle.getopts.proofs.wrap.each_split_within.Goals as goal
 
--- the rows
-are_description_rows : (c : goal.After-drop-text-2)
-    → IfOk c.rows_in.result
-    (λ rows. IsDescriptionRows c.args.lim c.args.desc.now (map string_bytes rows.items))
-are_description_rows c =
-    let adds = c.in_ok-push_description.ensures in
-    let text_is = c.as_str.ensures.value ∙ adds.2
-    ∙ ap (λ (old : List ℕ). old ++ joined (10 ∷ []) adds.0) c.in_ok-text.ensures.bytes in
-    IfOk-weaker c.rows_in.result _ _
-    (λ rows are_lines. subst (IsDescriptionRows c.args.lim c.args.desc.now)
-    (sym (are_lines ∙ ap lines text_is ∙ lines_joined c.args.lim c.args.desc.now adds.0 adds.1))
-    adds.1) c.rows_in.ensures
+-- one more line, with its rows
+pub loop-line-preserved : goal.loop-line-preserved
+loop-line-preserved c =
+    rw (map-append (λ line. line.now) c.loop-line.yielded (c.in-Some.line ∷ []))
+    (rows_of-push c.args.lim (map (λ line. line.now) c.loop-line.yielded) c.in-Some.line.now _ _
+    c.loop-line.invariant c.in_ok-push_line.ensures)
+
+-- the lines from `split` are all the lines
+are_rows : (c : goal.In-None)
+    → IsDescriptionRows c.args.lim c.args.desc.now (map string_bytes c.loop-line.rows.items)
+are_rows c =
+    let start = c.into_iter-line-iterator.ensures.into_iter_gives in
+    let split = c.split-line-items.ensures in
+    let all = YieldsList-from_str_split 10 c.args.desc.now (lit< tt) (ap split_text start
+    ∙ split.text)
+    (ap split_has_more start ∙ split.has_more) (ap split_pattern start ∙ split.pattern) in
+    let each = YieldsList-end all c.loop-line.yielded _ c.loop-line.yielded_by _ _ c.in-None.is
+    c.next.ensures.steps in
+    subst (IsDescriptionRows c.args.lim c.args.desc.now)
+    (sym (c.loop-line.invariant ∙ ap (rows_of c.args.lim) each.0))
+    (rows_of-are c.args.lim c.args.desc.now)
 
 pub returns-clause-rows : goal.returns-clause-rows
-returns-clause-rows c = IfOk-weaker c.rows_in.result _ _
-    (λ rows are_rows. λ others. rows_exactly c.args.lim c.args.desc.now _ others are_rows)
-    (are_description_rows c)
+returns-clause-rows c = λ others. rows_exactly c.args.lim c.args.desc.now _ others (are_rows c)
 
 pub returns-clause-fewest : goal.returns-clause-fewest
-returns-clause-fewest c =
-    IfOk-weaker c.rows_in.result _ _
-    (λ rows are_rows. rows_fewest c.args.lim c.args.desc.now _ are_rows)
-    (are_description_rows c)
+returns-clause-fewest c = rows_fewest c.args.lim c.args.desc.now _ (are_rows c)

@@ -1,18 +1,18 @@
 -- The content of the line is the one with which the words are accepted.
-use Rattle.std.proofs.Common.{◌∙◌, sym, Ok, Err, Some, None, List}
-use Rattle.getopts.specs.Names.{Text}
+use Rattle.std.proofs.Common.{◌∙◌, sym, Ok, Some, None}
 use Rattle.getopts.specs.Options.{Declared, MayBeDeclared}
 use Rattle.getopts.specs.Theorem.{LinesReadAgain}
 use Rattle.std.proofs.lemmas.Result.{err_from_is_err_and}
 use Rattle.getopts.proofs.Canonical.Answered.{IsWritten-line, IsUnwritable-line, groups_within}
 use Rattle.getopts.proofs.Canonical.Answered.{KeepsLineLaws-lawful}
 use Rattle.getopts.proofs.MainTheorem.Callers.{LinesReadAgain_lem}
-use Rattle.getopts.proofs.MainTheorem.Results.{ReturnsResult-canonical}
+use Rattle.getopts.proofs.MainTheorem.Results.{only_refused}
 use Rattle.getopts.proofs.options.Options.canonical_words.Goals as goal
 
 pub are_plain-requires : goal.are_plain-requires
 are_plain-requires g c =
-    rw c.groups-groups.ensures c.in_ok-accepted.ensures.accepted.is_read.of_groups
+    rw c.groups-groups.ensures
+    (groups_within _ _ c.in_ok-accepted.accepted c.in_ok-accepted.ensures.accepted)
 
 pub canonical_line-requires : goal.canonical_line-requires
 canonical_line-requires g c =
@@ -40,20 +40,16 @@ pub returns-in_err-accepted-clause-result : goal.returns-in_err-accepted-clause-
 returns-in_err-accepted-clause-result g c =
     let left = err_from_is_err_and c.from_residual.result c.from_residual.ensures.1 in
     rw (left.1, left.2)
-    (ReturnsResult-canonical {Y = List Text} _ _ c.in_err-accepted.ensures.results (λ line. line)
-    (Err c.in_err-accepted.field-0.0) tt tt
+    (only_refused _ _ c.in_err-accepted.ensures.results.canonical c.in_err-accepted.field-0.0
     c.in_err-accepted.ensures.refused)
 
 pub returns-in_ok-canonical_line-clause-result : goal.returns-in_ok-canonical_line-clause-result
 returns-in_ok-canonical_line-clause-result g c =
-    ReturnsResult-canonical {Y = List Text} _ _ c.in_ok-accepted.ensures.results (λ line. line)
-    (Ok (Some _))
-    (returns-in_ok-canonical_line-clause-written g c) tt tt
+    sym ((c.in_ok-accepted.ensures.results.canonical (Ok (Some _))).0 (returns-in_ok-canonical_line-clause-written g c))
 
 pub returns-else-are_plain-clause-result : goal.returns-else-are_plain-clause-result
 returns-else-are_plain-clause-result g c =
-    ReturnsResult-canonical {Y = List Text} _ _ c.in_ok-accepted.ensures.results (λ line. line)
-    (Ok None) tt (returns-else-are_plain-clause-unwritable g c) tt
+    sym ((c.in_ok-accepted.ensures.results.canonical (Ok None)).0 (returns-else-are_plain-clause-unwritable g c))
 
 -- canonical lines read back, by the laws above
 again : (options : Declared) → MayBeDeclared options.groups → LinesReadAgain options

@@ -1,10 +1,10 @@
 -- The line that was read gives the matches of its reading.
-use Rattle.std.proofs.Common.{◌≡◌, ◌∙◌, Ok, Err}
+use Rattle.std.proofs.Common.{◌≡◌, ◌∙◌, sym, Ok}
 use Rattle.std.proofs.lemmas.Result.{err_from_is_err_and}
 use Rattle.getopts.specs.Options.{signatures_of}
 use Rattle.getopts.proofs.Canonical.Answered.{HasReading-line}
 use Rattle.getopts.proofs.Parsing.Holds.{FitOptions-read, EndsInTrailing-read}
-use Rattle.getopts.proofs.MainTheorem.Results.{ReturnsResult-read}
+use Rattle.getopts.proofs.MainTheorem.Results.{only_refused}
 use Rattle.getopts.proofs.options.Options.parse_ignoring_counts.Goals as goal
 
 pub returns-clause-read : goal.returns-clause-read
@@ -24,9 +24,9 @@ pub returns-in_err-read-clause-result : goal.returns-in_err-read-clause-result
 returns-in_err-read-clause-result g c =
     let left = err_from_is_err_and c.from_residual.result c.from_residual.ensures.1 in
     rw (left.1, left.2)
-    (ReturnsResult-read _ _ c.in_err-read.ensures.results (Err c.in_err-read.field-0.0) tt
+    (only_refused _ _ c.in_err-read.ensures.results.read c.in_err-read.field-0.0
     c.in_err-read.ensures.refused)
 
 pub returns-clause-result : goal.returns-clause-result
 returns-clause-result g c =
-    ReturnsResult-read _ _ c.in_ok-read.ensures.results (Ok c.of_line.result) (returns-clause-read g c) tt
+    sym ((c.in_ok-read.ensures.results.read (Ok _)).0 (returns-clause-read g c))

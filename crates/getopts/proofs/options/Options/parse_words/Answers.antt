@@ -1,11 +1,11 @@
 -- The line that was read gives accepted matches, and the laws of readings hold for its options.
-use Rattle.std.proofs.Common.{◌≡◌, ◌∙◌, subst, Ok, Err}
+use Rattle.std.proofs.Common.{◌≡◌, ◌∙◌, subst, sym, Ok}
 use Rattle.std.proofs.lemmas.Result.{err_from_is_err_and}
 use Rattle.getopts.specs.Options.{signatures_of}
 use Rattle.getopts.specs.ReadingLaws.{HavePositionsBelow}
 use Rattle.getopts.proofs.Canonical.Answered.{IsAccepted-line}
 use Rattle.getopts.proofs.MainTheorem.BeforeFree.{HaveLastWordsFree-accepted}
-use Rattle.getopts.proofs.MainTheorem.Results.{ReturnsResult-parse}
+use Rattle.getopts.proofs.MainTheorem.Results.{only_refused}
 use Rattle.getopts.proofs.Parsing.Parsed.{positions_below-read, keeps_laws}
 use Rattle.getopts.proofs.Scanner.Loop.{length-texts}
 use Rattle.getopts.proofs.Parsing.Holds.{FitOptionsAndCounts-accepted, EndsInTrailing-read}
@@ -40,10 +40,9 @@ pub returns-in_err-accepted-clause-result : goal.returns-in_err-accepted-clause-
 returns-in_err-accepted-clause-result g c =
     let left = err_from_is_err_and c.from_residual.result c.from_residual.ensures.1 in
     rw (left.1, left.2)
-    (ReturnsResult-parse _ _ c.in_err-accepted.ensures.results (Err c.in_err-accepted.field-0.0) tt
+    (only_refused _ _ c.in_err-accepted.ensures.results.parse c.in_err-accepted.field-0.0
     c.in_err-accepted.ensures.refused)
 
 pub returns-clause-result : goal.returns-clause-result
 returns-clause-result g c =
-    ReturnsResult-parse _ _ c.in_ok-accepted.ensures.results (Ok c.of_line.result)
-    (returns-clause-accepted g c) tt
+    sym ((c.in_ok-accepted.ensures.results.parse (Ok _)).0 (returns-clause-accepted g c))

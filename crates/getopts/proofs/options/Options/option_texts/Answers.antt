@@ -1,0 +1,28 @@
+use Rattle.std.proofs.Common.{◌∷◌, [], List, length, map, string_bytes, refl, ap, ◌∙◌, arith}
+use Rattle.std.proofs.lemmas.List.{map-append, take_all}
+use Rattle.getopts.specs.Options.{Group}
+use Rattle.getopts.specs.Stored.Help.{group_view}
+use Rattle.getopts.specs.Usage.{option_text}
+use Rattle.getopts.proofs.Wrapping.Usage.{group_more}
+use Rattle.getopts.proofs.options.Options.option_texts.Goals as goal
+
+-- one more text
+pub loop-place-preserved : goal.loop-place-preserved
+loop-place-preserved c =
+    rw (
+      c.in_ok-push.ensures.items,
+      map-append string_bytes c.loop-place.texts.items (c.push_option.new.text ∷ []),
+      group_more c.args.self.now.groups c.loop-place.place (group_view c.get.result)
+          (rw c.groups-groups.ensures at c.get.ensures),
+      map-append option_text _ (group_view c.get.result ∷ []),
+      c.in_ok-push_option.ensures,
+      c.new-text.ensures.bytes,
+      c.loop-place.invariant,
+    ) refl
+
+-- all options
+pub returns : goal.returns
+returns c =
+    c.loop-place.invariant
+    ∙ ap (map option_text) (take_all c.loop-place.place c.args.self.now.groups
+    (omega (arith, ap (λ (groups : List Group). length groups) c.groups-groups.ensures)))
