@@ -121,6 +121,9 @@ impl Options {
     /// All rows are built first. Then the closure is called, once. If an allocation for the rows
     /// fails, it isn't called.
     ///
+    /// Requires a closure that may be called with any rows. As it isn't called again, it may be one
+    /// that can be called only once.
+    ///
     /// ```
     /// let text = options.usage_with_format(alloc, |rows| {
     ///     let count = rows.count();
@@ -137,7 +140,7 @@ impl Options {
         alloc: Global,
         mut formatter: F,
     ) -> Result<String, AllocError>
-        requires { F.IsAlwaysCallable formatter }
+        requires { (rows : _) → F.pre formatter rows }
 
         // This is what the closure, as it was passed, returns for the usage rows. Only one list of
         // texts is the usage rows.

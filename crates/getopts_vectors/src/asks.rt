@@ -1,5 +1,7 @@
 //! Answers about options, errors, and calls that need neither, as fields.
 
+ghost use Rattle.std.specs.Prelude.{◌≡◌};
+
 use crate::errors::{fault, printed};
 use crate::form::{Answer, Field, field_at, is_taken};
 use crate::iterators::{promised, taken};
@@ -57,13 +59,18 @@ fn formatted_rows(alloc: Global, options: &Options, answer: &mut Answer) {
 }
 
 /// Answers how often a closure that doesn't allocate was called: not at all if the rows can't be
-/// allocated.
+/// allocated. The closure's own contract lets it be called only once.
 fn called(alloc: Global, options: &Options, answer: &mut Answer) {
     let mut calls = 0usize;
-    let made = options.usage_with_format(alloc, |_rows| {
-        calls = calls.saturating_add(1);
-        Ok(String::new(alloc))
-    });
+    let made = options.usage_with_format(
+        alloc,
+        |_rows|
+            requires { calls ≡ 0 }
+        {
+            calls += 1;
+            Ok(String::new(alloc))
+        },
+    );
     if made.is_err() && calls > 0 {
         answer.stop(WRONG_FIELDS);
     } else {

@@ -93,6 +93,9 @@ impl Options {
     /// All rows are built first. Then the closure is called, once. If an allocation for the rows
     /// fails, it isn't called.
     ///
+    /// Requires a closure that may be called with any rows. As it isn't called again, it may be one
+    /// that can be called only once.
+    ///
     /// ```text
     /// let text = options.usage_with_format(alloc, |rows| {
     ///     let count = rows.count();
