@@ -1,16 +1,15 @@
 -- Operands, one after the other.
 use Rattle.std.proofs.Common.{◌≡◌, ℕ, ◌<◌, ◌≤◌, ◌+◌, Bool, true, false, List, [], ◌∷◌, ◌++◌, length}
-use Rattle.std.proofs.Common.{drop, get_or, map, take, Some, None, refl, sym, ap, ◌∙◌, arith, ◌-◌}
-use Rattle.std.proofs.Common.{append-nil, append_assoc, suc, zero}
+use Rattle.std.proofs.Common.{drop, get_or, map, take, Some, None, refl, ap, ◌∙◌, arith, ◌-◌, suc}
+use Rattle.std.proofs.Common.{zero}
 use Rattle.std.proofs.Math.ListN.{drop_of_length-le}
 use Rattle.std.specs.Prelude.{◌||◌, codes, if◌then◌else◌, nat_lt}
-use Rattle.std.specs.List.{AllZip, flat_map}
+use Rattle.std.specs.List.{AllZip}
 use Rattle.getopts.specs.Only.{IsTheOnly}
 use Rattle.getopts.specs.Usage.{next_row, spaces}
 use Rattle.getopts.proofs.Wrapping.Usage.{made_of_the_only}
-use Rattle.std.proofs.lemmas.List.{at_drop_more, length-map, length-take-le, map-append, take_more}
-use Rattle.std.proofs.lemmas.List.Concat.{flat_map-append}
-use Rattle.getopts.proofs.Wrapping.Texts.{joined-push}
+use Rattle.std.proofs.lemmas.List.{at_drop_more}
+use Rattle.std.proofs.lemmas.Grind.{common_steps}
 use Rattle.getopts.specs.Wrap.{IsDescriptionRows, continued, joined, parting}
 use Rattle.getopts.specs.Names.{Text}
 use Rattle.getopts_shell.specs.Program.{IsOperandRow, free_fault, operand_fault, operand_head}
@@ -76,11 +75,8 @@ pub continued_push : (begun : Bool) (separator : Text) (texts : List Text) (text
     → continued begun separator (texts ++ text ∷ [])
     ≡ continued begun separator texts
     ++ (parting (begun || nat_lt 0 (length texts)) separator ++ text)
-continued_push true separator texts text =
-    flat_map-append (λ (text : Text). separator ++ text) texts (text ∷ [])
-    ∙ ap (λ (last : Text). flat_map (λ (text : Text). separator ++ text) texts ++ last)
-    (append-nil (separator ++ text))
-continued_push false separator texts text = joined-push separator texts text
+continued_push true separator texts text = grind (arith, common_steps)
+continued_push false separator texts text = grind (arith, common_steps)
 
 -- the items of operands
 abbrev pub items_of : List StoredOperand → List Text
@@ -100,23 +96,7 @@ pub items_push : (begun parted : Bool) (operands : List StoredOperand) (at : ℕ
     → (text ++ parting parted (codes " ")) ++ (get_or operands at d).item.now
     ≡ old ++ continued begun (codes " ") (items_of (take (at + 1) operands))
 items_push begun parted operands at d old text below parted_is text_is =
-    let items = items_of (take at operands) in
-    let item = (get_or operands at d).item.now in
-    let count : length items ≡ at =
-    length-map (operands_of (take at operands)) (λ (operand : Operand). operand.item)
-    ∙ length-map (take at operands) operand_of ∙ length-take-le at operands (omega (arith, below)) in
-    append_assoc text (parting parted (codes " ")) item
-    ∙ ap (λ (t : Text). t ++ (parting parted (codes " ") ++ item)) text_is
-    ∙ append_assoc old (continued begun (codes " ") items) (parting parted (codes " ") ++ item)
-    ∙ ap (λ (b : Bool). old ++ (continued begun (codes " ") items ++ (parting b (codes " ")
-    ++ item))) (parted_is ∙ ap (λ (n : ℕ). begun || nat_lt 0 n) (sym count))
-    ∙ ap (λ (t : Text). old ++ t) (sym (continued_push begun (codes " ") items item)
-    ∙ ap (λ (all : List Text). continued begun (codes " ") all)
-    (sym (ap (λ (some : List Operand). map (λ (operand : Operand). operand.item) some)
-    (ap operands_of (take_more operands at d below)
-    ∙ map-append operand_of (take at operands) (get_or operands at d ∷ []))
-    ∙ map-append (λ (operand : Operand). operand.item) (operands_of (take at operands))
-    (operand_of (get_or operands at d) ∷ []))))
+    grind (arith, common_steps, continued_push)
 
 -- ---- rows
 

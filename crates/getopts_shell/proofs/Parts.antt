@@ -1,15 +1,14 @@
 -- Texts that are cut at a byte, and written with another text in its place.
 use Rattle.std.proofs.Common.{◌≡◌, ℕ, ◌<◌, Bool, true, false, eqb, List, [], ◌∷◌, ◌++◌, length, map}
 use Rattle.std.proofs.Common.{refl, sym, ap, ◌∙◌, append_assoc, arith}
-use Rattle.std.specs.Prelude.{nat_lt}
 use Rattle.std.specs.List.{flat_map, onto_first, slice_split}
 use Rattle.std.proofs.lemmas.Bool.{eqb-true}
 use Rattle.std.proofs.lemmas.Bool.Decides.{nat_tests}
-use Rattle.std.proofs.lemmas.List.{length-append, map-id}
+use Rattle.std.proofs.lemmas.List.{map-id}
 use Rattle.std.proofs.lemmas.List.Splits.{length-slice_split}
-use Rattle.getopts.proofs.Wrapping.Texts.{joined-push}
+use Rattle.getopts.proofs.Wrapping.Texts.{JoinedSoFar}
 use Rattle.getopts.specs.Names.{Text}
-use Rattle.getopts.specs.Wrap.{joined, parting}
+use Rattle.getopts.specs.Wrap.{joined}
 use Rattle.getopts_shell.specs.Completion.{stub_byte, stub_quoted}
 use Rattle.getopts_shell.specs.Quote.{quoted_byte, replaced}
 
@@ -63,29 +62,6 @@ module _ (one : ℕ) (other : Text) (write : Text → Text) (write_byte : ℕ �
       by_test rest false is =
           simp is (onto_part byte (slice_split (λ b. eqb b one) word) some is
           ∙ ap (λ (text : Text). write_byte byte ++ text) rest)
-
--- The text has grown by texts with a separator between each two, and the flag tells whether there
--- is any.
-pub record JoinedSoFar (separator : Text) (texts : List Text) (begun : Bool)
-    (old text : Text) : Type 0 where
-  pub begun_is : begun ≡ nat_lt 0 (length texts)
-  pub text_is : text ≡ old ++ joined separator texts
-
--- one more text
-pub one_more : (separator : Text) (texts : List Text) (begun : Bool) (more old text : Text)
-    → JoinedSoFar separator texts begun old text
-    → JoinedSoFar separator (texts ++ more ∷ []) true old
-    ((text ++ parting begun separator) ++ more)
-one_more separator texts begun more old text so_far = record {
-  begun_is = grind (arith, nat_tests, length-append);
-  text_is = append_assoc text (parting begun separator) more
-      ∙ ap (λ (begun : Bool). text ++ (parting begun separator ++ more)) so_far.begun_is
-      ∙ ap (λ (text : Text). text ++ (parting (nat_lt 0 (length texts)) separator ++ more))
-      so_far.text_is
-      ∙ append_assoc old (joined separator texts)
-      (parting (nat_lt 0 (length texts)) separator ++ more)
-      ∙ ap (λ (text : Text). old ++ text) (sym (joined-push separator texts more));
-}
 
 itself : (one : ℕ) → eqb one one ≡ true
 itself one = grind (arith, nat_tests)
