@@ -2,6 +2,7 @@
 
 import collections
 import functools
+import itertools
 import os
 import platform
 import re
@@ -25,6 +26,9 @@ ROWS = [VECTORS / f"data/{name}.rows" for name in ("rules", "recorded")]
 # Command lines for which the example in each language has to print the same as getopts_show.
 LINES = ["--output=x.txt --verbose in.txt", "-vvLd -La -Lb -c auto -o x.txt f -- g -v", "-v --help", "--nope", "-o",
          "-o a -o b", "--verbose=x", "", "-c", "--output= é --color=日本"]
+
+# What man writes before a paragraph.
+MARGIN = " " * 7
 
 
 def pytest_addoption(parser):
@@ -122,6 +126,17 @@ def answer(*words, env=None, **how):
     """The output of a program, and its exit status."""
     done = subprocess.run([str(word) for word in words], capture_output=True, env={**os.environ, **(env or {})}, **how)
     return done.stdout + done.stderr, done.returncode
+
+
+def check_page(page, blocks):
+    """Checks what a manual page shows on a screen so wide that each paragraph is one line: these blocks, with empty lines
+    between them, except after headings. In lines that aren't code, man may add spaces after a sentence."""
+    need("man", "groff")
+    assert run("groff", "-man", "-Tutf8", "-ww", page)[1] == run("man", "--warnings", "-l", page)[1] == ""
+    wanted = re.sub(r"^([A-Z_ ]+)\n\n", r"\1\n", "\n\n".join(blocks), flags=re.M).split("\n")
+    shown = run("man", "-l", page, env={"MANWIDTH": "9000", "MANROFFOPT": ""})[0].splitlines()
+    pairs = itertools.zip_longest(shown, wanted, fillvalue="")
+    assert [line if line == want else re.sub(r"(?<=\S)  +", " ", line) for line, want in pairs] == wanted
 
 
 def script(path, text):

@@ -5,9 +5,10 @@ import os
 import re
 import shlex
 import shutil
+import textwrap
 
 import pytest
-from conftest import LINES, ROOT, answer, need, need_compiler, fail_each_allocation, run, script
+from conftest import LINES, MARGIN, ROOT, answer, check_page, need, need_compiler, fail_each_allocation, run, script
 from targets import OLD, cargo, cargo_for, copy_folders, need_cargo, need_target, runner
 
 C = ROOT / "bindings/c"
@@ -246,17 +247,29 @@ def test_exports(prefix):
     assert re.search(r"SONAME.*\[libgetopts.so.2\]", run("readelf", "-d", shared)[0])
 
 
+def page_blocks(header):
+    """What getopts(3) shows: code as in getopts.h, and each paragraph or item of a comment as one line."""
+    version, calls = re.search('GETOPTS_VERSION "(.*)"', header)[1], "".join(re.findall(r"^[a-z].*\);\n", header, re.M))
+    yield from ["GETOPTS(3) Library Functions Manual GETOPTS(3)", "NAME"]
+    yield from [f"{MARGIN}getopts - parse command-line options from a table", "SYNOPSIS", f"{MARGIN}#include <getopts.h>"]
+    yield from [textwrap.indent(calls.strip(), MARGIN), "DESCRIPTION"]
+    for block in re.findall(r"^/\*.*?(?=\n\n)", header.partition("#ifdef __cplusplus\n}")[0], re.M | re.S):
+        comment, _, code = block.removeprefix("/*").partition("*/\n")
+        front = "" if code.startswith("#ifndef") else "".join(f"{MARGIN}{line}\n" for line in code.splitlines())
+        margin = f"{MARGIN}    " if front else MARGIN
+        for part in re.sub(r"^ \*? ?|\*/$", "", comment, flags=re.M).split("\n\n"):
+            first, *items = re.split("^- ", part.replace("`", ""), flags=re.M)
+            texts = [" ".join(text.split()) for text in [first, *(f"• {item}" for item in items)] if text.strip()]
+            for text in [part.rstrip()] if part.startswith("    ") else texts:
+                yield front + textwrap.indent(text, margin)
+                front = ""
+    yield from ["SEE ALSO", f"{MARGIN}getopt_long(3)", f"getopts {version} GETOPTS(3)"]
+
+
 def test_manual_page(prefix):
-    """groff has no warnings. The page has all code and comments of getopts.h, and each function's page refers to it."""
-    need("groff", "man")
+    """getopts(3), which is generated from getopts.h. Each function's page refers to it."""
     page, header = prefix / "share/man/man3/getopts.3", (C / "getopts.h").read_text()
-    assert run("groff", "-man", "-Tutf8", "-ww", page)[1] == ""
-    shown = run("man", "-l", page, env={"MANWIDTH": "200", "MANROFFOPT": ""})[0]
-    for code in re.findall(r"^ \* {5}(.*)|^([a-z].*;)$", header, re.M):
-        assert max(code) in shown
-    words = " ".join(shown.replace("•", "-").split())
-    for text in re.findall(r"^/\*(.*?)\*/", header.split("#ifdef __cplusplus\n}")[0], re.M | re.S):
-        assert " ".join(re.sub(r"^ \*|`", "", text, flags=re.M).split()) in words
+    check_page(page, page_blocks(header))
     for name in re.findall(r"(getopts_[a-z_]+)\(", header):
         assert (page.parent / f"{name}.3").read_text() == ".so man3/getopts.3\n"
 

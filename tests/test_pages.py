@@ -1,5 +1,5 @@
 """The pages: their names, quotations and figures match the sources, the proofs and the records. Also: no circular
-imports, and well-formed scripts, Rust and manual pages.
+imports, and well-formed scripts and Rust.
 
 Every figure of ten or more on a page is counted, measured or recorded (FIGURES), except those in NO_FIGURES. --fix
 updates the figures and CONTRACTS.md.
@@ -415,11 +415,3 @@ def test_rust_format(manifest):
     need("cargo")
     need_rustfmt()
     run("cargo", "fmt", "--check", cwd=(ROOT / manifest).parent)
-
-
-def test_manual_page(tmp_path):
-    """getopts_shell(1), which is generated from README.md."""
-    need("man", "groff")
-    folder, page = ROOT / "bindings/shell", tmp_path / "getopts_shell.1"
-    page.write_text(run("awk", "-f", folder / "man.awk", folder / "README.md")[0])
-    assert run("groff", "-man", "-Tutf8", "-ww", page)[1] == run("man", "--warnings", "-l", page)[1] == ""

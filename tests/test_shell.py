@@ -1,5 +1,6 @@
 """getopts_shell: its output, and what each installed shell does with its code. The tests run the proved program, the
-checked-in ones (for aarch64 in qemu), and the one that cargo builds, also for Windows. Also: installation, start.c."""
+checked-in ones (for aarch64 in qemu), and the one that cargo builds, also for Windows. Also: installation, start.c,
+the manual page."""
 
 import functools
 import os
@@ -9,10 +10,11 @@ import shlex
 import shutil
 import subprocess
 import tempfile
+import textwrap
 from pathlib import Path
 
 import pytest
-from conftest import MACHINE, ROOT, answer, need, need_compiler, rows_in, run, script
+from conftest import MACHINE, MARGIN, ROOT, answer, check_page, need, need_compiler, rows_in, run, script
 from shell import lines, tables
 from targets import cargo, cargo_for, commit_repository, copy_folders, need_cargo, offline, runner
 
@@ -374,6 +376,51 @@ def test_install(checked_in, tmp_path):
     install("--uninstall", "a prefix")
     install("--uninstall", "/usr", DESTDIR="stage/")
     assert not [path for path in tmp_path.rglob("*") if not path.is_dir()]
+
+
+def test_damaged_binary(checked_in, tmp_path):
+    folder = copy_folders(tmp_path, "bindings/shell") / "bindings/shell"
+    with open(folder / MACHINE / "getopts_shell", "ab") as binary:
+        binary.write(b"x")
+    assert "did NOT match" in run("sh", folder / "install.sh", tmp_path / "to", status=1)[1]
+    assert not (tmp_path / "to").exists()
+
+
+@pytest.mark.parametrize("words", [[], [""], ["--nope"], ["a", "b"], ["--uninstall"]])
+def test_install_usage(words):
+    said = run("sh", SHELL / "install.sh", *words, status=2)
+    assert said == ("", "usage: install.sh [--uninstall] PREFIX\n")
+
+
+def page_blocks(readme):
+    """What getopts_shell(1) shows: code as in README.md, and each paragraph, item or cell as one line."""
+    def plain(text):
+        return " ".join(re.sub("`([^`]*)`", r"\1", text).replace("\\|", "|").split())
+
+    body = re.sub(r"^## (?:Install|How|What).*?(?=^## )", "", readme.partition("\n\n")[2], flags=re.M | re.S)
+    body = re.sub(r"^```.*?\n(.*?)^```$", lambda it: textwrap.indent(it[1], "    "), body, flags=re.M | re.S)
+    yield from ["GETOPTS_SHELL(1) User Commands GETOPTS_SHELL(1)", "NAME", f"{MARGIN}getopts_shell - options for shell scripts"]
+    yield from ["SYNOPSIS", f"{MARGIN}getopts_shell [option]... NAME TABLE [WORD]...", "DESCRIPTION"]
+    for block in re.split(r"\n\n+", body.strip("\n")):
+        if block.startswith("    "):
+            yield textwrap.indent(block, "   ")
+        elif block.startswith("## "):
+            yield block[3:].upper()
+        elif block.startswith("|"):
+            for row in block.splitlines()[2:]:
+                term, text = (plain(cell) for cell in row[2:-2].split(" | "))
+                yield f"{MARGIN}{term} {text}" if len(term) < 7 else f"{MARGIN}{term}\n{2 * MARGIN}{text}"
+        else:
+            first, *items = re.split("^- ", block, flags=re.M)
+            yield from (f"{MARGIN}{text}" for text in [plain(first), *(f"• {plain(item)}" for item in items)] if text)
+    yield from ["SEE ALSO", f"{MARGIN}getopt(1)", "getopts_shell GETOPTS_SHELL(1)"]
+
+
+def test_manual_page(tmp_path):
+    """getopts_shell(1), which is generated from README.md."""
+    page, readme = tmp_path / "getopts_shell.1", SHELL / "README.md"
+    page.write_text(run("awk", "-f", SHELL / "man.awk", readme)[0])
+    check_page(page, page_blocks(readme.read_text()))
 
 
 def test_cargo_without_warnings(tmp_path):

@@ -44,7 +44,7 @@ fenced || /^    / { goes_on("code"); print escaped(fenced ? $0 : substr($0, 5));
     split(substr($0, 3, length($0) - 4), cells, / \| /)
     gsub(/\001/, "\\|", cells[1])
     gsub(/\001/, "\\|", cells[2])
-    print ".TP\n" said(cells[1]) "\n" said(cells[2]) (cells[3] == "" ? "" : "; " said(cells[3]))
+    print ".TP\n" said(cells[1]) "\n" said(cells[2])
     next
 }
 /^- / { goes_on("item"); print ".IP \\(bu 2\n" said(substr($0, 3)); next }
