@@ -109,6 +109,14 @@ def cargo_for(target, folder, *words, env=None):
     return run("/usr/bin/cargo", *words, cwd=folder, env={**OLD, **env})
 
 
+def passed(said):
+    """How many tests passed in each program of `cargo test`, by its output: with wine, one that panics exits with 0."""
+    results = re.findall(r"^test result: (.*?) (\d+) passed; (\d+) failed", said, re.M)
+    assert results and all((word, failed) == ("ok.", "0") for word, _, failed in results), said
+    assert len(results) == len(re.findall(r"^running \d+ tests?$", said, re.M)), said
+    return [int(count) for _, count, _ in results]
+
+
 def copy_folders(to, *names):
     """Copies folders without cargo's files, so that cargo doesn't write to the originals."""
     for name in names:

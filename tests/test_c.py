@@ -384,8 +384,11 @@ def test_prefix_with_special_characters(words, sign, tmp_path):
         assert "PREFIX must not" in errors and not list(tmp_path.iterdir())
 
 
-def test_install_usage():
+def test_install_usage(tmp_path):
     assert "PREFIX/include: getopts.h" in run("sh", C / "install.sh", "--help")[0]
+    # If CDPATH has the folder, cd prints it.
+    removed = run("sh", "c/install.sh", "--uninstall", tmp_path, cwd=C.parent, env={"CDPATH": str(C.parent)})
+    assert removed == (f"removed from {tmp_path}\n", "")
     for words in ([], [""], ["--nope"], ["a", "b"]):
         assert "usage: bindings/c/install.sh [--uninstall] PREFIX" in run("sh", C / "install.sh", *words, status=1)[1]
 

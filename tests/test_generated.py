@@ -27,7 +27,23 @@ def test_change_is_found(file, text, found, tmp_path):
 
 def test_erased_rust_matches_source():
     need_rustfmt()
-    run(ROOT / BUILD, "--check", "rust")
+    assert run(ROOT / BUILD, "--check", "rust") == ("", "")
+
+
+def test_stale_rust_is_found(tmp_path):
+    """`--check` reports files that differ, are missing or have no source, and changes nothing."""
+    need_rustfmt()
+    folder = copy_tree(tmp_path / "copy") / "bindings/rust/src/proved"
+    with open(folder / "scan.rs", "a", encoding="utf-8") as changed:
+        changed.write("// A comment.\n")
+    (folder / "more.rs").write_text("")
+    (folder / "wrap.rs").unlink()
+    before = {path: path.read_bytes() for path in folder.iterdir()}
+    for command in (["bindings/build.py", "--check", "rust"], ["bindings/rust/erase.py", "--check"]):
+        said, _ = run(tmp_path / "copy" / command[0], *command[1:], status=1)
+        reported = [f"{folder / file} is out of date: run bindings/rust/erase.py\n" for file in ("more.rs", "scan.rs", "wrap.rs")]
+        assert said == "".join(reported)
+        assert {path: path.read_bytes() for path in folder.iterdir()} == before
 
 
 @pytest.mark.parametrize("file", ["LICENSE-MIT", "LICENSE-APACHE", "NOTICE"])

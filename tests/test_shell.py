@@ -16,7 +16,7 @@ from pathlib import Path
 import pytest
 from conftest import MACHINE, MARGIN, ROOT, answer, check_page, need, need_compiler, rows_in, run, script
 from shell import lines, tables
-from targets import cargo, cargo_for, commit_repository, copy_folders, need_cargo, offline, runner
+from targets import cargo, cargo_for, commit_repository, copy_folders, need_cargo, offline, passed, runner
 
 SHELL = ROOT / "bindings/shell"
 SHELLS = ["dash", "bash", "bash --posix", "zsh", "ksh93", "mksh", "yash", "busybox sh"]
@@ -55,17 +55,26 @@ def by_cargo(tmp_path_factory):
     return room / "root/bin/getopts_shell"
 
 
+WINDOWS = "x86_64-pc-windows-gnu"
+
+
 @pytest.fixture(scope="session")
-def by_wine(tmp_path_factory):
-    room, target = tmp_path_factory.mktemp("wine"), "x86_64-pc-windows-gnu"
-    folder = copy_folders(room, "bindings/rust", "bindings/shell") / "bindings/shell"
+def for_windows(tmp_path_factory):
+    """A copy of the crate's folder, and a function that runs Debian's cargo there, for Windows."""
+    folder = copy_folders(tmp_path_factory.mktemp("wine"), "bindings/rust", "bindings/shell") / "bindings/shell"
     # This old cargo can't read today's lock files, and its rustc needs a flag for newer features in the source.
-    cargo_for(target, folder, "build", "--release", "--ignore-rust-version",
-              env={"RUSTFLAGS": "-Zcrate-attr=feature(let_else)"})
-    wine = shutil.which(runner(target, room)[0])
+    return folder, lambda word: cargo_for(WINDOWS, folder, word, "--release", "--ignore-rust-version",
+                                          env={"RUSTFLAGS": "-Zcrate-attr=feature(let_else)"})[0]
+
+
+@pytest.fixture(scope="session")
+def by_wine(for_windows):
+    room, cargo_here = for_windows
+    cargo_here("build")
+    wine = shutil.which(runner(WINDOWS, room)[0])
     by = script(room / "by_wine", f"""#!/usr/bin/env bash
 # Wine's own messages are dropped.
-"{wine}" "{folder}/target/{target}/release/getopts_shell.exe" "$@" 2>"{room}/errors"
+"{wine}" "{room}/target/{WINDOWS}/release/getopts_shell.exe" "$@" 2>"{room}/errors"
 status=$?
 sed '/^wine: /d' "{room}/errors" >&2
 exit $status
@@ -123,6 +132,13 @@ def test_stored_answer_to_long_words(program, at):
 def test_completion_matches_checked_in_program(program, name, checked_in):
     words = ["--complete", name, "backup", TABLE]
     assert run(program, *words) == (run(checked_in, *words)[0], "")
+
+
+@pytest.mark.full
+@pytest.mark.xdist_group("getopts_shell by wine")
+def test_arguments_on_windows(by_wine, for_windows):
+    """The test in host.rs, of arguments that aren't Unicode."""
+    assert passed(for_windows[1]("test")) == [1]
 
 
 @HERE

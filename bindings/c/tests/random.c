@@ -175,11 +175,12 @@ static int status_of_text(char *text) {
     return text != NULL ? GETOPTS_OK : GETOPTS_NO_MEMORY;
 }
 
-/* Makes one of five calls, and returns its status. */
+/* Makes one of six calls, and returns its status. */
 static int call(int which, struct getopts *options, const struct getopts_option *table, size_t count, char **words) {
     char **line = NULL;
-    if (which == 0) {
-        struct getopts *other = getopts_new(table, GETOPTS_ORDINARY);
+    if (which == 0 || which == 5) {
+        /* 128 isn't a mode, so the message about it is allocated, too. */
+        struct getopts *other = getopts_new(table, which == 0 ? GETOPTS_ORDINARY : (enum getopts_modes)128);
         getopts_delete(other);
         return other != NULL ? GETOPTS_OK : GETOPTS_NO_MEMORY;
     }
@@ -194,7 +195,7 @@ static int call(int which, struct getopts *options, const struct getopts_option 
 
 /* If an allocation fails, a call reports it, leaks nothing, and keeps what was read before (half of the words). */
 static void check_failures(struct getopts *options, const struct getopts_option *table, size_t count, char **words) {
-    for (int which = 0; which < 5; which++)
+    for (int which = 0; which < 6; which++)
         for (int on = 0; on < 2; on++)
             for (size_t at = 1; at == 1 || heap.failures > 0; at++, heap.runs += heap.failures > 0) {
                 getopts_read(options, (int)count / 2, words);

@@ -27,8 +27,8 @@ fn debug_of_matches_matches_getopts() {
         .optopt("o", "output", "", "NAME")
         .optflagmulti("v", "", "")
         .reqopt("", "input", "", "I")
-        .optflagopt("c", "color", "", "WHEN");
-    let matches = options.parse(["-vofile", "--input=x", "-ca", "--", "b"]);
+        .optflagopt("w", "color", "", "WHEN");
+    let matches = options.parse(["-vofile", "--input=x", "-wa", "--", "b"]);
     assert_eq!(
         format!("{:?}", matches.unwrap()),
         "Matches { opts: [Opt { name: Long(\"output\"), hasarg: Yes, occur: Optional, \
@@ -36,7 +36,7 @@ fn debug_of_matches_matches_getopts() {
          Opt { name: Short('v'), hasarg: No, occur: Multi, aliases: [] }, \
          Opt { name: Long(\"input\"), hasarg: Yes, occur: Req, aliases: [] }, \
          Opt { name: Long(\"color\"), hasarg: Maybe, occur: Optional, \
-         aliases: [Opt { name: Short('c'), hasarg: Maybe, occur: Optional, aliases: [] }] }], \
+         aliases: [Opt { name: Short('w'), hasarg: Maybe, occur: Optional, aliases: [] }] }], \
          vals: [[(0, Val(\"file\"))], [(0, Given)], [(1, Val(\"x\"))], [(2, Val(\"a\"))]], \
          free: [\"b\"], args_end: Some(0) }"
     );

@@ -132,6 +132,13 @@ fn errors_have_text() {
         let fail = options().parse_os_ignoring_counts([word.clone(), joined("-x", word)]);
         assert_eq!(fail.unwrap_err(), Fail::UnrecognizedOption("x".into()));
     }
+    // Where arguments have to be UTF-8, any other is an error.
+    #[cfg(target_os = "wasi")]
+    {
+        let word: &OsStr = std::os::wasi::ffi::OsStrExt::from_bytes(b"\xff");
+        let fail = options().parse_os([OsStr::new("-o"), word]).unwrap_err();
+        assert_eq!(fail, Fail::UnrecognizedOption("\"\\xFF\"".into()));
+    }
 }
 
 #[test]
@@ -203,6 +210,7 @@ fn parse_takes_any_iterator() {
     let large = || (0..20).map(|_| Large([b'x'; 200_000]));
     assert_eq!(options().parse(large()).unwrap().free, ["xxx"; 20]);
     assert_eq!(options().parse_os(large()).unwrap().free, ["xxx"; 20]);
+    assert_eq!(options().parse(Promised(large())).unwrap().free, ["xxx"; 20]);
     assert_eq!(options().canonical(large()).unwrap().unwrap().len(), 21);
 }
 

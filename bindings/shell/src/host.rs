@@ -180,3 +180,14 @@ macro_rules! add_line {
 
 #[allow(unused_imports)]
 pub(crate) use {add, add_line, text};
+
+#[cfg(all(test, windows))]
+mod tests {
+    #[test]
+    fn lone_surrogates_become_three_bytes() {
+        let units = [0xD83D, 0xDE00, 0xD83D, 0x61, 0xDFFF];
+        let word = std::os::windows::ffi::OsStringExt::from_wide(&units);
+        let bytes = super::bytes_of(word);
+        assert_eq!(bytes, b"\xF0\x9F\x98\x80\xED\xA0\xBDa\xED\xBF\xBF");
+    }
+}
