@@ -78,24 +78,31 @@ def build(request, tmp_path, library):
 
 
 def test_results_and_errors_of_calls(build):
-    run(*build(C / "tests/layer.c"))
+    assert run(*build(C / "tests/layer.c"))[0].strip() == "all tests passed"
+
+
+# What tests/random.c prints if no check failed.
+RANDOM = r"{} tables, \d+ wrong; \d+ lines accepted\s+"
 
 
 # The linkers for wasm and Windows can't wrap malloc, and valgrind takes too long.
 @pytest.mark.parametrize("build", builds("gcc", "clang", "gcc-san", "clang-san", "short-enums", "musl", "old", "aarch64", "i686"),
                          indirect=True)
 def test_calls_when_allocations_fail(build):
-    run(*build(C / "tests/random.c", "-DREFUSES", WRAPS), 4_000)
+    said, _ = run(*build(C / "tests/random.c", "-DREFUSES", WRAPS), 4_000)
+    assert re.fullmatch(RANDOM.format(4_000) + r"\d+ allocations failed\s+", said), said
 
 
 def test_random_tables_and_words(build, cases):
     # With fewer cases, some statuses would never occur.
-    run(*build(C / "tests/random.c"), max(4_000, cases(40_000 if build.name in ("gcc", "clang-san") else 4_000)))
+    count = max(4_000, cases(40_000 if build.name in ("gcc", "clang-san") else 4_000))
+    said, _ = run(*build(C / "tests/random.c"), count)
+    assert re.fullmatch(RANDOM.format(count), said), said
 
 
 @pytest.mark.parametrize("build", builds("gcc", "clang", "musl"), indirect=True)
 def test_threads_share_options(build):
-    run(*build(C / "tests/threads.c", "-pthread"))
+    assert run(*build(C / "tests/threads.c", "-pthread"))[0] == "threads agree\n"
 
 
 def test_no_warnings_and_one_unsafe_file(tmp_path):
@@ -135,7 +142,8 @@ def test_kind_passed_as_mode(compiler, modes, right, tmp_path):
                       "struct getopts *made(const struct getopts_option *table)"
                       f" {{ return getopts_new(table, {modes}); }}\n")
     flags = PLUS_WARNINGS if plus else WARNINGS
-    assert (answer(compiler, *flags, "-c", source, "-o", tmp_path / "modes.o")[1] == 0) == right
+    said, status = answer(compiler, *flags, "-c", source, "-o", tmp_path / "modes.o")
+    assert (said, status) == (b"", 0) if right else (b"getopts_kind" in said and said.count(b"error:") == 1), said
 
 
 ORDER = [  # arguments, output lines

@@ -2,14 +2,16 @@
 and the toolchain, and the erased Rust, which is generated again."""
 
 import pytest
-from conftest import ROOT, answer, copy_tree, need_rustfmt, run
+from conftest import ROOT, copy_tree, need_rustfmt, run
 
 BUILD = "bindings/build.py"
+UP_TO_DATE = "bindings/shell is up to date\n", ""
+OUT_OF_DATE = "build.py: bindings/shell is out of date: run bindings/build.py"
 
 
 @pytest.mark.rt
 def test_binaries_match_source():
-    run(ROOT / BUILD, "--check", "shell")
+    assert run(ROOT / BUILD, "--check", "shell") == UP_TO_DATE
 
 
 @pytest.mark.rt
@@ -22,7 +24,8 @@ def test_change_is_found(file, text, found, tmp_path):
     copy = copy_tree(tmp_path / "copy")
     with open(copy / file, "a", encoding="utf-8") as changed:
         changed.write(text)
-    assert (file in answer(copy / BUILD, "--check", "shell")[0].decode()) == found
+    said = run(copy / BUILD, "--check", "shell", status=1 if found else 0)
+    assert said == (("", f"{OUT_OF_DATE} (changed: {file})\n") if found else UP_TO_DATE)
 
 
 def test_erased_rust_matches_source():

@@ -11,7 +11,8 @@ from pathlib import Path
 
 import pytest
 from conftest import LINES, ROOT, ROWS, VECTORS, answer, need_rustfmt, run
-from targets import REGISTRY, TARGETS, UNWINDS, cargo, cargo_for, commit_repository, copy_folders, need_cargo, offline, runner
+from targets import (REGISTRY, TARGETS, UNWINDS, cargo, cargo_for, commit_repository, copy_folders, need_cargo, offline,
+                     passed, runner)
 
 RUST = ROOT / "bindings/rust"
 REFERENCE = ROOT / "tests/differential/reference"
@@ -46,7 +47,8 @@ def test_tokens_match_source(crate):
 def test_changed_tokens_are_found(file, right, wrong, tmp_path):
     shutil.copytree(ERASED["getopts"], tmp_path / "changed")
     edited(tmp_path / "changed" / file, right, wrong)
-    assert same_tokens(ROOT / "crates/getopts/src", tmp_path / "changed")[1] == 1
+    said, status = same_tokens(ROOT / "crates/getopts/src", tmp_path / "changed")
+    assert re.fullmatch(rf".*/{file}: differs from its source at '.*'\n", said.decode()) and status == 1
 
 
 @pytest.fixture
@@ -72,9 +74,9 @@ def compile_over_types(tmp_path, proved=ERASED["getopts"], program=ERASED["getop
         file = folder / f"{crate}.rs"
         file.write_text(re.sub('"([A-Z]+)"', lambda name: f'"{files[name[1]]}"', file.read_text()))
         words = ["--edition=2021", "--crate-type=lib", "--emit=metadata", f"--extern=getopts={folder}/libgetopts.rmeta"]
-        said = subprocess.run(["rustc", *words, f"--out-dir={folder}", file], capture_output=True, text=True).stderr
-        if said:
-            return said
+        done = subprocess.run(["rustc", *words, f"--out-dir={folder}", file], capture_output=True, text=True)
+        if done.stderr or done.returncode:
+            return f"{done.stderr}status {done.returncode}"
     return ""
 
 
@@ -134,9 +136,11 @@ def folder(tmp_path_factory):
     return copy_folders(tmp_path_factory.mktemp("rust"), "bindings/rust") / "bindings/rust"
 
 
-@pytest.mark.parametrize("features, tests", [("std,unicode,proved", []), ("std", ["--tests"]), ("proved", [])])
-def test_own_tests_of_the_crate(folder, features, tests):
-    cargo(folder, "test", "--no-default-features", "--features", features, *tests)
+@pytest.mark.parametrize("features, tests, programs", [
+    ("std,unicode,proved", [], 7), ("std", ["--tests"], 5), ("proved", [], 3)])
+def test_own_tests_of_the_crate(folder, features, tests, programs):
+    said, _ = cargo(folder, "test", "--no-default-features", "--features", features, *tests)
+    assert len(passed(said)) == programs
 
 
 @pytest.mark.parametrize("features", ["", "std", "unicode", "proved", "std,unicode", "std,unicode,proved"])
@@ -298,7 +302,11 @@ def test_crate_on_target(target, tmp_path, request, ours, example):
     if crate and (Path(crate) / "tests/public.rs").exists():
         shutil.copy(Path(crate) / "tests/public.rs", reference / "tests")
     cargo_for(target, reference, "build", "--release", "--features", "canonical")
-    cargo_for(target, reference, "test", "--release", "--features", "canonical", "--test", "*", "--", *left_out)
+    said, _ = cargo_for(target, reference, "test", "--release", "--features", "canonical", "--test", "*", "--", *left_out)
+    # With wine, a program that panics exits with status 0.
+    source = "".join(file.read_text() for file in (reference / "tests").iterdir())
+    tests = [name for name in re.findall(r"#\[test\]\n(?:#.*\n)*fn (\w+)", source) if not any(skip in name for skip in panics)]
+    assert sum(passed(said)) == len(tests)
     cargo_for(target, tmp_path / "crate", "build", "--no-default-features", "--features", "proved")
     by, built = runner(target, tmp_path), reference / "target" / target / "release"
     program = {path.stem: path for path in built.iterdir() if path.suffix in ("", ".exe", ".wasm") and path.is_file()}

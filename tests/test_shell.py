@@ -147,7 +147,8 @@ def test_arguments_on_windows(by_wine, for_windows):
 def test_help_and_errors_with_variables(program, own, words):
     both = [subprocess.run([program, *more, "try", TABLE, *words], capture_output=True) for more in ([], own)]
     plain, variables = ((done.returncode, done.stdout, done.stderr) for done in both)
-    assert plain == variables
+    status, name = (0, 1) if words == ["--help"] else (2, 2)
+    assert plain == variables and plain[0] == status and b"Usage: try " in plain[name]
 
 
 @HERE
@@ -174,8 +175,9 @@ def read_by_getopt(options, words):
     shorts = "".join(short + colons[kind] for short, _, kind, _ in options if short)
     longs = ",".join(long + colons[kind] for _, long, kind, _ in options if long)
     wrote, status = answer("getopt", "-o", shorts, "--long", longs, "--", *words)
-    if status:
+    if status == 1 and b"getopt: " in wrote:
         return None
+    assert status == 0, wrote
     names = {name: place for place, (short, long, _, _) in enumerate(options) for name in (f"-{short}", f"--{long}")}
     wrote, given = shlex.split(os.fsdecode(wrote)), []
     while (name := wrote.pop(0)) != "--":
@@ -203,6 +205,7 @@ def test_matches_getopt(program):
         if rng.random() < 0.1 and "--" not in words:
             words += [f"-{short}" if short else f"--{long}" for short, long, kind, _ in options if kind == "yes"][:1]
         said, status = answer(program, "try", lines.written(options), *words)
+        assert status == 0 or status == 2 and said.startswith(b"try: "), (words, said)
         ours = None if status else shlex.split(os.fsdecode(said))[2:]
         assert ours == read_by_getopt(options, words), words
         asked += 1
@@ -324,8 +327,9 @@ code=$(getopts_shell backup '[-v]  say more' "$@") || exit
     assert count > 25
 
 
-@pytest.mark.parametrize("words", ["-vi a x", "--input=a -v -- -v", "--help", "-x", "--completion fish"])
-def test_root_with_only_busybox(words, checked_in, tmp_path):
+@pytest.mark.parametrize("words, status", [
+    ("-vi a x", 0), ("--input=a -v -- -v", 0), ("--help", 0), ("-x", 2), ("--completion fish", 0)])
+def test_root_with_only_busybox(words, status, checked_in, tmp_path):
     """In a root with only busybox, the program and a script, the script has the same output as here."""
     need("busybox")
     busybox = Path(shutil.which("busybox"))
@@ -340,7 +344,7 @@ def test_root_with_only_busybox(words, checked_in, tmp_path):
     (folder / "sh").hardlink_to(folder / "busybox")
     inside = answer("chroot", tmp_path / "root", "/bin/busybox", "env", "-i", "PATH=/bin", "sh", "/bin/backup", *words.split())
     here = answer("busybox", "sh", SHELL / "examples/backup", *words.split(), env={"PATH": f"{folder}:{os.environ['PATH']}"})
-    assert inside == here
+    assert inside == here and here[1] == status and here[0]
 
 
 # ---- build and installation
@@ -353,13 +357,14 @@ def test_functions_of_start_c(compiler, tmp_path):
     need_compiler(compiler, *flags)
     need(*by)
     run(compiler, *flags, *START, tmp_path / "start")
-    run(*by, tmp_path / "start", "", "three")
+    assert run(*by, tmp_path / "start", "", "three") == ("as declared\n", "")
 
 
 def test_install(checked_in, tmp_path):
     """Installs to PREFIX, below DESTDIR, and for another processor; --uninstall leaves nothing."""
     def install(*words, status=0, **env):
-        run("sh", SHELL / "install.sh", *words, status=status, cwd=tmp_path, env=env)
+        """Runs the script, and returns its errors."""
+        return run("sh", SHELL / "install.sh", *words, status=status, cwd=tmp_path, env=env)[1]
 
     install("a prefix", CDPATH=f"/:{SHELL}")
     assert (tmp_path / "a prefix/bin/getopts_shell").read_bytes() == checked_in.read_bytes()
@@ -370,7 +375,7 @@ def test_install(checked_in, tmp_path):
         install("/usr", DESTDIR="stage", MACHINE=machine)
         there = SHELL / machine / "getopts_shell"
         assert (tmp_path / "stage/usr/bin/getopts_shell").read_bytes() == there.read_bytes()
-    install("/nowhere", status=1, MACHINE="m68k")
+    assert "no binary for m68k, only for aarch64 x86_64" in install("/nowhere", status=1, MACHINE="m68k")
     assert not Path("/nowhere").exists()
     # A link in the place of a file is replaced, its target stays. A folder there is an error, and so is another system.
     (tmp_path / "page").write_text("others'")
@@ -380,11 +385,11 @@ def test_install(checked_in, tmp_path):
     assert (tmp_path / "page").read_text() == "others'"
     (tmp_path / "page").unlink()
     (tmp_path / "to/bin/getopts_shell").mkdir(parents=True)
-    install("to", status=1)
+    assert "to/bin/getopts_shell is a folder" in install("to", status=1)
     (tmp_path / "bsd").mkdir()
     (tmp_path / "bsd/uname").write_text('#!/bin/sh\n[ "$1" = -s ] && echo FreeBSD || echo amd64\n')
     (tmp_path / "bsd/uname").chmod(0o755)
-    install("other", status=1, PATH=f"{tmp_path}/bsd:{os.environ['PATH']}")
+    assert "no binary for FreeBSD, only for Linux" in install("other", status=1, PATH=f"{tmp_path}/bsd:{os.environ['PATH']}")
     (tmp_path / "bsd/uname").unlink()
     (tmp_path / "link").symlink_to(SHELL / "install.sh")
     assert "through a symbolic link" in run("sh", tmp_path / "link", "other", status=1)[1]

@@ -91,8 +91,10 @@ def changed_tables(program, most):
     for table in tables[::max(1, len(tables) // most)]:
         error = table_error(table)
         said, status = answer(program, "--usage", "x", table)
-        said = (said, status) if status else (b"", 0)
-        assert said == ((f"getopts_shell: {error}\n".encode(), 5) if error else (b"", 0)), f"{table!r}: {said}"
+        if error:
+            assert (said, status) == (f"getopts_shell: {error}\n".encode(), 5), f"{table!r}: {said}"
+        else:
+            assert status == 0 and said.startswith(b"Usage: x "), f"{table!r}: {said}"
 
 
 def operand_tables(program):
