@@ -69,6 +69,8 @@ DISPLAY = {"fmt<W: fmt::Write>": "fmt", "fmt::Formatter<W>": "fmt::Formatter<'_>
 LIBRARY = {f"std::{name}": f"crate::{name}" for name in ("alloc", "convert", "error")} | {
     "std::": "core::", "std::vec": "crate::heap::vec", "str::from_utf8": "core::str::from_utf8",
     "crate::": "super::", "unicode_width": "crate::width", "mod matches;": "pub(crate) mod matches;",
+    # `names.rs` has a function of the old name, which checks the precondition.
+    "pub fn add_group": "pub(crate) fn add_valid_group",
 }
 # Functions and paths in the shell program, and their replacements, which its `host.rs` defines.
 HOST = {f"std::{name}": f"crate::host::{name}" for name in ("alloc", "env", "io")} | {
@@ -117,7 +119,7 @@ ABOVE = re.compile(r"(\n *//(?!!)[^\n]*)*\n *\Z")
 KEYWORDS = set("""as break const continue crate else enum fn for if impl in let loop match mod move mut pub ref
     return self struct super type use while""".split())
 # The new names of the tables above, which sources may not contain.
-NEW_NAMES = re.compile(r"try_\w+|of_capacity|copy_of|TryClone|trimmed_ascii")
+NEW_NAMES = re.compile(r"try_\w+|of_capacity|copy_of|TryClone|trimmed_ascii|add_valid_group")
 # Types of Rust, which sources may not define, because renaming would affect their functions.
 RUST_TYPES = set("""bool char f32 f64 i8 i16 i32 i64 i128 isize str u8 u16 u32 u64 u128 usize String Vec Option Some
     None Ok Err Box Clone Copy Default Drop Eq Iterator IntoIterator Ord PartialEq PartialOrd ToString alloc core

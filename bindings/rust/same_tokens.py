@@ -25,7 +25,7 @@ RENAMED |= {"vec ! [ in alloc ; 0 ; room ]": "Vec :: filled ( alloc , 0 , room )
 RENAMED |= {"impl Clone for": "impl TryClone for"}
 RENAMED |= {"fmt < W : fmt :: Write >": "fmt", "fmt :: Formatter < W >": "fmt :: Formatter < '_ >"}
 PATHS = {"mod matches": "pub ( crate ) mod matches", "crate ::": "super ::", "std :: alloc": "crate :: alloc"}
-PATHS |= {"unicode_width": "crate :: width"}
+PATHS |= {"unicode_width": "crate :: width", "pub fn add_group": "pub ( crate ) fn add_valid_group"}
 PATHS |= {"std :: convert": "crate :: convert", "std :: error": "crate :: error", "std :: vec": "crate :: heap :: vec"}
 PATHS |= {"std ::": "core ::", "str :: from_utf8": "core :: str :: from_utf8"}
 # In crates that aren't part of the library.

@@ -73,7 +73,8 @@
 //! # The proved source
 //!
 //! The feature `proved` makes the proved source public, and doesn't need the feature `std`. The
-//! methods of `proved` take an allocator, and return an error if an allocation fails:
+//! methods of `proved` take an allocator, and return an error if an allocation fails. Invalid names
+//! panic when they are added, and names that weren't declared count as not given:
 //!
 //! ```
 //! # #[cfg(feature = "proved")] {
@@ -105,6 +106,7 @@ mod error;
 mod fail;
 #[cfg(feature = "std")]
 mod matches;
+mod names;
 #[cfg(feature = "std")]
 mod options;
 #[cfg(feature = "std")]

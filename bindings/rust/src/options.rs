@@ -197,16 +197,6 @@ impl Options {
         hasarg: HasArg,
         occur: Occur,
     ) -> &mut Options {
-        assert!(
-            short_name.len() <= 1,
-            "the short_name (first argument) should be a single character, \
-             or an empty string for none"
-        );
-        assert!(
-            long_name.len() != 1,
-            "the long_name (second argument) should be longer than a single \
-             character, or an empty string for none"
-        );
         if short_name.is_empty() && long_name.is_empty() {
             self.push_nameless(desc, hint, hasarg, occur);
         } else {

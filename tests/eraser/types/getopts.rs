@@ -45,3 +45,7 @@ pub mod encoding {
 }
 pub use encoding::bytes;
 pub use library::proved;
+
+/// Checks the names that are passed to the erased library.
+#[path = "NAMES"]
+mod names;

@@ -39,7 +39,7 @@ impl Options {
     ///
     /// Requires valid names (see `names_lawful`). Fails only if an allocation fails. The Rust crate
     /// has no such method.
-    pub fn add_group(
+    pub(crate) fn add_valid_group(
         &mut self,
         short_name: &str,
         long_name: &str,

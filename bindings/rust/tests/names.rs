@@ -1,0 +1,190 @@
+//! No call panics within the proved source: invalid names panic where they are added, with the
+//! messages of the crate getopts, and undeclared names count as not given.
+#![cfg(any(feature = "std", feature = "proved"))]
+
+use std::panic::{AssertUnwindSafe, catch_unwind};
+
+const SHORT: &str =
+    "the short_name (first argument) should be a single character, or an empty string for none";
+const LONG: &str = "the long_name (second argument) should be longer than a single character, \
+                    or an empty string for none";
+const NONE: &str = "this long-format option was given no name";
+
+/// Invalid names, each with the panic message of the crate getopts.
+const INVALID: [(&str, &str, &str); 8] = [
+    ("ab", "c", SHORT),
+    ("ab", "", SHORT),
+    ("é", "", SHORT),
+    ("é", "long", SHORT),
+    ("日", "c", SHORT),
+    ("", "a", LONG),
+    ("a", "b", LONG),
+    ("", "", NONE),
+];
+
+/// Unusual names that are valid.
+const VALID: [(&str, &str); 6] =
+    [("-", "--"), ("=", "a="), ("\0", "é"), (" ", "\u{10FFFF}"), ("", "  "), ("\t", "")];
+
+/// The message of a call's panic.
+fn panic_of<T>(call: impl FnOnce() -> T) -> String {
+    let panic = catch_unwind(AssertUnwindSafe(call)).map(drop).expect_err("it doesn't panic");
+    panic.downcast_ref::<&str>().map_or_else(String::new, |text| text.to_string())
+}
+
+#[cfg(feature = "std")]
+mod of_the_crate {
+    use super::*;
+    use getopts::{HasArg, Occur, Options};
+
+    #[test]
+    fn invalid_names_panic() {
+        type Add = for<'o> fn(&'o mut Options, &str, &str) -> &'o mut Options;
+        let calls: [Add; 7] = [
+            |o, short, long| o.opt(short, long, "", "", HasArg::Yes, Occur::Req),
+            |o, short, long| o.optflag(short, long, ""),
+            |o, short, long| o.optflagmulti(short, long, ""),
+            |o, short, long| o.optflagopt(short, long, "", ""),
+            |o, short, long| o.optmulti(short, long, "", ""),
+            |o, short, long| o.optopt(short, long, "", ""),
+            |o, short, long| o.reqopt(short, long, "", ""),
+        ];
+        for add in calls {
+            let mut options = Options::new();
+            for (short, long, message) in INVALID.into_iter().take(7) {
+                assert_eq!(panic_of(|| add(&mut options, short, long).usage("")), message);
+            }
+            add(&mut options, "", "");
+            assert_eq!(panic_of(|| options.parse([""; 0])), NONE);
+            assert_eq!(panic_of(|| options.usage("")), NONE);
+        }
+    }
+
+    #[test]
+    fn unusual_names_are_shown() {
+        let mut options = Options::new();
+        for (short, long) in VALID {
+            options.optflag(short, long, "");
+        }
+        assert_eq!(options.usage("").lines().count(), 3 + VALID.len());
+        let matches = options.parse(["--é", "--", "--é"]).unwrap();
+        assert!(matches.opt_present("\0") && !matches.opts_present(&["nope".to_string()]));
+    }
+}
+
+#[cfg(feature = "proved")]
+mod of_the_proved_source {
+    use super::*;
+    use getopts::alloc::{AllocError, Global};
+    use getopts::proved::wrap::each_split_within;
+    use getopts::proved::{HasArg, Occur, Options, Request, names_lawful};
+    use std::cell::Cell;
+
+    /// Options with a required option `o`, and the names in `VALID`.
+    fn options() -> Options {
+        let mut options = Options::new(Global);
+        options.reqopt("o", "", "", "FILE").unwrap();
+        for (short, long) in VALID {
+            options.optflag(short, long, "").unwrap();
+        }
+        options
+    }
+
+    #[test]
+    fn invalid_names_panic() {
+        type Add = fn(&mut Options, &str, &str) -> Result<(), AllocError>;
+        let calls: [Add; 8] = [
+            |o, short, long| o.add_group(short, long, "", "", HasArg::Yes, Occur::Req),
+            |o, short, long| o.opt(short, long, "", "", HasArg::Yes, Occur::Req).map(drop),
+            |o, short, long| o.optflag(short, long, "").map(drop),
+            |o, short, long| o.optflagmulti(short, long, "").map(drop),
+            |o, short, long| o.optflagopt(short, long, "", "").map(drop),
+            |o, short, long| o.optmulti(short, long, "", "").map(drop),
+            |o, short, long| o.optopt(short, long, "", "").map(drop),
+            |o, short, long| o.reqopt(short, long, "", "").map(drop),
+        ];
+        for add in calls {
+            let mut options = options();
+            for (short, long, message) in INVALID {
+                assert!(!names_lawful(short, long));
+                assert_eq!(panic_of(|| add(&mut options, short, long)), message);
+            }
+            assert!(options == self::options());
+        }
+        let shown = options().usage(Global, "").unwrap();
+        assert_eq!(shown.lines().count(), 4 + VALID.len());
+    }
+
+    #[test]
+    fn undeclared_names_count_as_not_given() {
+        let options = options();
+        let matches = options.parse_words(Global, &["-ox", "--", "free"]).unwrap();
+        let names = ["", "p", "nope", "é-", "日"];
+        for name in names {
+            assert!(!matches.opt_defined(name) && !matches.opt_present(name));
+            assert_eq!((matches.opt_place(name), matches.opt_count(name)), (None, 0));
+            assert_eq!(matches.opt_positions(Global, name), Ok(vec![]));
+            assert_eq!(matches.opt_strs(Global, name), Ok(vec![]));
+            assert_eq!(matches.opt_strs_pos(Global, name), Ok(vec![]));
+            assert_eq!(matches.opt_str(Global, name), Ok(None));
+            assert_eq!(matches.opt_default(Global, name, "default"), Ok(None));
+            assert_eq!(matches.opt_get::<u8>(name), Ok(None));
+            assert_eq!(matches.opt_get_default(name, 7), Ok(7));
+            assert!(options.parse_unless(Global, &["-ox"], name).unwrap().is_some());
+        }
+        assert!(!matches.opts_present(&names.map(String::from)));
+        assert!(!matches.opts_present_any(&names));
+        assert_eq!(matches.opts_str(Global, &["p", "o"].map(String::from)), Ok(Some("x".into())));
+        assert_eq!(matches.opts_str_first(Global, &names), Ok(None));
+        // Neither help nor version is declared.
+        assert!(matches!(options.parse_request(Global, &["-ox"]), Ok(Request::Parsed(_))));
+    }
+
+    /// A word whose text changes from call to call.
+    struct Changing(Cell<usize>);
+
+    impl AsRef<str> for Changing {
+        fn as_ref(&self) -> &str {
+            let nth = self.0.get();
+            self.0.set(nth + 1);
+            ["-o", "é", "--é=x", "-", "--", "-\0\t", ""][nth % 7]
+        }
+    }
+
+    /// An iterator that promises more items than there are.
+    struct Promising;
+
+    impl Iterator for Promising {
+        type Item = &'static str;
+        fn next(&mut self) -> Option<&'static str> {
+            None
+        }
+        fn size_hint(&self) -> (usize, Option<usize>) {
+            (usize::MAX, None)
+        }
+    }
+
+    #[test]
+    fn odd_arguments_never_panic() {
+        let options = options();
+        for count in 0..50 {
+            for first in 0..7 {
+                let words: Vec<_> =
+                    (0..count).map(|nth| Changing(Cell::new(first + nth))).collect();
+                let _ = options.parse_ignoring_counts(Global, &words);
+                let _ = options.canonical_words(Global, &words);
+                let _ = options.parse_in_order(Global, &words);
+            }
+        }
+        assert!(options.parse(Global, Promising).is_err());
+        assert!(options.canonical(Global, Promising).is_err());
+        let mut matches = options.parse_words(Global, &["-o", "x", "a", "--", "b"]).unwrap();
+        assert!(matches.occurrences_at(usize::MAX).is_empty());
+        assert_eq!(matches.occurrences_at(0).get(usize::MAX), None);
+        matches.free.clear();
+        assert_eq!(matches.take_trailing(), Ok(vec![]));
+        for columns in [0, 1, usize::MAX] {
+            assert!(each_split_within(Global, "日本 \t a\u{301}\n\0", columns).is_ok());
+        }
+    }
+}
