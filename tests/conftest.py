@@ -147,9 +147,9 @@ def script(path, text):
 
 
 def wait_for(crate):
-    """If test.sh is running `rt ci`, waits until this crate is proved or restored."""
+    """If test.sh is running `rt ci`, waits until this crate is proved."""
     log = Path(os.environ.get("CI_LOG", "/nowhere"))
-    while log.exists() and not re.search(rf"^rt: {crate} (proved$|is kept: )", log.read_text(errors="replace"), re.M):
+    while log.exists() and not re.search(rf"^rt: {crate} proved$", log.read_text(errors="replace"), re.M):
         if Path(f"{log}.ended").exists():
             pytest.fail(f"{crate} wasn't proved")
         time.sleep(1)

@@ -50,8 +50,6 @@ def static(shell, tmp_path_factory):
     musl, object_file = Path("/usr/lib/x86_64-linux-musl"), shell.with_suffix(".o")
     if MACHINE != "x86_64" or not (musl / "libc.a").exists():
         pytest.skip("needs x86-64 Linux with musl: apt-get install musl-dev")
-    if not object_file.exists():
-        pytest.skip("'rt ci' kept the proof of getopts_shell but not its object")
     room = tmp_path_factory.mktemp("static")
     flags = "-O2 -Wall -Wextra -Werror -ffreestanding -nostdinc --target=x86_64-linux-musl -fno-pic -DSTATIC -c".split()
     run(kit() / "toolchain/bin/clang", *flags, ROOT / "tests/memory/failing_malloc.c", "-o", room / "malloc.o")
