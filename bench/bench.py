@@ -10,9 +10,12 @@ The peers' programs are built in OUT, a folder outside the repository. FOLDER co
 it, cargo downloads the crate. OURS may name a getopts_bench that is already built; otherwise `rt run` proves and builds
 one.
 
-WHAT is `instructions` or `peak` (the most bytes allocated at once). The program's last argument is the number of
-iterations. One iteration costs the difference between B and A iterations, divided by B - A: so work before the
-iterations isn't counted.
+WHAT is `instructions`, `peak` (the most bytes allocated at once) or `microseconds` (of processor time, the least of ten
+runs). The program's last argument is the number of iterations. One iteration costs the difference between B and A
+iterations, divided by B - A: so work before the iterations isn't counted.
+
+Programs run in OUT, with relative paths: the length of a path decides where malloc places the words, on which the count
+of the Rust crate depends.
 """
 
 import concurrent.futures
@@ -20,6 +23,7 @@ import os
 import platform
 import random
 import re
+import resource
 import shutil
 import subprocess
 import sys
@@ -63,7 +67,8 @@ HELD = {f"held-{line}": ("held", line, few, more) for line, few, more in
 TABLES = [("instructions", "Instructions per iteration", JOBS), ("instructions", "Instructions per iteration in C", OF_C),
           ("instructions", "Instructions per iteration as lines grow", GROWING),
           ("peak", "Peak bytes while parsing, besides the words and the options", {"memory": ("read", "memory", 0, 1)}),
-          ("peak", "Bytes that matches take", HELD)]
+          ("peak", "Bytes that matches take", HELD),
+          ("microseconds", "Microseconds per iteration", {"typical": ("whole", "typical", 2000, 22_000)})]
 # Not counted, because it would take minutes to run clap and pico-args, and to compile lexopt's `match`.
 SKIPPED = {("lexopt", "options-10000"), ("clap", "options-10000"), ("pico-args", "words-100000"),
            ("pico-args", "words-1000000")}
@@ -162,22 +167,34 @@ def stop(why):
     sys.exit(2)
 
 
-def counted(what, words, env=None):
-    """What a run costs, as valgrind counts it."""
+def counted(what, words, env=None, cwd=None):
+    """What a run costs: as valgrind counts it, or in microseconds."""
+    words = [str(word) for word in words]
+    if what == "microseconds":
+        return min(microseconds(words, cwd) for _ in range(10))
     flag, found = TOOLS[what]
-    done = subprocess.run(["valgrind", *flag.split(), *(str(word) for word in words)], stdout=subprocess.DEVNULL,
-                          stderr=subprocess.PIPE, text=True, errors="replace", env=env)
+    done = subprocess.run(["valgrind", *flag.split(), *words], stdout=subprocess.DEVNULL, stderr=subprocess.PIPE, text=True,
+                          errors="replace", env=env, cwd=cwd)
     return int(re.findall(found, done.stderr)[-1].replace(",", ""))
 
 
-def of_an_iteration(what, few, more, words):
+def microseconds(words, cwd):
+    """The processor time of a run."""
+    used = lambda: sum(resource.getrusage(resource.RUSAGE_CHILDREN)[:2])
+    before = used()
+    subprocess.run(words, stdout=subprocess.DEVNULL, cwd=cwd, check=True)
+    return (used() - before) * 1e6
+
+
+def of_an_iteration(what, few, more, words, cwd=None):
     """What one iteration costs in a program whose last argument is the number of iterations."""
-    return (counted(what, [*words, more]) - counted(what, [*words, few])) // (more - few)
+    cost = (counted(what, [*words, more], cwd=cwd) - counted(what, [*words, few], cwd=cwd)) / (more - few)
+    return round(cost, 1) if what == "microseconds" else int(cost)
 
 
-def sum_of(words):
+def sum_of(words, cwd):
     """The checksum of one iteration, or None if the program doesn't do the job."""
-    done = subprocess.run([*(str(word) for word in words), "1"], capture_output=True, text=True)
+    done = subprocess.run([*(str(word) for word in words), "1"], capture_output=True, text=True, cwd=cwd)
     return done.stdout if done.returncode == 0 else None
 
 
@@ -197,7 +214,7 @@ def built(out, getopts):
         subprocess.run(["rt", "run", "--", "whole", CRATE / "data/small.rows", "1"], cwd=CRATE, check=True,
                        stdout=subprocess.DEVNULL)
     peers, ours = (out / f"{name}/target/release/peers" for name in ("peers", "over_ours"))
-    return {"this library": [Path(os.environ.get("OURS", CRATE / "out/getopts_bench"))], "Rust crate": [peers, "getopts"],
+    return {"this library": [Path(os.environ.get("OURS", CRATE / "out/getopts_bench")).absolute()], "Rust crate": [peers, "getopts"],
             "bindings/rust": [ours, "getopts"], **{name: [peers, name] for name in ("lexopt", "pico-args", "clap")}}
 
 
@@ -211,17 +228,18 @@ def built_of_c(out):
 
 def row(out, programs, what, job, work, line, few, more):
     """Prints a row of a table. A figure has a star if its checksum differs from that of the row's first program."""
-    file = out / f"{line}.rows"
-    file.write_text(rows(line), encoding="utf-8")
+    file = Path(f"{line}.rows")
+    (out / file).write_text(rows(line), encoding="utf-8")
     # The peers in Rust, a program for all, consume copies of the words, which are made before the iterations.
-    calls = [[*program, work, file, *([more] if program[0].name == "peers" else [])] for program in programs.values()]
-    sums = [None if (column, line) in SKIPPED else sum_of(words) for column, words in zip(programs, calls)]
+    calls = [[f"./{program.relative_to(out)}" if program.is_relative_to(out) else program, *peer, work, file,
+              *([more] if program.name == "peers" else [])] for program, *peer in programs.values()]
+    sums = [None if (column, line) in SKIPPED else sum_of(words, out) for column, words in zip(programs, calls)]
     first = next((total for total in sums if total), None)
 
     def cell(words, total):
-        return "-" if total is None else f"{of_an_iteration(what, few, more, words)}{'*' * (total != first)}"
+        return "-" if total is None else f"{of_an_iteration(what, few, more, words, out)}{'*' * (total != first)}"
 
-    with concurrent.futures.ThreadPoolExecutor(os.cpu_count()) as pool:
+    with concurrent.futures.ThreadPoolExecutor(1 if what == "microseconds" else os.cpu_count()) as pool:
         cells = pool.map(cell, calls, sums)
     print(f"{job:<16} " + " ".join(f"{cell:>14}" for cell in cells), flush=True)
 
@@ -233,7 +251,8 @@ def tables(out, getopts, asked):
     lock = (out / "peers/Cargo.lock").read_text()
     versions = re.findall(r'^name = "(getopts|lexopt|pico-args|clap|unicode-width)"\nversion = "(.*)"', lock, re.M)
     said = [subprocess.check_output([tool, "--version"], text=True).strip() for tool in ("valgrind", "rustc")]
-    print("# " + ", ".join([*(" ".join(it) for it in versions), *said, "glibc " + platform.libc_ver()[1]]))
+    system = [platform.freedesktop_os_release()["PRETTY_NAME"], re.search(r"model name\s*: (.*)", Path("/proc/cpuinfo").read_text())[1]]
+    print("# " + ", ".join([*(" ".join(it) for it in versions), *said, "glibc " + platform.libc_ver()[1], *system]))
     for what, title, jobs in TABLES:
         columns = of_c if jobs is OF_C else programs
         chosen = [job for job in jobs if not asked or job in asked]

@@ -183,8 +183,9 @@ def test_package(folder, tmp_path):
     cargo(folder, "package", "--allow-dirty")
     for crate in REGISTRY.glob("unicode-width-*"):
         (tmp_path / crate.name).symlink_to(crate)
-    shutil.unpack_archive(folder / "target/package/proved-getopts-0.2.24.crate", tmp_path, "gztar")
-    (tmp_path / "proved-getopts-0.2.24/.cargo-checksum.json").write_text('{"files": {}}')
+    archive, = folder.glob("target/package/proved-getopts-0.2.24+proved.*.crate")
+    shutil.unpack_archive(archive, tmp_path, "gztar")
+    (tmp_path / archive.stem / ".cargo-checksum.json").write_text('{"files": {}}')
     if offline():
         cargo(folder / "getopts", "package", "--allow-dirty", registry=tmp_path)
 
