@@ -231,10 +231,12 @@ def test_random_lines(program, one_shell, tmp_path, cases, way):
 
 @HERE
 def test_scripts_on_page(program, one_shell, tmp_path, monkeypatch):
-    """The README's first script, its loop with output added, and the examples."""
-    first, loop = re.findall(r"```sh\n(.*?)```", (SHELL / "README.md").read_text(), re.S)[:2]
+    """The README's first script, its two loops over options, one with output added, and the examples."""
+    page = (SHELL / "README.md").read_text()
+    (first, loop), values = re.findall(r"```sh\n(.*?)```", page, re.S)[:2], re.search(r"^    show_folders.*\n.*\n", page, re.M)[0]
     show = "printf '%s\\n' \"$input|$output|$verbose|$color|$folders\"\nfor word do printf '%s\\n' \"$word\"; done\n"
     (tmp_path / "first").write_text(first)
+    (tmp_path / "values").write_text(first.replace("for file", values + "for file"))
     (tmp_path / "loop").write_text(first[:first.index("code=")] + loop + show)
     for name in ("backup", "notes"):
         (tmp_path / name).symlink_to(SHELL / "examples" / name)
@@ -369,8 +371,15 @@ def test_install(checked_in, tmp_path):
     install("a prefix", CDPATH=f"/:{SHELL}")
     assert (tmp_path / "a prefix/bin/getopts_shell").read_bytes() == checked_in.read_bytes()
     assert (tmp_path / "a prefix/share/man/man1/getopts_shell.1").is_file()
-    licences = {"LICENSE-musl", "LICENSE-MIT", "LICENSE-APACHE", "NOTICE"}
-    assert set(os.listdir(tmp_path / "a prefix/share/doc/getopts_shell")) == licences
+    papers = {"LICENSE-musl", "LICENSE-MIT", "LICENSE-APACHE", "NOTICE", "examples"}
+    assert set(os.listdir(tmp_path / "a prefix/share/doc/getopts_shell")) == papers
+    # The page, from which the manual page is generated, names the examples.
+    named = set(re.findall(r"`(examples/\w+)`", (SHELL / "README.md").read_text()))
+    assert named == {f"examples/{name}" for name in os.listdir(SHELL / "examples")}
+    for name in named:
+        there = tmp_path / "a prefix/share/doc/getopts_shell" / name
+        assert there.read_bytes() == (SHELL / name).read_bytes() and os.access(there, os.X_OK)
+    (tmp_path / "a prefix/share/doc/getopts_shell/examples/own").write_text("others'")
     for machine in ("x86_64", "aarch64"):
         install("/usr", DESTDIR="stage", MACHINE=machine)
         there = SHELL / machine / "getopts_shell"
@@ -395,6 +404,7 @@ def test_install(checked_in, tmp_path):
     assert "through a symbolic link" in run("sh", tmp_path / "link", "other", status=1)[1]
     (tmp_path / "link").unlink()
     install("--uninstall", "a prefix")
+    (tmp_path / "a prefix/share/doc/getopts_shell/examples/own").unlink()
     install("--uninstall", "/usr", DESTDIR="stage/")
     assert not [path for path in tmp_path.rglob("*") if not path.is_dir()]
 

@@ -1,10 +1,10 @@
 #!/bin/sh
-# Installs the program for this machine's processor and its manual page, or removes them.
+# Installs the program for this machine's processor, its manual page and examples, or removes them.
 # usage: install.sh [--uninstall] PREFIX
 # Files are written below DESTDIR. MACHINE selects another processor, by the name that `uname -m` prints.
 set -eu
 unset CDPATH
-remove='' licences='LICENSE-musl ../../LICENSE-MIT ../../LICENSE-APACHE ../../NOTICE'
+remove='' licences='LICENSE-musl ../../LICENSE-MIT ../../LICENSE-APACHE ../../NOTICE' examples='backup notes'
 [ "${1-}" != --uninstall ] || { remove=yes; shift; }
 [ $# = 1 ] || set -- ''
 case $1 in
@@ -16,9 +16,10 @@ case $to in /*) ;; *) to=$PWD/$to ;; esac
 program=$to/bin/getopts_shell page=$to/share/man/man1/getopts_shell.1 papers=$to/share/doc/getopts_shell
 if [ -n "$remove" ]; then
     for name in $licences; do rm -f "$papers/${name##*/}"; done
+    for name in $examples; do rm -f "$papers/examples/$name"; done
     rm -f "$program" "$page"
-    rmdir "$papers" 2>/dev/null || :
-    echo "removed $program and its manual page"
+    rmdir "$papers/examples" "$papers" 2>/dev/null || :
+    echo "removed $program, its manual page and examples"
     exit
 fi
 cd "$(dirname "$0")"
@@ -34,7 +35,7 @@ if [ ! -f "$machine/getopts_shell" ]; then
     exit 1
 fi
 (cd "$machine" && sha256sum -c getopts_shell.sha256 >/dev/null)
-mkdir -p "$to/bin" "$to/share/man/man1" "$papers"
+mkdir -p "$to/bin" "$to/share/man/man1" "$papers/examples"
 # put FILE PLACE MODE: replaces a file only once the new one is complete. FILE may be - for standard input.
 put() {
     if [ -d "$2" ]; then
@@ -49,4 +50,5 @@ put "$machine/getopts_shell" "$program" 755
 text=$(awk -f man.awk README.md)
 printf '%s\n' "$text" | put - "$page" 644
 for name in $licences; do put "$name" "$papers/${name##*/}" 644; done
-echo "installed $program and its manual page"
+for name in $examples; do put "examples/$name" "$papers/examples/$name" 755; done
+echo "installed $program, its manual page and examples"
