@@ -110,13 +110,16 @@ FIGURES = [
     ("bindings/c/README.md", r"grows by (\d+) KB", lambda: re.findall(r"grows by (\d+) KB", read("bindings/c/getopts.h"))),
     *(("bindings/c/README.md", rf"\| {line} \| ([\d,]+) \| ([\d,]+) \| ([\d,]+) \|", lambda job=job: [
         f"{int(cell(f'{INSTRUCTIONS} in C', job, column)):,}" for column in ("bindings/c", "getopt_long", "argp")])
-      for job, line in {"small": "5 options, 3 words", "read-small": "the same, .*", "typical": "20 options, .*",
+      for job, line in {"small": "5 options, 3 words", "typical": "20 options, .*",
                         "long": "5 options, 1,000 words"}.items()),
     *(("README.md", rf"`{line}`: ([\d,]+) options, ([\d,]+) ", lambda line=line: [f"{len(part):,}" for part in bench_py.parts(line)])
       for line in ("small", "typical", "long", "files")),
     ("bench/README.md", r"`files`: ([\d,]+) file names", lambda: [f"{len(bench_py.parts('files')[1]):,}"]),
     ("bench/README.md", r"takes ([\d,]+) instructions for each word, ([\d.]+) times",
      lambda: [f"{int(cell(INSTRUCTIONS, 'files', 'bindings/rust')) / len(bench_py.parts('files')[1]):.0f}", f"{int(share('files')) / 100:.1f}"]),
+    ("bench/README.md", r"takes ([\d.]+) µs with the drop-in, ([\d.]+) µs with the Rust crate, and ([\d.]+) µs with",
+     lambda: [tables().get(("Microseconds per iteration", "typical"), {}).get(column, "unknown")
+              for column in ("bindings/rust", "Rust crate", "clap")]),
     ("bench/README.md", r"`sub60`: ([\d,]+) options", lambda: [str(len(bench_py.parts("sub60")[0]))]),
     ("bench/README.md", r"`many`: ([\d,]+) options", lambda: [str(len(bench_py.parts("many")[0]))]),
     *(("README.md", rf"\n- {name}(?:, .*,)? on (.*)\n", lambda column=column: [ahead(column)])
@@ -338,7 +341,7 @@ def test_definitions_are_in_the_grammar(crate):
 
 
 # Names of the toolchain, of Rust, of glibc and of shells.
-OTHERS = """Send Sync unicode-width x86-64-v2 malloc_consolidate _int_malloc POSIXLY_CORRECT optind IFS BASH_ENV copied-
+OTHERS = """Send Sync unicode-width x86-64-v2 POSIXLY_CORRECT optind IFS BASH_ENV copied-
     clap_on_literals value_parser InvalidValue"""
 
 

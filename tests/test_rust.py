@@ -4,6 +4,7 @@ import functools
 import itertools
 import os
 import re
+import shlex
 import shutil
 import subprocess
 import sys
@@ -191,17 +192,23 @@ def test_package(folder, tmp_path):
 
 
 def test_git_dependency(tmp_path):
-    """From a git URL: `proved-getopts` as a dependency, and `getopts` as a patch of the crate getopts."""
+    """From a git URL, with the README's lines and flags: `proved-getopts` as a dependency, `getopts` as a patch of the
+    crate getopts, and both."""
     need_cargo(RUST)
-    url = commit_repository(copy_folders(tmp_path / "clone", "bindings") / "bindings")
-    (tmp_path / "src").mkdir()
-    (tmp_path / "src/main.rs").write_text("fn main() { let _: proved::Options = getopts::Options::new(); }\n")
-    (tmp_path / "Cargo.toml").write_text(f"""package = {{ name = "program", version = "0.0.0", edition = "2021" }}
-dependencies.getopts = "0.2"
-dependencies.proved = {{ package = "proved-getopts", git = "{url}" }}
-patch.crates-io.getopts = {{ git = "{url}" }}
-""")
-    run("cargo", "run", *offline()[1:], cwd=tmp_path, env={"CARGO_HOME": str(tmp_path / "home")})
+    clone = copy_folders(tmp_path / "clone", "bindings") / "bindings"
+    url, page = commit_repository(clone), (RUST / "README.md").read_text()
+    page = page.replace("URL", url).replace("COMMIT", run("git", "rev-parse", "HEAD", cwd=clone)[0].strip())
+    manifest, flags = (re.search(rf"^```{kind}\n(.*?)^```", page, re.M | re.S)[1] for kind in ("toml", "sh"))
+    (direct, patch), renamed = manifest.split("\n\n"), re.search(r"`(proved = .*?)`", page)[1]
+    original = '[dependencies]\ngetopts = "0.2"\n'
+    for name, dependencies in (("direct", direct), ("patch", original + patch), ("both", f"{original}{renamed}\n{patch}")):
+        (tmp_path / name / "src").mkdir(parents=True)
+        kind = "proved" if name == "both" else "getopts"
+        (tmp_path / name / "src/main.rs").write_text(f"fn main() {{ let _: {kind}::Options = getopts::Options::new(); }}\n")
+        head = f'package = {{ name = "{name}", version = "0.0.0", edition = "2021" }}\n'
+        (tmp_path / name / "Cargo.toml").write_text(head + dependencies)
+        env = {"CARGO_HOME": str(tmp_path / "home"), "CARGO_TARGET_DIR": str(tmp_path / "target")}
+        run("cargo", "run", *(shlex.split(flags) if offline() else []), cwd=tmp_path / name, env=env)
 
 
 @pytest.fixture(scope="module")
