@@ -301,7 +301,7 @@ def clauses_of():
     for text in sources.values():
         for function in re.split(r"\bfn (?=\w)", text)[1:]:
             here = clauses.setdefault(re.match(r"\w+", function)[0], set())
-            here |= set(re.findall(r"ensures (\w+) \{", function))
+            here |= set(re.findall(r"ensures\*? (\w+) \{", function))
     clauses["there"] = clauses["one_reading_one_canonical_line"]
     return clauses
 

@@ -14,7 +14,7 @@ with * has no meaning at run time, and is deleted.
     ghost*    ghost use .. ;
     law*      mod laws ; | pub use laws:: .. ; | use std::marker::Model ;
     function  pub fn NAME generics ( .. ) -> .. clause.. { body }
-    clause*   requires NAME { .. } | ensures NAME { .. }, without comments
+    clause*   requires NAME { .. } | ensures NAME { .. }, without comments; either word may end in a star
     struct    struct NAME generics { field.. }, with fields that may be ghost* NAME : { .. } ,
     impl      impl generics .. { member.. } | impl* .. Model for .. { ghost.. } | impl* Drop for .. { destructures it }
     member    attribute.. ( ghost* | ghost* NAME = { .. } ; | const | type | function )
@@ -370,6 +370,7 @@ class Eraser:
         while self.text(self.at) in ("requires", "ensures"):
             start = self.at
             self.at += 1
+            self.take("*")
             if not self.has(self.at, "{"):
                 self.name()
             self.logic()

@@ -14,7 +14,7 @@ import sys
 from pathlib import Path
 
 # Patterns of how a construct begins, each with what ends it: the closing of its brackets, or a sign outside brackets.
-WHOLE = [(r"(requires|ensures)( \w+)? {", "}"), (r"ghost", ";,"), (r"impl (< .*? > )?(Model|Drop) for .*? {", "}")]
+WHOLE = [(r"(requires|ensures)( \*)?( \w+)? {", "}"), (r"ghost", ";,"), (r"impl (< .*? > )?(Model|Drop) for .*? {", "}")]
 WHOLE += [(r"# (! )?\[ (tactic|derive \( Drop \) \])", "]"), (r"use std :: marker :: Model", ";")]
 WHOLE += [(r"(mod laws|pub use laws)", ";"), (r"[+:,] Drop(?= [>,)])", ""), (r"Drop ,", "")]
 CALLS = "push push_str sort_by clone extend_from_slice split_off".split()

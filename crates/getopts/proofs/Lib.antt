@@ -25,3 +25,5 @@ pub mod MainTheorem
 pub mod Wrapping
 -- computing with literal lines
 pub mod OnLiterals
+-- what the proofs by hand of `opt` and similar calls share
+pub mod Chained

@@ -10,6 +10,8 @@ pub mod Only
 pub mod Names
 -- groups, options, and what parsing uses of them
 pub mod Options
+-- what options end as after a call that returns a reference to them
+pub mod Borrows
 -- errors and their printed texts
 pub mod Fail
 -- items, readings, occurrences and scan errors

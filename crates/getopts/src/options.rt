@@ -1,10 +1,12 @@
 //! Options: the groups that a caller declares, a parsing style and a mode.
 
 ghost use Rattle.std.specs.Prelude.{◌≡◌, ◌↔◌, [], false, IfOk, IsTrue, OnOk, OnErr};
+ghost use Rattle.std.specs.Borrow.{sem};
 ghost use Rattle.std.specs.Cmp.Rules.{comparing};
 ghost use Rattle.std.proofs.Common.{rules};
 ghost use Rattle.getopts.specs.Names.{AreLawful};
 ghost use Rattle.getopts.specs.Stored.Groups.{AreLawfulSignatures};
+ghost use Rattle.getopts.specs.Borrows.{UnchangedIfErr};
 ghost use Rattle.getopts.specs.Options.{group_of, with_group, signatures_of, MayBeDeclared};
 
 use crate::groups::{HasArg, Kinds, Occur, ParsingStyle, Signatures};
@@ -67,9 +69,9 @@ impl Options {
     /// Adds an option, with any kind of argument and any number of occurrences, as the last group.
     ///
     /// `options.add_group("o", "output", "write to FILE", "FILE", HasArg::Yes, Occur::Multi)?` does
-    /// the same as `opt`. Use it to add options in a loop, or to continue after an error: its
-    /// contract promises that an error leaves the options unchanged. The methods named as in the
-    /// Rust crate call it, but can't promise that, because they return the options for chaining.
+    /// the same as `opt`, but doesn't return the options. Use it to add options in a loop, or to
+    /// continue after an error: a caller's proof then knows that the options are unchanged. `opt`
+    /// and similar methods promise this too, but generated proofs of callers can't use the promise.
     ///
     /// Requires valid names (see `names_lawful`). Fails only if an allocation fails. The Rust crate
     /// has no such method.
@@ -130,9 +132,8 @@ impl Options {
     /// and `--color=auto` any number of times.
     ///
     /// Requires valid names (see `names_lawful`). Fails only if an allocation fails; the options
-    /// are then unchanged. This is proved for `add_group`, which this method calls, but can't be
-    /// stated here, because the result borrows the options. Returns the same options, so that calls
-    /// can be chained with `?`.
+    /// are then unchanged. Callers that have to prove this use `add_group`. Returns the same
+    /// options, so that calls can be chained with `?`.
     ///
     /// The Rust crate panics here if a name is too long or too short, and accepts two empty names,
     /// on which its `parse` panics.
@@ -146,13 +147,16 @@ impl Options {
         occur: Occur,
     ) -> Result<&mut Options, AllocError>
         requires { AreLawful short_name.now long_name.now }
+        ensures* unchanged { sem 𝓛 (UnchangedIfErr self.entry result) }
         ensures added { IfOk result (λ options. options.now ≡ with_group self.old
             (group_of short_name.now long_name.now desc.now hint.now hasarg occur)) }
         ensures same_options { IfOk result (λ options.
             options.ghost_name ≡ self.entry.ghost_name) }
     {
-        self.add_group(short_name, long_name, desc, hint, hasarg, occur)?;
-        Ok(self)
+        match self.add_group(short_name, long_name, desc, hint, hasarg, occur) {
+            Ok(()) => Ok(self),
+            Err(error) => Err(error),
+        }
     }
 
     /// Adds an option without an argument that may occur once.
@@ -167,6 +171,7 @@ impl Options {
         desc: &str,
     ) -> Result<&mut Options, AllocError>
         requires { AreLawful short_name.now long_name.now }
+        ensures* unchanged { sem 𝓛 (UnchangedIfErr self.entry result) }
         ensures added { IfOk result (λ options. options.now ≡ with_group self.old
             (group_of short_name.now long_name.now desc.now [] HasArg.No Occur.Optional)) }
         ensures same_options { IfOk result (λ options.
@@ -187,6 +192,7 @@ impl Options {
         desc: &str,
     ) -> Result<&mut Options, AllocError>
         requires { AreLawful short_name.now long_name.now }
+        ensures* unchanged { sem 𝓛 (UnchangedIfErr self.entry result) }
         ensures added { IfOk result (λ options. options.now ≡ with_group self.old
             (group_of short_name.now long_name.now desc.now [] HasArg.No Occur.Multi)) }
         ensures same_options { IfOk result (λ options.
@@ -211,6 +217,7 @@ impl Options {
         hint: &str,
     ) -> Result<&mut Options, AllocError>
         requires { AreLawful short_name.now long_name.now }
+        ensures* unchanged { sem 𝓛 (UnchangedIfErr self.entry result) }
         ensures added { IfOk result (λ options. options.now ≡ with_group self.old
             (group_of short_name.now long_name.now desc.now hint.now HasArg.Maybe Occur.Optional)) }
         ensures same_options { IfOk result (λ options.
@@ -238,6 +245,7 @@ impl Options {
         hint: &str,
     ) -> Result<&mut Options, AllocError>
         requires { AreLawful short_name.now long_name.now }
+        ensures* unchanged { sem 𝓛 (UnchangedIfErr self.entry result) }
         ensures added { IfOk result (λ options. options.now ≡ with_group self.old
             (group_of short_name.now long_name.now desc.now hint.now HasArg.Yes Occur.Multi)) }
         ensures same_options { IfOk result (λ options.
@@ -258,6 +266,7 @@ impl Options {
         hint: &str,
     ) -> Result<&mut Options, AllocError>
         requires { AreLawful short_name.now long_name.now }
+        ensures* unchanged { sem 𝓛 (UnchangedIfErr self.entry result) }
         ensures added { IfOk result (λ options. options.now ≡ with_group self.old
             (group_of short_name.now long_name.now desc.now hint.now HasArg.Yes Occur.Optional)) }
         ensures same_options { IfOk result (λ options.
@@ -286,6 +295,7 @@ impl Options {
         hint: &str,
     ) -> Result<&mut Options, AllocError>
         requires { AreLawful short_name.now long_name.now }
+        ensures* unchanged { sem 𝓛 (UnchangedIfErr self.entry result) }
         ensures added { IfOk result (λ options. options.now ≡ with_group self.old
             (group_of short_name.now long_name.now desc.now hint.now HasArg.Yes Occur.Req)) }
         ensures same_options { IfOk result (λ options.

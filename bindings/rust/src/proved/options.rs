@@ -33,9 +33,9 @@ impl Options {
     /// Adds an option, with any kind of argument and any number of occurrences, as the last group.
     ///
     /// `options.add_group("o", "output", "write to FILE", "FILE", HasArg::Yes, Occur::Multi)?` does
-    /// the same as `opt`. Use it to add options in a loop, or to continue after an error: its
-    /// contract promises that an error leaves the options unchanged. The methods named as in the
-    /// Rust crate call it, but can't promise that, because they return the options for chaining.
+    /// the same as `opt`, but doesn't return the options. Use it to add options in a loop, or to
+    /// continue after an error: a caller's proof then knows that the options are unchanged. `opt`
+    /// and similar methods promise this too, but generated proofs of callers can't use the promise.
     ///
     /// Requires valid names (see `names_lawful`). Fails only if an allocation fails. The Rust crate
     /// has no such method.
@@ -86,9 +86,8 @@ impl Options {
     /// and `--color=auto` any number of times.
     ///
     /// Requires valid names (see `names_lawful`). Fails only if an allocation fails; the options
-    /// are then unchanged. This is proved for `add_group`, which this method calls, but can't be
-    /// stated here, because the result borrows the options. Returns the same options, so that calls
-    /// can be chained with `?`.
+    /// are then unchanged. Callers that have to prove this use `add_group`. Returns the same
+    /// options, so that calls can be chained with `?`.
     ///
     /// The Rust crate panics here if a name is too long or too short, and accepts two empty names,
     /// on which its `parse` panics.
@@ -101,8 +100,10 @@ impl Options {
         hasarg: HasArg,
         occur: Occur,
     ) -> Result<&mut Options, AllocError> {
-        self.add_group(short_name, long_name, desc, hint, hasarg, occur)?;
-        Ok(self)
+        match self.add_group(short_name, long_name, desc, hint, hasarg, occur) {
+            Ok(()) => Ok(self),
+            Err(error) => Err(error),
+        }
     }
 
     /// Adds an option without an argument that may occur once.
