@@ -6,11 +6,12 @@ use Rattle.std.specs.List.{AllByRecursion, flat_map}
 use Rattle.getopts.specs.Results.{accepted_reading, parse_result}
 use Rattle.getopts.specs.Fail.{Fault}
 use Rattle.getopts.specs.Matches.{Matched, MatchedGroup, matches_of}
-use Rattle.getopts.specs.Names.{Text, main_name, texts}
+use Rattle.getopts.specs.Names.{AreTexts, Text, main_name, texts}
 use Rattle.getopts.specs.Options.{Group, grammar_of}
 use Rattle.getopts.specs.Reading.{Reading, occurrences_of}
-use Rattle.getopts.proofs.MainTheorem.Results.{made_of-ok}
-use Rattle.getopts_show.specs.Program.{AreAccepted, HasProgramGroups, IsProgramText, IsReadingText}
+use Rattle.getopts.proofs.MainTheorem.Callers.{MayBeDeclared-plain}
+use Rattle.getopts.proofs.MainTheorem.Results.{HasResults-declared, made_of-ok}
+use Rattle.getopts_show.specs.Program.{HasProgramGroups, IsProgramText, IsReadingText}
 use Rattle.getopts_show.specs.Program.{IsResultText, asks_help}
 use Rattle.getopts_show.specs.Program.{group_lines, named_lines, program_groups}
 use Rattle.getopts_show.specs.Program.{program_options}
@@ -32,6 +33,17 @@ pub lines_of_names : (groups : List MatchedGroup) → HasProgramGroups groups
 lines_of_names groups (occurrences, is) = subst
     (λ (gs : List MatchedGroup). flat_map (named_lines gs) main_names ≡ flat_map group_lines gs) (sym is) refl
 
+-- the computed result of the words is their only one
+pub of_computed : (words : List Text) → AreTexts words → (text : Text) (status : ℕ)
+    → IsResultText (accepted_reading program_options words) text status
+    → IsProgramText words text status
+of_computed words texts text status is =
+    let declared = MayBeDeclared-plain program_options refl in (
+      accepted_reading program_options words,
+      (HasResults-declared program_options declared words texts).line,
+      is,
+    )
+
 -- the matches and the text of accepted words
 module _ (words : List Text) (matches : Matched) (is : parse_result program_options words ≡ Ok matches) where
   pub program_groups_of : HasProgramGroups matches.groups
@@ -39,7 +51,7 @@ module _ (words : List Text) (matches : Matched) (is : parse_result program_opti
       let made = made_of-ok (matches_of program_options) (accepted_reading program_options words) matches is in
       (occurrences_of (grammar_of program_options) made.0, ap (λ (m : Matched). m.groups) (sym made.2))
 
-  pub are_accepted : AreAccepted words
+  pub are_accepted : (reading : Reading) × (accepted_reading program_options words ≡ Ok reading)
   are_accepted =
       let made = made_of-ok (matches_of program_options) (accepted_reading program_options words) matches is in
       (made.0, made.1)
@@ -48,7 +60,7 @@ module _ (words : List Text) (matches : Matched) (is : parse_result program_opti
   pub text_of_reading : (asks : Bool) (text : Text) → asks_help matches ≡ asks
       → ((reading : Reading) → accepted_reading program_options words ≡ Ok reading
       → matches_of program_options reading ≡ matches → IsReadingText asks reading text)
-      → IsProgramText words text 0
+      → IsResultText (accepted_reading program_options words) text 0
   text_of_reading asks text asked says =
       let made = made_of-ok (matches_of program_options) (accepted_reading program_options words) matches is in
       let asks_it : asks_help (matches_of program_options made.0) ≡ asks = ap asks_help made.2 ∙ asked in

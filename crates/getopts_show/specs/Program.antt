@@ -10,7 +10,7 @@ use Rattle.getopts.specs.Matches.{GroupOccurrence, Matched, MatchedGroup, matche
 use Rattle.getopts.specs.Names.{Text, main_name}
 use Rattle.getopts.specs.Options.{Group, Declared, group_of, signatures_of}
 use Rattle.getopts.specs.Reading.{Occurrence, Reading}
-use Rattle.getopts.specs.Results.{accepted_reading}
+use Rattle.getopts.specs.Returns.{IsLineOf}
 use Rattle.getopts.specs.Only.{IsTheOnly}
 use Rattle.getopts.specs.Usage.{IsUsageText}
 use Rattle.getopts.specs.declared.groups.HasArg.TheVariants.{Yes, No, Maybe}
@@ -83,10 +83,6 @@ content_text content = flat_map (word_line (codes "line")) (canonical_line progr
 abbrev pub fault_line : Fault → Text
 fault_line fault = codes "getopts_show: " ++ (fault_text fault ++ newline)
 
--- The program's options accept these words.
-abbrev pub AreAccepted : List Text → Type 0
-AreAccepted words = (reading : Reading) × (accepted_reading program_options words ≡ Ok reading)
-
 -- whether matches ask for help
 abbrev pub asks_help : Matched → Bool
 asks_help matches = is_present matches.groups (codes "help")
@@ -124,9 +120,11 @@ IsResultText (Ok reading) text status =
     IsReadingText (asks_help (matches_of program_options reading)) reading text × (status ≡ 0)
 IsResultText (Err fault) text status = (text ≡ fault_line fault) × (status ≡ 2)
 
+-- The words have only one result: their reading that keeps the counts, or their first error.
 -- These are the output and the status for the words.
 abbrev pub IsProgramText : List Text → Text → ℕ → Type 0
-IsProgramText words text status = IsResultText (accepted_reading program_options words) text status
+IsProgramText words text status = (result : Result Reading Fault)
+    × IsTheOnly (IsLineOf program_options words) result × IsResultText result text status
 
 -- The status is 0 if help, or the meaning of accepted words, was shown; 2 if the error of rejected
 -- words was shown; 3 if an allocation failed; and 4 if writing or flushing failed.

@@ -15,14 +15,14 @@ ghost use Rattle.getopts.specs.CanonAnswers.{IsUnwritable};
 ghost use Rattle.getopts.specs.Returns.{ReturnsConverted, ReturnsResult};
 ghost use Rattle.getopts.specs.Reading.{Reading};
 ghost use Rattle.getopts.specs.Results.{accepted_reading, canonical_result, parse_result};
-ghost use Rattle.getopts_show.specs.Program.{AreAccepted, IsHelpText, IsProgramText};
+ghost use Rattle.getopts_show.specs.Program.{IsHelpText, IsProgramText, IsResultText};
 ghost use Rattle.getopts_show.specs.Program.{HasProgramGroups, IsStatus, IsDone, ShowsText};
 ghost use Rattle.getopts_show.specs.Program.{asks_help, content_text, count_line};
 ghost use Rattle.getopts_show.specs.Program.{fault_line, matches_text};
 ghost use Rattle.getopts_show.specs.Program.{named_lines, position_mark, program_groups};
 ghost use Rattle.getopts_show.specs.Program.{program_options, value_line, word_line};
 
-use getopts::{Fail, HasArg, Matches, Occur, Options};
+use getopts::{Fail, HasArg, Matches, Occur, Options, are_texts};
 use std::alloc::{AllocError, Global};
 use std::io;
 use std::io::Write;
@@ -83,10 +83,12 @@ fn print<W: Write>(out: &mut W, text: &str) -> io::Result<()>
 }
 
 /// What the program answers to these words.
+#[tactic(auto, using(crate::proofs::ShowLemmas::of_computed))]
 fn answer_to(alloc: Global, words: &[&str]) -> Result<Answer, AllocError>
     ensures { IfOk result (λ answer.
         IsProgramText (texts words.now) (string_bytes answer.text) answer.status) }
 {
+    are_texts(words);
     let options = program_options(alloc)?;
     match parsed(alloc, &options, words) {
         Ok(matches) => Ok(Answer {
@@ -127,7 +129,8 @@ fn accepted_text(
 ) -> Result<String, AllocError>
     requires program { options.now ≡ program_options }
     requires accepted { parse_result program_options (texts words.now) ≡ Ok matches.now }
-    ensures { IfOk result (λ text. IsProgramText (texts words.now) (string_bytes text) 0) }
+    ensures { IfOk result (λ text. IsResultText
+        (accepted_reading program_options (texts words.now)) (string_bytes text) 0) }
 {
     if matches.opt_present("help") {
         help_text(alloc, options)
@@ -155,7 +158,8 @@ fn shown_text(
     requires program { options.now ≡ program_options }
     requires accepted { parse_result program_options (texts words.now) ≡ Ok matches.now }
     requires no_help { asks_help matches.now ≡ false }
-    ensures { IfOk result (λ text. IsProgramText (texts words.now) (string_bytes text) 0) }
+    ensures { IfOk result (λ text. IsResultText
+        (accepted_reading program_options (texts words.now)) (string_bytes text) 0) }
 {
     let mut text = matches_text(alloc, matches)?;
     push_canonical(&mut text, alloc, options, words)?;
@@ -170,7 +174,8 @@ fn push_canonical(
     words: &[&str],
 ) -> Result<(), AllocError>
     requires program { options.now ≡ program_options }
-    requires accepted { AreAccepted (texts words.now) }
+    requires accepted { (reading : Reading)
+        × (accepted_reading program_options (texts words.now) ≡ Ok reading) }
     ensures { OnOk result ((reading : Reading)
         → accepted_reading program_options (texts words.now) ≡ Ok reading
         → string_bytes text.new
@@ -188,7 +193,8 @@ fn canonical_line(
     words: &[&str],
 ) -> Result<Vec<String>, AllocError>
     requires program { options.now ≡ program_options }
-    requires accepted { AreAccepted (texts words.now) }
+    requires accepted { (reading : Reading)
+        × (accepted_reading program_options (texts words.now) ≡ Ok reading) }
     ensures { IfOk result (λ line. (reading : Reading)
         → accepted_reading program_options (texts words.now) ≡ Ok reading
         → map string_bytes line.items
