@@ -42,7 +42,7 @@ def test_tokens_match_source(crate):
 
 
 @pytest.mark.parametrize("file, right, wrong", [
-    ("parse.rs", "count <= 1", "count < 1"),
+    ("counts.rs", "count <= 1", "count < 1"),
     ("scan.rs", "line.try_grow(words, stops)?;", "line.try_grow(words, stops);"),
     ("table.rs", "entries.dedup_by", "entries.reverse(); entries.dedup_by")])
 def test_changed_tokens_are_found(file, right, wrong, tmp_path):

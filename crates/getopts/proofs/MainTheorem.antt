@@ -4,6 +4,7 @@ pub mod Callers
 pub mod Theorem
 pub mod FirstFault
 pub mod Results
+pub mod Counted
 pub mod Accepted
 pub mod BeforeFree
 pub mod UsageComputed

@@ -1,21 +1,24 @@
 //! The result of parsing, as it is stored: options with their values by group, and free words.
 
-ghost use Rattle.std.specs.Prelude.{◌≡◌, ◌==◌, ◌↔◌, IsTrue, map, IfOk};
+ghost use Rattle.std.specs.Prelude.{◌≡◌, ◌==◌, ◌↔◌, IsTrue, map, IfErr, IfOk, OnOk};
 ghost use Rattle.std.specs.Cmp.Lexicographic.{pointwise};
 ghost use Rattle.std.specs.Cmp.Rules.{comparing};
 ghost use Rattle.std.specs.String.{string_bytes};
 ghost use Rattle.std.proofs.Common.{rules};
 ghost use Rattle.getopts.specs.Accessors.{HaveLawfulNames, occurrences_of_group};
 ghost use Rattle.getopts.specs.Accessors.{occurrences_of_name, place_of};
-ghost use Rattle.getopts.specs.Matches.{matched};
+ghost use Rattle.getopts.specs.Fail.{IsOutOfMemoryOr};
+ghost use Rattle.getopts.specs.Matches.{IsCountFault, KeepsCounts, matched};
 ghost use Rattle.getopts.specs.Stored.Matches.{IsOfSignatures};
 
+use crate::counts::check_counts;
+use crate::fail::Fail;
 use crate::groups::Signatures;
 use crate::index::Index;
 use crate::occurrences::{LineOccurrences, Occurrences};
 use crate::scan::Line;
 use crate::table::Table;
-use std::alloc::AllocError;
+use std::alloc::{AllocError, Global};
 use std::marker::Model;
 
 /// A command line that was read, with the table of names that it was read by, and its occurrences
@@ -201,6 +204,14 @@ impl MatchedGroups {
             Some(place) => self.occurrences_at(place),
             None => Occurrences::of(&self.found, &[]),
         }
+    }
+
+    /// Checks how often each option occurs, in order of declaration.
+    pub(crate) fn check_all(&self, alloc: Global) -> Result<(), Fail>
+        ensures ok { OnOk result (KeepsCounts self.now) }
+        ensures err { IfErr result (λ fail. IsOutOfMemoryOr fail (IsCountFault self.now)) }
+    {
+        check_counts(alloc, &self.signatures, &self.index)
     }
 
     /// Whether the groups are the same, and so are their occurrences.

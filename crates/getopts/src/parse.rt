@@ -1,15 +1,13 @@
 //! Parsing a command line: its words are scanned, then its counts are checked.
 
-ghost use Rattle.std.specs.Prelude.{◌≡◌, ◌↔◌, IsTrue, IfOk, IfErr, IfSome, OnOk, length, map};
+ghost use Rattle.std.specs.Prelude.{◌≡◌, IfOk, IfErr, IfSome, OnOk, length, map};
 ghost use Rattle.std.specs.Iterator.{IsFinite};
 ghost use Rattle.std.specs.Iterator.Runs.{WholeRun};
-ghost use Rattle.getopts.specs.Matches.{FitsCount, IsCountFault, KeepsCounts, count_fault, matched};
 ghost use Rattle.getopts.specs.Fail.{IsOutOfMemoryOr};
 ghost use Rattle.getopts.specs.Names.{texts};
-ghost use Rattle.getopts.specs.Stored.Matches.{IsOfSignatures};
 
+use crate::counts::check_counts;
 use crate::fail::Fail;
-use crate::groups::{Occur, Signatures};
 use crate::index::Index;
 use crate::matches::{Matches, ReadLine};
 use crate::options::Options;
@@ -125,7 +123,7 @@ impl Options {
         ensures results { HasResults self.now (map S.text words.now) }
     {
         let read = self.read_line(alloc, words)?;
-        check_counts(alloc, self.signatures(), &read)?;
+        check_counts(alloc, self.signatures(), &read.index)?;
         Ok(read)
     }
 
@@ -166,45 +164,4 @@ pub(crate) fn words_from<'a, I: Iterator<Item = &'a str> + Drop>(
         words.push(word)?;
     }
     Ok(words)
-}
-
-/// Checks how often each option of a command line occurs, in order of declaration.
-// Without `inline`, the job `none` takes 1.5 % more instructions.
-#[inline(always)]
-fn check_counts(alloc: Global, signatures: &Signatures, read: &ReadLine) -> Result<(), Fail>
-    requires { IsOfSignatures signatures.now read.now }
-    ensures ok { OnOk result
-        (KeepsCounts (matched 0 signatures.now read.now.line.found)) }
-    ensures err { IfErr result (λ fail. IsOutOfMemoryOr fail
-        (IsCountFault (matched 0 signatures.now read.now.line.found))) }
-{
-    for place in 0..signatures.len() {
-        let count = read.index.count(place);
-        if !fits_count(signatures.record(place).kinds.occurrence, count) {
-            return Err(count_fault(alloc, signatures.main(place), count));
-        }
-    }
-    Ok(())
-}
-
-/// Whether an option may occur this often.
-fn fits_count(occurrence: Occur, count: usize) -> bool
-    ensures { IsTrue result ↔ FitsCount occurrence count }
-{
-    match occurrence {
-        Occur::Req => count == 1,
-        Occur::Optional => count <= 1,
-        Occur::Multi => true,
-    }
-}
-
-/// The error for an option that may not occur this often.
-fn count_fault(alloc: Global, main: &str, count: usize) -> Fail
-    ensures { IsOutOfMemoryOr result (λ fault. fault ≡ count_fault main.now count) }
-{
-    if count == 0 {
-        Fail::option_missing(alloc, main)
-    } else {
-        Fail::option_duplicated(alloc, main)
-    }
 }

@@ -1,9 +1,8 @@
 //! Help and the version, which a command line may request even if a required option is missing.
 
-ghost use Rattle.std.specs.Prelude.{codes, map, IfOk, IfSome};
+ghost use Rattle.std.specs.Prelude.{map, IfOk, IfSome};
 ghost use Rattle.getopts.specs.Returns.{ReturnsResult};
 ghost use Rattle.getopts.specs.Holds.{EndsInTrailing, FitOptionsAndCounts};
-ghost use Rattle.getopts.specs.Options.{Declares};
 ghost use Rattle.getopts.specs.Unless.{parse_unless_result, parse_request_result, IfParsed};
 
 use crate::fail::Fail;
@@ -23,21 +22,19 @@ pub enum Request<T> {
 impl Options {
     /// Parses a command line like `parse_words`, unless it requests help or the version.
     ///
-    /// Requires options with the names `help` and `version`, which are usually flags. If a command
-    /// line gives one of them, the counts of options aren't checked, so required options may be
-    /// missing. If it gives both, help takes precedence. Every word must be readable: with the
-    /// options above and the required option `n`/`name`, `["--help"]` is `Request::Help`,
-    /// `["--help", "--nope"]` is rejected, and `[]` is rejected because `name` is missing.
+    /// The options that request them have the names `help` and `version`, and are usually flags; an
+    /// option that isn't declared counts as not given. If a command line gives one of them, the
+    /// counts of options aren't checked, so required options may be missing. If it gives both, help
+    /// takes precedence. Every word must be readable: with these flags and the required option
+    /// `n`/`name`, `["--help"]` is `Request::Help`, `["--help", "--nope"]` is rejected, and `[]` is
+    /// rejected because `name` is missing.
     ///
-    /// Parses twice, unless help or the version is requested or a word can't be read. The Rust
-    /// crate has no such method.
+    /// The Rust crate has no such method.
     pub fn parse_request<S: AsStr>(
         &self,
         alloc: Global,
         words: &[S],
     ) -> Result<Request<Matches>, Fail>
-        requires help { Declares self.now (codes "help") }
-        requires version { Declares self.now (codes "version") }
         ensures result { ReturnsResult result
             (parse_request_result self.now (map S.text words.now)) }
         ensures declared { IfOk result (λ request. IfParsed request (λ matches.
@@ -45,14 +42,15 @@ impl Options {
         ensures trailing { IfOk result (λ request. IfParsed request (λ matches.
             IfSome matches.trailing_start (EndsInTrailing (map S.text words.now) matches))) }
     {
-        let read = self.parse_ignoring_counts(alloc, words)?;
-        if read.opt_present("help") {
+        let matches = self.parse_ignoring_counts(alloc, words)?;
+        if matches.has("help") {
             return Ok(Request::Help);
         }
-        if read.opt_present("version") {
+        if matches.has("version") {
             return Ok(Request::Version);
         }
-        Ok(Request::Parsed(self.parse_words(alloc, words)?))
+        matches.held.check_all(alloc)?;
+        Ok(Request::Parsed(matches))
     }
 
     /// Parses a command line like `parse_words`, or returns `None` if it gives the option `flag`.
@@ -60,17 +58,14 @@ impl Options {
     /// Use it for programs and subcommands that have help, but no version: after
     /// `options.optflag("h", "help", "print this help")?`,
     /// `options.parse_unless(alloc, words, "help")` is `Ok(None)` if the words request help, even
-    /// if a required option is missing. Every word must be readable.
-    ///
-    /// Requires a declared name. Parses twice, unless the option is given or a word can't be read.
-    /// The Rust crate has no such method.
+    /// if a required option is missing. Every word must be readable. An option that isn't declared
+    /// counts as not given. The Rust crate has no such method.
     pub fn parse_unless<S: AsStr>(
         &self,
         alloc: Global,
         words: &[S],
         flag: &str,
     ) -> Result<Option<Matches>, Fail>
-        requires { Declares self.now flag.now }
         ensures result { ReturnsResult result
             (parse_unless_result self.now flag.now (map S.text words.now)) }
         ensures declared { IfOk result (λ answer. IfSome answer (λ matches.
@@ -79,9 +74,10 @@ impl Options {
             IfSome matches.trailing_start (EndsInTrailing (map S.text words.now) matches))) }
     {
         let read = self.parse_ignoring_counts(alloc, words)?;
-        if read.opt_present(flag) {
+        if read.has(flag) {
             return Ok(None);
         }
-        Ok(Some(self.parse_words(alloc, words)?))
+        read.held.check_all(alloc)?;
+        Ok(Some(read))
     }
 }

@@ -38,7 +38,7 @@ impl Matches {
     }
 
     /// Whether an option was given. An undefined option counts as not given.
-    fn has(&self, name: &str) -> bool {
+    pub(crate) fn has(&self, name: &str) -> bool {
         !self.held.occurrences_of(name).is_empty()
     }
 

@@ -3,12 +3,14 @@
 
 use crate::fallible::*;
 
+use super::counts::check_counts;
+use super::fail::Fail;
 use super::groups::Signatures;
 use super::index::Index;
 use super::occurrences::{LineOccurrences, Occurrences};
 use super::scan::Line;
 use super::table::Table;
-use crate::alloc::AllocError;
+use crate::alloc::{AllocError, Global};
 
 /// A command line that was read, with the table of names that it was read by, and its occurrences
 /// indexed by group.
@@ -119,6 +121,11 @@ impl MatchedGroups {
             Some(place) => self.occurrences_at(place),
             None => Occurrences::of(&self.found, &[]),
         }
+    }
+
+    /// Checks how often each option occurs, in order of declaration.
+    pub(crate) fn check_all(&self, alloc: Global) -> Result<(), Fail> {
+        check_counts(alloc, &self.signatures, &self.index)
     }
 
     /// Whether the groups are the same, and so are their occurrences.

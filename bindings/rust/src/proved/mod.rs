@@ -20,6 +20,8 @@ mod occurrences;
 mod scan;
 // Which occurrences belong to which group.
 mod index;
+// Whether options occur as often as they may.
+mod counts;
 // The result of parsing, and how it is copied and compared.
 pub(crate) mod matches;
 // What matches return for a name.

@@ -3,8 +3,8 @@
 
 use crate::fallible::*;
 
+use super::counts::check_counts;
 use super::fail::Fail;
-use super::groups::{Occur, Signatures};
 use super::index::Index;
 use super::matches::{Matches, ReadLine};
 use super::options::Options;
@@ -61,7 +61,7 @@ impl Options {
         words: &[S],
     ) -> Result<ReadLine, Fail> {
         let read = self.read_line(alloc, words)?;
-        check_counts(alloc, self.signatures(), &read)?;
+        check_counts(alloc, self.signatures(), &read.index)?;
         Ok(read)
     }
 
@@ -93,35 +93,4 @@ pub(crate) fn words_from<'a, I: Iterator<Item = &'a str>>(
         words.try_push(word)?;
     }
     Ok(words)
-}
-
-/// Checks how often each option of a command line occurs, in order of declaration.
-// Without `inline`, the job `none` takes 1.5 % more instructions.
-#[inline(always)]
-fn check_counts(alloc: Global, signatures: &Signatures, read: &ReadLine) -> Result<(), Fail> {
-    for place in 0..signatures.len() {
-        let count = read.index.count(place);
-        if !fits_count(signatures.record(place).kinds.occurrence, count) {
-            return Err(count_fault(alloc, signatures.main(place), count));
-        }
-    }
-    Ok(())
-}
-
-/// Whether an option may occur this often.
-fn fits_count(occurrence: Occur, count: usize) -> bool {
-    match occurrence {
-        Occur::Req => count == 1,
-        Occur::Optional => count <= 1,
-        Occur::Multi => true,
-    }
-}
-
-/// The error for an option that may not occur this often.
-fn count_fault(alloc: Global, main: &str, count: usize) -> Fail {
-    if count == 0 {
-        Fail::option_missing(alloc, main)
-    } else {
-        Fail::option_duplicated(alloc, main)
-    }
 }

@@ -18,27 +18,28 @@ pub enum Request<T> {
 impl Options {
     /// Parses a command line like `parse_words`, unless it requests help or the version.
     ///
-    /// Requires options with the names `help` and `version`, which are usually flags. If a command
-    /// line gives one of them, the counts of options aren't checked, so required options may be
-    /// missing. If it gives both, help takes precedence. Every word must be readable: with the
-    /// options above and the required option `n`/`name`, `["--help"]` is `Request::Help`,
-    /// `["--help", "--nope"]` is rejected, and `[]` is rejected because `name` is missing.
+    /// The options that request them have the names `help` and `version`, and are usually flags; an
+    /// option that isn't declared counts as not given. If a command line gives one of them, the
+    /// counts of options aren't checked, so required options may be missing. If it gives both, help
+    /// takes precedence. Every word must be readable: with these flags and the required option
+    /// `n`/`name`, `["--help"]` is `Request::Help`, `["--help", "--nope"]` is rejected, and `[]` is
+    /// rejected because `name` is missing.
     ///
-    /// Parses twice, unless help or the version is requested or a word can't be read. The Rust
-    /// crate has no such method.
+    /// The Rust crate has no such method.
     pub fn parse_request<S: AsStr>(
         &self,
         alloc: Global,
         words: &[S],
     ) -> Result<Request<Matches>, Fail> {
-        let read = self.parse_ignoring_counts(alloc, words)?;
-        if read.opt_present("help") {
+        let matches = self.parse_ignoring_counts(alloc, words)?;
+        if matches.has("help") {
             return Ok(Request::Help);
         }
-        if read.opt_present("version") {
+        if matches.has("version") {
             return Ok(Request::Version);
         }
-        Ok(Request::Parsed(self.parse_words(alloc, words)?))
+        matches.held.check_all(alloc)?;
+        Ok(Request::Parsed(matches))
     }
 
     /// Parses a command line like `parse_words`, or returns `None` if it gives the option `flag`.
@@ -46,10 +47,8 @@ impl Options {
     /// Use it for programs and subcommands that have help, but no version: after
     /// `options.optflag("h", "help", "print this help")?`,
     /// `options.parse_unless(alloc, words, "help")` is `Ok(None)` if the words request help, even
-    /// if a required option is missing. Every word must be readable.
-    ///
-    /// Requires a declared name. Parses twice, unless the option is given or a word can't be read.
-    /// The Rust crate has no such method.
+    /// if a required option is missing. Every word must be readable. An option that isn't declared
+    /// counts as not given. The Rust crate has no such method.
     pub fn parse_unless<S: AsStr>(
         &self,
         alloc: Global,
@@ -57,9 +56,10 @@ impl Options {
         flag: &str,
     ) -> Result<Option<Matches>, Fail> {
         let read = self.parse_ignoring_counts(alloc, words)?;
-        if read.opt_present(flag) {
+        if read.has(flag) {
             return Ok(None);
         }
-        Ok(Some(self.parse_words(alloc, words)?))
+        read.held.check_all(alloc)?;
+        Ok(Some(read))
     }
 }

@@ -200,7 +200,7 @@ first_broken (first ∷ before) (second ∷ others) group other after more same
     first_broken before others group other after more later kept.1 broken kept_other.1 broken_other
 
 -- groups have one count error
-only_count_fault : (groups : List MatchedGroup) (fault other : Fault) → IsCountFault groups fault
+pub only_count_fault : (groups : List MatchedGroup) (fault other : Fault) → IsCountFault groups fault
     → IsCountFault groups other → fault ≡ other
 only_count_fault groups fault other is is_other =
     let group = first_broken is.before is_other.before is.group is_other.group is.after
@@ -209,7 +209,7 @@ only_count_fault groups fault other is is_other =
     is.fault_is ∙ ap broken_count group ∙ sym is_other.fault_is
 
 -- groups that keep their counts have none
-no_count_fault : (groups : List MatchedGroup) (fault : Fault) → KeepsCounts groups
+pub no_count_fault : (groups : List MatchedGroup) (fault : Fault) → KeepsCounts groups
     → IsCountFault groups fault → ⊥
 no_count_fault groups fault keeps is =
     is.broken (KeepsCount-at is.before is.group is.after (subst KeepsCounts is.groups_are keeps))

@@ -14,9 +14,6 @@ returns-in_err-read-clause-refused g c =
     rw (left.1, left.2)
     (IsOutOfMemoryOr-weaker c.in_err-read.field-0.0 _ _ c.in_err-read.ensures.refused (λ fault is. inl is))
 
-pub check_counts-requires : goal.check_counts-requires
-check_counts-requires g c = rw (c.signatures.ensures.signatures) c.in_ok-read.ensures.read.of_groups
-
 pub returns-in_err-check_counts-clause-refused : goal.returns-in_err-check_counts-clause-refused
 returns-in_err-check_counts-clause-refused g c =
     let line = c.in_ok-read.read.line in
@@ -32,11 +29,12 @@ returns-in_err-check_counts-clause-refused g c =
         trailing_start = line.trailing_start;
       };
       read = HasReading-line _ _ c.in_ok-read.read c.in_ok-read.ensures.read;
-      breaks = is;
+      breaks = is line.found c.in_ok-read.ensures.read.of_groups.index;
     })))
 
 pub returns-clause-accepted : goal.returns-clause-accepted
 returns-clause-accepted g c = record {
   is_read = c.in_ok-read.ensures.read;
-  keeps = rw c.signatures.ensures.signatures at c.in_ok-check_counts.ensures.ok;
+  keeps = (rw c.signatures.ensures.signatures at c.in_ok-check_counts.ensures.ok)
+      c.in_ok-read.read.line.found c.in_ok-read.ensures.read.of_groups.index;
 }

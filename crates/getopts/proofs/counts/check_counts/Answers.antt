@@ -10,31 +10,31 @@ use Rattle.getopts.proofs.Parsing.Counts.{length-occurrences_mentioning}
 use Rattle.getopts.proofs.Parsing.Counts.{length-matched, signature-there}
 use Rattle.getopts.proofs.Parsing.Faults.{IsOutOfMemoryOr-weaker}
 use Rattle.getopts.proofs.Stored.Groups.{names_at-signature}
-use Rattle.getopts.proofs.parse.check_counts.Goals as goal
+use Rattle.getopts.proofs.counts.check_counts.Goals as goal
 
 pub returns-clause-ok : goal.returns-clause-ok
-returns-clause-ok c =
-    let whole = matched 0 c.args.signatures.now c.args.read.now.line.found in
+returns-clause-ok c found indexed =
+    let whole = matched 0 c.args.signatures.now found in
     rw (sym (take_all c.loop-place.place whole (omega (
       arith,
-      length-matched 0 c.args.signatures.now c.args.read.now.line.found,
-    )))) c.loop-place.invariant
+      length-matched 0 c.args.signatures.now found,
+    )))) (c.loop-place.invariant found indexed)
 
 pub loop-place-preserved : goal.loop-place-preserved
-loop-place-preserved c =
+loop-place-preserved c found indexed =
     let signatures = c.args.signatures.now in
     let kinds = c.record.result.kinds in
     let count = c.count-count.result in
     let there = signature-there signatures c.loop-place.place kinds c.record.ensures.kinds in
-    let counted : count ≡ length (occurrences_mentioning c.loop-place.place c.args.read.now.line.found) =
+    let counted : count ≡ length (occurrences_mentioning c.loop-place.place found) =
     c.count-count.ensures
     ∙ ap (λ (ix : List (List ℕ)). length (unwrap_or (slice_get ix c.loop-place.place) []))
-    c.requires.index ∙ length-occurrences_mentioning (length c.args.signatures.now) c.args.read.now.line.found
+    indexed ∙ length-occurrences_mentioning (length c.args.signatures.now) found
     c.loop-place.place (omega arith) in
     let fits : FitsCount kinds.occurrence count =
     c.fits_count.ensures.0 c.if-not-fits_count.false in
-    KeepsCounts-more signatures c.args.read.now.line.found c.loop-place.place there.0 there.1
-    c.loop-place.invariant count counted
+    KeepsCounts-more signatures found c.loop-place.place there.0 there.1
+    (c.loop-place.invariant found indexed) count counted
     (subst (λ (occurrence : Occur). FitsCount occurrence count) (sym there.2) fits)
 
 pub returns-then-not-fits_count-clause-err : goal.returns-then-not-fits_count-clause-err
@@ -43,11 +43,6 @@ returns-then-not-fits_count-clause-err c =
     c.record.result.kinds
     c.record.ensures.kinds in
     let count = c.count-count.result in
-    let counted : count ≡ length (occurrences_mentioning c.loop-place.place c.args.read.now.line.found) =
-    c.count-count.ensures
-    ∙ ap (λ (ix : List (List ℕ)). length (unwrap_or (slice_get ix c.loop-place.place) []))
-    c.requires.index ∙ length-occurrences_mentioning (length c.args.signatures.now) c.args.read.now.line.found
-    c.loop-place.place (omega arith) in
     let main : c.main.result.now ≡ main_name there.0.names =
     c.main.ensures ∙ ap main_name (names_at-signature c.args.signatures.now c.loop-place.place there.0
     there.1) in
@@ -58,8 +53,13 @@ returns-then-not-fits_count-clause-err c =
       c.if-not-fits_count.true,
     )) in
     IsOutOfMemoryOr-weaker c.count_fault.result _ _ c.count_fault.ensures
-    (λ fault told. IsCountFault-at c.args.signatures.now c.args.read.now.line.found
-    c.loop-place.place there.0 there.1
-    c.loop-place.invariant count counted fault broken
+    (λ fault told found indexed.
+    let counted : count ≡ length (occurrences_mentioning c.loop-place.place found) =
+    c.count-count.ensures
+    ∙ ap (λ (ix : List (List ℕ)). length (unwrap_or (slice_get ix c.loop-place.place) []))
+    indexed ∙ length-occurrences_mentioning (length c.args.signatures.now) found
+    c.loop-place.place (omega arith) in
+    IsCountFault-at c.args.signatures.now found c.loop-place.place there.0 there.1
+    (c.loop-place.invariant found indexed) count counted fault broken
     (told ∙ ap (λ (text : Text). count_fault text count) main
     ∙ ap (count_fault (main_name there.0.names)) counted))
