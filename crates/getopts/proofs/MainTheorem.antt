@@ -3,6 +3,7 @@ pub mod Plain
 pub mod Callers
 pub mod Theorem
 pub mod FirstFault
+pub mod Given
 pub mod Results
 pub mod Counted
 pub mod Accepted

@@ -34,7 +34,7 @@ pub mod Results
 pub mod Unless
 -- what accepted matches say about declared names
 pub mod Holds
--- what the functions of `Results` have to compute, and what calls return
+-- what the functions of `Results` and `Unless` have to compute, and what calls return
 pub mod Returns
 -- the main theorem
 pub mod Theorem

@@ -1,4 +1,4 @@
--- What the functions of `Results` have to compute, and what calls return.
+-- What the functions of `Results` and `Unless` have to compute, and what calls return.
 use Rattle.std.specs.Prelude.{◌≡◌, List, Result, Ok, Err, MatchResult}
 use Rattle.getopts.specs.Only.{IsTheOnly}
 use Rattle.getopts.specs.Names.{Text}
@@ -12,6 +12,8 @@ use Rattle.getopts.specs.CanonAnswers.{IsParseAnswer, IsCanonicalAnswer, IsOrder
 use Rattle.getopts.specs.Results.{reading_or_error, accepted_reading, parse_ignoring_counts_result}
 use Rattle.getopts.specs.Results.{parse_result}
 use Rattle.getopts.specs.Results.{canonical_result, parse_in_order_result}
+use Rattle.getopts.specs.Unless.{IsUnlessAnswer, IsRequestAnswer, parse_unless_result}
+use Rattle.getopts.specs.Unless.{parse_request_result}
 use Rattle.getopts.specs.declared.fail.Fail.{Fail}
 
 -- This is the reading of the words, or why there is none.
@@ -37,6 +39,9 @@ pub record HasResults (options : Declared) (words : List Text) : Type 0 where
   pub read : IsTheOnly (IsReadAnswer options words) (parse_ignoring_counts_result options words)
   pub canonical : IsTheOnly (IsCanonicalAnswer options words) (canonical_result options words)
   pub order : IsTheOnly (IsOrderAnswer options words) (parse_in_order_result options words)
+  pub unless : (flag : Text)
+      → IsTheOnly (IsUnlessAnswer options flag words) (parse_unless_result options flag words)
+  pub request : IsTheOnly (IsRequestAnswer options words) (parse_request_result options words)
 
 -- The call's answer is out of memory or, with its value converted, has the property `Is`.
 abbrev pub ReturnsConverted : {A X : Type 0} → (A → X) → Result A Fail → (Result X Fault → Type 0)

@@ -25,6 +25,7 @@ use Rattle.getopts.proofs.Canonical.Answered.{only_parse_answer, only_canonical_
 use Rattle.getopts.proofs.Canonical.Answered.{only_order_answer, only_read_answer}
 use Rattle.getopts.proofs.Canonical.Answered.{only_answer, only_of_reading}
 use Rattle.getopts.proofs.MainTheorem.FirstFault.{HaveFault, first_count_fault-is}
+use Rattle.getopts.proofs.MainTheorem.Given.{only_unless, only_request}
 use Rattle.getopts.proofs.Parsing.Faults.{IsOutOfMemoryOr-weaker}
 use Rattle.getopts.proofs.Parsing.Only.{IsTheOnly-from}
 use Rattle.getopts.proofs.Parsing.Parsed.{only_reads, named_here, HasNoReading-fault}
@@ -119,19 +120,21 @@ module _ (options : Declared) (declared : MayBeDeclared options.groups) (words :
       (named_here options declared) words texts _ refl in
       let reading = reading_answer texts (read (grammar_of options) words) sound in
       let line = line_answer texts (read (grammar_of options) words) sound in
+      let parse = the_only (only_parse_answer options words) (parse_result options words)
+      (made_of-is (IsAccepted options words) (IsRefused options words) (λ r. IsCountKeeping options r words)
+      (matches_of options) (accepted_reading options words)
+      (λ r keeps. record { read = has_reading r keeps.reads; counts = keeps.keeps }) line) in
+      let matches = made_of-is (HasReading options words) (HasNoReading options words) (Reads options words)
+      (matches_of options) (reading_or_error options words) has_reading reading in
       record {
         reading = the_only (only_of_reading options words (λ r reads. (r, reads)) once)
             (reading_or_error options words) reading;
         line = the_only (only_answer options words (λ r keeps. (r, keeps))
             (λ r other keeps also. once r other keeps.reads also.reads))
             (accepted_reading options words) line;
-        parse = the_only (only_parse_answer options words) (parse_result options words)
-            (made_of-is (IsAccepted options words) (IsRefused options words) (λ r. IsCountKeeping options r words)
-            (matches_of options) (accepted_reading options words)
-            (λ r keeps. record { read = has_reading r keeps.reads; counts = keeps.keeps }) line);
-        read = the_only (only_read_answer options words) (parse_ignoring_counts_result options words)
-            (made_of-is (HasReading options words) (HasNoReading options words) (Reads options words)
-            (matches_of options) (reading_or_error options words) has_reading reading);
+        parse = parse;
+        read = the_only (only_read_answer options words)
+            (parse_ignoring_counts_result options words) matches;
         canonical = the_only (only_canonical_answer options words) (canonical_result options words)
             (made_of-is (λ written. MatchOption written (IsUnwritable options words) (IsWritten options words))
             (IsRefused options words) (λ r. IsCountKeeping options r words) (λ r. written_line options.groups (content_of options r))
@@ -145,6 +148,8 @@ module _ (options : Declared) (declared : MayBeDeclared options.groups) (words :
               accepted = with_content r keeps;
               places_are = refl;
             }) line);
+        unless = λ flag. only_unless options words _ parse flag _ matches;
+        request = only_request options words _ parse _ matches;
       }
 
 -- A call that fails with the error of the only result, or is out of memory, returns that result.

@@ -47,7 +47,7 @@ signatures-matched first (signature ∷ signatures) occurrences =
     (signatures-matched (first + 1) signatures occurrences)
 
 -- the occurrences of the group at a place
-found-matched : (first : ℕ) (signatures : List Signature) (occurrences : List Occurrence) (i : ℕ)
+pub found-matched : (first : ℕ) (signatures : List Signature) (occurrences : List Occurrence) (i : ℕ)
     → i < length signatures
     → occurrences_of_group (matched first signatures occurrences) i
     ≡ occurrences_mentioning (first + i) occurrences
