@@ -302,5 +302,6 @@ fn help_and_version_come_before_missing_options() {
     assert!(matches!(request(&["--help", "--no"]), Err(Fail::UnrecognizedOption(_))));
     assert!(matches!(options.parse_unless(Global, &["--version"], "version"), Ok(None)));
     assert!(matches!(options.parse_unless(Global, &["--input=x"], "undeclared"), Ok(Some(_))));
+    assert!(matches!(self::options(0).parse_request(Global, &WORDS), Ok(Request::Parsed(_))));
     assert!(fail_each_of(&options, |o| o.parse_request(Global, &["--input=x", "--", "y"])) > 8);
 }

@@ -17,7 +17,7 @@ use std::alloc::{AllocError, Global};
 use std::convert::AsStr;
 
 impl Options {
-    ghost use Rattle.getopts.specs.Options.{grammar_of};
+    ghost use Rattle.getopts.specs.Options.{MayBeDeclared, grammar_of};
     ghost use Rattle.getopts.specs.ReadingLaws.{HavePositionsBelow};
     ghost use Rattle.getopts.specs.Parse.{IsAccepted, IsRefused, HasReading, HasNoReading};
     ghost use Rattle.getopts.specs.Parse.{KeepsReadingLaws};
@@ -78,8 +78,7 @@ impl Options {
         ensures trailing { IfOk result (λ matches. IfSome matches.trailing_start
             (EndsInTrailing (map S.text words.now) matches)) }
     {
-        let read = self.read_line(alloc, words)?;
-        Ok(Matches::of_line(self.signatures().clone()?, read))
+        self.read_matches(alloc, words)
     }
 
     /// Parses a command line like `parse_words`, from an iterator.
@@ -107,6 +106,19 @@ impl Options {
     {
         let words = words_from(alloc, args)?;
         self.parse_words(alloc, &words)
+    }
+
+    /// The matches of a command line, without checking its counts.
+    pub(crate) fn read_matches<S: AsStr>(&self, alloc: Global, words: &[S]) -> crate::Result
+        ensures result { ReturnsResult result
+            (parse_ignoring_counts_result self.now (map S.text words.now)) }
+        ensures read { IfOk result (HasReading self.now (map S.text words.now)) }
+        ensures refused { IfErr result (λ fail. IsOutOfMemoryOr fail
+            (HasNoReading self.now (map S.text words.now))) }
+        ensures declared { OnOk result (MayBeDeclared self.now.groups) }
+    {
+        let read = self.read_line(alloc, words)?;
+        Ok(Matches::of_line(self.signatures().clone()?, read))
     }
 
     /// Reads a command line, and checks its counts.

@@ -38,8 +38,7 @@ impl Options {
     /// occur several times. Otherwise, it returns the same error as `parse_words`. The Rust crate
     /// has no such method.
     pub fn parse_ignoring_counts<S: AsStr>(&self, alloc: Global, words: &[S]) -> super::Result {
-        let read = self.read_line(alloc, words)?;
-        Ok(Matches::of_line(self.signatures().try_clone()?, read))
+        self.read_matches(alloc, words)
     }
 
     /// Parses a command line like `parse_words`, from an iterator.
@@ -50,6 +49,12 @@ impl Options {
     pub fn parse<'a, I: Iterator<Item = &'a str>>(&self, alloc: Global, args: I) -> super::Result {
         let words = words_from(alloc, args)?;
         self.parse_words(alloc, &words)
+    }
+
+    /// The matches of a command line, without checking its counts.
+    pub(crate) fn read_matches<S: AsStr>(&self, alloc: Global, words: &[S]) -> super::Result {
+        let read = self.read_line(alloc, words)?;
+        Ok(Matches::of_line(self.signatures().try_clone()?, read))
     }
 
     /// Reads a command line, and checks its counts.

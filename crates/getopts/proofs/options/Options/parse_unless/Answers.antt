@@ -3,9 +3,13 @@
 use Rattle.std.proofs.Common.{refl, sym, subst, ◌∙◌}
 use Rattle.std.proofs.lemmas.Result.{err_from_is_err_and}
 use Rattle.getopts.specs.Matches.{IsCountFault, KeepsCounts, Matched}
+use Rattle.getopts.specs.ReadingLaws.{HavePositionsBelow}
+use Rattle.getopts.proofs.MainTheorem.BeforeFree.{HaveLastWordsFree-accepted}
 use Rattle.getopts.proofs.MainTheorem.Counted.{parse_result-broken, parse_result-kept}
 use Rattle.getopts.proofs.Parsing.Faults.{IsOutOfMemoryOr-weaker}
-use Rattle.getopts.proofs.Parsing.Holds.{FitOptionsAndCounts-accepted}
+use Rattle.getopts.proofs.Parsing.Holds.{FitOptionsAndCounts-accepted, EndsInTrailing-read}
+use Rattle.getopts.proofs.Parsing.Parsed.{positions_below-read, keeps_laws}
+use Rattle.getopts.proofs.Scanner.Loop.{length-texts}
 use Rattle.getopts.proofs.options.Options.parse_unless.Goals as goal
 
 pub returns-in_err-check_all-clause-result : goal.returns-in_err-check_all-clause-result
@@ -30,9 +34,30 @@ returns-clause-result g c =
           (subst (λ (m : Matched). KeepsCounts m.groups) c.read.view_is c.in_ok-check_all.ensures.ok),
     ) refl
 
+pub returns-clause-accepted : goal.returns-clause-accepted
+returns-clause-accepted g c = record {
+  read = c.in_ok-read.ensures.read;
+  counts = subst (λ (m : Matched). KeepsCounts m.groups) c.read.view_is c.in_ok-check_all.ensures.ok;
+}
+
 pub returns-clause-declared : goal.returns-clause-declared
-returns-clause-declared g c = FitOptionsAndCounts-accepted _ _ _
-    (record {
-      read = c.in_ok-read.ensures.read;
-      counts = subst (λ (m : Matched). KeepsCounts m.groups) c.read.view_is c.in_ok-check_all.ensures.ok;
-    })
+returns-clause-declared g c = FitOptionsAndCounts-accepted _ _ _ (returns-clause-accepted g c)
+
+pub returns-clause-positions_below : goal.returns-clause-positions_below
+returns-clause-positions_below g c =
+    subst (λ n. HavePositionsBelow n c.in_ok-read.read.groups)
+    (length-texts g.S.AsStr.text c.args.words.now)
+    (positions_below-read _ _ _ c.in_ok-read.ensures.read)
+
+pub returns-clause-free_last : goal.returns-clause-free_last
+returns-clause-free_last g c =
+    HaveLastWordsFree-accepted _ c.in_ok-read.ensures.declared _ _ (returns-clause-accepted g c)
+
+pub returns-clause-trailing : goal.returns-clause-trailing
+returns-clause-trailing g c = EndsInTrailing-read _ _ _ c.in_ok-read.ensures.read
+
+pub returns-clause-laws : goal.returns-clause-laws
+returns-clause-laws g c = keeps_laws c.args.self.now c.in_ok-read.ensures.declared
+
+pub returns-then-has-clause-laws : goal.returns-then-has-clause-laws
+returns-then-has-clause-laws g c = keeps_laws c.args.self.now c.in_ok-read.ensures.declared
