@@ -23,7 +23,7 @@ pub mod Canonical
 pub mod MainTheorem
 -- descriptions in rows, and usage texts
 pub mod Wrapping
--- computing with literal lines, and ten command lines as examples
+-- computing with literal options, command lines and help texts, and ten command lines as examples
 pub mod OnLiterals
 -- what the proofs by hand of `opt` and similar calls share
 pub mod Chained

@@ -1,6 +1,4 @@
 -- The main theorem, and lemmas for callers.
-pub mod Plain
-pub mod Callers
 pub mod Theorem
 pub mod FirstFault
 pub mod Given
@@ -8,6 +6,6 @@ pub mod Results
 pub mod Counted
 pub mod Accepted
 pub mod BeforeFree
-pub mod UsageComputed
-pub mod CanonicalLines
+pub mod SameContent
+pub mod Callers
 pub mod HelpText

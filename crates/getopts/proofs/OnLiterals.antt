@@ -1,14 +1,16 @@
--- Computing with literal command lines and help texts, and ten command lines as examples.
+-- Computing with literal options, command lines and help texts, and ten command lines as examples.
 use Rattle.std.proofs.Common.{◌≡◌, ℕ, zero, suc, Bool, true, false, nat_lt, List, [], ◌∷◌, Option}
-use Rattle.std.proofs.Common.{Some, None, Result, Ok, Err, codes, refl, ap, subst, arith}
+use Rattle.std.proofs.Common.{Some, None, Result, Ok, Err, codes, refl, ap, subst, arith, ◌==◌, ◌≤◌}
+use Rattle.std.proofs.Common.{◌+◌, ◌&&◌, not, length}
 use Rattle.std.specs.Prelude.{⊤}
 use Rattle.std.specs.List.{list_all}
 use Rattle.std.specs.Str.{IsAscii}
 use Rattle.std.proofs.lemmas.Bool.{and_parts, ltb-true}
 use Rattle.std.proofs.lemmas.Str.{IsUtf8-from_ascii, chars-IsAscii, encode_ascii}
+use Rattle.std.proofs.lemmas.Bool.Decides.{nat_tests}
+use Rattle.getopts.specs.Names.{Text, Names, IsLawfullyNamed, AreTexts}
+use Rattle.getopts.specs.Options.{Group, MayBeDeclared, Declared, group_of}
 use Rattle.getopts.specs.Only.{IsTheOnly}
-use Rattle.getopts.specs.Names.{Text, AreTexts}
-use Rattle.getopts.specs.Options.{Declared, group_of}
 use Rattle.getopts.specs.Fail.{Fault, unrecognized_option, option_duplicated}
 use Rattle.getopts.specs.Reading.{Reading, Item, free, long, cluster, two, flags, ends_in, none}
 use Rattle.getopts.specs.Reading.{attached, separate, Tail, line_end, stop, Mention}
@@ -21,7 +23,6 @@ use Rattle.getopts.specs.declared.groups.HasArg.TheVariants.{Yes, No, Maybe}
 use Rattle.getopts.specs.declared.groups.Occur.TheVariants.{Optional, Multi}
 use Rattle.getopts.specs.declared.groups.ParsingStyle.TheVariants.{FloatingFrees}
 use Rattle.unicode_width.proofs.Computing.{unicode_width}
-use Rattle.getopts.proofs.MainTheorem.Callers.{MayBeDeclared-plain}
 use Rattle.getopts.proofs.MainTheorem.Results.{HasResults-declared}
 
 -- ---- what to unfold
@@ -36,7 +37,64 @@ unfoldable pub usage_on_literals : ⊤
 unfolding width_of unicode_width
 usage_on_literals = tt
 
--- ---- literal words
+-- ---- literal names and words
+
+-- whether a short name is empty, or one byte of ASCII
+abbrev pub is_plain_short : Text → Bool
+is_plain_short [] = true
+is_plain_short (byte ∷ []) = nat_lt byte 128
+is_plain_short (byte ∷ other ∷ more) = false
+
+-- whether names are valid and the short one is ASCII
+abbrev pub are_plain_names : Names → Bool
+are_plain_names names =
+    is_plain_short names.short && (not (length names.long == 1) && nat_lt 0
+    (length names.short + length names.long))
+
+short_length : (short : Text) → is_plain_short short ≡ true → length short ≤ 1
+short_length [] plain = omega arith
+short_length (byte ∷ []) plain = omega arith
+short_length (byte ∷ other ∷ more) plain = cc
+
+short_ascii : (short : Text) → is_plain_short short ≡ true → IsAscii short
+short_ascii [] plain i = omega arith
+short_ascii (byte ∷ []) plain zero = ltb-true byte 128 plain
+short_ascii (byte ∷ []) plain (suc i) = omega arith
+short_ascii (byte ∷ other ∷ more) plain i = cc
+
+plain_lawful : (names : Names) → are_plain_names names ≡ true → IsLawfullyNamed names
+plain_lawful names plain =
+    let parts = and_parts (is_plain_short names.short)
+    (not (length names.long == 1) && nat_lt 0 (length names.short + length names.long)) plain in
+    let more = and_parts (not (length names.long == 1))
+    (nat_lt 0 (length names.short + length names.long)) parts.1 in
+    record {
+      short_fits = short_length names.short parts.0;
+      long_fits = grind (arith, nat_tests);
+      named = ltb-true 0 (length names.short + length names.long) more.1;
+    }
+
+-- whether all options have such names
+abbrev pub are_plain : List Group → Bool
+are_plain groups = list_all (λ group. are_plain_names group.signature.names) groups
+
+lawful_groups : (groups : List Group) → are_plain groups ≡ true → MayBeDeclared groups
+lawful_groups [] plain = record { named = tt; shorts = tt }
+lawful_groups (group ∷ groups) plain =
+    let names = group.signature.names in
+    let parts = and_parts (are_plain_names group.signature.names) (are_plain groups) plain in
+    let short = and_parts (is_plain_short names.short)
+    (not (length names.long == 1) && nat_lt 0 (length names.short + length names.long)) parts.0 in
+    let others = lawful_groups groups parts.1 in
+    record {
+      named = (plain_lawful names parts.0, others.named);
+      shorts = (IsUtf8-from_ascii names.short (short_ascii names.short short.0), others.shorts);
+    }
+
+-- literal options may be declared if their names pass this test
+pub MayBeDeclared-plain : (options : Declared) → are_plain options.groups ≡ true
+    → MayBeDeclared options.groups
+MayBeDeclared-plain options plain = lawful_groups options.groups plain
 
 -- whether all bytes of a text are ASCII
 abbrev pub is_plain_text : Text → Bool

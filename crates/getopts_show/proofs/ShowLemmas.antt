@@ -9,7 +9,7 @@ use Rattle.getopts.specs.Matches.{Matched, MatchedGroup, matches_of}
 use Rattle.getopts.specs.Names.{AreTexts, Text, main_name, texts}
 use Rattle.getopts.specs.Options.{Group, grammar_of}
 use Rattle.getopts.specs.Reading.{Reading, occurrences_of}
-use Rattle.getopts.proofs.MainTheorem.Callers.{MayBeDeclared-plain}
+use Rattle.getopts.proofs.OnLiterals.{MayBeDeclared-plain}
 use Rattle.getopts.proofs.MainTheorem.Results.{HasResults-declared, made_of-ok}
 use Rattle.getopts_show.specs.Program.{HasProgramGroups, IsProgramText, IsReadingText}
 use Rattle.getopts_show.specs.Program.{IsResultText, asks_help}

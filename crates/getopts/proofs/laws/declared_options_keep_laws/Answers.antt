@@ -1,5 +1,5 @@
 -- Declared options have valid names, which are texts, so the laws hold.
-use Rattle.getopts.proofs.MainTheorem.Callers.{OneContentHoldsSame_lem}
+use Rattle.getopts.proofs.MainTheorem.SameContent.{OneContentHoldsSame_lem}
 use Rattle.getopts.proofs.Parsing.Parsed.{keeps_laws}
 use Rattle.getopts.proofs.MainTheorem.Theorem.{AcceptedExactlyWhen-options}
 use Rattle.getopts.proofs.Canonical.Answered.{KeepsLineLaws-lawful}

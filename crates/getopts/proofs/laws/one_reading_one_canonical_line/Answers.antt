@@ -1,6 +1,6 @@
 -- The invariant of options makes their names valid, so the laws hold.
 use Rattle.getopts.specs.Canon.{with_setting}
-use Rattle.getopts.proofs.MainTheorem.Callers.{OneContentHoldsSame_lem, LinesReadAgain_lem}
+use Rattle.getopts.proofs.MainTheorem.SameContent.{OneContentHoldsSame_lem, LinesReadAgain_lem}
 use Rattle.getopts.proofs.MainTheorem.Results.{HasResults-declared}
 use Rattle.getopts.proofs.Canonical.Lines.{IsSound-says}
 use Rattle.getopts.proofs.Parsing.Parsed.{keeps_laws}

@@ -2,7 +2,7 @@
 use Rattle.std.proofs.Common.{◌≡◌, ◌∙◌, refl}
 use Rattle.std.proofs.lemmas.Result.{IfOk-weaker}
 use Rattle.std.specs.String.{string_bytes}
-use Rattle.getopts.proofs.MainTheorem.UsageComputed.{usage_result, usage_computed}
+use Rattle.getopts.proofs.MainTheorem.HelpText.{usage_result, usage_computed}
 use Rattle.getopts.proofs.OnLiterals.{usage_on_literals}
 use Rattle.getopts_show.specs.Program.{help_brief, program_help, program_options}
 use Rattle.getopts_show.proofs.show.help_text.Goals as goal

@@ -3,8 +3,8 @@ use Rattle.std.proofs.Common.{◌≡◌, codes, refl}
 use Rattle.getopts.specs.Matches.{Matched}
 use Rattle.getopts.specs.Theorem.{HaveSameValues}
 use Rattle.getopts.proofs.MainTheorem.Callers.{same_count, same_first, same_present, same_values}
-use Rattle.getopts.proofs.MainTheorem.Callers.{results_again, LinesReadAgain_lem, MayBeDeclared-plain}
-use Rattle.getopts.proofs.MainTheorem.CanonicalLines.{canonical_again}
+use Rattle.getopts.proofs.MainTheorem.Callers.{canonical_again, results_again}
+use Rattle.getopts.proofs.OnLiterals.{MayBeDeclared-plain}
 use Rattle.getopts_uses.specs.Logged.{build_options, said_by}
 use Rattle.getopts_uses.proofs.logged.lines_say_the_same.Goals as goal
 
@@ -20,8 +20,8 @@ same_said m n same = λ i. record {
 pub returns-clause-same : goal.returns-clause-same
 returns-clause-same c = λ words line written.
     let may = MayBeDeclared-plain build_options refl in
-    let laws = c.declared_options_keep_laws.ensures.line_laws build_options may in
-    results_again said_by same_said build_options may (LinesReadAgain_lem build_options may laws)
+    results_again said_by same_said build_options may
+    (c.declared_options_keep_laws.ensures.line_laws build_options may)
     words line written build_options.style build_options.long_only
 
 pub returns-clause-again : goal.returns-clause-again

@@ -1,6 +1,6 @@
 -- No main name contains `=`, so there is a canonical line.
 use Rattle.std.proofs.Common.{refl}
-use Rattle.getopts.proofs.MainTheorem.CanonicalLines.{always_some}
+use Rattle.getopts.proofs.MainTheorem.Callers.{always_some}
 use Rattle.getopts_uses.specs.Logged.{build_options}
 use Rattle.getopts_uses.proofs.logged.log_line.Goals as goal
 

@@ -1,7 +1,6 @@
 -- The options are the tool's, the brief is their short usage, and the checker computes the text.
 use Rattle.std.proofs.Common.{◌≡◌, ◌∙◌, ap, codes, refl}
-use Rattle.getopts.proofs.MainTheorem.HelpText.{help_is}
-use Rattle.getopts.proofs.MainTheorem.UsageComputed.{usage_result}
+use Rattle.getopts.proofs.MainTheorem.HelpText.{help_is, usage_result}
 use Rattle.getopts.proofs.OnLiterals.{usage_on_literals}
 use Rattle.getopts.specs.Options.{Declared}
 use Rattle.getopts.specs.Usage.{short_usage_text}

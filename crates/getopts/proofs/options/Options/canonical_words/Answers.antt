@@ -5,7 +5,7 @@ use Rattle.getopts.specs.Theorem.{LinesReadAgain}
 use Rattle.std.proofs.lemmas.Result.{err_from_is_err_and}
 use Rattle.getopts.proofs.Canonical.Answered.{IsWritten-line, IsUnwritable-line, groups_within}
 use Rattle.getopts.proofs.Canonical.Answered.{KeepsLineLaws-lawful}
-use Rattle.getopts.proofs.MainTheorem.Callers.{LinesReadAgain_lem}
+use Rattle.getopts.proofs.MainTheorem.SameContent.{LinesReadAgain_lem}
 use Rattle.getopts.proofs.MainTheorem.Results.{only_refused}
 use Rattle.getopts.proofs.options.Options.canonical_words.Goals as goal
 
