@@ -92,6 +92,12 @@ def oldest_rust(*folders):
     return [re.search(r'rust-version = "(.*)"', read(f"bindings/{folder}/Cargo.toml"))[1] for folder in folders]
 
 
+def peers(*names):
+    """The versions of these libraries with which the benchmarks were counted."""
+    versions = dict(re.findall(r"([\w-]+) ([\d.]+)", read("bench/last_run.txt").split("\n")[0]))
+    return [versions.get(name, "unknown") for name in names]
+
+
 HELD = "Bytes that matches take"
 # The libraries in README's list of those that need fewer instructions than the drop-in on some jobs.
 AHEAD = {"Rust crate": "the Rust crate", "lexopt": "`lexopt`", "pico-args": "`pico-args`"}
@@ -102,9 +108,10 @@ FIGURES = [
     ("README.md", r"toolchain \(checksum of its logic: `(\w+)`", logic),
     ("README.md", r"`\(cd crates/getopts && rt lib\)` .* \| ([^|]*) \| ([^|]*) \|", lambda: minutes("rt lib")),
     ("README.md", r"`bash test.sh` .* \| ([^|]*) \| ([^|]*) \|", lambda: minutes("bash test.sh")),
-    ("README.md", r"takes (\d+) % of that crate's instructions [^%]* (\d+) % on [^%]* (\d+) %\s",
+    ("README.md", r"takes (\d+) %\s+of the crate's instructions [^%]* (\d+) % on [^%]* (\d+) %\s",
      lambda: [share("copied-small"), share("copied-long"), share("files")]),
     ("README.md", r"\| Rust ([\d.]+) .*\n.*\| Rust ([\d.]+), .*\n.* Rust ([\d.]+) ", lambda: oldest_rust("rust", "c", "shell")),
+    ("README.md", r"`lexopt` ([\d.]+),\s`pico-args` ([\d.]+)\sand `clap` ([\d.]+),", lambda: peers("lexopt", "pico-args", "clap")),
     *((f"bindings/{folder}/README.md", r"Rust ([\d.]+) or later", lambda folder=folder: oldest_rust(folder))
       for folder in ("rust", "c", "shell")),
     ("bindings/c/README.md", r"grows by (\d+) KB", lambda: re.findall(r"grows by (\d+) KB", read("bindings/c/getopts.h"))),
