@@ -17,6 +17,7 @@ import bench as bench_py
 import pytest
 from conftest import ROOT, answer, kit, need, need_rustfmt, run
 from conftest import tracked as all_tracked
+from model import TEXTS, Group, Options
 
 
 def read(name):
@@ -196,6 +197,22 @@ def test_figures_match_measurements(page, request):
          [f"{place(at)}: nothing checks the figure {it}" for at, it in unknown_in(page)])
 
 
+def test_example_lines():
+    """The command lines at the top of GRAMMAR are read as model.py reads them."""
+    groups = [Group(b"o", b"output", "yes", "optional"), Group(b"v", b"verbose", "no", "multi"),
+              Group(b"c", b"color", "maybe", "optional")]
+    rows = re.findall(r"^\| `(.*)` \| (.*?) \|(?: (.*))? \|$", pages["docs/GRAMMAR.md"].partition("| term |")[0], re.M)
+    assert len(rows) == 10
+    for line, *reading in rows:
+        read = Options(groups).parse(line.encode().split())
+        if len(read) == 2:
+            wanted = [(TEXTS[read[0]] % read[1]).decode(), ""]
+        else:
+            given = [f"`{groups[place].long.decode()}`" + (f" = `{value.decode()}`" if value else "") for place, _, value in read[0]]
+            wanted = [", ".join(given), ", ".join(f"`{word.decode()}`" for word in read[1])]
+        assert reading == wanted, line
+
+
 def test_libraries_ahead_are_listed():
     assert {column for column in tables()[INSTRUCTIONS, "small"] if ahead(column)} <= {"this library", *AHEAD}
 
@@ -327,29 +344,32 @@ def test_promised_clauses_exist():
 
 # ---- names
 
-@pytest.mark.parametrize("crate", ["getopts", "getopts_show", "getopts_bytes", "getopts_shell"])
-def test_definitions_are_in_the_grammar(crate):
-    """GRAMMAR names each public definition; for getopts_shell, only those with a capital letter, which state facts."""
-    named = set(re.findall(r"`([A-Za-z_][\w-]*)`", pages["docs/GRAMMAR.md"]))
+# The page with the rules of a crate.
+RULES = {"getopts": "docs/GRAMMAR.md", "getopts_bytes": "docs/GRAMMAR.md", "getopts_show": "crates/getopts_show/README.md",
+         "getopts_shell": "crates/getopts_shell/README.md"}
+
+
+@pytest.mark.parametrize("crate", RULES)
+def test_definitions_are_in_the_rules(crate):
+    """The rules name each public definition that has a capital letter, which states a fact, and each that the contract of
+    a public call of the library cites."""
+    named = set(re.findall(r"`([A-Za-z_][\w-]*)`", pages[RULES[crate]]))
+    cited = set(re.findall(r"[\w-]+", " ".join(re.findall(r"Rattle\.getopts\.specs\..*", imports(contracts())))))
     here = [name for name in tracked if name.startswith(f"crates/{crate}/specs/")]
     # Definitions that only private clauses cite are explained in comments instead.
     order = read(f"crates/{crate}/specs/Lib.antt") if here else ""
     private = re.findall(r"mod (\w+)", order.partition("Cited by private clauses alone")[2]) + ["Stored"]
-    # Definitions that compute results are tools, except those that clauses cite.
-    tools = set(re.findall(r"[a-z]\w*", read(f"crates/{crate}/specs/Results.antt"))) if crate == "getopts" else set()
     missing = []
     for name in here:
         if not re.match(rf"crates/{crate}/specs/(?:{'|'.join(private)})\b", name):
             for it in re.findall(r"^(?:abbrev |unfoldable )?pub (?:record |data )?([A-Za-z_][\w-]*)", read(name), re.M):
-                passed_over = it in ("mod", "use") or crate == "getopts_shell" and it[0].islower()
-                passed_over |= name.endswith("/Results.antt") and it in tools and not it.endswith("_result")
-                missing += [] if passed_over or it in named else [f"{it} of {name}"]
+                missing += [f"{it} of {name}"] if (it[0].isupper() or crate == "getopts" and it in cited) and it not in named else []
     assert_none(missing)
 
 
 # Names of the toolchain, of Rust, of glibc and of shells.
-OTHERS = """Send Sync unicode-width x86-64-v2 POSIXLY_CORRECT optind IFS BASH_ENV copied-
-    clap_on_literals value_parser InvalidValue"""
+OTHERS = """Send Sync unicode-width x86-64-v2 malloc_consolidate _int_malloc POSIXLY_CORRECT optind IFS BASH_ENV copied-
+    clap_on_literals value_parser InvalidValue red"""
 
 
 @functools.cache
