@@ -99,6 +99,15 @@ def peers(*names):
     return [versions.get(name, "unknown") for name in names]
 
 
+def lines_in(folder, *omitted):
+    """The lines of a folder of the library, rounded to hundreds, without comments, imports and blank lines."""
+    start = f"crates/getopts/{folder}/"
+    kept = [name for name in tracked if name.startswith(start) and not name[len(start):].startswith(omitted)]
+    code = [line for name in kept for line in read(name).split("\n")
+            if not re.match(r" *(//|--|(pub )?(ghost )?(use|mod) |$)", line)]
+    return f"{round(len(code), -2):,}"
+
+
 HELD = "Bytes that matches take"
 # The libraries in README's list of those that need fewer instructions than the drop-in on some jobs.
 AHEAD = {"Rust crate": "the Rust crate", "lexopt": "`lexopt`", "pico-args": "`pico-args`"}
@@ -106,6 +115,8 @@ AHEAD = {"Rust crate": "the Rust crate", "lexopt": "`lexopt`", "pico-args": "`pi
 FIGURES = [
     ("README.md", r"\| ([\d,]+) mutants, written by hand", lambda: [str(len(mutants))]),
     ("docs/PROOFS.md", r"the ([\d,]+) mutants", lambda: [str(len(mutants))]),
+    ("docs/PROOFS.md", r"about ([\d,]+) lines, the source ([\d,]+) and the proofs ([\d,]+)\.",
+     lambda: [lines_in("specs", "Results", "Step", "Stored"), lines_in("src"), lines_in("proofs")]),
     ("README.md", r"toolchain \(checksum of its logic: `(\w+)`", logic),
     ("README.md", r"`\(cd crates/getopts && rt lib\)` .* \| ([^|]*) \| ([^|]*) \|", lambda: minutes("rt lib")),
     ("README.md", r"`bash test.sh` .* \| ([^|]*) \| ([^|]*) \|", lambda: minutes("bash test.sh")),
@@ -195,6 +206,19 @@ def test_figures_match_measurements(page, request):
     assert_none([f"{place(at)}: {is_now} should be {wanted} (measured: see bench/last_run.txt and tests/times.txt)"
                  for at, is_now, wanted in wrong()] +
          [f"{place(at)}: nothing checks the figure {it}" for at, it in unknown_in(page)])
+
+
+def joined(text):
+    """A text in Antt on one line, without comments."""
+    return " ".join(re.sub(r"--.*", "", text).split())
+
+
+def test_theorem_is_quoted():
+    """PROOFS quotes definitions of the main theorem. Only line breaks and comments may differ."""
+    source = joined(read("crates/getopts/specs/Theorem.antt"))
+    quoted = re.findall(r"^(\w+ options =[\s\S]*?)(?:\n\n|```)", pages["docs/PROOFS.md"], re.M)
+    assert len(quoted) == 4
+    assert_none(f"Theorem.antt doesn't contain: {joined(it)}" for it in quoted if joined(it) not in source)
 
 
 def test_example_lines():
