@@ -334,11 +334,15 @@ def test_contracts_match_sources(request):
 
 
 def test_offered_lemmas_are_cited():
-    """Each lemma that CONTRACTS.md offers is imported by some proof."""
-    offered = re.search(r"^\*\*Lemmas to cite\*\*.*?\n\n", pages[CONTRACTS], re.M | re.S)[0]
+    """Each lemma that CALLING.md offers is in the module that it names, and imported by some proof."""
     proofs = "".join(read(name) for name in tracked if re.match(r"crates/\w+/proofs/", name))
     cited = re.findall(r"[\w-]+", " ".join(re.findall(r"^use [\w.]+\{([^}]*)\}", proofs, re.M)))
-    assert_none(f"nothing cites {name}" for name in re.findall(r"`([\w-]+)`", offered) if name not in cited)
+    offered = re.findall(r"^- `([\w.]+)`: ((?:.|\n  )*)", pages[CALLING].partition("**Lemmas to cite**")[2], re.M)
+    assert offered
+    for module, names in offered:
+        here = re.findall(r"[\w-]+", read(f"crates/getopts/proofs/{module.replace('.', '/')}.antt"))
+        assert_none(f"nothing cites {name} of {module}" for name in re.findall(r"`([\w-]+)`", names)
+                    if name not in here or name not in cited)
 
 
 # ---- promises
@@ -393,7 +397,7 @@ def test_definitions_are_in_the_rules(crate):
 
 # Names of the toolchain, of Rust, of glibc and of shells.
 OTHERS = """Send Sync unicode-width x86-64-v2 malloc_consolidate _int_malloc POSIXLY_CORRECT optind IFS BASH_ENV copied-
-    clap_on_literals value_parser InvalidValue red"""
+    value_parser InvalidValue red"""
 
 
 @functools.cache
