@@ -311,23 +311,16 @@ def clauses_in(text):
         yield text[it.end():it.end() + list(ends).index(-1)]
 
 
-def imports(text):
-    """The `ghost use` lines for the names in the clauses, one per module."""
-    words, modules, known = set(re.findall(r"\w+|[^\w\s]+", " ".join(clauses_in(text)))), {}, set()
-    for _, source in sorted(it for it in sources.items() if "/getopts/" in it[0]):
-        for module, names in re.findall(r"ghost use (Rattle[\w.]*)\.\{([^}]*)\};", source):
-            modules.setdefault(module, set()).update(re.split(r",\s*", names))
-    lines = []
-    for module, names in sorted(modules.items(), key=lambda it: (it[0].startswith("Rattle.std"), it[0])):
-        used = sorted(name for name in names - known if name.strip("◌") in words)
-        known |= names
-        lines += [f"ghost use {module}.{{{', '.join(used)}}};\n"] if used else []
-    return "".join(lines)
+@functools.cache
+def cited():
+    """The library's definitions that the contracts of public calls cite."""
+    imported = " ".join(re.findall(r"ghost use Rattle\.getopts\.specs\.\w+\.\{([^}]*)\};", "".join(sources.values())))
+    return set(re.findall(r"[\w-]+", imported)) & set(re.findall(r"\w+", " ".join(clauses_in(contracts()))))
 
 
 def test_contracts_match_sources(request):
     """CONTRACTS.md has the contracts of all public functions, as in the sources."""
-    block = f"```text\n{contracts()}\n{imports(contracts())}```"
+    block = f"```text\n{contracts()}```"
     wanted = re.sub(r"^```\w+\n.*?^```", lambda _: block, pages[CONTRACTS], flags=re.M | re.S)
     fix_page(CONTRACTS, wanted, request)
     assert pages[CONTRACTS] == wanted, OUTDATED
@@ -336,13 +329,13 @@ def test_contracts_match_sources(request):
 def test_offered_lemmas_are_cited():
     """Each lemma that CALLING.md offers is in the module that it names, and imported by some proof."""
     proofs = "".join(read(name) for name in tracked if re.match(r"crates/\w+/proofs/", name))
-    cited = re.findall(r"[\w-]+", " ".join(re.findall(r"^use [\w.]+\{([^}]*)\}", proofs, re.M)))
+    used = re.findall(r"[\w-]+", " ".join(re.findall(r"^use [\w.]+\{([^}]*)\}", proofs, re.M)))
     offered = re.findall(r"^- `([\w.]+)`: ((?:.|\n  )*)", pages[CALLING].partition("**Lemmas to cite**")[2], re.M)
     assert offered
     for module, names in offered:
         here = re.findall(r"[\w-]+", read(f"crates/getopts/proofs/{module.replace('.', '/')}.antt"))
         assert_none(f"nothing cites {name} of {module}" for name in re.findall(r"`([\w-]+)`", names)
-                    if name not in here or name not in cited)
+                    if name not in here or name not in used)
 
 
 # ---- promises
@@ -382,7 +375,6 @@ def test_definitions_are_in_the_rules(crate):
     """The rules name each public definition that has a capital letter, which states a fact, and each that the contract of
     a public call of the library cites."""
     named = set(re.findall(r"`([A-Za-z_][\w-]*)`", pages[RULES[crate]]))
-    cited = set(re.findall(r"[\w-]+", " ".join(re.findall(r"Rattle\.getopts\.specs\..*", imports(contracts())))))
     here = [name for name in tracked if name.startswith(f"crates/{crate}/specs/")]
     # Definitions that only private clauses cite are explained in comments instead.
     order = read(f"crates/{crate}/specs/Lib.antt") if here else ""
@@ -391,7 +383,7 @@ def test_definitions_are_in_the_rules(crate):
     for name in here:
         if not re.match(rf"crates/{crate}/specs/(?:{'|'.join(private)})\b", name):
             for it in re.findall(r"^(?:abbrev |unfoldable )?pub (?:record |data )?([A-Za-z_][\w-]*)", read(name), re.M):
-                missing += [f"{it} of {name}"] if (it[0].isupper() or crate == "getopts" and it in cited) and it not in named else []
+                missing += [f"{it} of {name}"] if (it[0].isupper() or crate == "getopts" and it in cited()) and it not in named else []
     assert_none(missing)
 
 
