@@ -300,7 +300,16 @@ def contracts():
             if (owner or name) in public or visible:
                 front = f"{owner}::" if owner else f"{module}::" if visible else ""
                 parts.append(text.replace("pub fn ", f"fn {front}", 1))
-    return "\n\n".join(parts) + "\n"
+    return "\n\n".join(shortened(part, above) for part, above in zip(parts, [""] + parts)) + "\n"
+
+
+def shortened(part, above):
+    """A contract without the clauses of the one above it, if it has several of these."""
+    clause = re.compile(r"\n    (?:requires|ensures).*(?:\n(?:     |    \}).*)*")
+    same = [it for it in clause.findall(part) if it in clause.findall(above)]
+    for it in same if len(same) > 2 else []:
+        part = part.replace(it, "", 1)
+    return part + "\n    // Other clauses: as above." if len(same) > 2 else part
 
 
 def clauses_in(text):
