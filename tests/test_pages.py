@@ -291,7 +291,7 @@ def contracts_in(text):
 
 
 def contracts():
-    """The library's public functions with their contracts, in the order of its modules."""
+    """The library's public functions with their contracts, without comments, in the order of its modules."""
     root = read("crates/getopts/src/lib.rt")
     public = set(re.findall(r"\w+", " ".join(re.findall(r"^pub use (.*?);", root, re.M | re.S))))
     parts = []
@@ -299,6 +299,7 @@ def contracts():
         for owner, name, text in contracts_in(read(f"crates/getopts/src/{module}.rt")):
             if (owner or name) in public or visible:
                 front = f"{owner}::" if owner else f"{module}::" if visible else ""
+                text = re.sub(r"\n *//.*|\n(?=\n)", "", text)
                 parts.append(text.replace("pub fn ", f"fn {front}", 1))
     return "\n\n".join(shortened(part, above) for part, above in zip(parts, [""] + parts)) + "\n"
 
