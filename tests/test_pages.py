@@ -120,7 +120,9 @@ FIGURES = [
     ("README.md", r"toolchain \(checksum of its logic: `(\w+)`", logic),
     ("README.md", r"`\(cd crates/getopts && rt lib\)` .* \| ([^|]*) \| ([^|]*) \|", lambda: minutes("rt lib")),
     ("README.md", r"`bash test.sh` .* \| ([^|]*) \| ([^|]*) \|", lambda: minutes("bash test.sh")),
-    ("README.md", r"takes (\d+) %\s+of the crate's instructions [^%]* (\d+) % on [^%]* (\d+) %\s",
+    ("README.md", r"drop-in ([\d.]+) µs, and the Rust crate ([\d.]+) µs", lambda: [
+        tables().get(("Microseconds per iteration", "typical"), {}).get(column, "unknown") for column in ("bindings/rust", "Rust crate")]),
+    ("README.md", r"takes (\d+) %\sof the crate's [^%]*\s(\d+) %\son\s[^%]*\s(\d+) %\s",
      lambda: [share("copied-small"), share("copied-long"), share("files")]),
     ("README.md", r"\| Rust ([\d.]+) .*\n.*\| Rust ([\d.]+), .*\n.* Rust ([\d.]+) ", lambda: oldest_rust("rust", "c", "shell")),
     ("README.md", r"`lexopt` ([\d.]+),\s`pico-args` ([\d.]+)\sand `clap` ([\d.]+),", lambda: peers("lexopt", "pico-args", "clap")),
@@ -225,7 +227,7 @@ def test_example_lines():
     """The command lines at the top of GRAMMAR are read as model.py reads them."""
     groups = [Group(b"o", b"output", "yes", "optional"), Group(b"v", b"verbose", "no", "multi"),
               Group(b"c", b"color", "maybe", "optional")]
-    rows = re.findall(r"^\| `(.*)` \| (.*?) \|(?: (.*))? \|$", pages["docs/GRAMMAR.md"].partition("| term |")[0], re.M)
+    rows = re.findall(r"^\| `(.*)` \| (.*?) \|(?: (.*))? \|$", pages["docs/GRAMMAR.md"].partition("\n## ")[0], re.M)
     assert len(rows) == 10
     for line, *reading in rows:
         read = Options(groups).parse(line.encode().split())
