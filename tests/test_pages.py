@@ -224,19 +224,22 @@ def test_theorem_is_quoted():
 
 
 def test_example_lines():
-    """The command lines at the top of GRAMMAR are read as model.py reads them."""
+    """The command lines at the top of GRAMMAR are read as model.py reads them, and are the examples of OnLiterals.antt."""
+    proofs = read("crates/getopts/proofs/OnLiterals.antt")
     groups = [Group(b"o", b"output", "yes", "optional"), Group(b"v", b"verbose", "no", "multi"),
               Group(b"c", b"color", "maybe", "optional")]
     rows = re.findall(r"^\| `(.*)` \| (.*?) \|(?: (.*))? \|$", pages["docs/GRAMMAR.md"].partition("\n## ")[0], re.M)
     assert len(rows) == 10
     for line, *reading in rows:
-        read = Options(groups).parse(line.encode().split())
-        if len(read) == 2:
-            wanted = [(TEXTS[read[0]] % read[1]).decode(), ""]
+        found = Options(groups).parse(line.encode().split())
+        if len(found) == 2:
+            wanted = [(TEXTS[found[0]] % found[1]).decode(), ""]
         else:
-            given = [f"`{groups[place].long.decode()}`" + (f" = `{value.decode()}`" if value else "") for place, _, value in read[0]]
-            wanted = [", ".join(given), ", ".join(f"`{word.decode()}`" for word in read[1])]
+            given = [f"`{groups[place].long.decode()}`" + (f" = `{value.decode()}`" if value else "") for place, _, value in found[0]]
+            wanted = [", ".join(given), ", ".join(f"`{word.decode()}`" for word in found[1])]
         assert reading == wanted, line
+        texts = " ∷ ".join(f'codes "{word}"' for word in line.split())
+        assert "IsReadAs" not in proofs or f"({texts} ∷ [])" in proofs, f"OnLiterals.antt doesn't state {line}"
 
 
 def test_libraries_ahead_are_listed():
@@ -261,6 +264,12 @@ def imports_of(text):
 blocks = [(page, block) for page in ("README.md", CALLING)
           for block in re.findall(r"^```rust\n(.*?)^```", pages[page], re.M | re.S)]
 examples = sources | {name: read(name) for name in tracked if name.startswith("bindings/rust/tests/")}
+
+
+def test_first_command():
+    """The first indented line of README is the command that tests/fresh.sh runs."""
+    first = re.search(r"^ {4}.*", pages["README.md"], re.M)[0]
+    assert first == "    (cd crates/getopts_show && rt try -- --output=x.txt --verbose in.txt)"
 
 
 @pytest.mark.parametrize("page, block", blocks, ids=[f"{page}-{at}" for at, (page, _) in enumerate(blocks)])
@@ -401,7 +410,7 @@ def test_definitions_are_in_the_rules(crate):
 
 # Names of the toolchain, of Rust, of glibc and of shells.
 OTHERS = """Send Sync unicode-width x86-64-v2 malloc_consolidate _int_malloc POSIXLY_CORRECT optind IFS BASH_ENV copied-
-    value_parser InvalidValue red"""
+    InvalidValue red"""
 
 
 @functools.cache
