@@ -239,7 +239,7 @@ def test_example_lines():
             wanted = [", ".join(given), ", ".join(f"`{word.decode()}`" for word in found[1])]
         assert reading == wanted, line
         texts = " ∷ ".join(f'codes "{word}"' for word in line.split())
-        assert "IsReadAs" not in proofs or f"({texts} ∷ [])" in proofs, f"OnLiterals.antt doesn't state {line}"
+        assert f"({texts} ∷ [])" in proofs, f"OnLiterals.antt doesn't state {line}"
 
 
 def test_libraries_ahead_are_listed():
@@ -409,7 +409,7 @@ def test_definitions_are_in_the_rules(crate):
 
 
 # Names of the toolchain, of Rust, of glibc and of shells.
-OTHERS = """Send Sync unicode-width x86-64-v2 malloc_consolidate _int_malloc POSIXLY_CORRECT optind IFS BASH_ENV copied-
+OTHERS = """Send Sync unicode-width x86-64-v2 POSIXLY_CORRECT optind IFS BASH_ENV copied-
     InvalidValue red"""
 
 
