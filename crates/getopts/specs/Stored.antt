@@ -18,5 +18,3 @@ pub mod Occurrences
 pub mod Scan
 -- command lines that were read, and groups with their occurrences
 pub mod Matches
--- rows that are added line by line
-pub mod Rows

@@ -90,9 +90,3 @@ joined separator texts = join_by (λ text. text) separator texts
 -- the separator, if `begun` says that other texts precede a text
 abbrev pub parting : Bool → Text → Text
 parting begun separator = if begun then separator else []
-
--- The separator precedes the first text only if `begun` says that other texts precede it.
--- the texts in order, each after the separator
-abbrev pub continued : Bool → Text → List Text → Text
-continued begun separator texts =
-    if begun then flat_map (λ text. separator ++ text) texts else joined separator texts

@@ -1,9 +1,8 @@
 //! Descriptions in rows: each line is broken into as few rows as its words allow.
-ghost use Rattle.std.specs.Prelude.{◌≡◌, ◌++◌, map, string_bytes, IfOk, OnOk};
-ghost use Rattle.getopts.specs.Wrap.{BreaksInto, IsDescriptionRows};
-ghost use Rattle.getopts.specs.Wrap.{IsFewestBreaking, joined, parting};
+ghost use Rattle.std.specs.Prelude.{◌≡◌, ◌++◌, List, map, string_bytes, IfOk, OnOk};
+ghost use Rattle.getopts.specs.Wrap.{BreaksInto, IsDescriptionRows, IsFewestBreaking};
+ghost use Rattle.getopts.specs.Wrap.{IsTightBreaking, Run, joined, parting, text_of, words_of};
 ghost use Rattle.getopts.specs.Only.{IsTheOnly};
-ghost use Rattle.getopts.specs.Stored.Rows.{AddsLine};
 
 use std::alloc::{AllocError, Global};
 use unicode_width::UnicodeWidthStr;
@@ -54,8 +53,8 @@ fn push_line(
     line: &str,
     lim: usize,
 ) -> Result<(), AllocError>
-    ensures { OnOk result (AddsLine lim line.now
-        (map string_bytes rows.old.items) (map string_bytes rows.new.items)) }
+    ensures { OnOk result ((runs : List Run) × IsTightBreaking lim (words_of line.now) runs
+        × (map string_bytes rows.new.items ≡ map string_bytes rows.old.items ++ map text_of runs)) }
 {
     let mut words = line.split_whitespace();
     let first = match words.next() {

@@ -10,10 +10,10 @@ use Rattle.getopts.specs.Usage.{next_row, spaces}
 use Rattle.getopts.proofs.Wrapping.Usage.{made_of_the_only}
 use Rattle.std.proofs.lemmas.List.{at_drop_more}
 use Rattle.std.proofs.lemmas.Grind.{common_steps}
-use Rattle.getopts.specs.Wrap.{IsDescriptionRows, continued, joined, parting}
+use Rattle.getopts.specs.Wrap.{IsDescriptionRows, joined, parting}
 use Rattle.getopts.specs.Names.{Text}
 use Rattle.getopts_shell.specs.Program.{IsOperandRow, free_fault, operand_fault, operand_head}
-use Rattle.getopts_shell.specs.Program.{help_front, unexpected}
+use Rattle.getopts_shell.specs.Program.{continued, help_front, unexpected}
 use Rattle.getopts_shell.specs.Stored.{operand_of, operands_of}
 use Rattle.getopts_shell.specs.Table.{Operand, may_repeat}
 use Rattle.getopts_shell.specs.declared.operand.Operand.{Operand as StoredOperand}

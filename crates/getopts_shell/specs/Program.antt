@@ -4,7 +4,7 @@ use Rattle.std.specs.Prelude.{Option, Some, None, MatchOption, MatchResult, code
 use Rattle.std.specs.Prelude.{if◌then◌else◌, length, map, nat_lt, not, take}
 use Rattle.std.specs.Bool.{MatchBool}
 use Rattle.std.specs.Io.KnownBytes.{Appends}
-use Rattle.std.specs.List.{AllByRecursion, AllZip, find, last_or, list_any}
+use Rattle.std.specs.List.{AllByRecursion, AllZip, find, flat_map, last_or, list_any}
 use Rattle.std.specs.Option.{option_map_or, unwrap_or}
 use Rattle.std.specs.Str.{bytes_eq}
 use Rattle.getopts.specs.Accessors.{first_value, is_present, occurrences_of_name}
@@ -18,7 +18,7 @@ use Rattle.getopts.specs.Options.{Group, Declared, group_of}
 use Rattle.getopts.specs.Reading.{stop_word}
 use Rattle.getopts.specs.Results.{canonical_result, parse_ignoring_counts_result, parse_result}
 use Rattle.getopts.specs.Usage.{IsUsageText, next_row, short_usage_text, spaces}
-use Rattle.getopts.specs.Wrap.{IsDescriptionRows, continued, joined}
+use Rattle.getopts.specs.Wrap.{IsDescriptionRows, joined}
 use Rattle.getopts.specs.declared.groups.HasArg.TheVariants.{Yes, No}
 use Rattle.getopts.specs.declared.groups.Occur.TheVariants.{Optional}
 use Rattle.getopts.specs.declared.groups.ParsingStyle.TheVariants.{FloatingFrees, StopAtFirstFree}
@@ -187,6 +187,12 @@ read_options script = options_in script.asked (groups_as false script.entries)
 
 abbrev pub shown_options : Script → Declared
 shown_options script = options_in script.asked (groups_as true script.entries)
+
+-- The separator precedes the first text only if `begun` says that other texts precede it.
+-- the texts in order, each after the separator
+abbrev pub continued : Bool → Text → List Text → Text
+continued begun separator texts =
+    if begun then flat_map (λ text. separator ++ text) texts else joined separator texts
 
 -- the short usage of a script: its options, and its operands as they are written
 abbrev pub usage_line : Script → Text

@@ -9,10 +9,11 @@ use Rattle.std.proofs.lemmas.Result.{IfOk-weaker}
 use Rattle.getopts.specs.Names.{Text}
 use Rattle.getopts.specs.Only.{IsTheOnly}
 use Rattle.getopts.specs.Options.{Declared, Group}
-use Rattle.getopts.specs.Usage.{IsUsageRow, IsUsageText, any_short, head, row_text, usage_text}
+use Rattle.getopts.specs.Usage.{AreUsageRows, IsUsageRow, IsUsageText, any_short, head, row_text}
+use Rattle.getopts.specs.Usage.{usage_text}
 use Rattle.getopts.specs.Wrap.{lines_of, IsDescriptionRows}
 use Rattle.getopts.proofs.Wrapping.Lines.{rows_of, rows_of-are, rows_exactly}
-use Rattle.getopts.proofs.Wrapping.Usage.{each_is_the_only, made_of_the_only, text_is_the_only}
+use Rattle.getopts.proofs.Wrapping.Usage.{each_is_the_only, made_of_the_only}
 
 -- a group's row
 abbrev pub computed_row : Bool → Bool → Group → Text
@@ -40,7 +41,7 @@ each_computed long_only among (group ∷ groups) = (
 -- the computed text is the only usage text
 pub usage_computed : (options : Declared) (brief : Text)
     → IsTheOnly (IsUsageText options brief) (usage_result options brief)
-usage_computed options brief = text_is_the_only options brief
+usage_computed options brief = made_of_the_only (AreUsageRows options) (usage_text brief)
     (map (computed_row options.long_only (any_short options.groups)) options.groups)
     (usage_result options brief)
     (each_is_the_only (IsUsageRow options.long_only (any_short options.groups)) options.groups

@@ -15,7 +15,7 @@ pub use Rattle.getopts.specs.Results.{broken_count}
 use Rattle.getopts.specs.Stored.Index.{index_of}
 use Rattle.getopts.specs.Stored.Groups.{kinds_of}
 use Rattle.getopts.specs.declared.groups.Kinds.{Kinds}
-use Rattle.getopts.proofs.Lists.{AllByRecursion-append, take-get, slice_get-drop}
+use Rattle.getopts.proofs.Lists.{AllByRecursion-append, take_more_at, slice_get-drop}
 use Rattle.getopts.proofs.Stored.Index.{length-places_of, slice_get-places_by_group}
 
 -- the signature at this place with its occurrences
@@ -78,7 +78,7 @@ module _ (signatures : List Signature) (occurrences : List Occurrence) (i : ℕ)
   KeepsCounts-more fits =
       let whole = matched 0 signatures occurrences in
       let there = slice_get-drop whole i ∙ ap (λ (gs : List MatchedGroup). slice_get gs 0) here in
-      subst KeepsCounts (sym (take-get whole i (matched_at i signature occurrences) there))
+      subst KeepsCounts (sym (take_more_at whole i (matched_at i signature occurrences) there))
       (AllByRecursion-append KeepsCount (take i whole)
       (matched_at i signature occurrences ∷ []) kept
       ((subst (FitsCount signature.occurrence) counted fits), tt))

@@ -8,7 +8,7 @@ use Rattle.std.specs.Str.{IsUtf8}
 use Rattle.std.specs.String.{string_bytes}
 use Rattle.std.proofs.lemmas.List.{length-map, map-append}
 use Rattle.std.proofs.lemmas.List.Elements.{All-nil}
-use Rattle.std.proofs.lemmas.Option.{same_Some, slice_get-map}
+use Rattle.std.proofs.lemmas.Option.{same_Some, slice_get-map, slice_get_read}
 use Rattle.getopts.specs.Names.{Text, Names, IsLawfullyNamed, main_name}
 use Rattle.getopts.specs.Options.{Signature, Group, MayBeDeclared, signatures_of, names_of}
 use Rattle.getopts.specs.Canon.{main_at}
@@ -23,12 +23,8 @@ use Rattle.getopts.specs.declared.groups.PairEnds.{PairEnds}
 use Rattle.getopts.specs.declared.groups.SignatureRecord.{SignatureRecord}
 use Rattle.getopts.specs.declared.groups.Kinds.{Kinds}
 use Rattle.getopts.proofs.Lists.{AllByRecursion-map, AllByRecursion-unmap, AllByRecursion-at}
-use Rattle.getopts.proofs.Lists.{AllByRecursion-append, slice_get-read, each_kept}
+use Rattle.getopts.proofs.Lists.{AllByRecursion-append, each_kept}
 use Rattle.getopts.proofs.Stored.Texts.{IsOfBytes-utf8, two-append}
-
--- there are as many signatures as groups
-pub length-signatures_of : (groups : List Group) → length (signatures_of groups) ≡ length groups
-length-signatures_of groups = length-map groups (λ group. group.signature)
 
 -- the names of the signatures are those of the groups
 pub names-signatures_of : (groups : List Group)
@@ -71,7 +67,7 @@ pub stored_at : (text : Text) (records : List SignatureRecord) (signatures : Lis
     → r ≡ get_or records place r
     → IsStored text r × (slice_get signatures place ≡ Some (signature_in text r))
 stored_at text records signatures place r held are within is =
-    let at = slice_get-read records place r
+    let at = slice_get_read records _ place r refl
     (record_within text records signatures place are within) is in (
       AllByRecursion-at (IsStored text) records place r held at,
       rw (← are) (slice_get-map (signature_in text) records place

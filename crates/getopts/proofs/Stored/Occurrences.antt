@@ -13,13 +13,13 @@ use Rattle.std.proofs.lemmas.Bool.{cases_Bool, cond-false, cond-true, le-leb, le
 use Rattle.std.proofs.lemmas.Str.{IsCharBoundary-end}
 use Rattle.getopts.specs.Names.{Text}
 use Rattle.getopts.specs.Matches.{GroupOccurrence, without_group}
-use Rattle.getopts.specs.Accessors.{positions_of, values_of, pair_of, pairs_of, borrowed_occurrence}
+use Rattle.getopts.specs.Accessors.{values_of, pair_of, pairs_of, borrowed_occurrence}
 use Rattle.getopts.specs.Reading.{Occurrence}
 use Rattle.getopts.specs.Same.{same_group_occurrence}
 use Rattle.getopts.specs.Stored.Occurrences.{text_at, IsSpanOf, IsTextAt, occurrence_in}
 use Rattle.getopts.specs.declared.occurrences.Span.{Span}
 use Rattle.getopts.specs.declared.occurrences.OccurrenceRecord.{OccurrenceRecord}
-use Rattle.getopts.proofs.Lists.{element, take-more, pointwise-differ, pointwise-take_more}
+use Rattle.getopts.proofs.Lists.{element, take_more_at, pointwise-differ, pointwise-take_more}
 use Rattle.getopts.proofs.Lists.{AllByRecursion-append, each_kept}
 use Rattle.getopts.proofs.Stored.Texts.{IsCharBoundary-append, between-append, between-added}
 
@@ -139,35 +139,18 @@ module _ (occurrences : List Occurrence) (places : List ℕ)
       ∙ ap (λ (o : Option Occurrence). option_map without_group o)
       (slice_get-at_places occurrences places i place all at)
 
-module _ (founds : List GroupOccurrence) (i : ℕ) (next : Option (ℕ × Option (Bor Text)))
-    (is : option_map borrowed_occurrence next ≡ slice_get founds i) where
-  -- one more occurrence of a prefix, as it is read
-  pub founds-more : take (i + 1) founds
-      ≡ take i founds ++ cons_option (option_map borrowed_occurrence next) []
-  founds-more = take-more founds i
-      ∙ ap (λ (o : Option GroupOccurrence). take i founds ++ cons_option o []) (sym is)
-
-  -- its position
-  pub positions-more : positions_of (take (i + 1) founds)
-      ≡ positions_of (take i founds) ++ positions_of
-      (cons_option (option_map borrowed_occurrence next) [])
-  positions-more = ap positions_of founds-more
-      ∙ map-append (λ (found : GroupOccurrence). found.position) (take i founds)
-      (cons_option (option_map borrowed_occurrence next) [])
-
-  -- its value
+-- one more occurrence of a prefix: its value, and its position with its value
+module _ (founds : List GroupOccurrence) (i : ℕ) (found : GroupOccurrence)
+    (at : slice_get founds i ≡ Some found) where
   pub values-more : values_of (take (i + 1) founds)
-      ≡ values_of (take i founds) ++ values_of
-      (cons_option (option_map borrowed_occurrence next) [])
-  values-more = ap values_of founds-more
-      ∙ filter_map-append (λ (found : GroupOccurrence). found.value) (take i founds)
-      (cons_option (option_map borrowed_occurrence next) [])
+      ≡ values_of (take i founds) ++ values_of (found ∷ [])
+  values-more = ap values_of (take_more_at founds i found at)
+      ∙ filter_map-append (λ (found : GroupOccurrence). found.value) (take i founds) (found ∷ [])
 
-  -- its position and value
   pub pairs-more : pairs_of (take (i + 1) founds)
-      ≡ pairs_of (take i founds) ++ pairs_of (cons_option (option_map borrowed_occurrence next) [])
-  pairs-more = ap pairs_of founds-more
-      ∙ filter_map-append pair_of (take i founds) (cons_option (option_map borrowed_occurrence next) [])
+      ≡ pairs_of (take i founds) ++ pairs_of (found ∷ [])
+  pairs-more = ap pairs_of (take_more_at founds i found at)
+      ∙ filter_map-append pair_of (take i founds) (found ∷ [])
 
 -- two occurrences as they are read, compared like in the code
 abbrev pub same_read : Option (ℕ × Option (Bor Text)) → Option (ℕ × Option (Bor Text)) → Bool

@@ -6,7 +6,6 @@ use Rattle.std.proofs.lemmas.Bool.{le-leb, lt-leb}
 use Rattle.std.proofs.lemmas.List.Sums.{sum_by-append, sum_by-cons}
 use Rattle.getopts.specs.Names.{Text}
 use Rattle.getopts.specs.Wrap.{Run, width_of, columns_of, text_of, IsTightBreaking, words_of}
-use Rattle.getopts.specs.Stored.Rows.{AddsLine}
 use Rattle.getopts.proofs.Wrapping.Breakings.{has_room, runs_from, runs_of, runs_from-taken}
 use Rattle.getopts.proofs.Wrapping.Breakings.{runs_from-refused, runs_of-tight}
 
@@ -35,6 +34,11 @@ pub record RowsSoFar (limit : ℕ) (line : Text) (before rows : List Text) (row 
   pub utf8 : IsUtf8 rest
   pub to_come : rows ++ map text_of (runs_from limit run (words_of rest))
       ≡ before ++ map text_of (runs_of limit (words_of line))
+
+-- the rows of the line's tight breaking were added to the rows before
+abbrev pub AddsLine : ℕ → Text → List Text → List Text → Type 0
+AddsLine limit line old new =
+    (runs : List Run) × IsTightBreaking limit (words_of line) runs × (new ≡ old ++ map text_of runs)
 
 -- a line without words adds nothing
 pub adds_none : (limit : ℕ) (line : Text) (rows : List Text) → words_of line ≡ []

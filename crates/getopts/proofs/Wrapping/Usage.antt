@@ -1,4 +1,4 @@
--- Groups one after the other, and the rows of a usage text.
+-- The rows of a usage text.
 use Rattle.std.proofs.Common.{◌≡◌, ℕ, zero, suc, ◌+◌, ◌-◌, ◌<◌, ◌≤◌, Bool, true, not, ◌||◌, List}
 use Rattle.std.proofs.Common.{[], ◌∷◌, ◌++◌, Some, length, take, drop, refl, ap, sym}
 use Rattle.std.proofs.Common.{◌∙◌, subst, arith, append_assoc}
@@ -6,18 +6,18 @@ use Rattle.std.specs.Prelude.{Result, Ok, Err, OnOk, slice_get, nat_lt, if◌the
 use Rattle.std.specs.List.{AllZip}
 use Rattle.std.proofs.Math.Bool.{or-false}
 use Rattle.std.proofs.lemmas.Bool.Decides.{nat_tests}
-use Rattle.std.proofs.lemmas.List.{take_all, take_more}
+use Rattle.std.proofs.lemmas.List.{take_all}
 use Rattle.std.proofs.lemmas.List.Folds.{list_any-append}
-use Rattle.std.proofs.lemmas.Option.{slice_get_within, get_or_from_slice_get}
 use Rattle.std.proofs.lemmas.Slice.Zip.{all_zipped_more}
 use Rattle.getopts.specs.Stored.Help.{group_view}
 use Rattle.getopts.specs.Names.{Text, is_empty}
 use Rattle.getopts.specs.Options.{Group, Declared}
 use Rattle.getopts.specs.Only.{IsTheOnly}
 use Rattle.getopts.specs.Usage.{any_short, spaces, head, next_row, padding, row_text}
-use Rattle.getopts.specs.Usage.{IsUsageRow, AreUsageRows, usage_text, IsUsageText}
+use Rattle.getopts.specs.Usage.{IsUsageRow, AreUsageRows}
 use Rattle.getopts.specs.Wrap.{width_of, IsDescriptionRows, joined}
 use Rattle.getopts.specs.declared.help.Group.{Group as Borrowed}
+use Rattle.getopts.proofs.Lists.{take_more_at}
 
 -- a property that always holds, holds if the result is `Ok`
 pub on_ok : {T E P : Type 0} (r : Result T E) → P → OnOk r P
@@ -56,18 +56,6 @@ each_is_the_only {X} {Y} R (x ∷ xs) (y ∷ ys) all = λ other. (
     same_as rest (z ∷ zs) each = let first = (all.0 z).0 each.0 in let more =
         (rest zs).0 each.1 in cc
 
--- ---- groups, one after the other
-
--- one more group, which is the next
-pub group_more : (groups : List Group) (place : ℕ) (group : Group)
-    → Some group ≡ slice_get groups place
-    → take (place + 1) groups ≡ take place groups ++ group ∷ []
-group_more groups place group is =
-    let at : slice_get groups place ≡ Some group = sym is in
-    take_more groups place group (slice_get_within groups place group at)
-    ∙ ap (λ (last : Group). take place groups ++ last ∷ [])
-    (get_or_from_slice_get groups place group group at)
-
 -- whether a group has a short name
 abbrev pub has_short : Group → Bool
 has_short group = not (is_empty group.signature.names.short)
@@ -82,7 +70,7 @@ any_short_more groups place group at so_far now so_far_is now_is =
     ∙ ap (λ so_far. so_far || has_short group) so_far_is
     ∙ ap (λ last. any_short (take place groups) || last) (sym (or-false (has_short group)))
     ∙ sym (list_any-append has_short (take place groups) (group ∷ []))
-    ∙ ap any_short (sym (group_more groups place group (sym at)))
+    ∙ ap any_short (sym (take_more_at groups place group at))
 
 -- ---- padding
 
@@ -135,7 +123,7 @@ rows_more options place group is long_only among_shorts long_only_is among_short
     row each only =
     let Only : Group → Text → Type 0 =
     λ group row. IsTheOnly (IsUsageRow options.long_only (any_short options.groups) group) row in
-    rw (group_more options.groups place (group_view group) is)
+    rw (take_more_at options.groups place (group_view group) (sym is))
     (all_zipped_more Only (take place options.groups) rows (group_view group) row each
     (rw (long_only_is, among_shorts_is) at only))
 
@@ -147,10 +135,3 @@ rows_all options place rows all each =
     each_is_the_only Row options.groups rows
     (subst (λ (groups : List Group). AllZip (λ group row. IsTheOnly (Row group) row) groups rows)
     (take_all place options.groups all) each)
-
--- a text made of the only usage rows is the only usage text
-pub text_is_the_only : (options : Declared) (brief : Text) (rows : List Text) (text : Text)
-    → IsTheOnly (AreUsageRows options) rows → text ≡ usage_text brief rows
-    → IsTheOnly (IsUsageText options brief) text
-text_is_the_only options brief rows text only made =
-    made_of_the_only (AreUsageRows options) (usage_text brief) rows text only made

@@ -7,7 +7,7 @@ use Rattle.std.specs.List.{list_all}
 use Rattle.std.specs.Option.{option_copied}
 use Rattle.getopts.specs.Canon.{main_at}
 use Rattle.getopts.specs.Reading.{Occurrence, at_position, holds_equals}
-use Rattle.getopts.proofs.Lists.{take-get, AllByRecursion-at}
+use Rattle.getopts.proofs.Lists.{take_more_at, AllByRecursion-at}
 use Rattle.getopts.proofs.canon.are_plain.Goals as goal
 
 pub main-requires : goal.main-requires
@@ -30,7 +30,7 @@ returns-then-holds_equals c =
 pub loop-place-preserved : goal.loop-place-preserved
 loop-place-preserved c =
     let plain = λ (o : Occurrence). not (holds_equals (main_at c.args.groups.now o.mention.group)) in
-    ap (list_all plain) (take-get c.args.found.now c.loop-place.place _ c.at.ensures)
+    ap (list_all plain) (take_more_at c.args.found.now c.loop-place.place _ c.at.ensures)
     ∙ list_all-append plain (take c.loop-place.place c.args.found.now) (_ ∷ [])
     ∙ rw (c.loop-place.invariant, ← c.main.ensures, ← c.holds_equals.ensures, c.if-holds_equals.false) refl
 

@@ -1,7 +1,7 @@
 use Rattle.std.proofs.Common.{◌++◌, ap, arith, string_bytes, ◌∙◌, codes, get_or}
 use Rattle.std.proofs.lemmas.Bool.Decides.{nat_tests}
 use Rattle.std.proofs.lemmas.List.{take_all}
-use Rattle.getopts.specs.Wrap.{continued}
+use Rattle.getopts_shell.specs.Program.{continued}
 use Rattle.getopts_shell.proofs.Operands.{items_of, items_push, no_operand}
 use Rattle.getopts_shell.proofs.operand.push_operands.Goals as goal
 

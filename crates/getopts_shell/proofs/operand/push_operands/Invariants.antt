@@ -1,6 +1,6 @@
 use Rattle.std.proofs.Common.{◌≡◌, ◌++◌, codes, map, string_bytes, take}
 use Rattle.std.specs.Prelude.{◌||◌, nat_lt}
-use Rattle.getopts.specs.Wrap.{continued}
+use Rattle.getopts_shell.specs.Program.{continued}
 use Rattle.getopts_shell.specs.Stored.{operands_of}
 use Rattle.getopts_shell.proofs.operand.push_operands.Given as goal
 

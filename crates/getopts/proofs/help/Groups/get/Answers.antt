@@ -1,10 +1,10 @@
 -- A group's ends say where its hint and description are.
-use Rattle.std.proofs.Common.{◌≡◌, Some, slice_get, sym, ap, ◌∙◌, arith}
-use Rattle.std.proofs.lemmas.Option.{slice_get-map}
+use Rattle.std.proofs.Common.{◌≡◌, Some, slice_get, refl, sym, ap, ◌∙◌, arith}
+use Rattle.std.proofs.lemmas.Option.{slice_get-map, slice_get_read}
 use Rattle.std.specs.Option.{option_map}
 use Rattle.std.specs.String.{string_bytes}
 use Rattle.getopts.specs.Stored.Groups.{signature_view, pair_at, AreEndsOf}
-use Rattle.getopts.proofs.Lists.{slice_get-read, AllByRecursion-at}
+use Rattle.getopts.proofs.Lists.{AllByRecursion-at}
 use Rattle.getopts.proofs.Stored.Groups.{signatures_stored, groups_with-at}
 use Rattle.getopts.proofs.help.Groups.get.Goals as goal
 use Rattle.getopts.proofs.help.Groups.get.Goals.{After-index-help}
@@ -23,7 +23,7 @@ help_there : (c : After-index-help)
     → slice_get c.self.inside.ends.items c.args.place ≡ Some c.index-help.result.now
 help_there c =
     let many = (signatures_stored c.self.inside c.args.self.now c.self.invariant c.self.view_is).1 in
-    slice_get-read c.self.inside.ends.items c.args.place c.index-help.result.now
+    slice_get_read c.self.inside.ends.items _ c.args.place c.index-help.result.now refl
     (omega (arith, many, c.requires, c.self.invariant.as_many)) c.index-help.ensures
 
 ends : (c : After-index-help)

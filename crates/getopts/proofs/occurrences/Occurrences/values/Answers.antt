@@ -1,10 +1,12 @@
 -- One more occurrence has its value, if any.
-use Rattle.std.proofs.Common.{Some, sym, arith}
+use Rattle.std.proofs.Common.{arith}
 use Rattle.std.proofs.lemmas.Grind.{common_steps}
+use Rattle.getopts.specs.Accessors.{borrowed_occurrence}
 use Rattle.getopts.proofs.Stored.Occurrences.{values-more}
 use Rattle.getopts.proofs.occurrences.Occurrences.values.Goals as goal
 
 pub loop-nth-preserved : goal.loop-nth-preserved
-loop-nth-preserved c = let more =
-    values-more c.args.self.now c.loop-nth.nth (Some (c.at.result.position, c.at.result.value)) (sym c.at.ensures) in grind
-    (arith, common_steps)
+loop-nth-preserved c =
+    let more = values-more c.args.self.now c.loop-nth.nth
+    (borrowed_occurrence (c.at.result.position, c.at.result.value)) c.at.ensures in
+    grind (arith, common_steps)

@@ -1,10 +1,15 @@
 -- The next occurrence is the first of the rest.
+use Rattle.std.proofs.Common.{◌∷◌, drop, ◌+◌, ap, ◌∙◌}
+use Rattle.std.proofs.lemmas.List.{drop_more}
+use Rattle.std.proofs.lemmas.Option.{slice_get_within, get_or_from_slice_get}
 use Rattle.getopts.specs.Accessors.{borrowed_occurrence}
-use Rattle.getopts.proofs.Lists.{drop-next}
 use Rattle.getopts.proofs.occurrences.OccurrencesIterIterator.next.Goals as goal
 
 pub returns-clause-steps : goal.returns-clause-steps
 returns-clause-steps c =
-    rw (← c.self.view_is)
-    (drop-next c.self.inside.occurrences c.self.inside.next
-    (borrowed_occurrence (c.at-occurrence.result.position, c.at-occurrence.result.value)) c.at-occurrence.ensures)
+    let all = c.self.inside.occurrences in
+    let next = c.self.inside.next in
+    let found = borrowed_occurrence (c.at-occurrence.result.position, c.at-occurrence.result.value) in
+    let at = c.at-occurrence.ensures in
+    rw (← c.self.view_is) (drop_more all next found (slice_get_within all next found at)
+    ∙ ap (λ first. first ∷ drop (next + 1) all) (get_or_from_slice_get all next found found at))

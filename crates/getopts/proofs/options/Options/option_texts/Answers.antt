@@ -1,9 +1,9 @@
-use Rattle.std.proofs.Common.{◌∷◌, [], List, length, map, string_bytes, refl, ap, ◌∙◌, arith}
+use Rattle.std.proofs.Common.{◌∷◌, [], List, length, map, string_bytes, refl, sym, ap, ◌∙◌, arith}
 use Rattle.std.proofs.lemmas.List.{map-append, take_all}
 use Rattle.getopts.specs.Options.{Group}
 use Rattle.getopts.specs.Stored.Help.{group_view}
 use Rattle.getopts.specs.Usage.{option_text}
-use Rattle.getopts.proofs.Wrapping.Usage.{group_more}
+use Rattle.getopts.proofs.Lists.{map-take_more}
 use Rattle.getopts.proofs.options.Options.option_texts.Goals as goal
 
 -- one more text
@@ -12,9 +12,8 @@ loop-place-preserved c =
     rw (
       c.in_ok-push.ensures.items,
       map-append string_bytes c.loop-place.texts.items (c.push_option.new.text ∷ []),
-      group_more c.args.self.now.groups c.loop-place.place (group_view c.get.result)
-          (rw c.groups-groups.ensures at c.get.ensures),
-      map-append option_text _ (group_view c.get.result ∷ []),
+      map-take_more option_text c.args.self.now.groups c.loop-place.place (group_view c.get.result)
+          (sym (rw c.groups-groups.ensures at c.get.ensures)),
       c.in_ok-push_option.ensures,
       c.new-text.ensures.bytes,
       c.loop-place.invariant,

@@ -1,7 +1,7 @@
 -- The text consists of the usage rows, which are unique.
 use Rattle.std.proofs.Common.{◌≡◌, map, string_bytes, rules, append_assoc}
-use Rattle.getopts.specs.Usage.{usage_text}
-use Rattle.getopts.proofs.Wrapping.Usage.{text_is_the_only}
+use Rattle.getopts.specs.Usage.{AreUsageRows, usage_text}
+use Rattle.getopts.proofs.Wrapping.Usage.{made_of_the_only}
 use Rattle.getopts.proofs.options.Options.usage.Goals as goal
 
 pub returns : goal.returns
@@ -10,6 +10,6 @@ returns c =
     let made : string_bytes c.push.new.self ≡ usage_text c.args.brief.now rows =
     search (rules, append_assoc) in
     record {
-      text = text_is_the_only c.args.self.now c.args.brief.now rows
+      text = made_of_the_only (AreUsageRows c.args.self.now) (usage_text c.args.brief.now) rows
           (string_bytes c.push.new.self) c.in_ok-rows.ensures.rows made;
     }

@@ -1,14 +1,13 @@
 -- Each iteration reads one more item, and each exit has a reading or an error.
 use Rattle.std.proofs.Common.{refl, map, ◌≡◌, ◌+◌, drop, length, sym, ap, ◌∙◌, arith, rules}
 use Rattle.std.specs.String.{string_bytes}
-use Rattle.std.proofs.lemmas.List.{drop-map, append-nil, drop_all, length-map}
+use Rattle.std.proofs.lemmas.List.{drop-map, append-nil, drop_all, length-map, take_rest}
 use Rattle.std.proofs.lemmas.Option.{slice_get_read}
 use Rattle.std.proofs.lemmas.Result.{err_from_is_err_and}
 use Rattle.getopts.specs.Reading.{line_end, stop, rest, free_items}
 use Rattle.getopts.specs.Stored.Scan.{scanner_grammar, IsLawfulScanner}
 use Rattle.getopts.specs.declared.groups.ParsingStyle.TheVariants.{FloatingFrees, StopAtFirstFree}
 use Rattle.getopts.specs.declared.scan.Scanner.{Scanner}
-use Rattle.getopts.proofs.Lists.{take-drop}
 use Rattle.getopts.proofs.Lookup.Names.{named_grammar}
 use Rattle.getopts.proofs.Reading.Reader.{IsNamed, read}
 use Rattle.getopts.proofs.Reading.Readings.{read_nil}
@@ -62,7 +61,7 @@ returns-then-stops-clause-ok g c =
       occurrences = before.occurrences_are;
       free = rw (
         c.in_ok-push_copies-in-Free.ensures,
-        take-drop c.args.words.now c.items.at,
+        take_rest c.args.words.now c.items.at,
         ← drop-map g.S.AsStr.text c.items.at c.args.words.now,
         before.free_are,
       );
@@ -72,7 +71,7 @@ returns-then-stops-clause-ok g c =
 pub returns-in-Stop-clause-ok : goal.returns-in-Stop-clause-ok
 returns-in-Stop-clause-ok g c =
     let before = c.items.invariant.read in
-    let after = take-drop c.args.words.now (c.items.at + 1) in
+    let after = take_rest c.args.words.now (c.items.at + 1) in
     record {
       reading = record {
         items = before.items;
@@ -100,7 +99,7 @@ returns-in_err-read_long-in-Long-clause-err g c =
     c.items.invariant.read _ (slice_get_read c.args.words.now _ c.items.at _ refl (omega arith)
     c.index-words-at.is) _ c.in_err-read_long-in-Long.field-0.0
     (step_long _ _ _ _ _ (rw c.as_str-word.ensures at c.in-Long.ensures.1))
-    (rw (take-drop c.args.words.now (c.items.at + 1)) at c.in_err-read_long-in-Long.ensures.err
+    (rw (take_rest c.args.words.now (c.items.at + 1)) at c.in_err-read_long-in-Long.ensures.err
     c.in-Long.ensures.0))
 
 pub returns-in_err-at-in-Cluster-clause-err : goal.returns-in_err-at-in-Cluster-clause-err
@@ -111,7 +110,7 @@ returns-in_err-at-in-Cluster-clause-err g c =
     c.items.invariant.read _ (slice_get_read c.args.words.now _ c.items.at _ refl (omega arith)
     c.index-words-at.is) _ c.in_err-at-in-Cluster.field-0.0
     (step_short _ _ _ _ (rw c.as_str-word.ensures at c.in-Cluster.ensures))
-    (rw (take-drop c.args.words.now (c.items.at + 1)) at c.in_err-at-in-Cluster.ensures.err))
+    (rw (take_rest c.args.words.now (c.items.at + 1)) at c.in_err-at-in-Cluster.ensures.err))
 
 pub overflow_add-at-in-Long-2 : goal.overflow_add-at-in-Long-2
 overflow_add-at-in-Long-2 g c =
@@ -119,7 +118,7 @@ overflow_add-at-in-Long-2 g c =
     c.items.invariant.read _ (slice_get_read c.args.words.now _ c.items.at _ refl (omega arith)
     c.index-words-at.is) _ c.in_ok-read_long-in-Long.field-0 _
     (step_long _ _ _ _ _ (rw c.as_str-word.ensures at c.in-Long.ensures.1))
-    (rw (take-drop c.args.words.now (c.items.at + 1)) at c.in_ok-read_long-in-Long.ensures.ok
+    (rw (take_rest c.args.words.now (c.items.at + 1)) at c.in_ok-read_long-in-Long.ensures.ok
     c.in-Long.ensures.0) in omega (arith, within)
 
 pub overflow_add-at-in-Cluster-2 : goal.overflow_add-at-in-Cluster-2
@@ -128,7 +127,7 @@ overflow_add-at-in-Cluster-2 g c =
     c.items.invariant.read _ (slice_get_read c.args.words.now _ c.items.at _ refl (omega arith)
     c.index-words-at.is) _ c.in_ok-at-in-Cluster.field-0 _
     (step_short _ _ _ _ (rw c.as_str-word.ensures at c.in-Cluster.ensures))
-    (rw (take-drop c.args.words.now (c.items.at + 1)) at c.in_ok-at-in-Cluster.ensures.ok) in
+    (rw (take_rest c.args.words.now (c.items.at + 1)) at c.in_ok-at-in-Cluster.ensures.ok) in
     omega (arith, within)
 
 pub items-preserved-in_ok-push_copy-in-Free : goal.items-preserved-in_ok-push_copy-in-Free
@@ -148,7 +147,7 @@ items-preserved-in_ok-read_long-in-Long g c = record {
       (slice_get_read c.args.words.now _ c.items.at _ refl (omega arith)
       c.index-words-at.is) _ c.in_ok-read_long-in-Long.field-0 _
       (step_long _ _ _ _ _ (rw c.as_str-word.ensures at c.in-Long.ensures.1))
-      (rw (take-drop c.args.words.now (c.items.at + 1)) at c.in_ok-read_long-in-Long.ensures.ok
+      (rw (take_rest c.args.words.now (c.items.at + 1)) at c.in_ok-read_long-in-Long.ensures.ok
       c.in-Long.ensures.0);
   trailing = c.items.invariant.trailing;
 }
@@ -159,6 +158,6 @@ items-preserved g c = record {
       (slice_get_read c.args.words.now _ c.items.at _ refl (omega arith)
       c.index-words-at.is) _ c.in_ok-at-in-Cluster.field-0 _
       (step_short _ _ _ _ (rw c.as_str-word.ensures at c.in-Cluster.ensures))
-      (rw (take-drop c.args.words.now (c.items.at + 1)) at c.in_ok-at-in-Cluster.ensures.ok);
+      (rw (take_rest c.args.words.now (c.items.at + 1)) at c.in_ok-at-in-Cluster.ensures.ok);
   trailing = c.items.invariant.trailing;
 }
