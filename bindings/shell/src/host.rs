@@ -81,13 +81,10 @@ fn bytes_of(word: OsString) -> Vec<u8> {
         match unit {
             Ok(character) => bytes.extend(character.encode_utf8(&mut [0; 4]).bytes()),
             Err(half) => {
-                let half = u32::from(half.unpaired_surrogate());
-                let parts = [
-                    0xE0 | half >> 12,
-                    0x80 | half >> 6 & 0x3F,
-                    0x80 | half & 0x3F,
-                ];
-                bytes.extend(parts.map(|byte| byte as u8));
+                let half = half.unpaired_surrogate();
+                let parts = [half >> 6 & 0x3F, half & 0x3F];
+                bytes.push(0xED);
+                bytes.extend(parts.map(|part| 0x80 | part as u8));
             }
         }
     }
