@@ -12,7 +12,7 @@ ghost use Rattle.getopts.specs.Stored.Groups.{signature_view, names_view, names_
 ghost use Rattle.getopts.specs.Stored.Groups.{HasKeys, AreEndsOf, IsPairAt, pair_at, ends_of};
 ghost use Rattle.getopts.specs.Stored.Names.{names_at};
 
-use crate::names::{NO_BYTE, Names, key_of, short_byte};
+use crate::names::{NO_BYTE, NamesView, key_of, short_byte};
 use std::alloc::{AllocError, Global};
 use std::marker::Model;
 
@@ -81,19 +81,19 @@ impl PartialEq for Kinds {
 
 /// What parsing needs of a group, borrowed: its names and kinds.
 #[derive(Clone, Copy)]
-pub(crate) struct Signature<'g> {
-    pub names: Names<'g>,
+pub(crate) struct SignatureView<'g> {
+    pub names: NamesView<'g>,
     pub kinds: Kinds,
 }
 
-impl<'g> PartialEq for Signature<'g> {
+impl<'g> PartialEq for SignatureView<'g> {
     ghost use Rattle.getopts.specs.Stored.Groups.{same_signature_view};
 
     ghost eq = { same_signature_view };
 
     ghost laws = { Prim.search (comparing, rules) depth 12 };
 
-    fn eq(&self, other: &Signature<'g>) -> bool {
+    fn eq(&self, other: &SignatureView<'g>) -> bool {
         self.names.short == other.names.short
             && self.names.long == other.names.long
             && self.kinds == other.kinds
@@ -295,11 +295,11 @@ impl Signatures {
 
     /// Both names of the group at `place`.
     #[inline]
-    pub(crate) fn names(&self, place: usize) -> Names<'_>
+    pub(crate) fn names(&self, place: usize) -> NamesView<'_>
         requires { place < length self.now }
         ensures { names_view result ≡ names_at (names_in self.now) place }
     {
-        Names {
+        NamesView {
             short: self.short(place),
             long: self.long(place),
         }
@@ -332,11 +332,11 @@ impl Signatures {
 
     /// The names and kinds of the group at `place`.
     #[inline(always)]
-    pub(crate) fn get(&self, place: usize) -> Signature<'_>
+    pub(crate) fn get(&self, place: usize) -> SignatureView<'_>
         requires { place < length self.now }
         ensures { Some (signature_view result) ≡ slice_get self.now place }
     {
-        Signature {
+        SignatureView {
             names: self.names(place),
             kinds: self.record(place).kinds,
         }
@@ -360,7 +360,7 @@ impl Signatures {
             self.text.reserve(bytes)?;
         }
         let names = push_pair(&mut self.text, short, long);
-        let key = key_of(Names { short, long }.main().as_bytes());
+        let key = key_of(NamesView { short, long }.main().as_bytes());
         self.records.push_reserved(SignatureRecord {
             long: names.first,
             end: names.second,

@@ -10,7 +10,7 @@ ghost use Rattle.getopts.specs.Canon.{main_at};
 ghost use Rattle.getopts.specs.Stored.Groups.{AreLawfulSignatures};
 
 use crate::groups::{
-    FIRST_GROUPS, FIRST_TEXT, Kinds, PairEnds, Signature, Signatures, first_at, push_pair,
+    FIRST_GROUPS, FIRST_TEXT, Kinds, PairEnds, SignatureView, Signatures, first_at, push_pair,
     second_at,
 };
 use std::alloc::{AllocError, Global};
@@ -18,20 +18,20 @@ use std::marker::Model;
 
 /// A group with its hint and description, borrowed.
 #[derive(Clone, Copy)]
-pub(crate) struct Group<'g> {
-    pub signature: Signature<'g>,
+pub(crate) struct GroupView<'g> {
+    pub signature: SignatureView<'g>,
     pub hint: &'g str,
     pub desc: &'g str,
 }
 
-impl<'g> PartialEq for Group<'g> {
+impl<'g> PartialEq for GroupView<'g> {
     ghost use Rattle.getopts.specs.Stored.Help.{same_group_view};
 
     ghost eq = { same_group_view };
 
     ghost laws = { Prim.search (comparing, rules) depth 12 };
 
-    fn eq(&self, other: &Group<'g>) -> bool {
+    fn eq(&self, other: &GroupView<'g>) -> bool {
         self.signature == other.signature && self.hint == other.hint && self.desc == other.desc
     }
 }
@@ -105,12 +105,12 @@ impl Groups {
     }
 
     /// The group at `place`.
-    pub(crate) fn get(&self, place: usize) -> Group<'_>
+    pub(crate) fn get(&self, place: usize) -> GroupView<'_>
         requires { place < length self.now }
         ensures { Some (group_view result) ≡ slice_get self.now place }
     {
         let help = self.ends[place];
-        Group {
+        GroupView {
             signature: self.signatures.get(place),
             hint: first_at(&self.help, help),
             desc: second_at(&self.help, help),

@@ -27,12 +27,12 @@ pub fn names_lawful(short: &str, long: &str) -> bool
 
 /// Both names of a group, borrowed. Either may be empty.
 #[derive(Clone, Copy)]
-pub(crate) struct Names<'g> {
+pub(crate) struct NamesView<'g> {
     pub short: &'g str,
     pub long: &'g str,
 }
 
-impl<'g> Names<'g> {
+impl<'g> NamesView<'g> {
     ghost use Rattle.getopts.specs.Names.{main_name};
     ghost use Rattle.getopts.specs.Stored.Groups.{names_view};
 

@@ -7,9 +7,9 @@ ghost use Rattle.getopts.specs.Stored.Groups.{names_view};
 ghost use Rattle.getopts.specs.Stored.Help.{group_view};
 ghost use Rattle.getopts.specs.Only.{IsTheOnly};
 
-use crate::groups::{HasArg, Signature};
-use crate::help::Group;
-use crate::names::Names;
+use crate::groups::{HasArg, SignatureView};
+use crate::help::GroupView;
+use crate::names::NamesView;
 use crate::wrap::{each_split_within, push_joined};
 use std::alloc::{AllocError, Global};
 use unicode_width::UnicodeWidthStr;
@@ -34,7 +34,11 @@ pub(crate) struct Layout {
 const ROW_ROOM: usize = 80;
 
 /// The row of one group.
-pub(crate) fn row_of(alloc: Global, layout: Layout, group: Group<'_>) -> Result<String, AllocError>
+pub(crate) fn row_of(
+    alloc: Global,
+    layout: Layout,
+    group: GroupView<'_>,
+) -> Result<String, AllocError>
     ensures { IfOk result (λ row. IsTheOnly
         (IsUsageRow layout.long_only layout.any_short (group_view group.entry))
         (string_bytes row)) }
@@ -49,12 +53,12 @@ pub(crate) fn row_of(alloc: Global, layout: Layout, group: Group<'_>) -> Result<
 }
 
 /// Appends the head of a group's row, which precedes the description.
-fn push_head(text: &mut String, layout: Layout, group: Group<'_>) -> Result<(), AllocError>
+fn push_head(text: &mut String, layout: Layout, group: GroupView<'_>) -> Result<(), AllocError>
     ensures { OnOk result (string_bytes text.new ≡ string_bytes text.old
         ++ head layout.long_only layout.any_short (group_view group.entry)) }
 {
     text.push_str("    ")?;
-    let Signature { names, kinds } = group.signature;
+    let SignatureView { names, kinds } = group.signature;
     let wide = has_columns(names.long);
     push_short(text, layout, names, wide)?;
     push_long(text, layout, names.long, wide)?;
@@ -66,7 +70,7 @@ fn push_head(text: &mut String, layout: Layout, group: Group<'_>) -> Result<(), 
 fn push_short(
     text: &mut String,
     layout: Layout,
-    names: Names<'_>,
+    names: NamesView<'_>,
     wide: bool,
 ) -> Result<(), AllocError>
     requires { wide ≡ has_columns names.long.now }

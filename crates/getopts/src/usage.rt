@@ -9,9 +9,9 @@ ghost use Rattle.getopts.specs.Usage.{AreUsageRows, IsUsageText, any_short};
 ghost use Rattle.getopts.specs.Usage.{option_name, option_text, short_usage_text};
 ghost use Rattle.getopts.specs.Wrap.{joined};
 
-use crate::groups::{HasArg, Occur, Signature};
-use crate::help::Group;
-use crate::names::Names;
+use crate::groups::{HasArg, Occur, SignatureView};
+use crate::help::GroupView;
+use crate::names::NamesView;
 use crate::options::Options;
 use crate::row::{Layout, push_argument, row_of};
 use crate::wrap::push_joined;
@@ -199,11 +199,11 @@ impl Options {
 }
 
 /// Appends one option of the short usage.
-fn push_option(text: &mut String, group: Group<'_>) -> Result<(), AllocError>
+fn push_option(text: &mut String, group: GroupView<'_>) -> Result<(), AllocError>
     ensures { OnOk result (string_bytes text.new ≡ string_bytes text.old
         ++ option_text (group_view group.entry)) }
 {
-    let Signature { names, kinds } = group.signature;
+    let SignatureView { names, kinds } = group.signature;
     let (before, after) = match kinds.occurrence {
         Occur::Req => ("", ""),
         Occur::Optional => ("[", "]"),
@@ -219,7 +219,7 @@ fn push_option(text: &mut String, group: Group<'_>) -> Result<(), AllocError>
 }
 
 /// Appends the name of an option, as the short usage shows it.
-fn push_name(text: &mut String, names: Names<'_>) -> Result<(), AllocError>
+fn push_name(text: &mut String, names: NamesView<'_>) -> Result<(), AllocError>
     ensures { OnOk result (string_bytes text.new ≡ string_bytes text.old
         ++ option_name (names_view names.entry)) }
 {

@@ -7,7 +7,7 @@ use Rattle.std.specs.Prelude.{◌||◌, codes, if◌then◌else◌, nat_lt}
 use Rattle.std.specs.List.{AllZip}
 use Rattle.getopts.specs.Only.{IsTheOnly}
 use Rattle.getopts.specs.Usage.{next_row, spaces}
-use Rattle.getopts.proofs.Wrapping.Usage.{made_of_the_only}
+use Rattle.getopts.proofs.Only.{made_of_the_only}
 use Rattle.std.proofs.lemmas.List.{at_drop_more}
 use Rattle.std.proofs.lemmas.Grind.{common_steps}
 use Rattle.getopts.specs.Wrap.{IsDescriptionRows, joined, parting}

@@ -6,7 +6,7 @@ use Rattle.std.proofs.lemmas.Bool.{eqb-true}
 use Rattle.std.proofs.lemmas.Bool.Decides.{nat_tests}
 use Rattle.std.proofs.lemmas.List.{map-id}
 use Rattle.std.proofs.lemmas.List.Splits.{length-slice_split}
-use Rattle.getopts.proofs.Wrapping.Texts.{JoinedSoFar}
+use Rattle.getopts.proofs.Joined.{JoinedSoFar}
 use Rattle.getopts.specs.Names.{Text}
 use Rattle.getopts.specs.Wrap.{joined}
 use Rattle.getopts_shell.specs.Completion.{stub_byte, stub_quoted}

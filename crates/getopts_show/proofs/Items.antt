@@ -5,7 +5,7 @@ use Rattle.std.specs.Iterator.Runs.{EachRunFrom, IsCopiedRun, SomeRun, WholeRun,
 use Rattle.getopts.specs.Fail.{Fault}
 use Rattle.getopts.specs.Returns.{ReturnsConverted}
 use Rattle.getopts.specs.declared.fail.Fail.{Fail}
-use Rattle.getopts.proofs.Parsing.Faults.{IsOutOfMemoryOr-weaker}
+use Rattle.getopts.proofs.Weaker.{IsOutOfMemoryOr-weaker}
 
 module _ {S T A : Type 0} {steps : S → Option (Bor A) → S → Type 0}
     {copied : T → Option A → T → Type 0} (rest : S → List A) (iter : S) (copy : T) (words : List A)

@@ -3,7 +3,7 @@
 
 use crate::fallible::*;
 
-use super::names::{NO_BYTE, Names, key_of, short_byte};
+use super::names::{NO_BYTE, NamesView, key_of, short_byte};
 use crate::alloc::{AllocError, Global};
 
 /// Initial capacity: up to this many groups fit without reallocating. Without it, the job `typical`
@@ -65,13 +65,13 @@ impl PartialEq for Kinds {
 
 /// What parsing needs of a group, borrowed: its names and kinds.
 #[derive(Clone, Copy)]
-pub(crate) struct Signature<'g> {
-    pub names: Names<'g>,
+pub(crate) struct SignatureView<'g> {
+    pub names: NamesView<'g>,
     pub kinds: Kinds,
 }
 
-impl<'g> PartialEq for Signature<'g> {
-    fn eq(&self, other: &Signature<'g>) -> bool {
+impl<'g> PartialEq for SignatureView<'g> {
+    fn eq(&self, other: &SignatureView<'g>) -> bool {
         self.names.short == other.names.short
             && self.names.long == other.names.long
             && self.kinds == other.kinds
@@ -209,8 +209,8 @@ impl Signatures {
 
     /// Both names of the group at `place`.
     #[inline]
-    pub(crate) fn names(&self, place: usize) -> Names<'_> {
-        Names {
+    pub(crate) fn names(&self, place: usize) -> NamesView<'_> {
+        NamesView {
             short: self.short(place),
             long: self.long(place),
         }
@@ -238,8 +238,8 @@ impl Signatures {
 
     /// The names and kinds of the group at `place`.
     #[inline(always)]
-    pub(crate) fn get(&self, place: usize) -> Signature<'_> {
-        Signature {
+    pub(crate) fn get(&self, place: usize) -> SignatureView<'_> {
+        SignatureView {
             names: self.names(place),
             kinds: self.record(place).kinds,
         }
@@ -263,7 +263,7 @@ impl Signatures {
             self.text.try_grow(bytes)?;
         }
         let names = push_pair(&mut self.text, short, long);
-        let key = key_of(Names { short, long }.main().as_bytes());
+        let key = key_of(NamesView { short, long }.main().as_bytes());
         self.records.push_reserved(SignatureRecord {
             long: names.first,
             end: names.second,

@@ -4,21 +4,21 @@
 use crate::fallible::*;
 
 use super::groups::{
-    FIRST_GROUPS, FIRST_TEXT, Kinds, PairEnds, Signature, Signatures, first_at, push_pair,
+    FIRST_GROUPS, FIRST_TEXT, Kinds, PairEnds, SignatureView, Signatures, first_at, push_pair,
     second_at,
 };
 use crate::alloc::{AllocError, Global};
 
 /// A group with its hint and description, borrowed.
 #[derive(Clone, Copy)]
-pub(crate) struct Group<'g> {
-    pub signature: Signature<'g>,
+pub(crate) struct GroupView<'g> {
+    pub signature: SignatureView<'g>,
     pub hint: &'g str,
     pub desc: &'g str,
 }
 
-impl<'g> PartialEq for Group<'g> {
-    fn eq(&self, other: &Group<'g>) -> bool {
+impl<'g> PartialEq for GroupView<'g> {
+    fn eq(&self, other: &GroupView<'g>) -> bool {
         self.signature == other.signature && self.hint == other.hint && self.desc == other.desc
     }
 }
@@ -57,9 +57,9 @@ impl Groups {
     }
 
     /// The group at `place`.
-    pub(crate) fn get(&self, place: usize) -> Group<'_> {
+    pub(crate) fn get(&self, place: usize) -> GroupView<'_> {
         let help = self.ends[place];
-        Group {
+        GroupView {
             signature: self.signatures.get(place),
             hint: first_at(&self.help, help),
             desc: second_at(&self.help, help),

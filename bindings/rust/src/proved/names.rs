@@ -21,12 +21,12 @@ pub fn names_lawful(short: &str, long: &str) -> bool {
 
 /// Both names of a group, borrowed. Either may be empty.
 #[derive(Clone, Copy)]
-pub(crate) struct Names<'g> {
+pub(crate) struct NamesView<'g> {
     pub short: &'g str,
     pub long: &'g str,
 }
 
-impl<'g> Names<'g> {
+impl<'g> NamesView<'g> {
     /// The main name: the long name or, if that is empty, the short name.
     pub(crate) fn main(self) -> &'g str {
         if self.long.is_empty() {

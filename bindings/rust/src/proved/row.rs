@@ -3,9 +3,9 @@
 
 use crate::fallible::*;
 
-use super::groups::{HasArg, Signature};
-use super::help::Group;
-use super::names::Names;
+use super::groups::{HasArg, SignatureView};
+use super::help::GroupView;
+use super::names::NamesView;
 use super::wrap::{each_split_within, push_joined};
 use crate::alloc::{AllocError, Global};
 use crate::width::UnicodeWidthStr;
@@ -33,7 +33,7 @@ const ROW_ROOM: usize = 80;
 pub(crate) fn row_of(
     alloc: Global,
     layout: Layout,
-    group: Group<'_>,
+    group: GroupView<'_>,
 ) -> Result<String, AllocError> {
     let mut row = String::of_capacity(alloc, ROW_ROOM)?;
     push_head(&mut row, layout, group)?;
@@ -45,9 +45,9 @@ pub(crate) fn row_of(
 }
 
 /// Appends the head of a group's row, which precedes the description.
-fn push_head(text: &mut String, layout: Layout, group: Group<'_>) -> Result<(), AllocError> {
+fn push_head(text: &mut String, layout: Layout, group: GroupView<'_>) -> Result<(), AllocError> {
     text.try_push_str("    ")?;
-    let Signature { names, kinds } = group.signature;
+    let SignatureView { names, kinds } = group.signature;
     let wide = has_columns(names.long);
     push_short(text, layout, names, wide)?;
     push_long(text, layout, names.long, wide)?;
@@ -59,7 +59,7 @@ fn push_head(text: &mut String, layout: Layout, group: Group<'_>) -> Result<(), 
 fn push_short(
     text: &mut String,
     layout: Layout,
-    names: Names<'_>,
+    names: NamesView<'_>,
     wide: bool,
 ) -> Result<(), AllocError> {
     if names.short.is_empty() {

@@ -3,9 +3,9 @@
 
 use crate::fallible::*;
 
-use super::groups::{HasArg, Occur, Signature};
-use super::help::Group;
-use super::names::Names;
+use super::groups::{HasArg, Occur, SignatureView};
+use super::help::GroupView;
+use super::names::NamesView;
 use super::options::Options;
 use super::row::{Layout, push_argument, row_of};
 use super::wrap::push_joined;
@@ -155,8 +155,8 @@ impl Options {
 }
 
 /// Appends one option of the short usage.
-fn push_option(text: &mut String, group: Group<'_>) -> Result<(), AllocError> {
-    let Signature { names, kinds } = group.signature;
+fn push_option(text: &mut String, group: GroupView<'_>) -> Result<(), AllocError> {
+    let SignatureView { names, kinds } = group.signature;
     let (before, after) = match kinds.occurrence {
         Occur::Req => ("", ""),
         Occur::Optional => ("[", "]"),
@@ -172,7 +172,7 @@ fn push_option(text: &mut String, group: Group<'_>) -> Result<(), AllocError> {
 }
 
 /// Appends the name of an option, as the short usage shows it.
-fn push_name(text: &mut String, names: Names<'_>) -> Result<(), AllocError> {
+fn push_name(text: &mut String, names: NamesView<'_>) -> Result<(), AllocError> {
     if names.short.is_empty() {
         text.try_push_str("--")?;
         text.try_push_str(names.long)

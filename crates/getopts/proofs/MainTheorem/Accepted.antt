@@ -8,9 +8,9 @@ use Rattle.getopts.specs.Matches.{Matched, matches_of, KeepsCounts}
 use Rattle.getopts.specs.Parse.{Reads, IsAccepted}
 use Rattle.getopts.specs.Results.{read, first_count_fault, unless_fault, with_counts_kept, made_of}
 use Rattle.getopts.specs.Results.{accepted_reading, parse_result}
-use Rattle.getopts.proofs.MainTheorem.FirstFault.{first_count_fault-is, no_fault}
-use Rattle.getopts.proofs.Parsing.Only.{meets}
-use Rattle.getopts.proofs.Parsing.Parsed.{named_here}
+use Rattle.getopts.proofs.counts.FirstFault.{first_count_fault-is, no_fault}
+use Rattle.getopts.proofs.Only.{meets}
+use Rattle.getopts.proofs.parse.Parsed.{named_here}
 use Rattle.getopts.proofs.Reading.Readings.{reading_read}
 
 -- accepted words have this result

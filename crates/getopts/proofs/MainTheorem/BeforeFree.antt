@@ -11,12 +11,12 @@ use Rattle.getopts.specs.Matches.{Matched, matches_of}
 use Rattle.getopts.specs.Parse.{Reads, HasReading, IsAccepted}
 use Rattle.getopts.specs.Holds.{HaveLastWordsFree, Accepts}
 use Rattle.getopts.specs.ReadingLaws.{HavePositionsBelow}
-use Rattle.getopts.proofs.Parsing.Holds.{EndsInTrailing-read}
-use Rattle.getopts.proofs.Scanner.Loop.{length-texts}
+use Rattle.getopts.proofs.parse.Holds.{EndsInTrailing-read}
+use Rattle.getopts.proofs.scan.Loop.{length-texts}
 use Rattle.getopts.specs.declared.groups.ParsingStyle.TheVariants.{FloatingFrees, StopAtFirstFree}
 use Rattle.getopts.proofs.MainTheorem.Accepted.{parse_result-accepted}
-use Rattle.getopts.proofs.Parsing.Only.{meets}
-use Rattle.getopts.proofs.Parsing.Parsed.{only_reads, positions_below-read}
+use Rattle.getopts.proofs.Only.{meets}
+use Rattle.getopts.proofs.parse.Parsed.{only_reads, positions_below-read}
 use Rattle.getopts.proofs.Reading.Readings.{EndsOrIsDashed-spelled, spelled_all-append}
 
 -- a tail without its free words

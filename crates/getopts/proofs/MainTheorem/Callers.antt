@@ -20,8 +20,8 @@ use Rattle.getopts.specs.Fail.{Fault}
 use Rattle.getopts.specs.Results.{parse_result, accepted_reading, canonical_result, made_of, read}
 use Rattle.getopts.specs.Results.{first_count_fault, unless_fault, with_counts_kept, written_line}
 use Rattle.getopts.specs.declared.groups.ParsingStyle.{ParsingStyle}
-use Rattle.getopts.proofs.Parsing.Parsed.{named_here}
-use Rattle.getopts.proofs.MainTheorem.FirstFault.{first_count_fault-is, no_fault}
+use Rattle.getopts.proofs.parse.Parsed.{named_here}
+use Rattle.getopts.proofs.counts.FirstFault.{first_count_fault-is, no_fault}
 use Rattle.getopts.proofs.Reading.Readings.{reading_read}
 use Rattle.getopts.proofs.MainTheorem.SameContent.{LinesReadAgain_lem}
 pub use Rattle.getopts.proofs.MainTheorem.Accepted.{parse_result-accepted}

@@ -8,8 +8,8 @@ use Rattle.getopts.specs.Matches.{Matched, MatchedGroup, KeepsCounts, IsCountFau
 use Rattle.getopts.specs.Results.{accepted_reading, first_count_fault, made_of, reading_or_error}
 use Rattle.getopts.specs.Results.{parse_ignoring_counts_result, parse_result, unless_fault}
 use Rattle.getopts.specs.Results.{with_counts_kept}
-use Rattle.getopts.proofs.Canonical.Answered.{no_count_fault, only_count_fault}
-use Rattle.getopts.proofs.MainTheorem.FirstFault.{HaveFault, first_count_fault-is, no_fault}
+use Rattle.getopts.proofs.canon.Answered.{no_count_fault, only_count_fault}
+use Rattle.getopts.proofs.counts.FirstFault.{HaveFault, first_count_fault-is, no_fault}
 use Rattle.getopts.proofs.MainTheorem.Results.{made_of-ok}
 
 -- a count error of groups is their first

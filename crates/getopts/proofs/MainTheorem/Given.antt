@@ -24,10 +24,10 @@ use Rattle.getopts.specs.Unless.{Gives, IsUnlessAnswer, IsRequestAnswer, Request
 use Rattle.getopts.specs.Unless.{unless_given, request_of}
 use Rattle.getopts.specs.declared.request.Request.{Request}
 use Rattle.getopts.specs.declared.request.Request.TheVariants.{Help, Version, Parsed}
-use Rattle.getopts.proofs.Canonical.Answered.{reads_of}
-use Rattle.getopts.proofs.Lookup.Names.{resolution_within}
-use Rattle.getopts.proofs.Parsing.Holds.{place_of-groups}
-use Rattle.getopts.proofs.Parsing.Only.{IsTheOnly-from, meets}
+use Rattle.getopts.proofs.canon.Answered.{reads_of}
+use Rattle.getopts.proofs.table.Names.{resolution_within}
+use Rattle.getopts.proofs.parse.Holds.{place_of-groups}
+use Rattle.getopts.proofs.Only.{IsTheOnly-from, meets}
 use Rattle.getopts.proofs.Stored.Matches.{found-matched, signatures-matched}
 
 -- a group has an occurrence if one mentions it

@@ -12,8 +12,8 @@ use Rattle.getopts.specs.Options.{Declared, Group}
 use Rattle.getopts.specs.Usage.{AreUsageRows, IsUsageRow, IsUsageText, any_short, head, row_text}
 use Rattle.getopts.specs.Usage.{usage_text}
 use Rattle.getopts.specs.Wrap.{lines_of, IsDescriptionRows}
-use Rattle.getopts.proofs.Wrapping.Lines.{rows_of, rows_of-are, rows_exactly}
-use Rattle.getopts.proofs.Wrapping.Usage.{each_is_the_only, made_of_the_only}
+use Rattle.getopts.proofs.wrap.Lines.{rows_of, rows_of-are, rows_exactly}
+use Rattle.getopts.proofs.Only.{each_is_the_only, made_of_the_only}
 
 -- a group's row
 abbrev pub computed_row : Bool → Bool → Group → Text

@@ -19,16 +19,16 @@ use Rattle.getopts.specs.Results.{reading_or_error, accepted_reading, made_of, w
 use Rattle.getopts.specs.Results.{parse_ignoring_counts_result}
 use Rattle.getopts.specs.Results.{parse_result, canonical_result, parse_in_order_result}
 use Rattle.getopts.specs.Returns.{IsReadingOf, IsLineOf, HasResults}
-use Rattle.getopts.proofs.Canonical.Lines.{is_plain-true, is_plain-false, Says-accepted}
-use Rattle.getopts.proofs.Canonical.Lines.{IsSound-says, HasUnwritable-content}
-use Rattle.getopts.proofs.Canonical.Answered.{only_parse_answer, only_canonical_answer}
-use Rattle.getopts.proofs.Canonical.Answered.{only_order_answer, only_read_answer}
-use Rattle.getopts.proofs.Canonical.Answered.{only_answer, only_of_reading}
-use Rattle.getopts.proofs.MainTheorem.FirstFault.{HaveFault, first_count_fault-is}
+use Rattle.getopts.proofs.canon.Lines.{is_plain-true, is_plain-false, Says-accepted}
+use Rattle.getopts.proofs.canon.Lines.{IsSound-says, HasUnwritable-content}
+use Rattle.getopts.proofs.canon.Answered.{only_parse_answer, only_canonical_answer}
+use Rattle.getopts.proofs.canon.Answered.{only_order_answer, only_read_answer}
+use Rattle.getopts.proofs.canon.Answered.{only_answer, only_of_reading}
+use Rattle.getopts.proofs.counts.FirstFault.{HaveFault, first_count_fault-is}
 use Rattle.getopts.proofs.MainTheorem.Given.{only_unless, only_request}
-use Rattle.getopts.proofs.Parsing.Faults.{IsOutOfMemoryOr-weaker}
-use Rattle.getopts.proofs.Parsing.Only.{IsTheOnly-from}
-use Rattle.getopts.proofs.Parsing.Parsed.{only_reads, named_here, HasNoReading-fault}
+use Rattle.getopts.proofs.Weaker.{IsOutOfMemoryOr-weaker}
+use Rattle.getopts.proofs.Only.{IsTheOnly-from}
+use Rattle.getopts.proofs.parse.Parsed.{only_reads, named_here, HasNoReading-fault}
 use Rattle.getopts.proofs.Reading.Readings.{IsSoundOutcome, read_sound}
 
 -- if at most one value has a property, a value that has it is the only one

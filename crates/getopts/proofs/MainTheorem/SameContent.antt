@@ -16,11 +16,11 @@ use Rattle.getopts.specs.Parse.{Reads}
 use Rattle.getopts.specs.Theorem.{AcceptedExactlyWhen, HaveSameValues, OneContentHoldsSame}
 use Rattle.getopts.specs.Theorem.{LinesReadAgain}
 use Rattle.getopts.specs.declared.groups.ParsingStyle.{ParsingStyle}
-use Rattle.getopts.proofs.Canonical.Lines.{KeepsCounts-mentions}
-use Rattle.getopts.proofs.Canonical.Answered.{reads_of}
+use Rattle.getopts.proofs.canon.Lines.{KeepsCounts-mentions}
+use Rattle.getopts.proofs.canon.Answered.{reads_of}
 use Rattle.getopts.proofs.Stored.Matches.{signatures-matched}
-use Rattle.getopts.proofs.Parsing.Holds.{place_of-groups}
-use Rattle.getopts.proofs.Parsing.Parsed.{only_reads}
+use Rattle.getopts.proofs.parse.Holds.{place_of-groups}
+use Rattle.getopts.proofs.parse.Parsed.{only_reads}
 
 -- the values of a group's occurrences, from the mentions
 abbrev values_at : ℕ → List Mention → List (Option Text)

@@ -9,10 +9,10 @@ use Rattle.getopts.specs.Parse.{IsAccepted, BreaksCounts, HasReading, IsRefused}
 use Rattle.getopts.specs.Canon.{IsPlain, IsCountKeeping, HasCanonicalLine, Content, Says}
 use Rattle.getopts.specs.Theorem.{OneReading, AcceptedExactlyWhen, RefusedExactlyWhen}
 use Rattle.getopts.specs.Theorem.{OneLineOneContent}
-use Rattle.getopts.proofs.Canonical.Lines.{HasCanonicalLine-says, OneLineOneContent-lawful}
-use Rattle.getopts.proofs.Canonical.Answered.{reads_of, keeps_accepted, not_refused}
-use Rattle.getopts.proofs.Parsing.Only.{meets}
-use Rattle.getopts.proofs.Parsing.Parsed.{only_reads, named_here, HasNoReading-fault}
+use Rattle.getopts.proofs.canon.Lines.{HasCanonicalLine-says, OneLineOneContent-lawful}
+use Rattle.getopts.proofs.canon.Answered.{reads_of, keeps_accepted, not_refused}
+use Rattle.getopts.proofs.Only.{meets}
+use Rattle.getopts.proofs.parse.Parsed.{only_reads, named_here, HasNoReading-fault}
 use Rattle.getopts.proofs.Reading.Readings.{only_reading}
 use Rattle.getopts.proofs.Reading.Reader.{IsNamed}
 

@@ -24,7 +24,7 @@ use Rattle.getopts.specs.Accessors.{HaveLawfulNames, occurrences_of_group, place
 use Rattle.getopts.specs.Accessors.{pairs_of}
 use Rattle.getopts.specs.Same.{same_signature, same_group_occurrence, same_matched_group}
 use Rattle.getopts.specs.Accessors.{pair_view}
-use Rattle.getopts.proofs.Parsing.Counts.{length-matched}
+use Rattle.getopts.proofs.counts.Groups.{length-matched}
 use Rattle.getopts.proofs.Stored.Index.{filter_map-places_of, places_of-within}
 use Rattle.getopts.proofs.Stored.Index.{slice_get-places_by_group, length-places_by_group}
 

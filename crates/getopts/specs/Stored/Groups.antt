@@ -9,15 +9,15 @@ use Rattle.getopts.specs.Options.{Signature}
 use Rattle.getopts.specs.Same.{same_signature}
 use Rattle.getopts.specs.Stored.Texts.{between}
 use Rattle.getopts.specs.Stored.Names.{key_of, short_code}
-use Rattle.getopts.specs.declared.names.Names.{Names as BorrowedNames}
+use Rattle.getopts.specs.declared.names.NamesView.{NamesView}
 use Rattle.getopts.specs.declared.groups.Kinds.{Kinds}
 use Rattle.getopts.specs.declared.groups.PairEnds.{PairEnds}
 use Rattle.getopts.specs.declared.groups.SignatureRecord.{SignatureRecord}
-use Rattle.getopts.specs.declared.groups.Signature.{Signature as BorrowedSignature}
+use Rattle.getopts.specs.declared.groups.SignatureView.{SignatureView}
 use Rattle.getopts.specs.declared.groups.Signatures.TheInside.{Inside}
 
 -- two borrowed names
-abbrev pub names_view : BorrowedNames → Names
+abbrev pub names_view : NamesView → Names
 names_view held = record { short = held.short.now; long = held.long.now }
 
 -- the signature of a group with these kinds and names
@@ -101,9 +101,9 @@ pub record HoldSignatures (inside : Inside) : Type 0 where
   pub lawful : AreLawfulSignatures (signatures_view inside)
 
 -- the signature of a borrowed group
-abbrev pub signature_view : BorrowedSignature → Signature
+abbrev pub signature_view : SignatureView → Signature
 signature_view held = signature_with held.kinds held.names.short.now held.names.long.now
 
 -- whether the signatures of two borrowed groups are the same
-abbrev pub same_signature_view : BorrowedSignature → BorrowedSignature → Bool
+abbrev pub same_signature_view : SignatureView → SignatureView → Bool
 same_signature_view = on signature_view same_signature

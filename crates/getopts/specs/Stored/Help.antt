@@ -7,7 +7,7 @@ use Rattle.getopts.specs.Names.{Text}
 use Rattle.getopts.specs.Options.{Signature, Group}
 use Rattle.getopts.specs.Same.{same_group}
 use Rattle.getopts.specs.Stored.Groups.{pair_at, AreEndsOf, AreLawfulSignatures, signature_view}
-use Rattle.getopts.specs.declared.help.Group.{Group as BorrowedGroup}
+use Rattle.getopts.specs.declared.help.GroupView.{GroupView}
 use Rattle.getopts.specs.declared.help.Groups.TheInside.{Inside}
 
 -- groups with these signatures, each with the next two texts
@@ -31,7 +31,7 @@ pub record HoldGroups (inside : Inside) : Type 0 where
   pub lawful : AreLawfulSignatures inside.signatures
 
 -- a borrowed group
-abbrev pub group_view : BorrowedGroup → Group
+abbrev pub group_view : GroupView → Group
 group_view held = record {
   signature = signature_view held.signature;
   hint = held.hint.now;
@@ -39,5 +39,5 @@ group_view held = record {
 }
 
 -- whether two borrowed groups are the same
-abbrev pub same_group_view : BorrowedGroup → BorrowedGroup → Bool
+abbrev pub same_group_view : GroupView → GroupView → Bool
 same_group_view = on group_view same_group

@@ -1,7 +1,7 @@
 -- `contains` finds `=` exactly if it is there.
 use Rattle.std.proofs.Common.{lit<}
 use Rattle.std.proofs.lemmas.Str.Pattern.{contains_char}
-use Rattle.getopts.proofs.Canonical.Answered.{holds_equals-found}
+use Rattle.getopts.proofs.canon.Answered.{holds_equals-found}
 use Rattle.getopts.proofs.canon.holds_equals.Goals as goal
 
 pub returns : goal.returns

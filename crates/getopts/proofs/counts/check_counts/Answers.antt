@@ -5,10 +5,10 @@ use Rattle.std.proofs.lemmas.List.{take_all}
 use Rattle.getopts.specs.Names.{Text, main_name}
 use Rattle.getopts.specs.Matches.{matched, occurrences_mentioning, count_fault, FitsCount}
 use Rattle.getopts.specs.declared.groups.Occur.{Occur}
-use Rattle.getopts.proofs.Parsing.Counts.{KeepsCounts-more, IsCountFault-at}
-use Rattle.getopts.proofs.Parsing.Counts.{length-occurrences_mentioning}
-use Rattle.getopts.proofs.Parsing.Counts.{length-matched, signature-there}
-use Rattle.getopts.proofs.Parsing.Faults.{IsOutOfMemoryOr-weaker}
+use Rattle.getopts.proofs.counts.Groups.{KeepsCounts-more, IsCountFault-at}
+use Rattle.getopts.proofs.counts.Groups.{length-occurrences_mentioning}
+use Rattle.getopts.proofs.counts.Groups.{length-matched, signature-there}
+use Rattle.getopts.proofs.Weaker.{IsOutOfMemoryOr-weaker}
 use Rattle.getopts.proofs.Stored.Groups.{names_at-signature}
 use Rattle.getopts.proofs.counts.check_counts.Goals as goal
 

@@ -1,8 +1,8 @@
 -- Declared options have valid names, which are texts, so the laws hold.
 use Rattle.getopts.proofs.MainTheorem.SameContent.{OneContentHoldsSame_lem}
-use Rattle.getopts.proofs.Parsing.Parsed.{keeps_laws}
+use Rattle.getopts.proofs.parse.Parsed.{keeps_laws}
 use Rattle.getopts.proofs.MainTheorem.Theorem.{AcceptedExactlyWhen-options}
-use Rattle.getopts.proofs.Canonical.Answered.{KeepsLineLaws-lawful}
+use Rattle.getopts.proofs.canon.Answered.{KeepsLineLaws-lawful}
 use Rattle.getopts.proofs.laws.declared_options_keep_laws.Goals as goal
 
 pub returns : goal.returns

@@ -1,5 +1,5 @@
 -- Words determine their reading, counts and errors.
-use Rattle.getopts.proofs.Canonical.Answered.{only_parse_answer, only_canonical_answer}
+use Rattle.getopts.proofs.canon.Answered.{only_parse_answer, only_canonical_answer}
 use Rattle.getopts.proofs.laws.equal_input_equal_answers.Goals as goal
 
 pub returns-clause-parse : goal.returns-clause-parse

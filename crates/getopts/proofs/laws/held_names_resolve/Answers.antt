@@ -2,7 +2,7 @@
 use Rattle.getopts.specs.Accessors.{held_names}
 use Rattle.getopts.specs.Names.{IsLawfullyNamed}
 use Rattle.getopts.proofs.Lists.{AllByRecursion-map}
-use Rattle.getopts.proofs.Lookup.Names.{resolution-main_name, OneByteIsShort-lawful, resolution-nil}
+use Rattle.getopts.proofs.table.Names.{resolution-main_name, OneByteIsShort-lawful, resolution-nil}
 use Rattle.getopts.proofs.laws.held_names_resolve.Goals as goal
 
 pub returns : goal.returns

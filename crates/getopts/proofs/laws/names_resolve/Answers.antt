@@ -1,7 +1,7 @@
 -- The facts about resolution, for groups with valid names.
 use Rattle.getopts.specs.Names.{IsLawfullyNamed}
 use Rattle.getopts.proofs.Lists.{AllByRecursion-map}
-use Rattle.getopts.proofs.Lookup.Names.{resolution-main_name, OneByteIsShort-lawful, resolution-nil}
+use Rattle.getopts.proofs.table.Names.{resolution-main_name, OneByteIsShort-lawful, resolution-nil}
 use Rattle.getopts.specs.Options.{names_of}
 use Rattle.getopts.proofs.laws.names_resolve.Goals as goal
 

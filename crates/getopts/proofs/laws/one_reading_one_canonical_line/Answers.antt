@@ -2,12 +2,12 @@
 use Rattle.getopts.specs.Canon.{with_setting}
 use Rattle.getopts.proofs.MainTheorem.SameContent.{OneContentHoldsSame_lem, LinesReadAgain_lem}
 use Rattle.getopts.proofs.MainTheorem.Results.{HasResults-declared}
-use Rattle.getopts.proofs.Canonical.Lines.{IsSound-says}
-use Rattle.getopts.proofs.Parsing.Parsed.{keeps_laws}
+use Rattle.getopts.proofs.canon.Lines.{IsSound-says}
+use Rattle.getopts.proofs.parse.Parsed.{keeps_laws}
 use Rattle.getopts.proofs.MainTheorem.Theorem.{OneReading-options, AcceptedExactlyWhen-options}
 use Rattle.getopts.proofs.MainTheorem.Theorem.{RefusedExactlyWhen-options}
 use Rattle.getopts.proofs.MainTheorem.Theorem.{OneLineOneContent-options, HasCanonicalLine-options}
-use Rattle.getopts.proofs.Canonical.Answered.{KeepsLineLaws-lawful}
+use Rattle.getopts.proofs.canon.Answered.{KeepsLineLaws-lawful}
 use Rattle.getopts.proofs.laws.one_reading_one_canonical_line.Goals as goal
 
 pub returns : goal.returns

@@ -2,7 +2,7 @@
 use Rattle.std.proofs.Common.{sym, ap, ◌∙◌, arith}
 use Rattle.std.proofs.lemmas.List.{drop_all}
 use Rattle.getopts.specs.Stored.Names.{key_of}
-use Rattle.getopts.proofs.Lookup.Keys.{key_of-nil}
+use Rattle.getopts.proofs.table.Keys.{key_of-nil}
 use Rattle.getopts.proofs.names.rest_key.Goals as goal
 
 pub returns-in_default : goal.returns-in_default

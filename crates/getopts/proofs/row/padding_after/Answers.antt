@@ -1,5 +1,5 @@
 use Rattle.std.proofs.Common.{◌∙◌, rules}
-use Rattle.getopts.proofs.Wrapping.Usage.{padding_narrow}
+use Rattle.getopts.proofs.usage.Rows.{padding_narrow}
 use Rattle.getopts.proofs.row.padding_after.Goals as goal
 
 -- the padding ends the next row

@@ -4,7 +4,7 @@ use Rattle.getopts.specs.Names.{Text}
 use Rattle.getopts.specs.Stored.Help.{group_view}
 use Rattle.getopts.specs.Usage.{head, padding, next_row}
 use Rattle.getopts.specs.Wrap.{joined}
-use Rattle.getopts.proofs.Wrapping.Usage.{row_is_the_only}
+use Rattle.getopts.proofs.usage.Rows.{row_is_the_only}
 use Rattle.getopts.proofs.row.row_of.Goals as goal
 
 pub returns : goal.returns

@@ -5,8 +5,8 @@ use Rattle.std.specs.Str.{IsUtf8}
 use Rattle.std.specs.Str.Iter.{split_whitespace_rest}
 use Rattle.std.proofs.lemmas.List.{map-append}
 use Rattle.getopts.specs.Wrap.{width_of, words_of}
-use Rattle.getopts.proofs.Wrapping.Words.{words_of-none, words_of-step}
-use Rattle.getopts.proofs.Wrapping.Rows.{adds_none, rows_begin, rows_take, rows_end, rows_finish}
+use Rattle.getopts.proofs.wrap.Words.{words_of-none, words_of-step}
+use Rattle.getopts.proofs.wrap.Rows.{adds_none, rows_begin, rows_take, rows_end, rows_finish}
 use Rattle.getopts.proofs.wrap.push_line.Goals as goal
 use Rattle.getopts.proofs.wrap.push_line.Goals.{then-columns-lim+then-width-lim+in_ok-push}
 use Rattle.getopts.proofs.wrap.push_line.Goals.{else-columns-lim+in_ok-push-2}

@@ -1,7 +1,7 @@
 -- The rows so far, and the current row.
 use Rattle.std.proofs.Common.{map, string_bytes}
 use Rattle.std.specs.Str.Iter.{split_whitespace_rest}
-use Rattle.getopts.proofs.Wrapping.Rows.{RowsSoFar}
+use Rattle.getopts.proofs.wrap.Rows.{RowsSoFar}
 use Rattle.getopts.proofs.wrap.push_line.Given as goal
 
 abbrev pub invariant-loop-word : goal.invariant-loop-word

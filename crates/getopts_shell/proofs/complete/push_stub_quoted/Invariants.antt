@@ -1,6 +1,6 @@
 use Rattle.std.proofs.Common.{[], ◌∷◌, ◌++◌, map, string_bytes}
 use Rattle.std.specs.List.{flat_map}
-use Rattle.getopts.proofs.Wrapping.Texts.{JoinedSoFar}
+use Rattle.getopts.proofs.Joined.{JoinedSoFar}
 use Rattle.getopts_shell.specs.Quote.{quoted_byte}
 use Rattle.getopts_shell.proofs.complete.push_stub_quoted.Given as goal
 

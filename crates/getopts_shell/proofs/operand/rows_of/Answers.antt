@@ -1,6 +1,6 @@
 use Rattle.std.proofs.Common.{◌∷◌, [], arith, get_or, map, string_bytes, take}
 use Rattle.std.proofs.lemmas.List.{map-append, take_all, take_more}
-use Rattle.getopts.proofs.Wrapping.Usage.{each_is_the_only}
+use Rattle.getopts.proofs.Only.{each_is_the_only}
 use Rattle.getopts_shell.specs.Program.{IsOperandRow}
 use Rattle.getopts_shell.specs.Stored.{operand_of, operands_of}
 use Rattle.getopts_shell.proofs.Operands.{no_operand, rows_push}

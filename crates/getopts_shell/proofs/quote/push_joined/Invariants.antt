@@ -1,5 +1,5 @@
 use Rattle.std.proofs.Common.{map, string_bytes, take}
-use Rattle.getopts.proofs.Wrapping.Texts.{JoinedSoFar}
+use Rattle.getopts.proofs.Joined.{JoinedSoFar}
 use Rattle.getopts_shell.proofs.quote.push_joined.Given as goal
 
 -- the texts so far were appended

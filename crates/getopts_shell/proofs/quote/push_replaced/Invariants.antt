@@ -1,5 +1,5 @@
 use Rattle.std.proofs.Common.{map, string_bytes}
-use Rattle.getopts.proofs.Wrapping.Texts.{JoinedSoFar}
+use Rattle.getopts.proofs.Joined.{JoinedSoFar}
 use Rattle.getopts_shell.proofs.quote.push_replaced.Given as goal
 
 -- the parts of the word so far were appended

@@ -3,7 +3,7 @@ use Rattle.getopts.specs.CanonAnswers.{IsUnwritable}
 use Rattle.getopts.specs.Names.{texts}
 use Rattle.getopts.specs.Results.{canonical_result}
 use Rattle.std.proofs.lemmas.Result.{IfOk-weaker}
-use Rattle.getopts.proofs.Canonical.Answered.{IfNone-weaker}
+use Rattle.getopts.proofs.Weaker.{IfNone-weaker}
 use Rattle.getopts_show.proofs.Items.{of_run, result_of_run}
 use Rattle.getopts_show.proofs.show.rewritten.Goals as goal
 

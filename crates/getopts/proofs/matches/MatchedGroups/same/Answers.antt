@@ -4,7 +4,7 @@ use Rattle.std.proofs.lemmas.Bool.{not-true, not-false}
 use Rattle.std.specs.Cmp.Lexicographic.{pointwise}
 use Rattle.getopts.specs.Matches.{MatchedGroup}
 use Rattle.getopts.specs.Same.{same_signature, same_group_occurrence}
-use Rattle.getopts.proofs.Parsing.Counts.{length-matched}
+use Rattle.getopts.proofs.counts.Groups.{length-matched}
 use Rattle.getopts.proofs.Stored.Matches.{signatures-matched, differ_signature, differ_found}
 use Rattle.getopts.proofs.Stored.Matches.{same_found_everywhere}
 use Rattle.getopts.proofs.matches.MatchedGroups.same.Goals as goal

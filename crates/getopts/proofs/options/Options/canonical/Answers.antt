@@ -1,8 +1,7 @@
 -- The collected words are those of the iterator.
 use Rattle.std.proofs.Common.{◌∙◌}
 use Rattle.std.proofs.lemmas.Result.{IfOk-weaker, IfErr-weaker, MatchResult-weaker}
-use Rattle.getopts.proofs.Canonical.Answered.{IfSome-weaker, IfNone-weaker}
-use Rattle.getopts.proofs.Parsing.Faults.{IsOutOfMemoryOr-weaker}
+use Rattle.getopts.proofs.Weaker.{IfSome-weaker, IfNone-weaker, IsOutOfMemoryOr-weaker}
 use Rattle.getopts.proofs.options.Options.canonical.Goals as goal
 
 pub returns-clause-written : goal.returns-clause-written

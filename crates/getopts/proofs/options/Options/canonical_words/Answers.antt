@@ -3,8 +3,8 @@ use Rattle.std.proofs.Common.{◌∙◌, sym, Ok, Some, None}
 use Rattle.getopts.specs.Options.{Declared, MayBeDeclared}
 use Rattle.getopts.specs.Theorem.{LinesReadAgain}
 use Rattle.std.proofs.lemmas.Result.{err_from_is_err_and}
-use Rattle.getopts.proofs.Canonical.Answered.{IsWritten-line, IsUnwritable-line, groups_within}
-use Rattle.getopts.proofs.Canonical.Answered.{KeepsLineLaws-lawful}
+use Rattle.getopts.proofs.canon.Answered.{IsWritten-line, IsUnwritable-line, groups_within}
+use Rattle.getopts.proofs.canon.Answered.{KeepsLineLaws-lawful}
 use Rattle.getopts.proofs.MainTheorem.SameContent.{LinesReadAgain_lem}
 use Rattle.getopts.proofs.MainTheorem.Results.{only_refused}
 use Rattle.getopts.proofs.options.Options.canonical_words.Goals as goal

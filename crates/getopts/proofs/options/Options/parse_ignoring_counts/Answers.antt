@@ -1,6 +1,6 @@
 -- Matches of a reading fit their options, and end in the words after the stop.
 use Rattle.std.proofs.lemmas.Result.{IfOk-weaker}
-use Rattle.getopts.proofs.Parsing.Holds.{FitOptions-read, EndsInTrailing-read}
+use Rattle.getopts.proofs.parse.Holds.{FitOptions-read, EndsInTrailing-read}
 use Rattle.getopts.proofs.options.Options.parse_ignoring_counts.Goals as goal
 
 pub returns-clause-given : goal.returns-clause-given

@@ -2,7 +2,7 @@
 use Rattle.std.proofs.Common.{sym, Ok}
 use Rattle.std.proofs.lemmas.Result.{err_from_is_err_and}
 use Rattle.getopts.specs.Stored.Scan.{line_content}
-use Rattle.getopts.proofs.Canonical.Answered.{IsAcceptedWith-line}
+use Rattle.getopts.proofs.canon.Answered.{IsAcceptedWith-line}
 use Rattle.getopts.proofs.MainTheorem.Results.{only_refused}
 use Rattle.getopts.proofs.options.Options.parse_in_order.Goals as goal
 

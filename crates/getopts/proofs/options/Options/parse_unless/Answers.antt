@@ -6,10 +6,10 @@ use Rattle.getopts.specs.Matches.{IsCountFault, KeepsCounts, Matched}
 use Rattle.getopts.specs.ReadingLaws.{HavePositionsBelow}
 use Rattle.getopts.proofs.MainTheorem.BeforeFree.{HaveLastWordsFree-accepted}
 use Rattle.getopts.proofs.MainTheorem.Counted.{parse_result-broken, parse_result-kept}
-use Rattle.getopts.proofs.Parsing.Faults.{IsOutOfMemoryOr-weaker}
-use Rattle.getopts.proofs.Parsing.Holds.{FitOptionsAndCounts-accepted, EndsInTrailing-read}
-use Rattle.getopts.proofs.Parsing.Parsed.{positions_below-read, keeps_laws}
-use Rattle.getopts.proofs.Scanner.Loop.{length-texts}
+use Rattle.getopts.proofs.Weaker.{IsOutOfMemoryOr-weaker}
+use Rattle.getopts.proofs.parse.Holds.{FitOptionsAndCounts-accepted, EndsInTrailing-read}
+use Rattle.getopts.proofs.parse.Parsed.{positions_below-read, keeps_laws}
+use Rattle.getopts.proofs.scan.Loop.{length-texts}
 use Rattle.getopts.proofs.options.Options.parse_unless.Goals as goal
 
 pub returns-in_err-check_all-clause-result : goal.returns-in_err-check_all-clause-result

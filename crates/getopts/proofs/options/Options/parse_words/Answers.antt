@@ -3,12 +3,12 @@ use Rattle.std.proofs.Common.{◌≡◌, ◌∙◌, subst, sym, Ok}
 use Rattle.std.proofs.lemmas.Result.{err_from_is_err_and}
 use Rattle.getopts.specs.Options.{signatures_of}
 use Rattle.getopts.specs.ReadingLaws.{HavePositionsBelow}
-use Rattle.getopts.proofs.Canonical.Answered.{IsAccepted-line}
+use Rattle.getopts.proofs.canon.Answered.{IsAccepted-line}
 use Rattle.getopts.proofs.MainTheorem.BeforeFree.{HaveLastWordsFree-accepted}
 use Rattle.getopts.proofs.MainTheorem.Results.{only_refused}
-use Rattle.getopts.proofs.Parsing.Parsed.{positions_below-read, keeps_laws}
-use Rattle.getopts.proofs.Scanner.Loop.{length-texts}
-use Rattle.getopts.proofs.Parsing.Holds.{FitOptionsAndCounts-accepted, EndsInTrailing-read}
+use Rattle.getopts.proofs.parse.Parsed.{positions_below-read, keeps_laws}
+use Rattle.getopts.proofs.scan.Loop.{length-texts}
+use Rattle.getopts.proofs.parse.Holds.{FitOptionsAndCounts-accepted, EndsInTrailing-read}
 use Rattle.getopts.proofs.options.Options.parse_words.Goals as goal
 
 pub returns-clause-accepted : goal.returns-clause-accepted

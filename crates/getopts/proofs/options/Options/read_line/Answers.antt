@@ -1,8 +1,8 @@
 -- The line that was read, and its scan error, belong to the declared options.
 use Rattle.std.proofs.lemmas.Result.{err_from_is_err_and}
 use Rattle.getopts.proofs.MainTheorem.Results.{HasResults-declared}
-use Rattle.getopts.proofs.Parsing.Faults.{IsOutOfMemoryOr-weaker}
-use Rattle.getopts.proofs.Parsing.Parsed.{HasNoReading-fault}
+use Rattle.getopts.proofs.Weaker.{IsOutOfMemoryOr-weaker}
+use Rattle.getopts.proofs.parse.Parsed.{HasNoReading-fault}
 use Rattle.getopts.proofs.Stored.Groups.{names-signatures_of}
 use Rattle.getopts.proofs.options.Options.read_line.Goals as goal
 

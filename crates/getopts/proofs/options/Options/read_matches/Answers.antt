@@ -2,7 +2,7 @@
 use Rattle.std.proofs.Common.{◌≡◌, ◌∙◌, sym, Ok}
 use Rattle.std.proofs.lemmas.Result.{err_from_is_err_and}
 use Rattle.getopts.specs.Options.{signatures_of}
-use Rattle.getopts.proofs.Canonical.Answered.{HasReading-line}
+use Rattle.getopts.proofs.canon.Answered.{HasReading-line}
 use Rattle.getopts.proofs.MainTheorem.Results.{only_refused}
 use Rattle.getopts.proofs.options.Options.read_matches.Goals as goal
 

@@ -1,7 +1,7 @@
 -- The text consists of the usage rows, which are unique.
 use Rattle.std.proofs.Common.{◌≡◌, map, string_bytes, rules, append_assoc}
 use Rattle.getopts.specs.Usage.{AreUsageRows, usage_text}
-use Rattle.getopts.proofs.Wrapping.Usage.{made_of_the_only}
+use Rattle.getopts.proofs.Only.{made_of_the_only}
 use Rattle.getopts.proofs.options.Options.usage.Goals as goal
 
 pub returns : goal.returns

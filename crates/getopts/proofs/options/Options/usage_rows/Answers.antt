@@ -1,7 +1,7 @@
 use Rattle.std.proofs.Common.{◌≤◌, List, [], ◌∷◌, length, map, ap, arith, string_bytes}
 use Rattle.std.proofs.lemmas.List.{map-append}
 use Rattle.getopts.specs.Options.{Group}
-use Rattle.getopts.proofs.Wrapping.Usage.{rows_more, rows_all}
+use Rattle.getopts.proofs.usage.Rows.{rows_more, rows_all}
 use Rattle.getopts.proofs.options.Options.usage_rows.Goals as goal
 
 pub loop-place-init : goal.loop-place-init

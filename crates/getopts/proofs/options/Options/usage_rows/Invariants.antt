@@ -1,5 +1,5 @@
 use Rattle.std.proofs.Common.{map, string_bytes}
-use Rattle.getopts.proofs.Wrapping.Usage.{AreRowsBefore}
+use Rattle.getopts.proofs.usage.Rows.{AreRowsBefore}
 use Rattle.getopts.proofs.options.Options.usage_rows.Given as goal
 
 abbrev pub invariant-loop-place : goal.invariant-loop-place

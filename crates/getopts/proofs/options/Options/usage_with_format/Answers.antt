@@ -1,7 +1,7 @@
 -- The closure got the usage rows.
 use Rattle.std.proofs.Common.{map, string_bytes, rules}
 use Rattle.std.specs.Vec.Iter.{into_iter_items}
-use Rattle.getopts.proofs.Wrapping.Usage.{on_ok}
+use Rattle.getopts.proofs.usage.Rows.{on_ok}
 use Rattle.getopts.proofs.options.Options.usage_with_format.Goals as goal
 
 pub returns : goal.returns

@@ -8,11 +8,11 @@ use Rattle.getopts.specs.Fail.{unrecognized_option}
 use Rattle.getopts.specs.declared.groups.HasArg.{HasArg}
 use Rattle.getopts.specs.Reading.{cluster, ends_in}
 use Rattle.getopts.specs.Step.{faults, first_char, chosen_step}
-use Rattle.getopts.proofs.Parsing.Faults.{IsOutOfMemoryOr-one, IsOutOfMemoryOr-weaker}
-use Rattle.getopts.proofs.Scanner.Clusters.{FlagsRead-none, FlagsRead-more, AddsItem-flags}
-use Rattle.getopts.proofs.Scanner.Clusters.{AddsItem-ends, cluster_step-byte, cluster_step-ends}
-use Rattle.getopts.proofs.Scanner.Clusters.{text_from}
-use Rattle.getopts.proofs.Scanner.Words.{slice_range-one}
+use Rattle.getopts.proofs.Weaker.{IsOutOfMemoryOr-one, IsOutOfMemoryOr-weaker}
+use Rattle.getopts.proofs.scan.Clusters.{FlagsRead-none, FlagsRead-more, AddsItem-flags}
+use Rattle.getopts.proofs.scan.Clusters.{AddsItem-ends, cluster_step-byte, cluster_step-ends}
+use Rattle.getopts.proofs.scan.Clusters.{text_from}
+use Rattle.getopts.proofs.scan.Words.{slice_range-one}
 use Rattle.getopts.proofs.scan.Scanner.cluster.Goals as goal
 use Rattle.getopts.proofs.scan.Scanner.cluster.Goals.{In-Some}
 use Rattle.getopts.proofs.scan.Scanner.cluster.Given.{Over}

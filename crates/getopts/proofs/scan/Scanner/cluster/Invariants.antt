@@ -1,7 +1,7 @@
 -- The bytes before this place are flags, and their occurrences were added.
 use Rattle.std.proofs.Common.{map}
 use Rattle.getopts.specs.Stored.Scan.{scanner_grammar}
-use Rattle.getopts.proofs.Scanner.Clusters.{FlagsRead}
+use Rattle.getopts.proofs.scan.Clusters.{FlagsRead}
 use Rattle.getopts.proofs.scan.Scanner.cluster.Given as goal
 
 abbrev pub invariant-names : goal.invariant-names

@@ -6,9 +6,9 @@ use Rattle.getopts.specs.Reading.{none, attached, separate}
 use Rattle.getopts.specs.Step.{chosen_long, Chooses}
 use Rattle.getopts.specs.Stored.Scan.{scanner_grammar}
 use Rattle.getopts.specs.declared.groups.HasArg.TheVariants.{Yes, No}
-use Rattle.getopts.proofs.Scanner.Items.{Chooses-ok, Chooses-maybe, IsOutOfMemoryOr-long}
-use Rattle.getopts.proofs.Scanner.Items.{AddsItem-long}
-use Rattle.getopts.proofs.Scanner.Items.{texts-first, texts-none}
+use Rattle.getopts.proofs.scan.Items.{Chooses-ok, Chooses-maybe, IsOutOfMemoryOr-long}
+use Rattle.getopts.proofs.scan.Items.{AddsItem-long}
+use Rattle.getopts.proofs.scan.Items.{texts-first, texts-none}
 use Rattle.getopts.proofs.scan.Scanner.read_long.Goals as goal
 use Rattle.getopts.proofs.scan.Scanner.read_long.Goals.{in-No-None, in-Yes-None+in-Some-first}
 use Rattle.getopts.proofs.scan.Scanner.read_long.Goals.{in-Yes-Some, in-Maybe-default}

@@ -8,14 +8,14 @@ use Rattle.getopts.specs.Reading.{line_end, stop, rest, free_items}
 use Rattle.getopts.specs.Stored.Scan.{scanner_grammar, IsLawfulScanner}
 use Rattle.getopts.specs.declared.groups.ParsingStyle.TheVariants.{FloatingFrees, StopAtFirstFree}
 use Rattle.getopts.specs.declared.scan.Scanner.{Scanner}
-use Rattle.getopts.proofs.Lookup.Names.{named_grammar}
+use Rattle.getopts.proofs.table.Names.{named_grammar}
 use Rattle.getopts.proofs.Reading.Reader.{IsNamed, read}
 use Rattle.getopts.proofs.Reading.Readings.{read_nil}
 use Rattle.getopts.proofs.Reading.Steps.{step_long, step_short}
-use Rattle.getopts.proofs.Scanner.Loop.{ReadSoFar-none, ReadSoFar-free, ReadSoFar-added}
-use Rattle.getopts.proofs.Scanner.Loop.{IsReading-tail, IsReading-rest, IsReading-stop}
-use Rattle.getopts.proofs.Scanner.Loop.{IsOutOfMemoryOr-word}
-use Rattle.getopts.proofs.Scanner.Loop.{used-within, length-texts, trailing_after-stop}
+use Rattle.getopts.proofs.scan.Loop.{ReadSoFar-none, ReadSoFar-free, ReadSoFar-added}
+use Rattle.getopts.proofs.scan.Loop.{IsReading-tail, IsReading-rest, IsReading-stop}
+use Rattle.getopts.proofs.scan.Loop.{IsOutOfMemoryOr-word}
+use Rattle.getopts.proofs.scan.Loop.{used-within, length-texts, trailing_after-stop}
 use Rattle.getopts.proofs.scan.Scanner.scan.Goals as goal
 
 -- a scanner's names are texts

@@ -2,7 +2,7 @@
 use Rattle.std.proofs.Common.{◌≡◌, None, length, map, ◌-◌}
 use Rattle.std.specs.String.{string_bytes}
 use Rattle.getopts.specs.Stored.Scan.{scanner_grammar}
-use Rattle.getopts.proofs.Scanner.Loop.{ReadSoFar}
+use Rattle.getopts.proofs.scan.Loop.{ReadSoFar}
 use Rattle.getopts.proofs.scan.Scanner.scan.Given as goal
 
 abbrev pub invariant-items : goal.invariant-items

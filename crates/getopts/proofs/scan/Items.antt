@@ -11,7 +11,7 @@ use Rattle.getopts.specs.Step.{named_step, long_step, Chooses, AddsItem}
 use Rattle.getopts.specs.declared.fail.Fail.{Fail}
 use Rattle.getopts.specs.declared.groups.HasArg.{HasArg}
 use Rattle.getopts.specs.declared.groups.HasArg.TheVariants.{Maybe}
-use Rattle.getopts.proofs.Parsing.Faults.{IsOutOfMemoryOr-one}
+use Rattle.getopts.proofs.Weaker.{IsOutOfMemoryOr-one}
 use Rattle.getopts.proofs.Reading.Steps.{long_step_cut}
 
 -- a chosen argument, with its value and its number of words

@@ -1,7 +1,7 @@
 -- The code finds the content of accepted words, and words have one result.
 use Rattle.std.proofs.Common.{◌≡◌, ◌==◌, ◌<◌, ℕ, Bool, true, false, not, List, [], ◌∷◌, ◌++◌}
-use Rattle.std.proofs.Common.{length, get_or, map, Option, Some, None, Result, Ok, Err, IfSome}
-use Rattle.std.proofs.Common.{IfNone, refl, sym, ap, ◌∙◌, subst, inl, inr}
+use Rattle.std.proofs.Common.{length, get_or, map, Option, Some, None, Result, Ok, Err}
+use Rattle.std.proofs.Common.{refl, sym, ap, ◌∙◌, subst, inl, inr}
 use Rattle.std.proofs.lemmas.Bool.{true≢false}
 use Rattle.std.proofs.lemmas.List.Folds.{list_any_at, list_all-map}
 use Rattle.std.specs.List.{AllByRecursion, list_all}
@@ -25,14 +25,14 @@ use Rattle.getopts.specs.Stored.Matches.{IsReadLine, IsAcceptedLine}
 use Rattle.getopts.specs.CanonAnswers.{IsWritten, IsUnwritable, IsParseAnswer}
 use Rattle.getopts.specs.CanonAnswers.{IsCanonicalAnswer, IsOrderAnswer, IsOrder, KeepsLineLaws}
 use Rattle.getopts.specs.declared.matches.ReadLine.{ReadLine}
-use Rattle.getopts.proofs.Canonical.Lines.{is_plain-true, is_plain-false, HasCanonicalLine-says}
-use Rattle.getopts.proofs.Canonical.Lines.{Says-accepted, IsSound-says, HasUnwritable-content}
-use Rattle.getopts.proofs.Canonical.Lines.{FitsGroup, FitsGroup-within, IsFitting-reading}
+use Rattle.getopts.proofs.canon.Lines.{is_plain-true, is_plain-false, HasCanonicalLine-says}
+use Rattle.getopts.proofs.canon.Lines.{Says-accepted, IsSound-says, HasUnwritable-content}
+use Rattle.getopts.proofs.canon.Lines.{FitsGroup, FitsGroup-within, IsFitting-reading}
 use Rattle.getopts.proofs.Lists.{AllByRecursion-follows, AllByRecursion-unmap}
-use Rattle.getopts.proofs.Parsing.Counts.{broken_count}
-use Rattle.getopts.proofs.Parsing.Only.{meets}
-use Rattle.getopts.proofs.Parsing.Parsed.{only_reads, named_here, groups_are, HasReading-reading}
-use Rattle.getopts.proofs.Scanner.Words.{holds_equals-none}
+use Rattle.getopts.proofs.counts.Groups.{broken_count}
+use Rattle.getopts.proofs.Only.{meets}
+use Rattle.getopts.proofs.parse.Parsed.{only_reads, named_here, groups_are, HasReading-reading}
+use Rattle.getopts.proofs.scan.Words.{holds_equals-none}
 
 -- a test that finds `=` exactly if it is there
 pub holds_equals-found : (text : Text) (found : Bool)
@@ -166,17 +166,6 @@ KeepsLineLaws-lawful options declared words line written =
     HasCanonicalLine-says options words written.content declared.named (named_here options declared)
     (Says-accepted options options.style options.long_only words written.content written.accepted)
     written.plain
-
--- the properties of a returned line, and what holds if there is none
-pub IfSome-weaker : {X : Type 0} (answer : Option X) (P Q : X → Type 0) → ((x : X) → P x → Q x)
-    → IfSome answer P → IfSome answer Q
-IfSome-weaker None P Q follows holds = tt
-IfSome-weaker (Some x) P Q follows holds = follows x holds
-
-pub IfNone-weaker : {X : Type 0} (answer : Option X) (P Q : Type 0) → (P → Q) → IfNone answer P
-    → IfNone answer Q
-IfNone-weaker None P Q follows holds = follows holds
-IfNone-weaker (Some x) P Q follows holds = tt
 
 -- a group keeps its count if all do
 KeepsCount-at : (before : List MatchedGroup) (group : MatchedGroup) (after : List MatchedGroup)

@@ -1,6 +1,6 @@
 -- The rows of a usage text.
 use Rattle.std.proofs.Common.{◌≡◌, ℕ, zero, suc, ◌+◌, ◌-◌, ◌<◌, ◌≤◌, Bool, true, not, ◌||◌, List}
-use Rattle.std.proofs.Common.{[], ◌∷◌, ◌++◌, Some, length, take, drop, refl, ap, sym}
+use Rattle.std.proofs.Common.{[], ◌∷◌, ◌++◌, Some, length, take, drop, ap, sym}
 use Rattle.std.proofs.Common.{◌∙◌, subst, arith, append_assoc}
 use Rattle.std.specs.Prelude.{Result, Ok, Err, OnOk, slice_get, nat_lt, if◌then◌else◌}
 use Rattle.std.specs.List.{AllZip}
@@ -16,8 +16,9 @@ use Rattle.getopts.specs.Only.{IsTheOnly}
 use Rattle.getopts.specs.Usage.{any_short, spaces, head, next_row, padding, row_text}
 use Rattle.getopts.specs.Usage.{IsUsageRow, AreUsageRows}
 use Rattle.getopts.specs.Wrap.{width_of, IsDescriptionRows, joined}
-use Rattle.getopts.specs.declared.help.Group.{Group as Borrowed}
+use Rattle.getopts.specs.declared.help.GroupView.{GroupView}
 use Rattle.getopts.proofs.Lists.{take_more_at}
+use Rattle.getopts.proofs.Only.{made_of_the_only, each_is_the_only}
 
 -- a property that always holds, holds if the result is `Ok`
 pub on_ok : {T E P : Type 0} (r : Result T E) → P → OnOk r P
@@ -25,36 +26,6 @@ on_ok (Ok x) holds = holds
 on_ok (Err e) holds = tt
 
 -- ---- the only value
-
--- a function of the only value has the only result
-pub made_of_the_only : {X Y : Type 0} (P : X → Type 0) (make : X → Y) (x : X) (y : Y)
-    → IsTheOnly P x → y ≡ make x → IsTheOnly (λ (other : Y). (z : X) × P z × (other ≡ make z)) y
-made_of_the_only {X} P make x y only made = λ other. (
-  (λ found. found.2 ∙ ap make ((only found.0).0 found.1) ∙ sym made),
-  (λ same. (x, (only x).1 refl, same ∙ made)),
-)
-
--- a list of unique elements is unique
-pub each_is_the_only : {X Y : Type 0} (R : X → Y → Type 0) (xs : List X) (ys : List Y)
-    → AllZip (λ x y. IsTheOnly (R x) y) xs ys → IsTheOnly (AllZip R xs) ys
-each_is_the_only R [] [] all = λ other. (nothing other, λ same. subst (AllZip R []) (sym same) tt)
-  where
-    nothing : (other : List _) → AllZip R [] other → other ≡ []
-    nothing [] all = refl
-    nothing (z ∷ other) all = absurd all
-each_is_the_only R [] (y ∷ ys) all = absurd all
-each_is_the_only R (x ∷ xs) [] all = absurd all
-each_is_the_only {X} {Y} R (x ∷ xs) (y ∷ ys) all = λ other. (
-  same_as (each_is_the_only R xs ys all.1) other,
-  λ same. subst (AllZip R (x ∷ xs)) (sym same)
-      ((all.0 y).1 refl, (each_is_the_only R xs ys all.1 ys).1 refl),
-)
-  where
-    same_as : IsTheOnly (AllZip R xs) ys → (other : List Y) → AllZip R (x ∷ xs) other
-        → other ≡ y ∷ ys
-    same_as rest [] each = absurd each
-    same_as rest (z ∷ zs) each = let first = (all.0 z).0 each.0 in let more =
-        (rest zs).0 each.1 in cc
 
 -- whether a group has a short name
 abbrev pub has_short : Group → Bool
@@ -112,7 +83,7 @@ AreRowsBefore options place rows =
     (take place options.groups) rows
 
 -- one more row
-pub rows_more : (options : Declared) (place : ℕ) (group : Borrowed)
+pub rows_more : (options : Declared) (place : ℕ) (group : GroupView)
     → Some (group_view group) ≡ slice_get options.groups place
     → (long_only among_shorts : Bool) → long_only ≡ options.long_only
     → among_shorts ≡ any_short options.groups → (rows : List Text) (row : Text)

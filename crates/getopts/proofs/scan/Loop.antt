@@ -20,7 +20,7 @@ use Rattle.getopts.specs.Step.{Step, ends, takes, faults, AddsItem}
 use Rattle.getopts.specs.declared.fail.Fail.{Fail}
 use Rattle.getopts.specs.declared.groups.ParsingStyle.TheVariants.{FloatingFrees, StopAtFirstFree}
 use Rattle.getopts.proofs.Lists.{drop_past}
-use Rattle.getopts.proofs.Parsing.Faults.{IsOutOfMemoryOr-weaker}
+use Rattle.getopts.proofs.Weaker.{IsOutOfMemoryOr-weaker}
 use Rattle.getopts.proofs.Reading.Laws.{free_items-append}
 use Rattle.getopts.proofs.Reading.Positions.{word_count-cons, length-spelled_all}
 use Rattle.getopts.proofs.Reading.Reader.{IsNamed, step, with_items, read}

@@ -1,5 +1,5 @@
--- What an error says.
-use Rattle.std.proofs.Common.{◌≡◌, Option, Some, None, MatchOption, sym, subst}
+-- A result with a property has all properties that follow from it.
+use Rattle.std.proofs.Common.{◌≡◌, Option, Some, None, MatchOption, sym, subst, IfSome, IfNone}
 use Rattle.std.specs.Prelude.{⊤}
 use Rattle.getopts.specs.Fail.{Fault, IsOutOfMemoryOr, fault_of}
 use Rattle.getopts.specs.declared.fail.Fail.{Fail}
@@ -24,3 +24,15 @@ weaker_of (Some f) P Q tells holds = holds f tells
 pub IsOutOfMemoryOr-weaker : (fail : Fail) (P Q : Fault → Type 0) → IsOutOfMemoryOr fail P
     → ((fault : Fault) → P fault → Q fault) → IsOutOfMemoryOr fail Q
 IsOutOfMemoryOr-weaker fail P Q tells holds = weaker_of (fault_of fail) P Q tells holds
+
+-- a value, if there is one, has all properties that follow from its properties
+pub IfSome-weaker : {X : Type 0} (answer : Option X) (P Q : X → Type 0) → ((x : X) → P x → Q x)
+    → IfSome answer P → IfSome answer Q
+IfSome-weaker None P Q follows holds = tt
+IfSome-weaker (Some x) P Q follows holds = follows x holds
+
+-- a fact about the case without a value implies all facts that follow from it
+pub IfNone-weaker : {X : Type 0} (answer : Option X) (P Q : Type 0) → (P → Q) → IfNone answer P
+    → IfNone answer Q
+IfNone-weaker None P Q follows holds = follows holds
+IfNone-weaker (Some x) P Q follows holds = tt

@@ -10,8 +10,8 @@ use Rattle.getopts.specs.Reading.{free_words, trailing_start}
 use Rattle.getopts.specs.Matches.{Matched, matched, matches_of}
 use Rattle.getopts.specs.ReadingLaws.{HavePositionsInOrder, HavePositionsBelow}
 use Rattle.getopts.specs.Parse.{Reads, HasReading, HasNoReading, KeepsReadingLaws}
-use Rattle.getopts.proofs.Lookup.Names.{named_grammar}
-use Rattle.getopts.proofs.Parsing.Only.{IsTheOnly-from, meets}
+use Rattle.getopts.proofs.table.Names.{named_grammar}
+use Rattle.getopts.proofs.Only.{IsTheOnly-from, meets}
 use Rattle.getopts.proofs.Reading.Laws.{LongAttachedOrSeparate_lem, ShortAttachedOrSeparate_lem}
 use Rattle.getopts.proofs.Reading.Laws.{ClusterSplits_lem, OneDashOrTwo_lem, LinesCompose_lem}
 use Rattle.getopts.proofs.Reading.Laws.{TrailingStartIsAfterStop_lem, FreeWordsAreSubsequence_lem}

@@ -31,8 +31,8 @@ use Rattle.getopts.specs.declared.groups.HasArg.TheVariants.{Yes, No, Maybe}
 use Rattle.getopts.specs.declared.groups.ParsingStyle.{ParsingStyle}
 use Rattle.getopts.proofs.Lists.{AllByRecursion-append, AllByRecursion-follows, AllByRecursion-map}
 use Rattle.getopts.proofs.Lists.{length-filter-map}
-use Rattle.getopts.proofs.Lookup.Names.{main_at-Some, resolution-main_name, resolution-nil}
-use Rattle.getopts.proofs.Lookup.Names.{resolution_within}
+use Rattle.getopts.proofs.table.Names.{main_at-Some, resolution-main_name, resolution-nil}
+use Rattle.getopts.proofs.table.Names.{resolution_within}
 use Rattle.getopts.proofs.Reading.Positions.{mentions_of-items}
 use Rattle.getopts.proofs.Reading.Reader.{IsNamed}
 use Rattle.getopts.proofs.Reading.Readings.{only_reading}

@@ -24,12 +24,12 @@ use Rattle.getopts.specs.declared.groups.HasArg.TheVariants.{Yes}
 use Rattle.getopts.specs.declared.groups.Occur.{Occur}
 use Rattle.getopts.specs.declared.groups.Occur.TheVariants.{Req}
 use Rattle.getopts.proofs.Lists.{AllByRecursion-unmap}
-use Rattle.getopts.proofs.Canonical.Lines.{kind_at, FitsGroup, IsFitting-reading}
+use Rattle.getopts.proofs.canon.Lines.{kind_at, FitsGroup, IsFitting-reading}
 use Rattle.getopts.proofs.Stored.Matches.{signatures-matched}
 use Rattle.getopts.proofs.Reading.Laws.{TrailingStartIsAfterStop_lem}
 use Rattle.getopts.proofs.Reading.Readings.{spelled_all-append}
 use Rattle.getopts.proofs.Stored.Groups.{names-signatures_of}
-use Rattle.getopts.proofs.Parsing.Parsed.{HavePositionsInOrder-read}
+use Rattle.getopts.proofs.parse.Parsed.{HavePositionsInOrder-read}
 
 -- each occurrence has a value or none, as this kind of argument requires
 abbrev HaveValuesFor : HasArg → List GroupOccurrence → Type 0

@@ -1,0 +1,3 @@
+-- How often the options of groups occur.
+pub mod Groups
+pub mod FirstFault

@@ -1,0 +1,2 @@
+-- Usage texts.
+pub mod Rows

@@ -1,0 +1,5 @@
+-- Descriptions in rows.
+pub mod Breakings
+pub mod Words
+pub mod Rows
+pub mod Lines
