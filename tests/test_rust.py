@@ -129,6 +129,21 @@ def test_eraser_errors(file, right, wrong, why, reader):
     assert re.search(rf"{file}:\d+: {re.escape(why)}", run(sys.executable, eraser, "--check", status=1)[1])
 
 
+@pytest.mark.parametrize("text, error", [
+    ("fn one(", "'(': unclosed bracket"), ("use std::fmt", "'': missing ';' before it"),
+    ("impl One { ghost use A.{B} }", "'}': missing ';' before it"), ("fn { 1 }", "'{': expected a name"),
+    ("fn ghost() {}", "'ghost': expected a name"), ("fn one<T where>() {}", "'where': it isn't allowed in generics"),
+    ("fn one { 1 }", "'{': expected parameters"), ("fn one() ensures one 1 { 2 }", "'1': expected '{'"),
+    ("impl Model for One { fn one() {} }", "'fn': an impl of `Model` may only have `ghost` members"),
+    ("pub fn law() -> u8 { 1 }", "'fn': a law may not return or change anything"),
+    ("pub fn law(one: &mut u8) {}", "'fn': a law may not return or change anything")])
+def test_eraser_rejects_other_grammar(text, error, reader):
+    (eraser, source), file = reader, "laws" if "law" in error else "names"
+    (source / "lib.rt").write_text(f"mod {file};\n")
+    (source / f"{file}.rt").write_text(text)
+    assert run(sys.executable, eraser, status=1)[1] == f"bindings/rust/erase.py: crates/getopts/src/{file}.rt:1: {error}\n"
+
+
 # ---- the crate
 
 @pytest.fixture(scope="module")
