@@ -28,12 +28,12 @@ const ADDED: u32 = 0x10_FF00;
 
 /// Converting a word to text and back gives the word: a lemma for proofs; does nothing.
 pub fn words_come_back()
-    ensures { (word : List ℕ) → AreBytes word → ComesBack word }
+    ensures same { (word : List ℕ) → AreBytes word → ComesBack word }
 {}
 
 /// UTF-8 without marks is unchanged by both conversions: a lemma for proofs; does nothing.
 pub fn plain_texts_stay()
-    ensures { (text : List ℕ) → is_plain text ≡ true → StaysPlain text }
+    ensures unchanged { (text : List ℕ) → is_plain text ≡ true → StaysPlain text }
 {}
 
 /// An ASCII byte stays in place: the text of a word is the text of the part before the byte, the
@@ -59,7 +59,7 @@ pub fn plain_text(bytes: &[u8]) -> Option<&str>
 
 /// Appends the text of a word.
 pub fn push_text(text: &mut String, word: &[u8]) -> Result<(), AllocError>
-    ensures { OnOk result (string_bytes text.new ≡ string_bytes text.old ++ text_of word.now) }
+    ensures added { OnOk result (string_bytes text.new ≡ string_bytes text.old ++ text_of word.now) }
 {
     match plain_text(word) {
         Some(plain) => text.push_str(plain),
@@ -70,7 +70,7 @@ pub fn push_text(text: &mut String, word: &[u8]) -> Result<(), AllocError>
 /// Appends the bytes of a text.
 #[inline]
 pub fn push_bytes(bytes: &mut Vec<u8>, text: &str) -> Result<(), AllocError>
-    ensures { OnOk result (bytes.new.items ≡ bytes.old.items ++ bytes_of text.now) }
+    ensures added { OnOk result (bytes.new.items ≡ bytes.old.items ++ bytes_of text.now) }
 {
     if has_marks(text) {
         push_chars(bytes, text)

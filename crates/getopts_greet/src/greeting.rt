@@ -62,7 +62,7 @@ impl From<AllocError> for Refusal {
 
 /// The greeter's options.
 pub fn options(alloc: Global) -> Result<Options, AllocError>
-    ensures { IfOk result (λ options. options ≡ greeter_options) }
+    ensures options { IfOk result (λ options. options ≡ greeter_options) }
 {
     let mut options = Options::new(alloc);
     options
@@ -75,7 +75,7 @@ pub fn options(alloc: Global) -> Result<Options, AllocError>
 
 /// The greeter's help, which already ends with a line end.
 pub fn help_text(alloc: Global) -> Result<String, AllocError>
-    ensures { IfOk result (λ text. string_bytes text ≡ greeter_help) }
+    ensures text { IfOk result (λ text. string_bytes text ≡ greeter_help) }
 {
     let options = options(alloc)?;
     options.usage(alloc, "Usage: getopts_greet [options]")
@@ -84,7 +84,7 @@ pub fn help_text(alloc: Global) -> Result<String, AllocError>
 /// What a command line asks for: help and the version are printed even if an option is missing, but
 /// not if a word can't be read.
 pub fn read<S: AsStr>(alloc: Global, words: &[S]) -> Result<Request<Greeting>, Refusal>
-    ensures { IsAskedOrError (parse_request_result greeter_options (map S.text words.now)) result }
+    ensures result { IsAskedOrError (parse_request_result greeter_options (map S.text words.now)) result }
 {
     let options = options(alloc)?;
     match options.parse_request(alloc, words)? {

@@ -41,7 +41,7 @@ pub(crate) enum TableError<'t> {
 
 /// A table declares at most one list of options. This is a lemma for proofs, which does nothing.
 pub fn one_table_one_list()
-    ensures { OneTableOneList }
+    ensures one_list { OneTableOneList }
 {}
 
 /// The options and operands that a table declares.

@@ -61,7 +61,7 @@ pub(crate) enum VariableError<'t> {
 /// A lemma for proofs, which does nothing: a shell that runs the code then has the options' values
 /// in its variables.
 pub fn code_sets_variables()
-    ensures { CodeSetsVariables }
+    ensures sets_variables { CodeSetsVariables }
 {}
 
 /// The code that sets a variable for each option of a table, and then the script's words to the

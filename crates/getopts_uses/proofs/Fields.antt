@@ -3,7 +3,7 @@ use Rattle.std.proofs.Common.{◌<◌, ◌+◌, ◌++◌, ℕ, Bor, List, [], �
 use Rattle.std.proofs.Common.{get_or, Err}
 use Rattle.std.proofs.lemmas.List.{get_or-map, length-map, map_more, take-map}
 use Rattle.getopts.specs.Names.{Text, texts}
-use Rattle.getopts_uses.specs.Checked.{AreFields, AreFieldsBy, IsFieldBy, IsWithin}
+use Rattle.getopts_uses.specs.Checked.{AreFields, AreFieldsOrError, IsFieldOrError, IsWithin}
 use Rattle.getopts_uses.specs.declared.checked.Refusal.{Refusal}
 use Rattle.getopts_uses.specs.declared.checked.Refusal.TheVariants as refusal
 
@@ -24,8 +24,8 @@ module _ (parts : List (Bor (List ℕ))) (k : ℕ) (d : Bor (List ℕ)) (fields 
 
   -- the next text isn't a field
   pub stops : (option : Text) (error : Refusal)
-      → IsFieldBy option (get_or parts k d).now (Err error)
-      → AreFieldsBy option (texts parts) (Err error)
+      → IsFieldOrError option (get_or parts k d).now (Err error)
+      → AreFieldsOrError option (texts parts) (Err error)
   stops option refusal.OutOfMemory is = tt
   stops option (refusal.Field told given) is = record {
     index = k;

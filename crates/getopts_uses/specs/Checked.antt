@@ -65,27 +65,27 @@ AreFields texts fields = ⊥
 
 -- The error contains the option and the text.
 -- This is the field that a text is, or an error.
-abbrev pub IsFieldBy : Text → Text → Result ℕ Refusal → Type 0
-IsFieldBy option text (Err refusal.OutOfMemory) = ⊤
-IsFieldBy option text (Ok field) = IsWithin 1 9999 text field
-IsFieldBy option text (Err (refusal.Field told given)) =
+abbrev pub IsFieldOrError : Text → Text → Result ℕ Refusal → Type 0
+IsFieldOrError option text (Err refusal.OutOfMemory) = ⊤
+IsFieldOrError option text (Ok field) = IsWithin 1 9999 text field
+IsFieldOrError option text (Err (refusal.Field told given)) =
     (told.now ≡ option) × (string_bytes given ≡ text)
     × ((field : ℕ) → ¬ (IsWithin 1 9999 text field))
-IsFieldBy option text result = ⊥
+IsFieldOrError option text result = ⊥
 
 -- The text at the index isn't a field, for which this is the error, and those before it are.
 pub record IsFirstBad (option : Text) (texts : List Text) (error : Refusal) : Type 0 where
   pub index : ℕ
   pub within : index < length texts
-  pub bad : IsFieldBy option (slice_index_or texts index []) (Err error)
+  pub bad : IsFieldOrError option (slice_index_or texts index []) (Err error)
   pub fields : List ℕ
   pub before : AreFields (take index texts) fields
 
 -- These are the fields that texts are, or an error with the first text that isn't a field.
-abbrev pub AreFieldsBy : Text → List Text → Result (Vec ℕ Global) Refusal → Type 0
-AreFieldsBy option texts (Err refusal.OutOfMemory) = ⊤
-AreFieldsBy option texts (Ok fields) = AreFields texts fields.items
-AreFieldsBy option texts (Err error) = IsFirstBad option texts error
+abbrev pub AreFieldsOrError : Text → List Text → Result (Vec ℕ Global) Refusal → Type 0
+AreFieldsOrError option texts (Err refusal.OutOfMemory) = ⊤
+AreFieldsOrError option texts (Ok fields) = AreFields texts fields.items
+AreFieldsOrError option texts (Err error) = IsFirstBad option texts error
 
 -- the choice that a word names
 abbrev pub color_named : Text → Option Color
@@ -154,7 +154,7 @@ IsColorOf matches color = IsColorOrError (codes "color")
 -- These are the fields that matches give.
 abbrev pub AreFieldsOf : Matched → Result (Vec ℕ Global) Refusal → Type 0
 AreFieldsOf matches fields =
-    AreFieldsBy (codes "fields") (parts_of (value_of matches (codes "fields"))) fields
+    AreFieldsOrError (codes "fields") (parts_of (value_of matches (codes "fields"))) fields
 
 -- These are the pairs that matches set.
 abbrev pub AreSetsOf : Matched → Result (Vec Pair Global) Refusal → Type 0

@@ -32,7 +32,7 @@ after loudness [] = loudness
 after loudness (place ∷ places) = after (unwrap_or (loudness_at place) loudness) places
 
 -- This is how much output the places of a command line's options ask for, or its error.
-abbrev pub IsLoudnessBy : Result (List ℕ) Fault → Result Loudness Fail → Type 0
-IsLoudnessBy line (Err fail) = IsOutOfMemoryOr fail (λ fault. line ≡ Err fault)
-IsLoudnessBy (Ok places) (Ok loudness) = loudness ≡ after Normal places
-IsLoudnessBy (Err fault) (Ok loudness) = ⊥
+abbrev pub IsLoudnessOrError : Result (List ℕ) Fault → Result Loudness Fail → Type 0
+IsLoudnessOrError line (Err fail) = IsOutOfMemoryOr fail (λ fault. line ≡ Err fault)
+IsLoudnessOrError (Ok places) (Ok loudness) = loudness ≡ after Normal places
+IsLoudnessOrError (Err fault) (Ok loudness) = ⊥

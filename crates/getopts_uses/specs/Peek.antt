@@ -45,23 +45,23 @@ pub record IsPeekOf (matches : Matched) (peek : Peek) : Type 0 where
 
 -- Out of memory says nothing about the matches.
 -- These are the lines that matches ask for, or why there are none: a number that can't be read.
-abbrev pub IsPeekBy : Matched → Result Peek Refusal → Type 0
-IsPeekBy matches (Err OutOfMemory) = ⊤
-IsPeekBy matches (Err (Number error)) = IsParsedAs {T = ℕ} (ParsesUnsigned 32 10)
+abbrev pub IsPeekOrError : Matched → Result Peek Refusal → Type 0
+IsPeekOrError matches (Err OutOfMemory) = ⊤
+IsPeekOrError matches (Err (Number error)) = IsParsedAs {T = ℕ} (ParsesUnsigned 32 10)
     (first_value (occurrences_of_name matches.groups (codes "lines"))) (Err error)
-IsPeekBy matches (Err (Line fail)) = ⊥
-IsPeekBy matches (Ok peek) = IsPeekOf matches peek
+IsPeekOrError matches (Err (Line fail)) = ⊥
+IsPeekOrError matches (Ok peek) = IsPeekOf matches peek
 
 -- Out of memory says nothing about the command line.
 -- This is what a command line asks for, or why it asks for nothing.
-abbrev pub IsRequestBy : Result (Request Matched) Fault → Result (Request Peek) Refusal → Type 0
-IsRequestBy line (Err OutOfMemory) = ⊤
-IsRequestBy line (Err (Line fail)) = IsOutOfMemoryOr fail (λ fault. line ≡ Err fault)
-IsRequestBy (Ok Help) (Ok Help) = ⊤
-IsRequestBy (Ok Version) (Ok Version) = ⊤
-IsRequestBy (Ok (Parsed matches)) (Ok (Parsed peek)) = IsPeekOf matches peek
-IsRequestBy (Ok (Parsed matches)) (Err (Number error)) = IsPeekBy matches (Err (Number error))
-IsRequestBy line result = ⊥
+abbrev pub IsRequestOrError : Result (Request Matched) Fault → Result (Request Peek) Refusal → Type 0
+IsRequestOrError line (Err OutOfMemory) = ⊤
+IsRequestOrError line (Err (Line fail)) = IsOutOfMemoryOr fail (λ fault. line ≡ Err fault)
+IsRequestOrError (Ok Help) (Ok Help) = ⊤
+IsRequestOrError (Ok Version) (Ok Version) = ⊤
+IsRequestOrError (Ok (Parsed matches)) (Ok (Parsed peek)) = IsPeekOf matches peek
+IsRequestOrError (Ok (Parsed matches)) (Err (Number error)) = IsPeekOrError matches (Err (Number error))
+IsRequestOrError line result = ⊥
 
 -- the tool's help, byte for byte
 abbrev pub peek_help : Text

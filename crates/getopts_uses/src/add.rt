@@ -29,7 +29,7 @@ fn options(alloc: Global) -> Result<Options, AllocError>
 
 /// The help of `add`.
 pub fn help_text(alloc: Global) -> Result<String, AllocError>
-    ensures { IfOk result (λ text. string_bytes text ≡ add_help) }
+    ensures text { IfOk result (λ text. string_bytes text ≡ add_help) }
 {
     let options = options(alloc)?;
     options.usage(alloc, "Usage: add [options] FILE..")
@@ -37,7 +37,7 @@ pub fn help_text(alloc: Global) -> Result<String, AllocError>
 
 /// What the words after `add` ask for, or none if they ask for help.
 pub fn read_add<S: AsStr>(alloc: Global, words: &[S]) -> Result<Option<Add>, Fail>
-    ensures { IsAddOrError
+    ensures result { IsAddOrError
         (parse_unless_result add_options (codes "help") (map S.text words.now)) result }
 {
     let options = options(alloc)?;

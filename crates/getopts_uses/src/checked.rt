@@ -9,9 +9,9 @@ ghost use Rattle.std.specs.String.{string_bytes};
 ghost use Rattle.getopts.specs.Prelude.{IsDefined, first_value, first_value_or};
 ghost use Rattle.getopts.specs.Prelude.{occurrences_of_name, parse_result, values_of};
 ghost use Rattle.getopts.specs.Names.{texts};
-ghost use Rattle.getopts_uses.specs.Checked.{AreFieldsBy, ArePairsOrError, IsColorOrError};
+ghost use Rattle.getopts_uses.specs.Checked.{AreFieldsOrError, ArePairsOrError, IsColorOrError};
 ghost use Rattle.getopts_uses.specs.Checked.{IsNumberOrError};
-ghost use Rattle.getopts_uses.specs.Checked.{IsFieldBy, IsPairOrError, IsSettingsOrError};
+ghost use Rattle.getopts_uses.specs.Checked.{IsFieldOrError, IsPairOrError, IsSettingsOrError};
 ghost use Rattle.getopts_uses.specs.Checked.{checked_options};
 ghost use Rattle.getopts_uses.specs.Checked.{color_named, cut, parts_of, refusal_of};
 ghost use Rattle.getopts_uses.specs.declared.checked.Refusal.TheVariants.{OutOfMemory};
@@ -114,7 +114,7 @@ fn options(alloc: Global) -> Result<Options, AllocError>
 
 /// What a command line sets.
 pub fn read_settings<S: AsStr>(alloc: Global, words: &[S]) -> Result<Settings, Refusal>
-    ensures { IsSettingsOrError (parse_result checked_options (map S.text words.now)) result }
+    ensures result { IsSettingsOrError (parse_result checked_options (map S.text words.now)) result }
 {
     let matches = options(alloc)?.parse_words(alloc, words)?;
     Ok(Settings {
@@ -204,7 +204,7 @@ fn color_named(word: &str) -> Option<Color>
 /// The fields in an option's list, or an error with the first part that isn't a field.
 fn fields_of(alloc: Global, matches: &Matches, option: &'static str) -> Result<Vec<u32>, Refusal>
     requires { IsDefined matches.now.groups option.now }
-    ensures { AreFieldsBy option.now
+    ensures { AreFieldsOrError option.now
         (parts_of (first_value (occurrences_of_name matches.now.groups option.now))) result }
 {
     let parts = parts_of(alloc, value_of(matches, option))?;
@@ -231,7 +231,7 @@ fn parts<'a>(alloc: Global, list: &'a str) -> Result<Vec<&'a str>, AllocError>
 /// The fields that texts are, or an error with the first text that isn't a field.
 #[tactic(auto, using(crate::proofs::Fields::more))]
 fn fields_in(alloc: Global, option: &'static str, parts: &[&str]) -> Result<Vec<u32>, Refusal>
-    ensures { AreFieldsBy option.now (texts parts.now) result }
+    ensures { AreFieldsOrError option.now (texts parts.now) result }
 {
     let mut fields = Vec::new(alloc);
     for text in parts {
@@ -243,7 +243,7 @@ fn fields_in(alloc: Global, option: &'static str, parts: &[&str]) -> Result<Vec<
 
 /// The field that a text is: a number from 1 to 9999.
 fn field_in(alloc: Global, option: &'static str, text: &str) -> Result<u32, Refusal>
-    ensures { IsFieldBy option.now text.now result }
+    ensures { IsFieldOrError option.now text.now result }
 {
     match read_number(text) {
         Ok(number) if 1 <= number && number <= 9999 => Ok(number),

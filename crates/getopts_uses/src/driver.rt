@@ -115,7 +115,7 @@ impl From<AllocError> for Refusal {
 
 /// The driver's options.
 pub fn options(alloc: Global) -> Result<Options, AllocError>
-    ensures { IfOk result (λ options. options ≡ driver_options) }
+    ensures options { IfOk result (λ options. options ≡ driver_options) }
 {
     let mut options = Options::new(alloc);
     options.long_only(true);
@@ -201,7 +201,7 @@ fn add_extras(options: &mut Options) -> Result<(), AllocError>
 
 /// The job that a command line describes.
 pub fn read_job<S: AsStr>(alloc: Global, words: &[S]) -> Result<Job, Refusal>
-    ensures { IsJobOrError (parse_result driver_options (map S.text words.now)) result }
+    ensures result { IsJobOrError (parse_result driver_options (map S.text words.now)) result }
 {
     let matches = options(alloc)?.parse_words(alloc, words)?;
     if names_none(&matches) {

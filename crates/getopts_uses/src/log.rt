@@ -31,7 +31,7 @@ fn options(alloc: Global) -> Result<Options, AllocError>
 
 /// The help of `log`.
 pub fn help_text(alloc: Global) -> Result<String, AllocError>
-    ensures { IfOk result (λ text. string_bytes text ≡ log_help) }
+    ensures text { IfOk result (λ text. string_bytes text ≡ log_help) }
 {
     let options = options(alloc)?;
     options.usage(alloc, "Usage: log -n NUMBER [options] FILE..")
@@ -39,7 +39,7 @@ pub fn help_text(alloc: Global) -> Result<String, AllocError>
 
 /// What the words after `log` ask for, or none if they ask for help.
 pub fn read_log<S: AsStr>(alloc: Global, words: &[S]) -> Result<Option<Log>, Fail>
-    ensures { IsLogOrError
+    ensures result { IsLogOrError
         (parse_unless_result log_options (codes "help") (map S.text words.now)) result }
 {
     let options = options(alloc)?;

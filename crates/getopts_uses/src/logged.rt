@@ -45,7 +45,7 @@ fn options(alloc: Global) -> Result<Options, AllocError>
 
 /// What a command line asks for: the program's own, or a line of the log.
 pub fn read_build<S: AsStr>(alloc: Global, words: &[S]) -> Result<Build, Fail>
-    ensures { ReturnsConverted said_of result (λ it. said_result (map S.text words.now) ≡ it) }
+    ensures said { ReturnsConverted said_of result (λ it. said_result (map S.text words.now) ≡ it) }
 {
     let matches = options(alloc)?.parse_words(alloc, words)?;
     Ok(Build {

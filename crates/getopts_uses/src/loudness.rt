@@ -4,7 +4,7 @@
 ghost use Rattle.std.specs.Prelude.{◌≡◌, [], ◌∷◌, codes, map, IfOk, Ok};
 ghost use Rattle.std.specs.Result.{result_map_both};
 ghost use Rattle.getopts.specs.Prelude.{parse_in_order_result};
-ghost use Rattle.getopts_uses.specs.Loudness.{IsLoudnessBy, after, loudness_at, loudness_options};
+ghost use Rattle.getopts_uses.specs.Loudness.{IsLoudnessOrError, after, loudness_at, loudness_options};
 ghost use Rattle.getopts_uses.specs.declared.loudness.Loudness.TheVariants.{Normal, Quiet, Verbose};
 
 use getopts::{Fail, Options};
@@ -42,7 +42,7 @@ fn loudness_of_lines()
 /// How much output a command line asks for: the last of `-q` and `-v` wins, even in `-qv`, in which
 /// both have the same position.
 pub fn loudness_of<S: AsStr>(alloc: Global, words: &[S]) -> Result<Loudness, Fail>
-    ensures { IsLoudnessBy (parse_in_order_result loudness_options (map S.text words.now)) result }
+    ensures result { IsLoudnessOrError (parse_in_order_result loudness_options (map S.text words.now)) result }
 {
     let places = options(alloc)?.parse_in_order(alloc, words)?;
     Ok(last_of(&places))

@@ -21,7 +21,7 @@ fn options(alloc: Global) -> Result<Options, AllocError>
 
 /// The output file that a command line names, if it names one.
 pub fn output_of<S: AsStr>(alloc: Global, words: &[S]) -> Result<Option<String>, Fail>
-    ensures { IsOutputOrError (parse_result output_options (map S.text words.now)) result }
+    ensures result { IsOutputOrError (parse_result output_options (map S.text words.now)) result }
 {
     let matches = options(alloc)?.parse_words(alloc, words)?;
     Ok(matches.opt_str(alloc, "output")?)

@@ -6,7 +6,7 @@ ghost use Rattle.std.specs.Str.Parse.{ParsesUnsigned};
 ghost use Rattle.getopts.specs.Prelude.{FitOptionsAndCounts, IsDefined, IsParsedAs, first_value};
 ghost use Rattle.getopts.specs.Prelude.{occurrences_of_name, parse_request_result};
 ghost use Rattle.getopts_uses.specs.declared.peek.Refusal.TheVariants.{Line, Number, OutOfMemory};
-ghost use Rattle.getopts_uses.specs.Peek.{IsPeekBy, IsRequestBy, peek_help, peek_options};
+ghost use Rattle.getopts_uses.specs.Peek.{IsPeekOrError, IsRequestOrError, peek_help, peek_options};
 
 use getopts::{Fail, Matches, Options, Request};
 use std::alloc::{AllocError, Global};
@@ -57,7 +57,7 @@ impl From<AllocError> for Refusal {
 
 /// The tool's options.
 pub fn options(alloc: Global) -> Result<Options, AllocError>
-    ensures { IfOk result (λ options. options ≡ peek_options) }
+    ensures options { IfOk result (λ options. options ≡ peek_options) }
 {
     let mut options = Options::new(alloc);
     options
@@ -73,7 +73,7 @@ pub fn options(alloc: Global) -> Result<Options, AllocError>
 /// What a command line asks for. Help takes precedence over the version. Both are printed even if
 /// an option is missing, but not if a word can't be read.
 pub fn read_request<S: AsStr>(alloc: Global, words: &[S]) -> Result<Request<Peek>, Refusal>
-    ensures { IsRequestBy (parse_request_result peek_options (map S.text words.now)) result }
+    ensures result { IsRequestOrError (parse_request_result peek_options (map S.text words.now)) result }
 {
     let options = options(alloc)?;
     match options.parse_request(alloc, words)? {
@@ -86,7 +86,7 @@ pub fn read_request<S: AsStr>(alloc: Global, words: &[S]) -> Result<Request<Peek
 /// The lines that matches ask for.
 fn peek_of(alloc: Global, matches: Matches) -> Result<Peek, Refusal>
     requires { FitOptionsAndCounts peek_options matches.groups }
-    ensures { IsPeekBy matches result }
+    ensures { IsPeekOrError matches result }
 {
     Ok(Peek {
         lines: number(&matches, "lines")?.unwrap(),
@@ -108,7 +108,7 @@ fn number(matches: &Matches, name: &str) -> Result<Option<u32>, ParseIntError>
 
 /// The tool's help: how to call it, and what each option does.
 pub fn help_text(alloc: Global) -> Result<String, AllocError>
-    ensures { IfOk result (λ text. string_bytes text ≡ peek_help) }
+    ensures text { IfOk result (λ text. string_bytes text ≡ peek_help) }
 {
     let options = options(alloc)?;
     let brief = options.short_usage(alloc, "peek")?;

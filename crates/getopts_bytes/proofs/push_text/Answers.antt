@@ -8,4 +8,4 @@ pub returns-in-Some : goal.returns-in-Some
 returns-in-Some c =
     let same : text_of c.args.word.now ≡ c.args.word.now =
     plain_stays c.args.word.now (plain c.args.word.now (sym c.in-Some.ensures.plain)) in
-    rw (same, ← c.in-Some.ensures.same) (search rules)
+    record { added = rw (same, ← c.in-Some.ensures.same) (search rules) }

@@ -3,4 +3,4 @@ use Rattle.getopts_bytes.proofs.Texts.{comes_back}
 use Rattle.getopts_bytes.proofs.words_come_back.Goals as goal
 
 pub returns : goal.returns
-returns c = λ word bytes. comes_back (length word) word (omega arith) bytes
+returns c = record { same = λ word bytes. comes_back (length word) word (omega arith) bytes }

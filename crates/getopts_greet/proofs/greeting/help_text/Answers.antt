@@ -7,5 +7,7 @@ use Rattle.getopts_greet.proofs.greeting.help_text.Goals as goal
 
 pub returns : goal.returns
 unfolding usage_on_literals
-returns c = help_is c.usage.result _ greeter_options (codes "Usage: getopts_greet [options]") _
-    c.in_ok-options.ensures refl c.usage.ensures.text
+returns c = record {
+  text = help_is c.usage.result _ greeter_options (codes "Usage: getopts_greet [options]") _
+      c.in_ok-options.ensures.options refl c.usage.ensures.text;
+}

@@ -2,4 +2,4 @@ use Rattle.getopts_shell.proofs.Only.{one_table}
 use Rattle.getopts_shell.proofs.table.one_table_one_list.Goals as goal
 
 pub returns : goal.returns
-returns c = one_table
+returns c = record { one_list = one_table }

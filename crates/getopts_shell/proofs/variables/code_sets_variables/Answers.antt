@@ -2,4 +2,4 @@ use Rattle.getopts_shell.proofs.Written.{code_sets}
 use Rattle.getopts_shell.proofs.variables.code_sets_variables.Goals as goal
 
 pub returns : goal.returns
-returns c = code_sets
+returns c = record { sets_variables = code_sets }

@@ -7,5 +7,7 @@ use Rattle.getopts_uses.proofs.add.help_text.Goals as goal
 
 pub returns : goal.returns
 unfolding usage_on_literals
-returns c = help_is c.usage.result _ add_options (codes "Usage: add [options] FILE..") _
-    c.in_ok-options.ensures refl c.usage.ensures.text
+returns c = record {
+  text = help_is c.usage.result _ add_options (codes "Usage: add [options] FILE..") _
+      c.in_ok-options.ensures refl c.usage.ensures.text;
+}

@@ -28,8 +28,10 @@ returns-in_err-sets_of g c =
     let line : parse_result checked_options (map g.S.AsStr.text c.args.words.now)
     ≡ Ok c.in_ok-matches.matches =
     rw c.in_ok-options.ensures at c.in_ok-matches.ensures.result in
-    rw (left.1, left.2)
-    (subst (λ it. IsSettingsOrError it (Err c.in_err-sets_of.field-0.0)) (sym line)
-    (refused c.in_ok-matches.matches c.in_ok-number_of.field-0 c.in_ok-number_of.ensures
-    c.in_ok-color_of.field-0 c.in_ok-color_of.ensures c.in_ok-fields_of.field-0
-    c.in_ok-fields_of.ensures c.in_err-sets_of.field-0.0 c.in_err-sets_of.ensures))
+    record {
+      result = rw (left.1, left.2)
+          (subst (λ it. IsSettingsOrError it (Err c.in_err-sets_of.field-0.0)) (sym line)
+          (refused c.in_ok-matches.matches c.in_ok-number_of.field-0 c.in_ok-number_of.ensures
+          c.in_ok-color_of.field-0 c.in_ok-color_of.ensures c.in_ok-fields_of.field-0
+          c.in_ok-fields_of.ensures c.in_err-sets_of.field-0.0 c.in_err-sets_of.ensures));
+    }

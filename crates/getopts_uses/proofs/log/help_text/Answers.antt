@@ -7,5 +7,7 @@ use Rattle.getopts_uses.proofs.log.help_text.Goals as goal
 
 pub returns : goal.returns
 unfolding usage_on_literals
-returns c = help_is c.usage.result _ log_options (codes "Usage: log -n NUMBER [options] FILE..") _
-    c.in_ok-options.ensures refl c.usage.ensures.text
+returns c = record {
+  text = help_is c.usage.result _ log_options (codes "Usage: log -n NUMBER [options] FILE..") _
+      c.in_ok-options.ensures refl c.usage.ensures.text;
+}

@@ -14,6 +14,8 @@ the_text = refl
 pub returns : goal.returns
 returns c =
     let brief = c.as_str.ensures.value ∙ c.in_ok-brief.ensures.text
-    ∙ ap (λ (o : Declared). short_usage_text o (codes "peek")) c.in_ok-options.ensures in
-    help_is c.usage.result _ peek_options _ peek_help c.in_ok-options.ensures
-    (ap (usage_result peek_options) brief ∙ the_text) c.usage.ensures.text
+    ∙ ap (λ (o : Declared). short_usage_text o (codes "peek")) c.in_ok-options.ensures.options in
+    record {
+      text = help_is c.usage.result _ peek_options _ peek_help c.in_ok-options.ensures.options
+          (ap (usage_result peek_options) brief ∙ the_text) c.usage.ensures.text;
+    }
