@@ -37,7 +37,7 @@ pub(crate) struct ReadLine {
 #[derive(Debug, Drop)]
 pub struct Matches {
     /// The free words, in command-line order. You may change them: accessors ignore this field,
-    /// even `free_trailing_start`. Only `==`, `clone` and `{:?}` use it.
+    /// even `free_trailing_start`. Only `take_trailing`, `==`, `clone` and `{:?}` use it.
     pub free: Vec<String>,
     pub(crate) held: MatchedGroups,
     pub(crate) trailing_start: Option<usize>,
