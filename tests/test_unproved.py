@@ -1,4 +1,4 @@
-"""Tests without proofs: programs with their stored arguments, the tests of getopts_show, and a changed program."""
+"""Tests without proofs: programs with their stored arguments, the crates' own tests, and a changed program."""
 
 import subprocess
 
@@ -28,8 +28,9 @@ def test_stored_output_without_proofs(crate):
     assert rt_try(crate, "--", *words, status=status)[0] == (folder / "stdout").read_text()
 
 
-def test_writers_of_getopts_show():
-    assert "test result: ok." in rt_try("getopts_show", "--test")[0]
+@pytest.mark.parametrize("crate, count", [("getopts_greet", 2), ("getopts_show", 2)])
+def test_own_tests_of_crate(crate, count):
+    assert f"test result: ok. {count} passed" in rt_try(crate, "--test")[0]
 
 
 def test_stored_answers_without_proofs(tmp_path):

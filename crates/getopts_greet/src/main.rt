@@ -3,6 +3,8 @@
 
 mod answer;
 mod greeting;
+#[cfg(test)]
+mod tests;
 
 use answer::{FAILED, answer};
 use std::process::ExitCode;
