@@ -184,6 +184,8 @@ class Session:
         if word in ("words", "parse_words", "parse_filtered", "ignoring_counts"):
             self.read = self.options.parse(fields, word != "ignoring_counts")
             return [self.result("accepted", self.read)]
+        if word in ("parse_request", "parse_unless"):
+            return [self.unless(word, fields)]
         if word in ("canonical", "canonical_words", "canonical_filtered"):
             return [self.canonical(word, fields)]
         if word == "parse_in_order":
@@ -193,8 +195,10 @@ class Session:
         if word == "lawful":
             short, long = fields
             return [line("lawful", "true" if len(short) < 2 and len(long) != 1 and short + long else "false")]
-        if word in ("option", "positions", "any") and (self.read is None or len(self.read) == 2):
+        if word in ("option", "positions", "any", "take_trailing") and (self.read is None or len(self.read) == 2):
             return [line(word, "nothing")]
+        if word in ("clear", "take_trailing"):
+            return self.taken_off(word)
         if word == "any":
             return [self.any([self.given(name) for name in fields])]
         if word in ("option", "positions"):
@@ -211,6 +215,25 @@ class Session:
         elif word != "keep":
             return [None]
         return []
+
+    def unless(self, word, fields):
+        """The result of words, unless they give a flag: help and then the version in a request, or the first field."""
+        flags, words = ([b"help", b"version"], fields) if word == "parse_request" else (fields[:1], fields[1:])
+        self.read = self.options.parse(words, with_counts=False)
+        asked = [flag for flag in flags if len(self.read) == 3 and self.given(flag)]
+        self.read = None if asked else self.options.parse(words)
+        if asked:
+            return line("requested" if word == "parse_request" else "given", asked[0])
+        return self.result("accepted", self.read)
+
+    def taken_off(self, word):
+        """Takes all words off the free ones or, for `take_trailing`, those from the trailing start on."""
+        occurrences, free, start = self.read
+        left = [] if word == "clear" else free[:start]
+        self.read = occurrences, left, start
+        if word == "clear":
+            return [self.result("accepted", self.read)]
+        return [line(word, *free[len(left):]), line("free", *left)]
 
     def result(self, word, read):
         if len(read) == 2:
@@ -269,13 +292,17 @@ def rows_of(text):
 
 
 def answer_rows(rows):
-    """Answers rows. Returns three things: the rows, with more rows added (for all words, their canonical line and their
-    options in order; for all names, their positions); the number of stored answers that were checked; and the rows
-    whose stored answers are wrong."""
+    """Answers rows. Returns three things: the rows, with more rows added (for all words, whether they give a flag, their
+    canonical line and their options in order; for all names, their positions); the number of stored answers that were
+    checked; and the rows whose stored answers are wrong."""
     session, beyond, given, differ, case = Session(), [], 0, [], b""
     for one, answers in rows:
         word, fields = parts(one)
         case = one if word == "case" else case
+        names = list({name: 0 for group in session.options.groups for name in (group.short, group.long) if name})
+        if word == "words" and names:  # The words themselves follow, and have the last result.
+            asked = line("parse_unless", names[len(beyond) % len(names)], *fields)
+            beyond.append((asked, session.answer(*parts(asked))))
         expected = session.answer(word, fields)
         beyond.append((one, answers))
         if word != "case" and expected != [None]:
@@ -285,7 +312,6 @@ def answer_rows(rows):
         if word in ("words", "ignoring_counts"):
             asked = [line("canonical", *fields), line("parse_in_order", *fields)]
             if len(session.read) == 3:
-                names = {name: 0 for group in session.options.groups for name in (group.short, group.long) if name}
                 asked += [line("positions", name) for name in names]
             beyond += [(more, session.answer(*parts(more))) for more in asked]
     return beyond, given, differ

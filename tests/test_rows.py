@@ -11,7 +11,7 @@ WRONG = {"nope": "unknown word", "style\tother": "wrong fields", "mode": "wrong 
          "optflag\ta": "wrong fields", "optopt\ta\tall\tall": "wrong fields", "words\ta\\q": "wrong escape",
          "opt\ta\tall\tall\tH\tyess\tmulti": "wrong fields", "opt\ta\tall\tall\tH\tyes\toften": "wrong fields",
          "optflag\tab\t\td": "unlawful names", "same\toptions": "wrong fields", "wrap\tten\ttext": "wrong fields",
-         "occurrences_at\t0": "wrong fields", "keep\tit": "wrong fields"}
+         "occurrences_at\t0": "wrong fields", "keep\tit": "wrong fields", "parse_unless": "wrong fields"}
 
 
 @pytest.fixture
@@ -29,11 +29,12 @@ def written(rows):
 
 @functools.cache
 def all_rows():
-    """All rows, and more that model.py answers: canonical lines, options in order, and the positions of names."""
+    """All rows, and more that model.py answers: whether words give a flag, canonical lines, options in order, and the
+    positions of names."""
     rows = [row for file in ROWS for row in rows_of(file.read_bytes())]
     asked, given, differ = answer_rows(rows)
     assert not differ, b"\n  ".join(differ[0]).decode()
-    assert given > 5000 and len(asked) > len(rows) + 15_000
+    assert given > 5000 and len(asked) > len(rows) + 20_000
     return asked
 
 

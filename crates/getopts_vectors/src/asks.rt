@@ -58,9 +58,34 @@ fn formatted_rows(alloc: Global, options: &Options, answer: &mut Answer) {
     given.put(answer);
 }
 
-/// Answers how often a closure that doesn't allocate was called: not at all if the rows can't be
-/// allocated. The closure's own contract lets it be called only once.
+/// Answers the result of a closure that counts its rows, and how often it was called; then the same
+/// of a closure that takes no row.
 fn called(alloc: Global, options: &Options, answer: &mut Answer) {
+    called_to_count(alloc, options, answer);
+    called_for_nothing(alloc, options, answer);
+}
+
+/// Answers the result of a closure that counts its rows, and how often it was called. The closure's
+/// own contract lets it be called only once.
+fn called_to_count(alloc: Global, options: &Options, answer: &mut Answer) {
+    let mut calls = 0usize;
+    let made = options.usage_with_format(
+        alloc,
+        |rows|
+            requires { calls ≡ 0 }
+        {
+            calls += 1;
+            let count = rows.count();
+            format!(in alloc; "{count} rows")
+        },
+    );
+    answer.given(made);
+    calls.put(answer);
+}
+
+/// Answers the result of a closure that takes no row and doesn't allocate, and how often it was
+/// called: not at all if the rows can't be allocated.
+fn called_for_nothing(alloc: Global, options: &Options, answer: &mut Answer) {
     let mut calls = 0usize;
     let made = options.usage_with_format(
         alloc,

@@ -30,14 +30,18 @@
 //! - `anew`: returns to the state after `case`, except for what is kept
 //!
 //! These are answered with a line that begins with their word, except that lines that parse words
-//! are answered with `accepted` or `refused`. An OPTIONAL is `-` if there is no value, else `=` and
-//! the value.
+//! are answered with `accepted` or `refused`, or else as listed. An OPTIONAL is `-` if there is no
+//! value, else `=` and the value.
 //!
 //! - `words WORD..`: `accepted START FREE..`, where START is `-` or the trailing start, or
 //!   `refused FAULT NAME TEXT`, where TEXT is the error's text
 //! - `parse_words WORD..`, `parse_filtered WORD..`, `parse_promised WORD..` and `ignoring_counts
 //!   WORD..`: like `words`, with `parse_words`, with `parse` of an iterator that doesn't say how
 //!   many words it has or of one that promises too many, and with `parse_ignoring_counts`
+//! - `parse_request WORD..`: `requested help` or `requested version` if the words request it, and
+//!   `parse_unless FLAG WORD..`: `given FLAG` if they give the flag. There are no last `words` then
+//! - `take_trailing`: the words that the call takes off the free words of the last `words`; then a
+//!   line `free` with the free words that are left
 //! - `option NAME DEFAULT`: `option NAME present COUNT STR DEFAULTED` or `option NAME absent ..`,
 //!   with the OPTIONALs of `opt_str` and `opt_default`; then a line `strs` with the values of
 //!   `opt_strs`, and a line `pairs` with the texts of `opt_strs_pos`
@@ -55,8 +59,8 @@
 //! - `short PROGRAM` and `usage BRIEF`: the text
 //! - `rows`: the result of the closure of `usage_with_format`, which counts its rows, then the rows
 //! - `usage_rows`: the rows
-//! - `called`: the text and the number of calls of a closure of `usage_with_format` that returns an
-//!   empty text
+//! - `called`: the result and the number of calls of a closure of `usage_with_format` that counts
+//!   its rows; then the same of one that takes no row and returns an empty text
 //! - `closures`: the result of a closure that takes only the first row, and whether the error of a
 //!   closure is returned
 //! - `wrap LIMIT DESC`: the rows of `each_split_within`

@@ -6,7 +6,7 @@ use crate::form::{Answer, Field, field_at, is_taken};
 use crate::iterators::promised;
 use crate::stop::{NO_CASE, Stop, UNLAWFUL_NAMES, WRONG_FIELDS};
 use crate::{accessors, asks};
-use getopts::{HasArg, Matches, Occur, Options, ParsingStyle, names_lawful};
+use getopts::{HasArg, Matches, Occur, Options, ParsingStyle, Request, names_lawful};
 use std::alloc::{AllocError, Global};
 
 /// Options, and the result of the last words, if any.
@@ -125,6 +125,9 @@ impl Session {
             "style" => self.set_style(field_at(fields, 0), answer),
             "mode" => self.set_mode(field_at(fields, 0), answer),
             "clear" => self.clear(answer),
+            "take_trailing" => self.take_trailing(answer),
+            "parse_request" => self.request(alloc, fields, answer),
+            "parse_unless" => self.read_unless(alloc, fields, answer),
             _ if reads(word) => self.read(alloc, word, fields, answer),
             _ if declares(word) => declare(&mut self.side.options, word, fields, answer),
             _ => self.ask(alloc, word, fields, answer),
@@ -157,8 +160,45 @@ impl Session {
 
     /// Parses words, and answers their result.
     fn read(&mut self, alloc: Global, word: &str, words: &[String], answer: &mut Answer) {
-        self.side.read = Some(read_by(alloc, &self.side.options, word, words));
+        let read = read_by(alloc, &self.side.options, word, words);
+        self.keep_read(read, answer);
+    }
+
+    /// Keeps the result of words, and answers it.
+    fn keep_read(&mut self, read: getopts::Result, answer: &mut Answer) {
+        self.side.read = Some(read);
         self.answer_read(answer);
+    }
+
+    /// Parses words that may request help or the version, and answers their result.
+    fn request(&mut self, alloc: Global, words: &[String], answer: &mut Answer) {
+        match self.side.options.parse_request(alloc, words) {
+            Ok(Request::Help) => self.forget_read("requested", "help", answer),
+            Ok(Request::Version) => self.forget_read("requested", "version", answer),
+            Ok(Request::Parsed(matches)) => self.keep_read(Ok(matches), answer),
+            Err(fail) => self.keep_read(Err(fail), answer),
+        }
+    }
+
+    /// Parses the words after a flag unless they give it, and answers their result.
+    fn read_unless(&mut self, alloc: Global, fields: &[String], answer: &mut Answer) {
+        let Some((flag, words)) = fields.split_first() else {
+            answer.stop(WRONG_FIELDS);
+            return;
+        };
+        match self.side.options.parse_unless(alloc, words, flag.as_str()) {
+            Ok(None) => self.forget_read("given", flag.as_str(), answer),
+            Ok(Some(matches)) => self.keep_read(Ok(matches), answer),
+            Err(fail) => self.keep_read(Err(fail), answer),
+        }
+    }
+
+    /// Answers words that have no result of their own with a line.
+    fn forget_read(&mut self, word: &str, flag: &str, answer: &mut Answer) {
+        self.side.read = None;
+        answer.word(word);
+        answer.field(flag);
+        answer.end();
     }
 
     /// Answers the result of the last words.
@@ -176,6 +216,20 @@ impl Session {
             matches.free.clear();
         }
         self.answer_read(answer);
+    }
+
+    /// Takes the words after `--` off the free words, and answers both.
+    fn take_trailing(&mut self, answer: &mut Answer) {
+        answer.word("take_trailing");
+        match &mut self.side.read {
+            Some(Ok(matches)) => {
+                answer.given(matches.take_trailing());
+                answer.next("free");
+                matches.free.put(answer);
+            }
+            _ => answer.field("nothing"),
+        }
+        answer.end();
     }
 
     /// Answers a question with a line.
@@ -223,7 +277,10 @@ fn takes(word: &str, count: usize) -> bool {
 
 /// Words, with their number of fields.
 const COUNTS: [(usize, &str); 6] = [
-    (0, "anew called clear closures keep rows usage_rows"),
+    (
+        0,
+        "anew called clear closures keep rows take_trailing usage_rows",
+    ),
     (1, "case mode same short style usage"),
     (
         2,

@@ -8,7 +8,16 @@ use std::iter::Peekable;
 use std::str::Lines;
 
 /// Lines about calls that the Rust crate doesn't have.
-const NOT_HAD: [&str; 5] = ["opt_place", "occurrences_at", "parse_in_order", "usage_rows", "wrap"];
+const NOT_HAD: [&str; 8] = [
+    "opt_place",
+    "occurrences_at",
+    "parse_in_order",
+    "parse_request",
+    "parse_unless",
+    "take_trailing",
+    "usage_rows",
+    "wrap",
+];
 
 /// Reads the answer that comes next.
 fn answer_beside(lines: &mut Peekable<Lines>) -> String {
