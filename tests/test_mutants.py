@@ -1,4 +1,4 @@
-"""Mutants: each applies to the sources, and each public function of getopts has one. `rt ci` tries them."""
+"""Mutants: each applies to the sources, and the body of each public function of getopts has one. `rt ci` tries them."""
 
 import re
 
@@ -35,25 +35,29 @@ def test_mutants_apply():
 
 
 def public_functions(text, types):
-    """The names of public functions that return something, with the start and the end of each."""
+    """The names of public functions that return something, with the starts of each and of its body, and the end."""
     for it in re.finditer(r"^( *)(pub )?fn (\w+)(.*?)^\1\{?\}$", text, re.M | re.S):
         impl = re.findall(r"^impl.*", text[: it.start()], re.M)[-1] if it[1] else ""
         of = re.search(r"^impl(?:<.*?>)? (?:.* for )?(\w+)", impl)
         if (it[2] or " for " in impl and of[1] in types) and "->" in re.split(r"\n *(?:ensures|requires|\{)", it[4])[0]:
-            yield f"{of[1]}::{it[3]}" if of else it[3], it.start(), it.end()
+            # After clauses, the brace has a line of its own.
+            brace = re.search(rf"^{it[1]}\{{", it[0], re.M) or re.search(r" \{$", it[0], re.M)
+            yield f"{of[1]}::{it[3]}" if of else it[3], it.start(), it.start() + brace.start(), it.end()
 
 
 def test_public_functions_have_mutants():
     crate = ROOT / "crates/getopts"
     uses = re.findall(r"^pub use.*", (crate / "src/lib.rt").read_text(encoding="utf-8"), re.M)
     types = set(re.findall(r"\b[A-Z]\w+", "".join(uses)))
-    olds = [(path, old) for mutant in MUTANTS for path, old, _ in changes(mutant)]
+    edits = [edit for mutant in MUTANTS for edit in changes(mutant)]
     names, without = [], []
     for path in sorted(crate.glob("src/*.rt")):
         text = path.read_text(encoding="utf-8")
-        places = [text.find(old) for of, old in olds if of == path]
-        for name, start, end in public_functions(text, types):
+        # What is only added after a clause is another body. A mutant that changes a clause says nothing about the body.
+        places = [(text.find(old), new.startswith(old)) for of, old, new in edits if of == path]
+        for name, start, body, end in public_functions(text, types):
             names.append(name)
-            if not any(start <= place < end for place in places) and name not in ONLY_RESULT:
+            mutated = any((start if adds else body) <= place < end for place, adds in places)
+            if not mutated and name not in ONLY_RESULT:
                 without.append(name)
     assert len(names) > 50 and not without, f"no mutant of their own: {without}"
