@@ -154,7 +154,7 @@ FIGURES = [
 NO_FIGURES = re.compile(r"""
     \bU\+\w+ | \b0\.2\.24\b | \d{4}-\d\d-\d\d | Apache-2\.0 | x86-64(-v2)?
     | (1,000|10,000|100,000)\ words | (20|1,000)\ options | 10\ words | 100,000\ (letters|file\ names)
-    | (32|64)(\ bits|-bit) | 54\ columns | 24\ (spaces|columns) | stop\ at\ 255 | 24\ bytes | 4\.2\ or\ later | before\ 4\.4 | C\+\+11 | Debian\ 12 | 80\ words | 200,000\ cases
+    | (32|64)(\ bits|-bit) | 54\ columns | 24\ (spaces|columns) | stop\ at\ 255 | 32\ bytes\ instead\ of\ 40 | number\ 256 | 20\ to\ 40\ seconds | 4\.2\ or\ later | before\ 4\.4 | C\+\+11 | Debian\ 12 | 80\ words | 200,000\ cases
 """, re.X)
 
 def table_figures(page):
@@ -315,13 +315,19 @@ def contracts():
     return "\n\n".join(shortened(part, above) for part, above in zip(parts, [""] + parts)) + "\n"
 
 
+CLAUSE = re.compile(r"\n    (?:requires|ensures).*(?:\n(?:     |    \}).*)*")
+
+
 def shortened(part, above):
-    """A contract without the clauses of the one above it, if it has several of these."""
-    clause = re.compile(r"\n    (?:requires|ensures).*(?:\n(?:     |    \}).*)*")
-    same = [it for it in clause.findall(part) if it in clause.findall(above)]
-    for it in same if len(same) > 2 else []:
-        part = part.replace(it, "", 1)
-    return part + "\n    // Other clauses: as above." if len(same) > 2 else part
+    """A contract without the clauses of the one above it, if it has several of these, perhaps with `IfSome` in place of
+    `IfParsed`."""
+    for text, end in (above, ""), (above.replace("λ request. IfParsed request", "λ answer. IfSome answer"), "IfSome"):
+        clauses = {" ".join(it.split()) for it in CLAUSE.findall(text)}
+        if len(same := [it for it in CLAUSE.findall(part) if " ".join(it.split()) in clauses]) > 2:
+            for it in same:
+                part = part.replace(it, "", 1)
+            return part + "\n    // Other clauses: as above" + (end and f", with `{end}` in place of `IfParsed`") + "."
+    return part
 
 
 def clauses_in(text):
