@@ -99,15 +99,14 @@ trap 'rm -rf "$room"' EXIT
 mkdir "$room/c" "$room/rust" "$room/c/.cargo"
 cp -R "$here/Cargo.toml" "$here/src" "$room/c"
 cp -R "$top/bindings/rust/Cargo.toml" "$top/bindings/rust/src" "$room/rust"
-offline=
 for crate in /usr/share/cargo/registry/unicode-width-*; do
     if [ -d "$crate" ]; then
-        offline=--offline
-        printf '[source]\ncrates-io.replace-with = "debian"\ndebian.directory = "%s"\n' "${crate%/*}" >"$room/c/.cargo/config.toml"
+        printf '[net]\noffline = true\n[source]\ncrates-io.replace-with = "debian"\ndebian.directory = "%s"\n' "${crate%/*}" \
+            >"$room/c/.cargo/config.toml"
     fi
 done
 # shellcheck disable=SC2086
-(cd "$room/c" && CARGO_TARGET_DIR=$room/target "$cargo" build --release --quiet $offline ${CARGO_FLAGS:-}) ||
+(cd "$room/c" && CARGO_TARGET_DIR=$room/target "$cargo" build --release --quiet ${CARGO_FLAGS:-}) ||
     fail "cargo failed. The build needs Rust 1.68 or later with the target's standard library, and the crate unicode-width
 (without a network, from Debian's package librust-unicode-width-dev)"
 built=$room/target/${target:+$target/}release/libgetopts.a
