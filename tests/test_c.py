@@ -127,6 +127,13 @@ def test_show_matches_getopts_show(show, show_c, line):
     assert answer(show_c, *line.split()) == answer(show, *line.split())
 
 
+@pytest.mark.parametrize("build", builds("clang-san"), indirect=True)
+def test_show_frees_everything(build, show_c):
+    program = build(C / "show.c")
+    for line in LINES:
+        assert answer(*program, *line.split()) == answer(show_c, *line.split()), line
+
+
 @pytest.mark.parametrize("line", LINES[1:4])
 def test_show_when_allocations_fail(show_c, failing_malloc, line):
     fail_each_allocation(failing_malloc, [show_c, *line.split()])

@@ -52,6 +52,14 @@ def test_changed_tokens_are_found(file, right, wrong, tmp_path):
     assert re.fullmatch(rf".*/{file}: differs from its source at '.*'\n", said.decode()) and status == 1
 
 
+def test_source_that_ends_in_a_clause(tmp_path):
+    source = shutil.copytree(ROOT / "crates/getopts/src", tmp_path / "getopts/src")
+    text = (source / "names.rt").read_text()
+    (source / "names.rt").write_text(text[:text.index("ensures {") + 20])
+    said, status = same_tokens(source, ERASED["getopts"])
+    assert said.decode().endswith("names.rs: differs from its source at ''\n") and status == 1
+
+
 @pytest.fixture
 def reader(tmp_path):
     """A copy of the eraser, and the source folder that it reads."""

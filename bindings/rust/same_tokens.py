@@ -5,8 +5,8 @@
 
 FOLDER/X.rs has to have the tokens of SOURCE/X.rt in the same order, except for the renames below and for constructs
 without meaning at run time: each begins with a pattern in `WHOLE`, and extends to the end given there. Comments, white
-space, a comma before a closing bracket and the brackets around a match arm's single expression are ignored. This script
-doesn't look for code that Rattle and Rust interpret differently: `erase.py` rejects it.
+space and a comma before a closing bracket are ignored. This script doesn't look for code that Rattle and Rust interpret
+differently: `erase.py` rejects it.
 """
 
 import re
@@ -52,7 +52,7 @@ def end_of(source, at, end):
 
 def differs(source, rust, names, imports):
     """The index in the source at which the two begin to differ, if they do."""
-    at, to, arms = 0, 0, set()
+    at, to = 0, 0
     if rust[: len(imports)] == imports:
         to = len(imports)
     while at < len(source):
@@ -71,11 +71,6 @@ def differs(source, rust, names, imports):
                 to += 1
             elif source[at] == "," and source[at + 1] in ")]}":
                 at += 1
-            elif source[at - 2 : at + 1] == ["=", ">", "{"]:
-                arms.add(end_of(source, at, "}") - 1)
-                at += 1
-            elif at in arms:
-                at, to = at + 1, to + (rust[to] == ",")
             else:
                 return at
     return None if to == len(rust) else at
