@@ -100,7 +100,8 @@ def test_stale_rust_is_found(tmp_path):
         said, _ = run(tmp_path / "copy" / command[0], *command[1:], status=1)
         reported = [f"{folder / file} is out of date: run bindings/rust/erase.py\n" for file in ("more.rs", "scan.rs", "wrap.rs")]
         assert said == "".join(reported)
-        assert {path: path.read_bytes() for path in folder.iterdir()} == before
+    assert run(tmp_path / "copy/bindings/rust/erase.py", "--chek", status=2)[1] == "usage: bindings/rust/erase.py [--check]\n"
+    assert {path: path.read_bytes() for path in folder.iterdir()} == before
 
 
 @pytest.mark.parametrize("file", ["LICENSE-MIT", "LICENSE-APACHE", "NOTICE"])
