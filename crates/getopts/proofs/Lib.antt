@@ -4,7 +4,7 @@
 -- module that defines its type.
 -- `Answers.antt` proves goals that the checker asks for, and `Invariants.antt` states the
 -- invariants of loops. A loop's label, such as `'items`, names its goals. In most names of lemmas,
--- the part before `-` is the definition that the lemma is about (`IsAccepted-line`); a name that
+-- the part before `-` is the definition that the lemma is about (`IsAccepted-reading`); a name that
 -- ends in `_lem` proves a law of readings or lines.
 
 -- facts about lists of any elements

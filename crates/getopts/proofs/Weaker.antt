@@ -1,6 +1,8 @@
 -- A result with a property has all properties that follow from it.
 use Rattle.std.proofs.Common.{◌≡◌, Option, Some, None, MatchOption, sym, subst, IfSome, IfNone}
-use Rattle.std.specs.Prelude.{⊤}
+use Rattle.std.specs.Prelude.{⊤, Result, IfErr}
+use Rattle.std.specs.Result.{IsErrAnd}
+use Rattle.std.proofs.lemmas.Result.{err_from_is_err_and}
 use Rattle.getopts.specs.Fail.{Fault, IsOutOfMemoryOr, fault_of}
 use Rattle.getopts.specs.declared.fail.Fail.{Fail}
 
@@ -24,6 +26,14 @@ weaker_of (Some f) P Q tells holds = holds f tells
 pub IsOutOfMemoryOr-weaker : (fail : Fail) (P Q : Fault → Type 0) → IsOutOfMemoryOr fail P
     → ((fault : Fault) → P fault → Q fault) → IsOutOfMemoryOr fail Q
 IsOutOfMemoryOr-weaker fail P Q tells holds = weaker_of (fault_of fail) P Q tells holds
+
+-- and so has the error that the exit of a `?` returns
+pub IsOutOfMemoryOr-exit : {T : Type 0} (answer : Result T Fail) (fail : Fail)
+    (P Q : Fault → Type 0) → IsErrAnd answer (λ other. other ≡ fail) → IsOutOfMemoryOr fail P
+    → ((fault : Fault) → P fault → Q fault) → IfErr answer (λ fail. IsOutOfMemoryOr fail Q)
+IsOutOfMemoryOr-exit answer fail P Q exit tells follows =
+    let left = err_from_is_err_and answer exit in
+    rw (left.1, left.2) (IsOutOfMemoryOr-weaker fail P Q tells follows)
 
 -- a value, if there is one, has all properties that follow from its properties
 pub IfSome-weaker : {X : Type 0} (answer : Option X) (P Q : X → Type 0) → ((x : X) → P x → Q x)

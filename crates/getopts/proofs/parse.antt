@@ -1,3 +1,4 @@
--- From a reading or an error to the result of `parse`.
+-- The only reading or error, what is made of a line, and what holds of matches.
 pub mod Parsed
+pub mod Made
 pub mod Holds

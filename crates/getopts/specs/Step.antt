@@ -1,7 +1,7 @@
 -- One step of reading: what the first word of a command line gives, with the words
 -- after it. Clauses of `scan` say that the code takes these steps, and lemmas show that they agree
 -- with `Reading`.
-use Rattle.std.specs.Prelude.{◌≡◌, ◌≢◌, ◌==◌, ℕ, List, [], ◌∷◌, ◌++◌, length, map, Option}
+use Rattle.std.specs.Prelude.{◌≡◌, ◌≢◌, ◌==◌, ℕ, ◌+◌, List, [], ◌∷◌, ◌++◌, length, map, Option}
 use Rattle.std.specs.Prelude.{Some, None, Result, Ok, Err, if◌then◌else◌, false, encode_utf8}
 use Rattle.std.specs.Option.{option_map_or}
 use Rattle.std.specs.Str.{chars}
@@ -11,7 +11,7 @@ use Rattle.getopts.specs.Fail.{Fault, argument_missing, unrecognized_option, une
 use Rattle.getopts.specs.Reading.{dash, begins_with_dash, equals_sign, is_dashed, Argument, none}
 use Rattle.getopts.specs.Reading.{attached, separate, Dashes, dash_text, flags, ends_in, Item, long, cluster}
 use Rattle.getopts.specs.Reading.{value_of, argument_words, MayPrecede, free_items, Tail}
-use Rattle.getopts.specs.Reading.{Occurrence, at_position, mentions}
+use Rattle.getopts.specs.Reading.{Occurrence, at_position, mentions, word_count}
 use Rattle.getopts.specs.declared.groups.HasArg.{HasArg}
 use Rattle.getopts.specs.declared.groups.HasArg.TheVariants.{Yes, No, Maybe}
 
@@ -121,5 +121,6 @@ pub record AddsItem (grammar : Grammar) (step : Step) (position used : ℕ)
   pub argument : Argument
   pub step_is : step ≡ takes item argument
   pub used_is : used ≡ length (argument_words argument)
+  pub counted : word_count (item ∷ []) ≡ 1 + used
   pub no_free : free_items (item ∷ []) ≡ []
   pub added : new ≡ old ++ map (at_position position) (mentions grammar item)

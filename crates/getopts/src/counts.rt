@@ -1,10 +1,10 @@
 //! Whether options occur as often as they may.
 
-ghost use Rattle.std.specs.Prelude.{◌≡◌, ◌↔◌, List, IsTrue, IfErr, OnOk, length};
+ghost use Rattle.std.specs.Prelude.{◌≡◌, Some, None, IfErr, OnOk};
 ghost use Rattle.getopts.specs.Fail.{IsOutOfMemoryOr};
-ghost use Rattle.getopts.specs.Matches.{FitsCount, IsCountFault, KeepsCounts, count_fault, matched};
-ghost use Rattle.getopts.specs.Reading.{Occurrence};
-ghost use Rattle.getopts.specs.Stored.Index.{index_of};
+ghost use Rattle.getopts.specs.Matches.{count_fault};
+ghost use Rattle.getopts.specs.Results.{fits_count};
+ghost use Rattle.getopts.specs.Stored.Index.{count_in, first_wrong};
 
 use crate::fail::Fail;
 use crate::groups::{Occur, Signatures};
@@ -20,12 +20,9 @@ pub(crate) fn check_counts(
     signatures: &Signatures,
     index: &Index,
 ) -> Result<(), Fail>
-    ensures ok { OnOk result ((found : List Occurrence)
-        → index.now ≡ index_of (length signatures.now) found
-        → KeepsCounts (matched 0 signatures.now found)) }
-    ensures err { IfErr result (λ fail. IsOutOfMemoryOr fail (λ fault. (found : List Occurrence)
-        → index.now ≡ index_of (length signatures.now) found
-        → IsCountFault (matched 0 signatures.now found) fault)) }
+    ensures ok { OnOk result (first_wrong 0 signatures.now (count_in index.now) ≡ None) }
+    ensures err { IfErr result (λ fail. IsOutOfMemoryOr fail
+        (λ fault. first_wrong 0 signatures.now (count_in index.now) ≡ Some fault)) }
 {
     for place in 0..signatures.len() {
         let count = index.count(place);
@@ -38,7 +35,7 @@ pub(crate) fn check_counts(
 
 /// Whether an option may occur this often.
 fn fits_count(occurrence: Occur, count: usize) -> bool
-    ensures { IsTrue result ↔ FitsCount occurrence count }
+    ensures { result ≡ fits_count occurrence count }
 {
     match occurrence {
         Occur::Req => count == 1,

@@ -1,6 +1,6 @@
 //! The result of parsing, as it is stored: options with their values by group, and free words.
 
-ghost use Rattle.std.specs.Prelude.{◌≡◌, ◌==◌, ◌↔◌, IsTrue, map, IfErr, IfOk, OnOk};
+ghost use Rattle.std.specs.Prelude.{◌≡◌, ◌==◌, ◌↔◌, IsTrue, map, IfErr, IfOk, OnOk, Some, None};
 ghost use Rattle.std.specs.Cmp.Lexicographic.{pointwise};
 ghost use Rattle.std.specs.Cmp.Rules.{comparing};
 ghost use Rattle.std.specs.String.{string_bytes};
@@ -8,7 +8,8 @@ ghost use Rattle.std.proofs.Common.{rules};
 ghost use Rattle.getopts.specs.Accessors.{HaveLawfulNames, occurrences_of_group};
 ghost use Rattle.getopts.specs.Accessors.{occurrences_of_name, place_of};
 ghost use Rattle.getopts.specs.Fail.{IsOutOfMemoryOr};
-ghost use Rattle.getopts.specs.Matches.{IsCountFault, KeepsCounts, matched};
+ghost use Rattle.getopts.specs.Matches.{matched};
+ghost use Rattle.getopts.specs.Results.{first_count_fault};
 ghost use Rattle.getopts.specs.Stored.Matches.{IsOfSignatures};
 
 use crate::counts::check_counts;
@@ -207,9 +208,11 @@ impl MatchedGroups {
     }
 
     /// Checks how often each option occurs, in order of declaration.
+    #[tactic(auto, using(crate::proofs::counts::Groups::first_wrong_matched))]
     pub(crate) fn check_all(&self, alloc: Global) -> Result<(), Fail>
-        ensures ok { OnOk result (KeepsCounts self.now) }
-        ensures err { IfErr result (λ fail. IsOutOfMemoryOr fail (IsCountFault self.now)) }
+        ensures ok { OnOk result (first_count_fault self.now ≡ None) }
+        ensures err { IfErr result (λ fail. IsOutOfMemoryOr fail
+            (λ fault. first_count_fault self.now ≡ Some fault)) }
     {
         check_counts(alloc, &self.signatures, &self.index)
     }

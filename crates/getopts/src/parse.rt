@@ -1,10 +1,10 @@
 //! Parsing a command line: its words are scanned, then its counts are checked.
 
-ghost use Rattle.std.specs.Prelude.{◌≡◌, IfOk, IfErr, IfSome, OnOk, length, map};
+ghost use Rattle.std.specs.Prelude.{◌≡◌, IfOk, IfErr, IfSome, OnOk, Err, length, map};
 ghost use Rattle.std.specs.Iterator.{IsFinite};
 ghost use Rattle.std.specs.Iterator.Runs.{WholeRun};
 ghost use Rattle.getopts.specs.Fail.{IsOutOfMemoryOr};
-ghost use Rattle.getopts.specs.Names.{texts};
+ghost use Rattle.getopts.specs.Names.{AreTexts, texts};
 
 use crate::counts::check_counts;
 use crate::fail::Fail;
@@ -21,11 +21,12 @@ impl Options {
     ghost use Rattle.getopts.specs.ReadingLaws.{HavePositionsBelow};
     ghost use Rattle.getopts.specs.Parse.{IsAccepted, IsRefused, HasReading, HasNoReading};
     ghost use Rattle.getopts.specs.Parse.{KeepsReadingLaws};
-    ghost use Rattle.getopts.specs.Returns.{HasResults, ReturnsConverted, ReturnsResult};
+    ghost use Rattle.getopts.specs.Returns.{ReturnsConverted, ReturnsResult};
     ghost use Rattle.getopts.specs.Results.{parse_result, parse_ignoring_counts_result};
+    ghost use Rattle.getopts.specs.Results.{accepted_reading, reading_or_error};
     ghost use Rattle.getopts.specs.Holds.{FitOptionsAndCounts, FitOptions, HaveLastWordsFree};
     ghost use Rattle.getopts.specs.Holds.{Accepts, EndsInTrailing};
-    ghost use Rattle.getopts.specs.Stored.Matches.{IsReadLine, IsAcceptedLine};
+    ghost use Rattle.getopts.specs.Stored.Matches.{IsReadLine};
 
     /// Parses a command line, given without the program's own name.
     ///
@@ -112,10 +113,9 @@ impl Options {
     pub(crate) fn read_matches<S: AsStr>(&self, alloc: Global, words: &[S]) -> crate::Result
         ensures result { ReturnsResult result
             (parse_ignoring_counts_result self.now (map S.text words.now)) }
-        ensures read { IfOk result (HasReading self.now (map S.text words.now)) }
-        ensures refused { IfErr result (λ fail. IsOutOfMemoryOr fail
-            (HasNoReading self.now (map S.text words.now))) }
-        ensures declared { OnOk result (MayBeDeclared self.now.groups) }
+        ensures declared { MayBeDeclared self.now.groups }
+        ensures texts { AreTexts (map S.text words.now) }
+        ensures laws { OnOk result (KeepsReadingLaws (grammar_of self.now)) }
     {
         let read = self.read_line(alloc, words)?;
         Ok(Matches::of_line(self.signatures().clone()?, read))
@@ -129,10 +129,13 @@ impl Options {
         alloc: Global,
         words: &[S],
     ) -> Result<ReadLine, Fail>
-        ensures accepted { IfOk result (IsAcceptedLine self.now (map S.text words.now)) }
-        ensures refused { IfErr result (λ fail. IsOutOfMemoryOr fail
-            (IsRefused self.now (map S.text words.now))) }
-        ensures results { HasResults self.now (map S.text words.now) }
+        ensures ok { IfOk result
+            (IsReadLine self.now (accepted_reading self.now (map S.text words.now))) }
+        ensures err { IfErr result (λ fail. IsOutOfMemoryOr fail
+            (λ fault. accepted_reading self.now (map S.text words.now) ≡ Err fault)) }
+        ensures declared { MayBeDeclared self.now.groups }
+        ensures texts { AreTexts (map S.text words.now) }
+        ensures laws { OnOk result (KeepsReadingLaws (grammar_of self.now)) }
     {
         let read = self.read_line(alloc, words)?;
         check_counts(alloc, self.signatures(), &read.index)?;
@@ -140,12 +143,16 @@ impl Options {
     }
 
     /// Reads a command line without checking its counts.
+    #[tactic(auto, unfolding(crate::specs::Results::reading_or_error))]
     #[inline(always)]
     fn read_line<S: AsStr>(&self, alloc: Global, words: &[S]) -> Result<ReadLine, Fail>
-        ensures read { IfOk result (IsReadLine self.now (map S.text words.now)) }
-        ensures refused { IfErr result (λ fail. IsOutOfMemoryOr fail
-            (HasNoReading self.now (map S.text words.now))) }
-        ensures results { HasResults self.now (map S.text words.now) }
+        ensures ok { IfOk result
+            (IsReadLine self.now (reading_or_error self.now (map S.text words.now))) }
+        ensures err { IfErr result (λ fail. IsOutOfMemoryOr fail
+            (λ fault. reading_or_error self.now (map S.text words.now) ≡ Err fault)) }
+        ensures declared { MayBeDeclared self.now.groups }
+        ensures texts { AreTexts (map S.text words.now) }
+        ensures laws { OnOk result (KeepsReadingLaws (grammar_of self.now)) }
     {
         are_texts(words);
         let signatures = self.signatures();

@@ -1,10 +1,10 @@
 //! Reading words as items, from the first to the last.
 
-ghost use Rattle.std.specs.Prelude.{◌≡◌, ◌≢◌, ◌<◌, ◌∷◌, ◌++◌, [], MatchOption, OnSome};
+ghost use Rattle.std.specs.Prelude.{◌≡◌, ◌≢◌, ◌<◌, ◌≤◌, ◌∷◌, ◌++◌, [], MatchOption, OnSome, length};
 ghost use Rattle.std.specs.Prelude.{Some, None, Err, false, IfOk, IfErr, OnOk, map};
 ghost use Rattle.std.specs.String.{string_bytes};
 ghost use Rattle.std.specs.Option.{option_copied};
-ghost use Rattle.getopts.specs.Reading.{Dashes, IsScanFault, dash, holds_equals, is_dashed};
+ghost use Rattle.getopts.specs.Reading.{Dashes, dash, holds_equals, is_dashed};
 ghost use Rattle.getopts.specs.Fail.{IsOutOfMemoryOr};
 ghost use Rattle.std.specs.Str.{IsUtf8};
 ghost use Rattle.getopts.specs.Names.{AreTexts, Text};
@@ -210,6 +210,7 @@ fn last_argument<'w, S: AsStr>(
     requires { kind ≢ HasArg.No }
     ensures ok { IfOk result (λ end. Chooses
         (chosen_end kind name.now rest.now (map S.text after.now)) (option_copied end.value) end.used) }
+    ensures within { IfOk result (λ end. end.used ≤ length after.now) }
     ensures err { IfErr result (λ fail. IsOutOfMemoryOr fail (λ fault.
         chosen_end kind name.now rest.now (map S.text after.now) ≡ Err fault)) }
 {
@@ -225,7 +226,8 @@ fn last_argument<'w, S: AsStr>(
 impl<'o> Scanner<'o> {
     ghost use Rattle.getopts.specs.Step.{faults, long_step, cluster_step, AddsItem};
     ghost use Rattle.getopts.specs.Stored.Scan.{scanner_grammar, IsLawfulScanner, IsNamedBy};
-    ghost use Rattle.getopts.specs.Stored.Scan.{HasShape, ReadsLine};
+    ghost use Rattle.getopts.specs.Stored.Scan.{HasShape, GivesLine};
+    ghost use Rattle.getopts.specs.Results.{read};
 
     /// The option that a name resolves to.
     fn option(&self, name: &str) -> Option<Named>
@@ -255,6 +257,7 @@ impl<'o> Scanner<'o> {
             → AddsItem grammar
             (long_step grammar dashes text.now (map S.text after.now)) position used
             found.old found.new) }
+        ensures within { IfOk result (λ used. used ≤ length after.now) }
         ensures err { let grammar = scanner_grammar self.now in
             IfErr result (λ fail. (dashes : Dashes) → IsOutOfMemoryOr fail (λ fault.
             long_step grammar dashes text.now (map S.text after.now) ≡ faults fault)) }
@@ -308,6 +311,7 @@ impl<'o> Scanner<'o> {
             IfOk result (λ used.
             AddsItem grammar (cluster_step grammar [] text.now (map S.text after.now)) position used
             found.old found.new) }
+        ensures within { IfOk result (λ used. used ≤ length after.now) }
         ensures err { let grammar = scanner_grammar self.now in
             IfErr result (λ fail. IsOutOfMemoryOr fail (λ fault.
             cluster_step grammar [] text.now (map S.text after.now) ≡ faults fault)) }
@@ -354,12 +358,12 @@ impl<'o> Scanner<'o> {
 
     /// Reads a command line: its items, and what follows `--` or the first free word.
     pub(crate) fn scan<S: AsStr>(&self, alloc: Global, words: &[S]) -> Result<Line, Fail>
-        requires lawful { IsLawfulScanner self.now }
-        requires texts { AreTexts (map S.text words.now) }
-        ensures ok { IfOk result (λ line.
-            ReadsLine (scanner_grammar self.now) (map S.text words.now) line) }
-        ensures err { IfErr result (λ fail. IsOutOfMemoryOr fail
-            (IsScanFault (scanner_grammar self.now) (map S.text words.now))) }
+        requires { IsLawfulScanner self.now }
+        ensures ok { let grammar = scanner_grammar self.now in
+            IfOk result (GivesLine grammar (read grammar (map S.text words.now))) }
+        ensures err { let grammar = scanner_grammar self.now in
+            IfErr result (λ fail. IsOutOfMemoryOr fail
+            (λ fault. read grammar (map S.text words.now) ≡ Err fault)) }
     {
         let stops = self.options.style() == ParsingStyle::StopAtFirstFree;
         let mut line = Line::with_capacity(alloc, words.len().min(FIRST_ROOM))?;

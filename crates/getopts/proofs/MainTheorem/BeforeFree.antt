@@ -1,6 +1,6 @@
 -- Under `StopAtFirstFree` the words before the free ones give the same options.
 use Rattle.std.proofs.Common.{◌≡◌, List, [], ◌∷◌, ◌++◌, None, refl, sym, ap, ◌∙◌, append-nil}
-use Rattle.std.proofs.Common.{subst, Bor, Result, Ok, Err, IfOk}
+use Rattle.std.proofs.Common.{Bor, Result, Ok, Err, IfOk}
 use Rattle.std.specs.List.{AllByRecursion}
 use Rattle.getopts.specs.Names.{Text, texts}
 use Rattle.getopts.specs.Options.{Declared, Grammar, MayBeDeclared, grammar_of}
@@ -10,9 +10,7 @@ use Rattle.getopts.specs.Reading.{free_items, spelled_all, stop_word, tail_frees
 use Rattle.getopts.specs.Matches.{Matched, matches_of}
 use Rattle.getopts.specs.Parse.{Reads, HasReading, IsAccepted}
 use Rattle.getopts.specs.Holds.{HaveLastWordsFree, Accepts}
-use Rattle.getopts.specs.ReadingLaws.{HavePositionsBelow}
 use Rattle.getopts.proofs.parse.Holds.{EndsInTrailing-read}
-use Rattle.getopts.proofs.scan.Loop.{length-texts}
 use Rattle.getopts.specs.declared.groups.ParsingStyle.TheVariants.{FloatingFrees, StopAtFirstFree}
 use Rattle.getopts.proofs.MainTheorem.Accepted.{parse_result-accepted}
 use Rattle.getopts.proofs.Only.{meets}
@@ -108,8 +106,8 @@ pub Accepts-answered : {E : Type 0} (options : Declared) (words : List (Bor Text
     → IfOk answer (HaveLastWordsFree options (texts words)) → IfOk answer (Accepts options words)
 Accepts-answered options words (Ok matches) accepted last = record {
   accepted = accepted;
-  positions_below = subst (λ n. HavePositionsBelow n matches.groups) (length-texts (λ (w : Bor Text). w.now) words)
-      (positions_below-read options (texts words) matches accepted.read);
+  positions_below =
+      positions_below-read (λ (w : Bor Text). w.now) words options matches accepted.read;
   free_last = last;
   trailing = EndsInTrailing-read options (texts words) matches accepted.read;
 }

@@ -1,29 +1,28 @@
 -- Lemmas for callers: matches that hold the same, and canonical lines.
 use Rattle.std.proofs.Common.{◌≡◌, ℕ, zero, suc, Bool, true, false, List, [], ◌∷◌, length, nat_lt}
-use Rattle.std.proofs.Common.{Option, Some, None, Ok, refl, ap, sym, subst, ◌∙◌, not, Result}
+use Rattle.std.proofs.Common.{Option, Some, None, Ok, refl, ap, sym, subst, ◌∙◌, not}
 use Rattle.std.specs.List.{filter_map, cons_option, AllByRecursion, list_all}
 use Rattle.std.proofs.lemmas.List.{length-map}
 use Rattle.std.specs.Result.{result_map_both}
 use Rattle.std.specs.Prelude.{IfNone, IsSome}
-use Rattle.std.proofs.lemmas.Bool.{and_parts}
+use Rattle.std.proofs.lemmas.Bool.{and_parts, not-true}
 use Rattle.getopts.specs.Names.{Text, main_name}
-use Rattle.getopts.specs.Options.{Declared, MayBeDeclared, grammar_of, Group}
+use Rattle.getopts.specs.Options.{Declared, MayBeDeclared, Group}
 use Rattle.getopts.specs.Reading.{Reading, Mention, holds_equals}
 use Rattle.getopts.specs.Canon.{content_of, canonical_reading, with_setting, main_at}
 use Rattle.getopts.specs.CanonAnswers.{IsWritten, KeepsLineLaws, IsUnwritable}
 use Rattle.getopts.specs.Matches.{GroupOccurrence, Matched, matches_of}
 use Rattle.getopts.specs.Accessors.{occurrences_of_name, each_value, first_value, is_present}
 use Rattle.getopts.specs.Accessors.{values_of}
-use Rattle.getopts.specs.Parse.{Reads, HasReading}
+use Rattle.getopts.specs.Parse.{HasReading}
 use Rattle.getopts.specs.Theorem.{HaveSameValues}
 use Rattle.getopts.specs.Fail.{Fault}
-use Rattle.getopts.specs.Results.{parse_result, accepted_reading, canonical_result, made_of, read}
-use Rattle.getopts.specs.Results.{first_count_fault, unless_fault, with_counts_kept, written_line}
+use Rattle.getopts.specs.Results.{parse_result, canonical_result, made_of}
+use Rattle.getopts.specs.Results.{written_line}
 use Rattle.getopts.specs.declared.groups.ParsingStyle.{ParsingStyle}
-use Rattle.getopts.proofs.parse.Parsed.{named_here}
-use Rattle.getopts.proofs.counts.FirstFault.{first_count_fault-is, no_fault}
-use Rattle.getopts.proofs.Reading.Readings.{reading_read}
+use Rattle.getopts.proofs.canon.Lines.{is_plain-from}
 use Rattle.getopts.proofs.MainTheorem.SameContent.{LinesReadAgain_lem}
+use Rattle.getopts.proofs.MainTheorem.Accepted.{accepted_reading-keeps}
 pub use Rattle.getopts.proofs.MainTheorem.Accepted.{parse_result-accepted}
 
 -- ---- matches that hold the same
@@ -108,10 +107,6 @@ abbrev pub are_mains_plain : List Group → Bool
 are_mains_plain groups =
     list_all (λ group. not (holds_equals (main_name group.signature.names))) groups
 
-not-true : (is : Bool) → not is ≡ true → is ≡ false
-not-true true denied = cc
-not-true false denied = refl
-
 plain_at : (groups : List Group) → are_mains_plain groups ≡ true → (place : ℕ)
     → holds_equals (main_at groups place) ≡ false
 plain_at [] plain zero = refl
@@ -133,32 +128,19 @@ always_some None options own words is plain none = absurd (none.not_plain (all_p
     (subst (λ (o : Declared). are_mains_plain o.groups ≡ true) (sym is) plain) none.content.mentions))
 always_some (Some line) options own words is plain none = refl
 
-all_written : (groups : List Group) (ms : List Mention)
-    → AllByRecursion (λ m. holds_equals (main_at groups m.group) ≡ false) ms
-    → list_all (λ m. not (holds_equals (main_at groups m.group))) ms ≡ true
-all_written groups [] plain = refl
-all_written groups (m ∷ ms) plain = rw plain.0 (all_written groups ms plain.1)
-
 -- The canonical line of a canonical line is that line, in each style and mode.
 pub canonical_again : (options : Declared) → MayBeDeclared options.groups → KeepsLineLaws options
     → (words line : List Text) → IsWritten options words line
     → (style : ParsingStyle) (long_only : Bool)
     → canonical_result (with_setting options style long_only) line ≡ Ok (Some line)
-unfolding accepted_reading
 canonical_again options declared laws words line written style long_only =
     let other = with_setting options style long_only in
     let back = (laws words line written).reads_back style long_only in
     let reading = canonical_reading options.groups written.content in
-    let there : Reads other line reading = rw written.line_is back.reads.reads in
     let make : Reading → Option (List Text) =
     λ reading. written_line options.groups (content_of other reading) in
-    let here : read (grammar_of other) line ≡ Ok reading =
-    reading_read (grammar_of other) (named_here other declared) reading line there in
-    let groups = (matches_of other reading).groups in
-    let none : first_count_fault groups ≡ None =
-    no_fault groups back.reads.keeps (first_count_fault groups) (first_count_fault-is groups) in
     let said : make reading ≡ Some line = ap (written_line options.groups) back.same
-    ∙ rw (all_written options.groups written.content.mentions written.plain, written.line_is) refl in
-    ap (λ (o : Result Reading Fault). made_of make (with_counts_kept other o)) here
-    ∙ ap (λ (fault : Option Fault). made_of make (unless_fault reading fault)) none
+    ∙ rw (is_plain-from options.groups _ written.plain, written.line_is) refl in
+    ap (made_of make) (accepted_reading-keeps other declared line reading
+    (rw (← written.line_is) at back.reads))
     ∙ ap (λ (l : Option (List Text)). Ok l) said

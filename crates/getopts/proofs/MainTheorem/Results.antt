@@ -6,10 +6,9 @@ use Rattle.std.specs.Prelude.{MatchOption, MatchResult, not, if◌then◌else◌
 use Rattle.getopts.specs.Only.{IsTheOnly}
 use Rattle.getopts.specs.Names.{Text, AreTexts}
 use Rattle.getopts.specs.Options.{Declared, MayBeDeclared, grammar_of}
-use Rattle.getopts.specs.Fail.{Fault, IsOutOfMemoryOr}
-use Rattle.getopts.specs.declared.fail.Fail.{Fail}
+use Rattle.getopts.specs.Fail.{Fault}
 use Rattle.getopts.specs.Reading.{Reading, IsReading, holds_equals}
-use Rattle.getopts.specs.Matches.{matches_of}
+use Rattle.getopts.specs.Matches.{Matched, matches_of}
 use Rattle.getopts.specs.Parse.{Reads, IsAccepted, IsRefused, HasReading, HasNoReading}
 use Rattle.getopts.specs.Canon.{Content, content_of, main_at, canonical_line, IsAcceptedWith}
 use Rattle.getopts.specs.Canon.{IsCountKeeping}
@@ -26,10 +25,11 @@ use Rattle.getopts.proofs.canon.Answered.{only_order_answer, only_read_answer}
 use Rattle.getopts.proofs.canon.Answered.{only_answer, only_of_reading}
 use Rattle.getopts.proofs.counts.FirstFault.{HaveFault, first_count_fault-is}
 use Rattle.getopts.proofs.MainTheorem.Given.{only_unless, only_request}
-use Rattle.getopts.proofs.Weaker.{IsOutOfMemoryOr-weaker}
 use Rattle.getopts.proofs.Only.{IsTheOnly-from}
 use Rattle.getopts.proofs.parse.Parsed.{only_reads, named_here, HasNoReading-fault}
+use Rattle.getopts.proofs.parse.Parsed.{HasReading-reading, IsAccepted-reading}
 use Rattle.getopts.proofs.Reading.Readings.{IsSoundOutcome, read_sound}
+pub use Rattle.getopts.proofs.Reading.Readings.{made_of-ok}
 
 -- if at most one value has a property, a value that has it is the only one
 the_only : {X : Type 0} {Is : X → Type 0} → ((x y : X) → Is x → Is y → x ≡ y) → (value : X) → Is value
@@ -44,14 +44,6 @@ made_of-is Is No Reads make (Ok reading) so reads = so reading reads
 made_of-is Is No Reads make (Err fault) so fails = fails
 
 module _ (options : Declared) (declared : MayBeDeclared options.groups) (words : List Text) where
-  has_reading : (reading : Reading) → IsReading (grammar_of options) reading words
-      → HasReading options words (matches_of options reading)
-  has_reading reading reads = record {
-    reading = reading;
-    only = only_reads options declared words reading reads;
-    matches_are = refl;
-  }
-
   written_answer : (content : Content) → IsAcceptedWith options words content → (plain : Bool)
       → list_all (λ m. not (holds_equals (main_at options.groups m.group))) content.mentions ≡ plain
       → IsCanonicalAnswer options words
@@ -80,7 +72,7 @@ module _ (options : Declared) (declared : MayBeDeclared options.groups) (words :
   counted reading reads None kept = record { reads = reads; keeps = kept }
   counted reading reads (Some fault) breaks = inr (record {
     matches = matches_of options reading;
-    read = has_reading reading reads;
+    read = HasReading-reading options declared words reading reads;
     breaks = breaks;
   })
 
@@ -123,9 +115,10 @@ module _ (options : Declared) (declared : MayBeDeclared options.groups) (words :
       let parse = the_only (only_parse_answer options words) (parse_result options words)
       (made_of-is (IsAccepted options words) (IsRefused options words) (λ r. IsCountKeeping options r words)
       (matches_of options) (accepted_reading options words)
-      (λ r keeps. record { read = has_reading r keeps.reads; counts = keeps.keeps }) line) in
+      (IsAccepted-reading options declared words) line) in
       let matches = made_of-is (HasReading options words) (HasNoReading options words) (Reads options words)
-      (matches_of options) (reading_or_error options words) has_reading reading in
+      (matches_of options) (reading_or_error options words)
+      (HasReading-reading options declared words) reading in
       record {
         reading = the_only (only_of_reading options words (λ r reads. (r, reads)) once)
             (reading_or_error options words) reading;
@@ -152,16 +145,33 @@ module _ (options : Declared) (declared : MayBeDeclared options.groups) (words :
         request = only_request options words _ parse _ matches;
       }
 
--- A call that fails with the error of the only result, or is out of memory, returns that result.
-pub only_refused : {X : Type 0} (Is : Result X Fault → Type 0) (value : Result X Fault)
-    → IsTheOnly Is value → (fail : Fail) → IsOutOfMemoryOr fail (λ fault. Is (Err fault))
-    → IsOutOfMemoryOr fail (λ fault. value ≡ Err fault)
-only_refused Is value only fail told =
-    IsOutOfMemoryOr-weaker fail _ _ told (λ fault is. sym ((only (Err fault)).0 is))
+-- What the result of a call says about the words, as lemmas for `search`.
+module _ (options : Declared) (words : List Text) where
+  -- matches, with counts ignored, are those of the only reading
+  pub is_read : (matches : Matched) → parse_ignoring_counts_result options words ≡ Ok matches
+      → MayBeDeclared options.groups → AreTexts words → HasReading options words matches
+  is_read matches is declared texts =
+      ((HasResults-declared options declared words texts).read (Ok matches)).1 (sym is)
 
--- a result made of an outcome is made of a reading
-pub made_of-ok : {X : Type 0} (make : Reading → X) (outcome : Result Reading Fault) (x : X)
-    → made_of make outcome ≡ Ok x
-    → (reading : Reading) × (outcome ≡ Ok reading) × (make reading ≡ x)
-made_of-ok make (Ok reading) x same = (reading, refl, cc)
-made_of-ok make (Err fault) x same = cc
+  -- an error, with counts ignored, is the only scan error
+  pub isnt_read : (fault : Fault) → parse_ignoring_counts_result options words ≡ Err fault
+      → MayBeDeclared options.groups → AreTexts words → HasNoReading options words fault
+  isnt_read fault is declared texts =
+      ((HasResults-declared options declared words texts).read (Err fault)).1 (sym is)
+
+  -- which rejects the words
+  pub unread_refused : (fault : Fault) → parse_ignoring_counts_result options words ≡ Err fault
+      → MayBeDeclared options.groups → AreTexts words → IsRefused options words fault
+  unread_refused fault is declared texts = inl (isnt_read fault is declared texts)
+
+  -- matches accept the words
+  pub is_accepted : (matches : Matched) → parse_result options words ≡ Ok matches
+      → MayBeDeclared options.groups → AreTexts words → IsAccepted options words matches
+  is_accepted matches is declared texts =
+      ((HasResults-declared options declared words texts).parse (Ok matches)).1 (sym is)
+
+  -- and an error rejects them
+  pub is_refused : (fault : Fault) → parse_result options words ≡ Err fault
+      → MayBeDeclared options.groups → AreTexts words → IsRefused options words fault
+  is_refused fault is declared texts =
+      ((HasResults-declared options declared words texts).parse (Err fault)).1 (sym is)

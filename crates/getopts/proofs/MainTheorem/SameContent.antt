@@ -12,7 +12,6 @@ use Rattle.getopts.specs.Canon.{Content, content_of, canonical_reading, with_set
 use Rattle.getopts.specs.CanonAnswers.{KeepsLineLaws}
 use Rattle.getopts.specs.Matches.{Matched, occurrences_mentioning, matched, matches_of, KeepsCounts}
 use Rattle.getopts.specs.Accessors.{place_of, occurrences_of_group, occurrences_of_name, each_value}
-use Rattle.getopts.specs.Parse.{Reads}
 use Rattle.getopts.specs.Theorem.{AcceptedExactlyWhen, HaveSameValues, OneContentHoldsSame}
 use Rattle.getopts.specs.Theorem.{LinesReadAgain}
 use Rattle.getopts.specs.declared.groups.ParsingStyle.{ParsingStyle}
@@ -20,7 +19,7 @@ use Rattle.getopts.proofs.canon.Lines.{KeepsCounts-mentions}
 use Rattle.getopts.proofs.canon.Answered.{reads_of}
 use Rattle.getopts.proofs.Stored.Matches.{signatures-matched}
 use Rattle.getopts.proofs.parse.Holds.{place_of-groups}
-use Rattle.getopts.proofs.parse.Parsed.{only_reads}
+use Rattle.getopts.proofs.parse.Parsed.{IsAccepted-reading}
 
 -- the values of a group's occurrences, from the mentions
 abbrev values_at : ℕ → List Mention → List (Option Text)
@@ -134,19 +133,12 @@ LinesReadAgain_lem options declared line_laws words line matches written has sty
     has.matches_are
     ∙ ap (matches_of options) ((with.only has.reading).0 (reads_of options words matches has)) in
     let reading = canonical_reading options.groups written.content in
-    let there : Reads other line reading = rw written.line_is back.reads.reads in
     let said : content_of other reading ≡ content_of options with.reading =
     back.same ∙ with.content_is in
     record {
       again = matches_of other reading;
-      accepted = record {
-        read = record {
-          reading = reading;
-          only = only_reads other declared line reading there;
-          matches_are = refl;
-        };
-        counts = back.reads.keeps;
-      };
+      accepted = IsAccepted-reading other declared line reading
+          (rw (← written.line_is) at back.reads);
       same = subst (λ (those : Matched). HaveSameValues those (matches_of other reading))
           (sym matches_are)
           (HaveSameValues-content options style long_only with.reading reading

@@ -1,7 +1,8 @@
 -- Whole lines: `read` gives the only reading of a line, or its only error.
-use Rattle.std.proofs.Common.{◌≡◌, List, [], ◌∷◌, ◌++◌, drop, Result, Ok, Err, refl, sym, ap}
+use Rattle.std.proofs.Common.{◌≡◌, List, [], ◌∷◌, ◌++◌, length, drop, Result, Ok, Err, refl, sym, ap}
 use Rattle.std.proofs.Common.{◌∙◌, subst, append_assoc, append-nil}
 use Rattle.std.specs.List.{AllByRecursion}
+use Rattle.std.proofs.Math.Seq.{drop-append_seam}
 use Rattle.std.specs.Str.{IsUtf8}
 use Rattle.getopts.specs.Names.{Text, AreTexts}
 use Rattle.getopts.specs.Options.{Grammar}
@@ -12,25 +13,32 @@ use Rattle.getopts.specs.Reading.{argument_words, IsLawfulItem, EndsOrIsDashed, 
 use Rattle.getopts.specs.Reading.{item_words, spelled_all, tail_words, IsLawfulTail, IsScanFault}
 use Rattle.getopts.specs.declared.groups.ParsingStyle.{ParsingStyle}
 use Rattle.getopts.proofs.Lists.{AllByRecursion-right}
+use Rattle.getopts.specs.Results.{made_of}
 use Rattle.getopts.specs.Step.{Step, ends, takes, faults}
 use Rattle.getopts.proofs.Reading.Reader.{IsNamed, step, spelled, free_step, with_items, after_step}
 use Rattle.getopts.proofs.Reading.Reader.{read_both, read}
 use Rattle.getopts.proofs.Reading.Steps.{BeginsWith, spelled_step, fault_dashed, IsSoundStep}
 use Rattle.getopts.proofs.Reading.Steps.{TakesItem, fault_step, step_free, step_stop, step_sound}
 
+-- the outcome of a line without its first word
+read_second : (grammar : Grammar) (words : List Text)
+    → (read_both grammar words).1 ≡ read grammar (drop 1 words)
+unfolding read
+read_second grammar [] = refl
+read_second grammar (word ∷ more) = refl
+
 -- `read` on one word, by its step.
 module _ (grammar : Grammar) (word : Text) (more : List Text) where
-  -- an item, and the words that follow it
-  pub read_item : (item : Item) (argument : Argument) (others : List Text)
-      → step grammar word more ≡ takes item argument → more ≡ argument_words argument ++ others
-      → read grammar (word ∷ more) ≡ with_items (item ∷ []) (read grammar others)
+  -- an item, and the words after its argument's
+  pub read_item : (item : Item) (argument : Argument) → step grammar word more ≡ takes item argument
+      → read grammar (word ∷ more)
+      ≡ with_items (item ∷ []) (read grammar (drop (length (argument_words argument)) more))
   unfolding read
-  read_item item (separate next) others said e =
+  read_item item (separate next) said =
       ap (λ (t : Step). after_step t (read_both grammar more).0 (read_both grammar more).1) said
-      ∙ ap (λ (line : List Text). with_items (item ∷ []) (read_both grammar line).1) e
-  read_item item argument others said e =
+      ∙ ap (with_items (item ∷ [])) (read_second grammar more)
+  read_item item argument said =
       ap (λ (t : Step). after_step t (read_both grammar more).0 (read_both grammar more).1) said
-      ∙ ap (λ (line : List Text). with_items (item ∷ []) (read_both grammar line).0) e
 
   -- the tail of the line
   pub read_tail : (tail : Tail) → step grammar word more ≡ ends tail
@@ -57,7 +65,10 @@ pub taken_read : (grammar : Grammar) (words : List Text) (item : Item) (others :
     → read grammar words ≡ with_items (item ∷ []) (read grammar others)
 taken_read grammar [] item others taken = absurd taken
 taken_read grammar (word ∷ more) item others taken =
-    read_item grammar word more item taken.0 others taken.1 taken.2
+    read_item grammar word more item taken.0 taken.1
+    ∙ ap (λ (line : List Text). with_items (item ∷ []) (read grammar line))
+    (ap (drop (length (argument_words taken.0))) taken.2
+    ∙ drop-append_seam (argument_words taken.0) others)
 
 -- no item before an outcome
 pub with_items-none : (outcome : Result Reading Fault) → outcome ≡ with_items [] outcome
@@ -162,6 +173,19 @@ fault_read grammar named words fault texts is =
     ∙ items_read grammar named is.items (is.word ∷ is.after) is.reads.items followed
     ∙ ap (with_items is.items) (read_error grammar is.word is.after fault
     (fault_step grammar named is.word is.after fault utf8.0 is.fault_at))
+
+-- a value made of an outcome is made of a reading
+pub made_of-ok : {X : Type 0} (make : Reading → X) (outcome : Result Reading Fault) (x : X)
+    → made_of make outcome ≡ Ok x
+    → (reading : Reading) × (outcome ≡ Ok reading) × (make reading ≡ x)
+made_of-ok make (Ok reading) x same = (reading, refl, cc)
+made_of-ok make (Err fault) x same = cc
+
+-- an error made of an outcome is its error
+pub made_of-err : {X : Type 0} (make : Reading → X) (outcome : Result Reading Fault) (fault : Fault)
+    → made_of make outcome ≡ Err fault → outcome ≡ Err fault
+made_of-err make (Ok reading) fault same = cc
+made_of-err make (Err other) fault same = cc
 
 -- The laws of a line: at most one reading, at most one error, and never both.
 module _ (grammar : Grammar) (named : IsNamed grammar) (words : List Text) where

@@ -1,37 +1,28 @@
--- The code finds the content of accepted words, and words have one result.
-use Rattle.std.proofs.Common.{◌≡◌, ◌==◌, ◌<◌, ℕ, Bool, true, false, not, List, [], ◌∷◌, ◌++◌}
+-- Words have one result.
+use Rattle.std.proofs.Common.{◌≡◌, ◌==◌, ◌<◌, ℕ, Bool, true, false, List}
 use Rattle.std.proofs.Common.{length, get_or, map, Option, Some, None, Result, Ok, Err}
 use Rattle.std.proofs.Common.{refl, sym, ap, ◌∙◌, subst, inl, inr}
 use Rattle.std.proofs.lemmas.Bool.{true≢false}
-use Rattle.std.proofs.lemmas.List.Folds.{list_any_at, list_all-map}
-use Rattle.std.specs.List.{AllByRecursion, list_all}
-use Rattle.std.specs.String.{string_bytes}
+use Rattle.std.proofs.lemmas.List.Folds.{list_any_at}
 use Rattle.getopts.specs.Names.{Text}
-use Rattle.getopts.specs.Options.{Group, Declared, MayBeDeclared, grammar_of, signatures_of}
+use Rattle.getopts.specs.Options.{Declared, MayBeDeclared, grammar_of}
 use Rattle.getopts.specs.Fail.{Fault}
 use Rattle.getopts.specs.Reading.{equals_sign, holds_equals, Reading, IsScanFault, Mention}
-use Rattle.getopts.specs.Reading.{Occurrence}
-use Rattle.getopts.specs.Reading.{occurrences_of}
-use Rattle.getopts.specs.ReadingLaws.{mentions_of}
-use Rattle.getopts.specs.Stored.Scan.{line_content}
-use Rattle.getopts.specs.Matches.{Matched, MatchedGroup, matches_of, matched, KeepsCount}
-use Rattle.getopts.specs.Matches.{KeepsCounts, IsCountFault}
+use Rattle.getopts.specs.Matches.{Matched, matches_of}
+use Rattle.getopts.specs.Matches.{KeepsCounts}
 use Rattle.std.specs.Prelude.{MatchOption, MatchResult}
 use Rattle.getopts.specs.Parse.{Reads, IsAccepted, HasReading, HasNoReading, IsRefused}
 use Rattle.getopts.specs.Returns.{IsReadAnswer}
-use Rattle.getopts.specs.Canon.{Content, IsCountKeeping, content_of, main_at, IsPlain}
-use Rattle.getopts.specs.Canon.{canonical_line, IsAcceptedWith, Says}
-use Rattle.getopts.specs.Stored.Matches.{IsReadLine, IsAcceptedLine}
+use Rattle.getopts.specs.Canon.{Content, IsCountKeeping, content_of, IsPlain}
+use Rattle.getopts.specs.Canon.{canonical_line, IsAcceptedWith}
 use Rattle.getopts.specs.CanonAnswers.{IsWritten, IsUnwritable, IsParseAnswer}
 use Rattle.getopts.specs.CanonAnswers.{IsCanonicalAnswer, IsOrderAnswer, IsOrder, KeepsLineLaws}
-use Rattle.getopts.specs.declared.matches.ReadLine.{ReadLine}
-use Rattle.getopts.proofs.canon.Lines.{is_plain-true, is_plain-false, HasCanonicalLine-says}
-use Rattle.getopts.proofs.canon.Lines.{Says-accepted, IsSound-says, HasUnwritable-content}
-use Rattle.getopts.proofs.canon.Lines.{FitsGroup, FitsGroup-within, IsFitting-reading}
-use Rattle.getopts.proofs.Lists.{AllByRecursion-follows, AllByRecursion-unmap}
-use Rattle.getopts.proofs.counts.Groups.{broken_count}
+use Rattle.getopts.proofs.canon.Lines.{HasCanonicalLine-says}
+use Rattle.getopts.proofs.canon.Lines.{Says-accepted}
+use Rattle.getopts.specs.Results.{first_count_fault}
+use Rattle.getopts.proofs.counts.FirstFault.{first_count_fault-kept, first_count_fault-broken}
 use Rattle.getopts.proofs.Only.{meets}
-use Rattle.getopts.proofs.parse.Parsed.{only_reads, named_here, groups_are, HasReading-reading}
+use Rattle.getopts.proofs.parse.Parsed.{named_here}
 use Rattle.getopts.proofs.scan.Words.{holds_equals-none}
 
 -- a test that finds `=` exactly if it is there
@@ -45,119 +36,11 @@ holds_equals-found text true there at =
 holds_equals-found text false there at =
     sym (holds_equals-none text (λ k within is. true≢false (sym (at k within is))))
 
--- occurrences of groups whose main names contain no `=`
-pub plain-list_all : (groups : List Group) (found : List Occurrence)
-    → list_all (λ o. not (holds_equals (main_at groups o.mention.group))) found ≡ true
-    → AllByRecursion (λ m. holds_equals (main_at groups m.group) ≡ false)
-    (map (λ (o : Occurrence). o.mention) found)
-plain-list_all groups found all =
-    is_plain-true groups (map (λ (o : Occurrence). o.mention) found)
-    (list_all-map (λ m. not (holds_equals (main_at groups m.group)))
-    (λ (o : Occurrence). o.mention) found ∙ all)
-
--- an occurrence of a group whose main name contains `=`
-pub not_plain-list_all : (groups : List Group) (found : List Occurrence)
-    → list_all (λ o. not (holds_equals (main_at groups o.mention.group))) found ≡ false
-    → ¬ (AllByRecursion (λ m. holds_equals (main_at groups m.group) ≡ false)
-    (map (λ (o : Occurrence). o.mention) found))
-not_plain-list_all groups found some =
-    is_plain-false groups (map (λ (o : Occurrence). o.mention) found)
-    (list_all-map (λ m. not (holds_equals (main_at groups m.group)))
-    (λ (o : Occurrence). o.mention) found ∙ some)
-
 -- words are accepted with the content of a reading that keeps the counts
 pub count_keeping : (options : Declared) (words : List Text) (content : Content)
     (is : IsAcceptedWith options words content) → IsCountKeeping options is.reading words
 count_keeping options words content is =
     record { reads = meets (Reads options words) is.reading is.only; keeps = is.counts }
-
--- the matches of a line that was read are those of its reading
-pub HasReading-line : (options : Declared) (words : List Text) (read : ReadLine)
-    → IsReadLine options words read → HasReading options words (record {
-      groups = matched 0 (signatures_of options.groups) read.line.found;
-      free = map string_bytes read.line.free.items;
-      trailing_start = read.line.trailing_start;
-    })
-HasReading-line options words read is =
-    HasReading-reading options is.declared words is.reads.reading is.reads.reads read.line.found
-    is.reads.occurrences
-    (map string_bytes read.line.free.items) read.line.trailing_start is.reads.free is.reads.trailing
-
-module _ (options : Declared) (words : List Text) (accepted : ReadLine)
-    (is : IsAcceptedLine options words accepted) where
-  -- the matches of the line are accepted
-  pub IsAccepted-line : IsAccepted options words (record {
-    groups = matched 0 (signatures_of options.groups) accepted.line.found;
-    free = map string_bytes accepted.line.free.items;
-    trailing_start = accepted.line.trailing_start;
-  })
-  IsAccepted-line = record {
-    read = HasReading-line options words accepted is.is_read;
-    counts = is.keeps;
-  }
-
-  -- its occurrences are of the groups
-  pub groups_within : AllByRecursion (λ o. o.mention.group < length options.groups)
-      accepted.line.found
-  groups_within =
-      let reading = is.is_read.reads.reading in
-      let fits = IsFitting-reading options reading words is.is_read.reads.reads in
-      subst (AllByRecursion (λ o. o.mention.group < length options.groups))
-      (sym is.is_read.reads.occurrences)
-      (AllByRecursion-follows (λ o. FitsGroup options.groups o.mention)
-      (λ o. o.mention.group < length options.groups)
-      (λ o fits. FitsGroup-within options.groups o.mention fits)
-      (occurrences_of (grammar_of options) reading)
-      (AllByRecursion-unmap (FitsGroup options.groups) (λ (o : Occurrence). o.mention)
-      (occurrences_of (grammar_of options) reading) fits))
-
-  -- the words are accepted with the line's content
-  pub IsAcceptedWith-line : IsAcceptedWith options words (line_content accepted.line)
-  IsAcceptedWith-line =
-      let reading = is.is_read.reads.reading in
-      let told : map (λ (o : Occurrence). o.mention) accepted.line.found
-      ≡ mentions_of (grammar_of options) reading =
-      ap (map (λ (o : Occurrence). o.mention)) is.is_read.reads.occurrences in
-      record {
-        reading = reading;
-        only = only_reads options is.is_read.declared words reading is.is_read.reads.reads;
-        counts = subst KeepsCounts
-            (groups_are options is.is_read.declared words reading is.is_read.reads.reads
-            accepted.line.found
-            is.is_read.reads.occurrences) is.keeps;
-        content_is = λ i. record { mentions = told i; free = is.is_read.reads.free i };
-      }
-
-  -- and the line has this content
-  Says-line : Says options words (line_content accepted.line)
-  Says-line = Says-accepted options options.style options.long_only words
-      (line_content accepted.line) IsAcceptedWith-line
-
-  -- if no occurring main name contains `=`, the line is their canonical line
-  pub IsWritten-line : list_all
-      (λ o. not (holds_equals (main_at options.groups o.mention.group))) accepted.line.found ≡ true
-      → (answer : List Text) → answer ≡ canonical_line options.groups (line_content accepted.line)
-      → IsWritten options words answer
-  IsWritten-line plain answer answer_is = record {
-    content = line_content accepted.line;
-    accepted = IsAcceptedWith-line;
-    plain = plain-list_all options.groups accepted.line.found plain;
-    line_is = answer_is;
-  }
-
-  -- otherwise some mention can't be written
-  pub IsUnwritable-line : list_all
-      (λ o. not (holds_equals (main_at options.groups o.mention.group))) accepted.line.found ≡ false
-      → IsUnwritable options words
-  IsUnwritable-line some =
-      let not_plain = not_plain-list_all options.groups accepted.line.found some in
-      record {
-        content = line_content accepted.line;
-        accepted = IsAcceptedWith-line;
-        sound = IsSound-says options words (line_content accepted.line) Says-line;
-        not_plain = not_plain;
-        unwritable = HasUnwritable-content options (line_content accepted.line) not_plain;
-      }
 
 -- answered lines keep their laws
 pub KeepsLineLaws-lawful : (options : Declared) → MayBeDeclared options.groups
@@ -166,42 +49,6 @@ KeepsLineLaws-lawful options declared words line written =
     HasCanonicalLine-says options words written.content declared.named (named_here options declared)
     (Says-accepted options options.style options.long_only words written.content written.accepted)
     written.plain
-
--- a group keeps its count if all do
-KeepsCount-at : (before : List MatchedGroup) (group : MatchedGroup) (after : List MatchedGroup)
-    → KeepsCounts (before ++ group ∷ after) → KeepsCount group
-KeepsCount-at [] group after keeps = keeps.0
-KeepsCount-at (first ∷ before) group after keeps = KeepsCount-at before group after keeps.1
-
--- the first group that breaks its count is one
-first_broken : (before others : List MatchedGroup) (group other : MatchedGroup)
-    (after more : List MatchedGroup) → before ++ group ∷ after ≡ others ++ other ∷ more
-    → KeepsCounts before → ¬ (KeepsCount group) → KeepsCounts others → ¬ (KeepsCount other)
-    → group ≡ other
-first_broken [] [] group other after more same kept broken kept_other broken_other = cc
-first_broken [] (first ∷ others) group other after more same kept broken kept_other broken_other =
-    let is : first ≡ group = cc in absurd (broken (subst KeepsCount is kept_other.0))
-first_broken (first ∷ before) [] group other after more same kept broken kept_other broken_other =
-    let is : first ≡ other = cc in absurd (broken_other (subst KeepsCount is kept.0))
-first_broken (first ∷ before) (second ∷ others) group other after more same
-    kept broken kept_other broken_other =
-    let later : before ++ group ∷ after ≡ others ++ other ∷ more = cc in
-    first_broken before others group other after more later kept.1 broken kept_other.1 broken_other
-
--- groups have one count error
-pub only_count_fault : (groups : List MatchedGroup) (fault other : Fault) → IsCountFault groups fault
-    → IsCountFault groups other → fault ≡ other
-only_count_fault groups fault other is is_other =
-    let group = first_broken is.before is_other.before is.group is_other.group is.after
-    is_other.after
-    (sym is.groups_are ∙ is_other.groups_are) is.kept is.broken is_other.kept is_other.broken in
-    is.fault_is ∙ ap broken_count group ∙ sym is_other.fault_is
-
--- groups that keep their counts have none
-pub no_count_fault : (groups : List MatchedGroup) (fault : Fault) → KeepsCounts groups
-    → IsCountFault groups fault → ⊥
-no_count_fault groups fault keeps is =
-    is.broken (KeepsCount-at is.before is.group is.after (subst KeepsCounts is.groups_are keeps))
 
 -- two results are equal if values are, errors are, and no value has an error beside it
 only_result : {X : Type 0} {Is : X → Type 0} (No : Fault → Type 0)
@@ -244,9 +91,11 @@ module _ (options : Declared) (words : List Text) where
   only_refusal fault other (inr is) (inl is_other) =
       absurd (is_other.no_reading is.read.reading (reads_of is.matches is.read))
   only_refusal fault other (inr is) (inr is_other) =
-      only_count_fault is_other.matches.groups fault other
-      (subst (λ (m : Matched). IsCountFault m.groups fault)
-      (only_matches is.matches is_other.matches is.read is_other.read) is.breaks) is_other.breaks
+      let same = only_matches is.matches is_other.matches is.read is_other.read in
+      let first = first_count_fault-broken is.matches.groups fault is.breaks in
+      let second = first_count_fault-broken is_other.matches.groups other is_other.breaks in
+      let groups = ap (λ (m : Matched). first_count_fault m.groups) same in
+      cc
 
   -- words with a reading that keeps the counts aren't rejected
   pub not_refused : (reading : Reading) (fault : Fault) → IsCountKeeping options reading words
@@ -255,8 +104,10 @@ module _ (options : Declared) (words : List Text) where
   not_refused reading fault keeps (inr is) =
       let same : matches_of options reading ≡ is.matches =
       ap (matches_of options) ((is.read.only reading).0 keeps.reads) ∙ sym is.read.matches_are in
-      no_count_fault is.matches.groups fault
-      (subst (λ (m : Matched). KeepsCounts m.groups) same keeps.keeps) is.breaks
+      let none = first_count_fault-kept (matches_of options reading).groups keeps.keeps in
+      let broken = first_count_fault-broken is.matches.groups fault is.breaks in
+      let groups = ap (λ (m : Matched). first_count_fault m.groups) same in
+      cc
 
   -- words have one error, and none if something was made of a reading that keeps the counts
   pub only_answer : {X : Type 0} {Is : X → Type 0}

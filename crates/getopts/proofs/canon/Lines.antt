@@ -564,7 +564,7 @@ is_plain-true groups (m ∷ ms) plain =
     (is_plain groups ms) plain in
     (not-true (holds_equals (main_at groups m.group)) parts.0, is_plain-true groups ms parts.1)
 
-is_plain-from : (groups : List Group) (mentions : List Mention)
+pub is_plain-from : (groups : List Group) (mentions : List Mention)
     → AllByRecursion (λ m. HasPlainMain groups m.group) mentions → is_plain groups mentions ≡ true
 is_plain-from groups [] plain = refl
 is_plain-from groups (m ∷ ms) plain = rw (plain.0) (is_plain-from groups ms plain.1)

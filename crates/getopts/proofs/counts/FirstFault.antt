@@ -1,15 +1,13 @@
 -- The error of the first group that breaks its count, computed.
-use Rattle.std.proofs.Common.{◌≡◌, ℕ, Bool, true, false, List, [], ◌∷◌, length, arith}
-use Rattle.std.proofs.Common.{Option, Some, None, MatchOption, refl, ap, subst}
-use Rattle.std.specs.Prelude.{if◌then◌else◌}
+use Rattle.std.proofs.Common.{◌≡◌, ℕ, true, false, List, [], ◌∷◌, length, arith}
+use Rattle.std.proofs.Common.{Option, Some, None, MatchOption, refl, ap, inl, inr, ◌++◌}
 use Rattle.std.proofs.lemmas.Bool.Decides.{nat_tests}
-use Rattle.getopts.proofs.Lists.{AllByRecursion-right}
+use Rattle.std.proofs.lemmas.Bool.{cases_Bool}
 use Rattle.getopts.specs.Fail.{Fault}
 use Rattle.getopts.specs.Matches.{MatchedGroup, FitsCount, KeepsCount, KeepsCounts, IsCountFault}
 use Rattle.getopts.specs.declared.groups.Occur.{Occur}
 use Rattle.getopts.specs.declared.groups.Occur.TheVariants.{Req, Optional, Multi}
-pub use Rattle.getopts.specs.Results.{fits_count, first_count_fault}
-use Rattle.getopts.specs.Results.{broken_count}
+use Rattle.getopts.specs.Results.{fits_count, first_count_fault, broken_count}
 
 fits_count-true : (occurrence : Occur) (count : ℕ) → fits_count occurrence count ≡ true
     → FitsCount occurrence count
@@ -41,36 +39,51 @@ HaveFault-more group groups (Some fault) kept is = record {
   fault_is = is.fault_is;
 }
 
--- one more group, which keeps its count or doesn't
-HaveFault-first : (group : MatchedGroup) (groups : List MatchedGroup)
-    → HaveFault groups (first_count_fault groups) → (fits : Bool)
-    → fits_count group.signature.occurrence (length group.found) ≡ fits
-    → HaveFault (group ∷ groups)
-    (if fits then first_count_fault groups else Some (broken_count group))
-HaveFault-first group groups others true fits =
-    HaveFault-more group groups (first_count_fault groups)
-    (fits_count-true group.signature.occurrence (length group.found) fits) others
-HaveFault-first group groups others false breaks = record {
-  before = [];
-  group = group;
-  after = groups;
-  groups_are = refl;
-  kept = tt;
-  broken = fits_count-false group.signature.occurrence (length group.found) breaks;
-  fault_is = refl;
-}
-
 -- the computed error is the groups' error
 pub first_count_fault-is : (groups : List MatchedGroup)
     → HaveFault groups (first_count_fault groups)
 first_count_fault-is [] = tt
-first_count_fault-is (group ∷ groups) = HaveFault-first group groups (first_count_fault-is groups)
-    (fits_count group.signature.occurrence (length group.found)) refl
+first_count_fault-is (group ∷ groups) =
+    elim (cases_Bool (fits_count group.signature.occurrence (length group.found))) [
+      | inl fits ↦ rw fits (HaveFault-more group groups (first_count_fault groups)
+          (fits_count-true _ _ fits) (first_count_fault-is groups))
+      | inr breaks ↦ rw breaks (record {
+        before = [];
+        group = group;
+        after = groups;
+        groups_are = refl;
+        kept = tt;
+        broken = fits_count-false _ _ breaks;
+        fault_is = refl;
+      })
+    ]
 
 -- groups that keep their counts have no error
-pub no_fault : (groups : List MatchedGroup) → KeepsCounts groups → (fault : Option Fault)
-    → HaveFault groups fault → fault ≡ None
-no_fault groups kept None has = refl
-no_fault groups kept (Some fault) has = absurd (has.broken
-    (AllByRecursion-right KeepsCount has.before (has.group ∷ has.after)
-    (subst KeepsCounts has.groups_are kept)).0)
+pub first_count_fault-kept : (groups : List MatchedGroup) → KeepsCounts groups
+    → first_count_fault groups ≡ None
+first_count_fault-kept [] kept = refl
+first_count_fault-kept (group ∷ groups) kept =
+    elim (cases_Bool (fits_count group.signature.occurrence (length group.found))) [
+      | inl fits ↦ rw fits (first_count_fault-kept groups kept.1)
+      | inr breaks ↦ absurd (fits_count-false _ _ breaks kept.0)
+    ]
+
+first_count_fault-at : (before : List MatchedGroup) (group : MatchedGroup)
+    (after : List MatchedGroup) → KeepsCounts before → ¬ (KeepsCount group)
+    → first_count_fault (before ++ group ∷ after) ≡ Some (broken_count group)
+first_count_fault-at [] group after kept broken =
+    elim (cases_Bool (fits_count group.signature.occurrence (length group.found))) [
+      | inl fits ↦ absurd (broken (fits_count-true _ _ fits))
+      | inr breaks ↦ rw breaks refl
+    ]
+first_count_fault-at (first ∷ before) group after kept broken =
+    elim (cases_Bool (fits_count first.signature.occurrence (length first.found))) [
+      | inl fits ↦ rw fits (first_count_fault-at before group after kept.1 broken)
+      | inr breaks ↦ absurd (fits_count-false _ _ breaks kept.0)
+    ]
+
+-- a count error is the computed one
+pub first_count_fault-broken : (groups : List MatchedGroup) (fault : Fault)
+    → IsCountFault groups fault → first_count_fault groups ≡ Some fault
+first_count_fault-broken groups fault is = rw (is.groups_are, is.fault_is)
+    (first_count_fault-at is.before is.group is.after is.kept is.broken)

@@ -1,15 +1,16 @@
 -- For options with valid names: a reading is the only reading, a scan error the only scan error,
 -- and `parse` returns them.
-use Rattle.std.proofs.Common.{◌≡◌, ℕ, List, length, Option, ap, sym, subst}
+use Rattle.std.proofs.Common.{List, length, map, refl, ap, sym, subst}
+use Rattle.std.proofs.lemmas.List.{length-map}
 use Rattle.getopts.specs.Only.{IsTheOnly}
 use Rattle.getopts.specs.Names.{Text, AreTexts}
 use Rattle.getopts.specs.Options.{Declared, MayBeDeclared, signatures_of, grammar_of}
 use Rattle.getopts.specs.Fail.{Fault}
-use Rattle.getopts.specs.Reading.{Reading, IsReading, IsScanFault, Occurrence, occurrences_of}
-use Rattle.getopts.specs.Reading.{free_words, trailing_start}
-use Rattle.getopts.specs.Matches.{Matched, matched, matches_of}
+use Rattle.getopts.specs.Reading.{Reading, IsScanFault}
+use Rattle.getopts.specs.Matches.{Matched, matches_of}
 use Rattle.getopts.specs.ReadingLaws.{HavePositionsInOrder, HavePositionsBelow}
-use Rattle.getopts.specs.Parse.{Reads, HasReading, HasNoReading, KeepsReadingLaws}
+use Rattle.getopts.specs.Canon.{IsCountKeeping}
+use Rattle.getopts.specs.Parse.{Reads, HasReading, HasNoReading, IsAccepted, KeepsReadingLaws}
 use Rattle.getopts.proofs.table.Names.{named_grammar}
 use Rattle.getopts.proofs.Only.{IsTheOnly-from, meets}
 use Rattle.getopts.proofs.Reading.Laws.{LongAttachedOrSeparate_lem, ShortAttachedOrSeparate_lem}
@@ -44,32 +45,17 @@ module _ (options : Declared) (declared : MayBeDeclared options.groups) where
           texts fault_is reads;
     }
 
-    module _ (reading : Reading) (reads : IsReading (grammar_of options) reading words)
-        (occurrences : List Occurrence)
-        (occurrences_are : occurrences ≡ occurrences_of (grammar_of options) reading) where
-      -- the matched groups of the reading
-      pub groups_are : matched 0 (signatures_of options.groups) occurrences
-          ≡ (matches_of options reading).groups
-      groups_are = ap (matched 0 (signatures_of options.groups)) occurrences_are
+    -- words with a reading have its matches
+    pub HasReading-reading : (reading : Reading) → Reads options words reading
+        → HasReading options words (matches_of options reading)
+    HasReading-reading reading reads =
+        record { reading = reading; only = only_reads reading reads; matches_are = refl }
 
-      -- words with a reading have its matches
-      pub HasReading-reading : (frees : List Text) (trailing : Option ℕ)
-          → frees ≡ free_words reading → trailing ≡ trailing_start reading
-          → HasReading options words
-          (record {
-            groups = matched 0 (signatures_of options.groups) occurrences;
-            free = frees;
-            trailing_start = trailing;
-          })
-      HasReading-reading frees trailing free_are trailing_is = record {
-        reading = reading;
-        only = only_reads reading reads;
-        matches_are = λ i. record {
-          groups = groups_are i;
-          free = free_are i;
-          trailing_start = trailing_is i;
-        };
-      }
+    -- and are accepted with them if the reading keeps the counts
+    pub IsAccepted-reading : (reading : Reading) → IsCountKeeping options reading words
+        → IsAccepted options words (matches_of options reading)
+    IsAccepted-reading reading is =
+        record { read = HasReading-reading reading is.reads; counts = is.keeps }
 
   -- readings obey the laws
   pub keeps_laws : KeepsReadingLaws (grammar_of options)
@@ -95,9 +81,10 @@ HavePositionsInOrder-read options words matches has =
     (HavePositionsInOrder-matched (grammar_of options) has.reading 0 (signatures_of options.groups))
 
 -- positions are below the number of words
-pub positions_below-read : (options : Declared) (words : List Text) (matches : Matched)
-    → HasReading options words matches → HavePositionsBelow (length words) matches.groups
-positions_below-read options words matches has =
+pub positions_below-read : {X : Type 0} (text : X → Text) (words : List X) (options : Declared)
+    (matches : Matched) → HasReading options (map text words) matches
+    → HavePositionsBelow (length words) matches.groups
+positions_below-read text words options matches has =
     subst (HavePositionsBelow (length words)) (ap (λ (m : Matched). m.groups) (sym has.matches_are))
-    (HavePositionsBelow-matched (grammar_of options) has.reading words
-    (meets (Reads options words) has.reading has.only) 0 (signatures_of options.groups))
+    (rw length-map at (HavePositionsBelow-matched (grammar_of options) has.reading (map text words)
+    (meets (Reads options (map text words)) has.reading has.only) 0 (signatures_of options.groups)))

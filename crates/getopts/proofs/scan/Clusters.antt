@@ -13,6 +13,7 @@ use Rattle.getopts.specs.Step.{chosen_end, chosen_step, byte_step, cluster_step,
 use Rattle.getopts.specs.declared.groups.HasArg.{HasArg}
 use Rattle.getopts.specs.declared.groups.HasArg.TheVariants.{No}
 use Rattle.getopts.proofs.Reading.Steps.{byte_step-end}
+use Rattle.getopts.proofs.scan.Items.{length-argument}
 
 -- the occurrences of flags, all at one position
 abbrev pub flag_occurrences : Grammar → ℕ → List ℕ → List Occurrence
@@ -52,6 +53,7 @@ module _ {grammar : Grammar} {position : ℕ} {text : Text} {after : List Text} 
     argument = none;
     step_is = before.step_is ∙ rw (take_all at text past, drop_all at text past) refl;
     used_is = refl;
+    counted = refl;
     no_free = refl;
     added = before.added ∙ ap (λ bytes. old ++ flag_occurrences grammar position bytes)
         (take_all at text past);
@@ -122,6 +124,7 @@ module _ {grammar : Grammar} {position : ℕ} {text : Text} {after : List Text} 
           ∙ ap (chosen_step (λ a. cluster (take at text) (ends_in (slice_index text at) a)))
           chooses.chosen_is;
       used_is = chooses.used_is;
+      counted = rw chooses.used_is (length-argument [] chooses.argument);
       no_free = refl;
       added = occurrences_more newer group value place pushed ∙ rw chooses.value_is refl;
     }

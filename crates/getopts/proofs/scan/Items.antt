@@ -1,9 +1,9 @@
 -- The option that begins with a word in long form, by its name, its kind and its argument.
-use Rattle.std.proofs.Common.{map, ◌≡◌, ℕ, false, List, [], ◌∷◌, ◌++◌, length, drop, Option, Some, None}
+use Rattle.std.proofs.Common.{map, ◌≡◌, ◌+◌, ℕ, false, List, [], ◌∷◌, ◌++◌, length, drop, Option, Some, None}
 use Rattle.std.proofs.Common.{Ok, refl, ap, ◌∙◌, slice_get}
 use Rattle.getopts.specs.Names.{Text}
 use Rattle.getopts.specs.Options.{Grammar}
-use Rattle.getopts.specs.Reading.{Argument, none, attached, Dashes, long, argument_words}
+use Rattle.getopts.specs.Reading.{Argument, none, attached, separate, Dashes, long, argument_words}
 use Rattle.getopts.specs.Reading.{value_of, holds_equals, Occurrence, at_position}
 use Rattle.getopts.specs.Fail.{Fault, IsOutOfMemoryOr}
 use Rattle.getopts.specs.Step.{with_equals, faults, chosen_long, chosen_step}
@@ -23,6 +23,13 @@ Chooses-ok argument = record {
   value_is = refl;
   used_is = refl;
 }
+
+-- an item of one word and its argument's has one word more than the argument
+pub length-argument : (word : Text) (argument : Argument)
+    → length ((word ∷ argument_words argument) ++ []) ≡ 1 + length (argument_words argument)
+length-argument word none = refl
+length-argument word (attached text) = refl
+length-argument word (separate text) = refl
 
 -- an option that may have an argument takes an attached one
 pub Chooses-maybe : (name : Text) (value : Option Text) (after : List Text)
@@ -62,6 +69,7 @@ module _ (grammar : Grammar) (dashes : Dashes) (text name : Text) (argument : Op
     step_is = long_step-named (Some kind) kind_is
         ∙ ap (chosen_step (λ a. long dashes name a)) chooses.chosen_is;
     used_is = chooses.used_is;
+    counted = rw chooses.used_is (length-argument [] chooses.argument);
     no_free = refl;
     added = added ∙ rw (place_is, chooses.value_is) refl;
   }

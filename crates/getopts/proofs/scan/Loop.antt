@@ -1,80 +1,81 @@
--- A line that was read up to a place: its items so far, one more item, and all ways in which it
--- continues.
-use Rattle.std.proofs.Common.{Err, drop-cons, ◌≡◌, ◌≤◌, ◌+◌, ℕ, List, [], ◌∷◌, ◌++◌, length}
-use Rattle.std.proofs.Common.{map, drop, refl, ap, ◌∙◌, sym, subst, append_assoc, arith, add-one}
-use Rattle.std.proofs.Common.{zero-add, false, add-zero, suc, not, eqb, Ok}
+-- A line that was read up to a place: what it has so far, one more item, and all ways in which it
+-- ends.
+use Rattle.std.proofs.Common.{Err, ◌≡◌, ◌+◌, ◌-◌, ◌<◌, ℕ, List, [], ◌∷◌, ◌++◌, length}
+use Rattle.std.proofs.Common.{map, drop, refl, ap, ◌∙◌, sym, append_assoc, arith, take, get_or}
+use Rattle.std.proofs.Common.{false, add-zero, suc, not, eqb, Ok, Option, Result}
 use Rattle.std.specs.Bool.{then_some}
-use Rattle.std.proofs.Math.Seq.{drop-append_seam}
-use Rattle.std.proofs.lemmas.List.{drop-map, append-nil, length-append, length-map, length-drop}
+use Rattle.std.specs.String.{string_bytes}
+use Rattle.std.proofs.lemmas.List.{drop-map, append-nil, drop_more, take_rest}
 use Rattle.std.proofs.lemmas.Bool.Decides.{nat_tests}
-use Rattle.std.proofs.lemmas.Option.{slice_get_within, get_or_from_slice_get}
-use Rattle.std.specs.Prelude.{slice_get, Some}
-use Rattle.getopts.specs.Names.{Text, AreTexts}
+use Rattle.getopts.specs.Names.{Text}
 use Rattle.getopts.specs.Options.{Grammar}
-use Rattle.getopts.specs.Fail.{IsOutOfMemoryOr}
-use Rattle.getopts.specs.Reading.{is_dashed, stop_word, Argument, none, Item, free}
-use Rattle.getopts.specs.Reading.{argument_words, item_words, Occurrence, at_position, word_count}
+use Rattle.getopts.specs.Fail.{Fault}
+use Rattle.getopts.specs.Reading.{is_dashed, stop_word, Argument, none, Item, free, Reading}
+use Rattle.getopts.specs.Reading.{argument_words, Occurrence, at_position, word_count}
 use Rattle.getopts.specs.Reading.{occurrences_after, mentions, free_items, Tail, stop, rest}
-use Rattle.getopts.specs.Reading.{trailing_after, IsReading, IsScanFault}
-use Rattle.getopts.specs.Step.{Step, ends, takes, faults, AddsItem}
-use Rattle.getopts.specs.declared.fail.Fail.{Fail}
+use Rattle.getopts.specs.Reading.{tail_frees, trailing_after}
+use Rattle.getopts.specs.Results.{made_of}
+use Rattle.getopts.specs.Step.{Step, takes, faults, AddsItem}
+use Rattle.getopts.specs.Stored.Scan.{GivesLine}
+use Rattle.getopts.specs.declared.scan.Line.{Line}
 use Rattle.getopts.specs.declared.groups.ParsingStyle.TheVariants.{FloatingFrees, StopAtFirstFree}
 use Rattle.getopts.proofs.Lists.{drop_past}
-use Rattle.getopts.proofs.Weaker.{IsOutOfMemoryOr-weaker}
 use Rattle.getopts.proofs.Reading.Laws.{free_items-append}
-use Rattle.getopts.proofs.Reading.Positions.{word_count-cons, length-spelled_all}
-use Rattle.getopts.proofs.Reading.Reader.{IsNamed, step, with_items, read}
-use Rattle.getopts.proofs.Reading.Readings.{spelled_all-joined, read_item, read_tail, read_error}
-use Rattle.getopts.proofs.Reading.Readings.{with_items-none, with_items-append, read_sound}
-use Rattle.getopts.proofs.Reading.Steps.{IsSoundStep, step_sound, step_free, step_stop}
+use Rattle.getopts.proofs.Reading.Reader.{step, with_items, read}
+use Rattle.getopts.proofs.Reading.Readings.{read_item, read_tail, read_error, made_of-ok}
+use Rattle.getopts.proofs.Reading.Readings.{made_of-err}
+use Rattle.getopts.proofs.Reading.Steps.{step_free, step_stop}
 
--- Items were read up to this place, with these occurrences and free words.
-pub record ReadSoFar (grammar : Grammar) (words : List Text) (at : ℕ)
-    (occurrences : List Occurrence) (frees : List Text) : Type 0 where
-  pub items : List Item
-  pub reads : read grammar words ≡ with_items items (read grammar (drop at words))
-  pub place : at ≡ word_count items
-  pub occurrences_are : occurrences ≡ occurrences_after 0 grammar items
-  pub free_are : frees ≡ free_items items
+-- what a line has: its occurrences, its free words, and where those after a stop begin
+record Parts : Type 0 where
+  pub found : List Occurrence
+  pub free : List Text
+  pub trailing_start : Option ℕ
 
--- the occurrences of items and of one more
-occurrences_after-push : (before : ℕ) (grammar : Grammar) (items : List Item) (item : Item)
-    → occurrences_after before grammar (items ++ item ∷ [])
-    ≡ occurrences_after before grammar items
-    ++ map (at_position (before + word_count items)) (mentions grammar item)
-occurrences_after-push before grammar [] item = simp (append-nil, add-zero)
-occurrences_after-push before grammar (first ∷ items) item =
-    let later : before + word_count (first ∷ []) + word_count items
-    ≡ before + word_count (first ∷ items) =
-    omega (arith, word_count-cons first items) in
-    rw (
-      occurrences_after-push (before + word_count (first ∷ [])) grammar items item,
-      later,
-      append_assoc,
-    ) refl
-
--- at the start no item was read
-pub ReadSoFar-none : (grammar : Grammar) (words : List Text) → ReadSoFar grammar words 0 [] []
-ReadSoFar-none grammar words = record {
-  items = [];
-  reads = with_items-none (read grammar words);
-  place = refl;
-  occurrences_are = refl;
-  free_are = refl;
+-- what a line has that ends in a tail, after these occurrences and free words
+abbrev with_tail : List Occurrence → List Text → Tail → Parts
+with_tail found frees tail = record {
+  found = found;
+  free = frees ++ tail_frees tail;
+  trailing_start = trailing_after (length frees) tail;
 }
 
--- the rest of borrowed words from a place on is the word there, and the others
-pub texts_from : {X : Type 0} (text : X → Text) (words : List X) (word : X) (at : ℕ)
-    → slice_get words at ≡ Some word
-    → drop at (map text words) ≡ text word ∷ map text (drop (at + 1) words)
-texts_from text words word at there =
-    let within = slice_get_within words at word there in
-    rw (
-      drop-map text at words,
-      add-one,
-      drop-cons words at word within,
-      get_or_from_slice_get words at word word there,
-    ) refl
+-- what a line has, by a reading of the words after this place
+abbrev with_reading : Grammar → ℕ → List Occurrence → List Text → Reading → Parts
+with_reading grammar at found frees reading =
+    with_tail (found ++ occurrences_after at grammar reading.items)
+    (frees ++ free_items reading.items) reading.tail
+
+-- Reading the words gives these occurrences and free words, and then what reading the words from
+-- this place on gives.
+pub record ReadSoFar (grammar : Grammar) (words : List Text) (at : ℕ) (found : List Occurrence)
+    (frees : List Text) : Type 0 where
+  pub left : made_of (with_reading grammar 0 [] []) (read grammar words)
+      ≡ made_of (with_reading grammar at found frees) (read grammar (drop at words))
+
+-- an item in front of an outcome
+with_reading-item : (grammar : Grammar) (at : ℕ) (found : List Occurrence) (frees : List Text)
+    (item : Item) (outcome : Result Reading Fault)
+    → made_of (with_reading grammar at found frees) (with_items (item ∷ []) outcome)
+    ≡ made_of (with_reading grammar (at + word_count (item ∷ []))
+    (found ++ map (at_position at) (mentions grammar item)) (frees ++ free_items (item ∷ [])))
+    outcome
+with_reading-item grammar at found frees item (Err fault) = refl
+with_reading-item grammar at found frees item (Ok reading) =
+    let founds = sym (append_assoc found (map (at_position at) (mentions grammar item))
+    (occurrences_after (at + word_count (item ∷ [])) grammar reading.items)) in
+    let freed = ap (λ (fs : List Text). frees ++ fs) (free_items-append (item ∷ []) reading.items)
+    ∙ sym (append_assoc frees (free_items (item ∷ [])) (free_items reading.items)) in
+    λ i. Ok (with_tail (founds i) (freed i) reading.tail)
+
+-- the rest of borrowed words from a place on is the word there, and the slice of the others
+pub texts_from : {X : Type 0} (text : X → Text) (words : List X) (at : ℕ) (here : X) (word : Text)
+    → at < length words → here ≡ get_or words at here → word ≡ text here
+    → drop at (map text words)
+    ≡ word ∷ map text (take (length words - (at + 1)) (drop (at + 1) words))
+texts_from text words at here word within there is = rw (is, take_rest words (at + 1))
+    (drop-map text at words ∙ ap (map text) (drop_more words at here within)
+    ∙ ap (λ x. text x ∷ map text (drop (at + 1) words)) (sym there))
 
 -- the start of the words after a stop
 pub trailing_after-stop : {X : Type 0} (text : X → Text) (start : ℕ) (words : List X)
@@ -84,143 +85,79 @@ trailing_after-stop text start (word ∷ words) =
     let some : eqb (suc (length words)) 0 ≡ false = grind (arith, nat_tests) in
     rw some refl
 
--- there are as many texts as words
-pub length-texts : {X : Type 0} (text : X → Text) (words : List X)
-    → length (map text words) ≡ length words
-length-texts text words = simp length-map
-
--- A line of borrowed words that was read up to a place.
-module _ {grammar : Grammar} (named : IsNamed grammar) {X : Type 0} (text : X → Text)
-    (words : List X)
-    (are_texts : AreTexts (map text words)) {at : ℕ} {occurrences : List Occurrence} {frees : List Text}
-    (before : ReadSoFar grammar (map text words) at occurrences frees) where
+-- A line that was read up to a place.
+module _ {grammar : Grammar} {words : List Text} {at : ℕ} {found : List Occurrence}
+    {frees : List Text} (before : ReadSoFar grammar words at found frees) where
   -- the rest is a tail
-  pub IsReading-tail : (tail : Tail)
-      → read grammar (drop at (map text words)) ≡ Ok (record { items = []; tail = tail })
-      → IsReading grammar (record { items = before.items; tail = tail }) (map text words)
-  IsReading-tail tail left = read_sound grammar named (map text words) are_texts
-      (Ok (record { items = before.items; tail = tail }))
-      (before.reads ∙ ap (with_items before.items) left ∙ rw append-nil refl)
+  pub GivesLine-tail : (line : Line) (tail : Tail)
+      → read grammar (drop at words) ≡ Ok (record { items = []; tail = tail })
+      → line.found ≡ found → map string_bytes line.free.items ≡ frees ++ tail_frees tail
+      → line.trailing_start ≡ trailing_after (length frees) tail
+      → GivesLine grammar (read grammar words) line
+  GivesLine-tail line tail left founds freed trailing =
+      let made = made_of-ok (with_reading grammar 0 [] []) (read grammar words)
+      (with_tail found frees tail)
+      (before.left ∙ ap (made_of (with_reading grammar at found frees)) left
+      ∙ rw (append-nil found, append-nil frees) refl) in
+      record {
+        reading = made.0;
+        outcome_is = made.1;
+        occurrences = founds ∙ ap (λ (p : Parts). p.found) (sym made.2);
+        free = freed ∙ ap (λ (p : Parts). p.free) (sym made.2);
+        trailing = trailing ∙ ap (λ (p : Parts). p.trailing_start) (sym made.2);
+      }
 
   -- There is a word.
-  module _ (d : X) (there : slice_get words at ≡ Some d) where
+  module _ (word : Text) (after : List Text) (left : drop at words ≡ word ∷ after) where
     -- an item that it begins
-    ReadSoFar-item : (item : Item) (argument : Argument) (newer : List Occurrence)
-        (new_frees : List Text)
-        → step grammar (text d) (map text (drop (at + 1) words)) ≡ takes item argument
-        → newer ≡ occurrences ++ map (at_position at) (mentions grammar item)
+    ReadSoFar-item : (item : Item) (argument : Argument) (used : ℕ) (newer : List Occurrence)
+        (new_frees : List Text) → step grammar word after ≡ takes item argument
+        → used ≡ length (argument_words argument) → word_count (item ∷ []) ≡ 1 + used
+        → newer ≡ found ++ map (at_position at) (mentions grammar item)
         → new_frees ≡ frees ++ free_items (item ∷ [])
-        → ReadSoFar grammar (map text words) (at + 1 + length (argument_words argument)) newer
-        new_frees
-    ReadSoFar-item item argument newer new_frees said added freed =
-        let word = text d in
-        let after = map text (drop (at + 1) words) in
-        let left = texts_from text words d at there in
-        let used = argument_words argument in
-        let sound : IsSoundStep grammar word after (takes item argument) =
-        subst (IsSoundStep grammar word after) said (step_sound grammar named word after) in
-        let next : drop (at + 1 + length used) (map text words) ≡ sound.0 =
-        drop_past (map text words) after word at (length used) left ∙ ap (drop (length used)) sound.1
-        ∙ drop-append_seam used sound.0 in
-        record {
-          items = before.items ++ item ∷ [];
-          reads = before.reads ∙ rw (
-            left,
-            read_item grammar word after item argument sound.0 said sound.1,
-            next,
-            with_items-append before.items (item ∷ []) (read grammar sound.0),
-          ) refl;
-          place = omega (
-            arith,
-            ap length (spelled_all-joined before.items (item ∷ []) []),
-            length-spelled_all before.items (item_words item ++ []),
-            ap length sound.1,
-            ap length sound.2.spells,
-            length-append {A = Text},
-          );
-          occurrences_are =
-              rw (
-                added,
-                before.occurrences_are,
-                occurrences_after-push 0 grammar before.items item,
-                zero-add,
-                ← before.place,
-              ) refl;
-          free_are = rw (freed, before.free_are, free_items-append before.items (item ∷ [])) refl;
-        }
+        → ReadSoFar grammar words (at + 1 + used) newer new_frees
+    ReadSoFar-item item argument used newer new_frees said used_is counted added freed = record {
+      left = before.left
+          ∙ ap (made_of (with_reading grammar at found frees))
+          (ap (read grammar) left ∙ read_item grammar word after item argument said)
+          ∙ with_reading-item grammar at found frees item _
+          ∙ (let place : at + word_count (item ∷ []) ≡ at + 1 + used = omega (arith, counted) in
+          rw (place, ← used_is, ← added, ← freed, drop_past words after word at used left) refl);
+    }
 
     -- a free word
-    pub ReadSoFar-free : (new_frees : List Text) → is_dashed (text d) ≡ false
-        → grammar.style ≡ FloatingFrees → new_frees ≡ frees ++ text d ∷ []
-        → ReadSoFar grammar (map text words) (at + 1) occurrences new_frees
-    ReadSoFar-free new_frees plain floating pushed =
-        subst (λ (next : ℕ). ReadSoFar grammar (map text words) next occurrences new_frees)
-        (add-zero (at + 1))
-        (ReadSoFar-item (free (text d)) none occurrences new_frees
-        (step_free grammar (text d) (map text (drop (at + 1) words)) plain
-        ∙ rw floating refl)
-        (sym (append-nil occurrences)) pushed)
+    pub ReadSoFar-free : (new_frees : List Text) → is_dashed word ≡ false
+        → grammar.style ≡ FloatingFrees → new_frees ≡ frees ++ word ∷ []
+        → ReadSoFar grammar words (at + 1) found new_frees
+    ReadSoFar-free new_frees plain floating pushed = rw add-zero at
+        (ReadSoFar-item (free word) none 0 found new_frees
+        (step_free grammar word after plain ∙ rw floating refl) refl refl (sym (append-nil found))
+        pushed)
 
     -- an item that a dashed word begins
     pub ReadSoFar-added : (said : Step) (used : ℕ) (newer : List Occurrence)
-        → step grammar (text d) (map text (drop (at + 1) words)) ≡ said
-        → AddsItem grammar said at used occurrences newer
-        → ReadSoFar grammar (map text words) (at + 1 + used) newer frees
-    ReadSoFar-added said used newer is adds = rw adds.used_is
-        (ReadSoFar-item adds.item adds.argument newer frees (is ∙ adds.step_is) adds.added
-        (sym (append-nil frees) ∙ ap (λ (ws : List Text). frees ++ ws) (sym adds.no_free)))
-
-    -- the words that the item takes are there
-    pub used-within : (said : Step) (used : ℕ) (newer : List Occurrence)
-        → step grammar (text d) (map text (drop (at + 1) words)) ≡ said
-        → AddsItem grammar said at used occurrences newer → at + 1 + used ≤ length words
-    used-within said used newer is adds =
-        let word = text d in
-        let after = map text (drop (at + 1) words) in
-        let sound : IsSoundStep grammar word after (takes adds.item adds.argument) =
-        subst (IsSoundStep grammar word after) (is ∙ adds.step_is)
-        (step_sound grammar named word after) in
-        omega (
-          arith,
-          adds.used_is,
-          slice_get_within words at d there,
-          ap length sound.1,
-          length-append {A = Text},
-          length-map (drop (at + 1) words) text,
-          length-drop (at + 1) words,
-        )
-
-    -- the tail of the line
-    IsReading-ends : (tail : Tail)
-        → step grammar (text d) (map text (drop (at + 1) words)) ≡ ends tail
-        → IsReading grammar (record { items = before.items; tail = tail }) (map text words)
-    IsReading-ends tail said = IsReading-tail tail
-        (ap (read grammar) (texts_from text words d at there) ∙ read_tail grammar _ _ tail said)
+        → step grammar word after ≡ said → AddsItem grammar said at used found newer
+        → ReadSoFar grammar words (at + 1 + used) newer frees
+    ReadSoFar-added said used newer is adds =
+        ReadSoFar-item adds.item adds.argument used newer frees (is ∙ adds.step_is) adds.used_is
+        adds.counted adds.added
+        (sym (append-nil frees) ∙ ap (λ (ws : List Text). frees ++ ws) (sym adds.no_free))
 
     -- the rest, from a free word on
-    pub IsReading-rest : is_dashed (text d) ≡ false → grammar.style ≡ StopAtFirstFree
-        → IsReading grammar (record { items = before.items; tail = rest (drop at (map text words)) })
-        (map text words)
-    IsReading-rest plain stops = IsReading-ends (rest (drop at (map text words)))
-        (step_free grammar (text d) (map text (drop (at + 1) words)) plain
-        ∙ rw (stops, texts_from text words d at there) refl)
+    pub read-rest : is_dashed word ≡ false → grammar.style ≡ StopAtFirstFree
+        → read grammar (drop at words) ≡ Ok (record { items = []; tail = rest (drop at words) })
+    read-rest plain stops = rw left (read_tail grammar word after (rest (word ∷ after))
+        (step_free grammar word after plain ∙ rw stops refl))
 
     -- the stop, and the words after it
-    pub IsReading-stop : text d ≡ stop_word
-        → IsReading grammar
-        (record { items = before.items; tail = stop (map text (drop (at + 1) words)) }) (map text words)
-    IsReading-stop stops = IsReading-ends (stop (map text (drop (at + 1) words)))
-        (ap (λ (w : Text). step grammar w (map text (drop (at + 1) words))) stops
-        ∙ step_stop grammar (map text (drop (at + 1) words)))
+    pub read-stop : word ≡ stop_word
+        → read grammar (drop at words) ≡ Ok (record { items = []; tail = stop after })
+    read-stop stops = ap (read grammar) left ∙ read_tail grammar word after _
+        (ap (λ (w : Text). step grammar w after) stops ∙ step_stop grammar after)
 
-    -- a `Fail` with the error of the word there
-    pub IsOutOfMemoryOr-word : (said : Step) (fail : Fail)
-        → step grammar (text d) (map text (drop (at + 1) words)) ≡ said
-        → IsOutOfMemoryOr fail (λ fault. said ≡ faults fault)
-        → IsOutOfMemoryOr fail (IsScanFault grammar (map text words))
-    IsOutOfMemoryOr-word said fail is told =
-        IsOutOfMemoryOr-weaker fail (λ fault. said ≡ faults fault) (IsScanFault grammar (map text words)) told
-        (λ fault fails. read_sound grammar named (map text words) are_texts (Err fault)
-        (before.reads ∙ ap (with_items before.items)
-        (ap (read grammar) (texts_from text words d at there)
-        ∙ read_error grammar _ _ fault (is ∙ fails))))
+    -- an error
+    pub read-fault : (said : Step) → step grammar word after ≡ said → (fault : Fault)
+        → said ≡ faults fault → read grammar words ≡ Err fault
+    read-fault said is fault fails = made_of-err _ (read grammar words) fault
+        (before.left ∙ ap (made_of (with_reading grammar at found frees))
+        (ap (read grammar) left ∙ read_error grammar word after fault (is ∙ fails)))

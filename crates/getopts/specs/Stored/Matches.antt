@@ -1,12 +1,13 @@
 -- What the code stores after parsing: the command line that was read, with the table of names and
 -- the index of its occurrences by group; and the groups with their occurrences.
-use Rattle.std.specs.Prelude.{◌≡◌, List, length}
-use Rattle.getopts.specs.Names.{Text}
-use Rattle.getopts.specs.Options.{Signature, Declared, MayBeDeclared, signatures_of, grammar_of}
-use Rattle.getopts.specs.Matches.{MatchedGroup, matched, KeepsCounts}
+use Rattle.std.specs.Prelude.{◌≡◌, List, length, Result}
+use Rattle.getopts.specs.Fail.{Fault}
+use Rattle.getopts.specs.Options.{Signature, Declared, signatures_of, grammar_of}
+use Rattle.getopts.specs.Matches.{MatchedGroup, matched}
+use Rattle.getopts.specs.Reading.{Reading}
 use Rattle.getopts.specs.Stored.Groups.{names_in}
 use Rattle.getopts.specs.Stored.Index.{index_of}
-use Rattle.getopts.specs.Stored.Scan.{ReadsLine}
+use Rattle.getopts.specs.Stored.Scan.{GivesLine}
 use Rattle.getopts.specs.Stored.Table.{IsTableOf}
 use Rattle.getopts.specs.declared.matches.MatchedGroups.TheInside.{Inside}
 use Rattle.getopts.specs.declared.matches.ReadLine.{ReadLine}
@@ -16,16 +17,11 @@ pub record IsOfSignatures (signatures : List Signature) (read : ReadLine) : Type
   pub table : IsTableOf (names_in signatures) read.table
   pub index : read.index ≡ index_of (length signatures) read.line.found
 
--- The words were read as this line, by options that may be declared.
-pub record IsReadLine (options : Declared) (words : List Text) (read : ReadLine) : Type 0 where
-  pub declared : MayBeDeclared options.groups
+-- The outcome is a reading that gives this line, with the table and the index of the options.
+pub record IsReadLine (options : Declared) (outcome : Result Reading Fault) (read : ReadLine)
+    : Type 0 where
   pub of_groups : IsOfSignatures (signatures_of options.groups) read
-  pub reads : ReadsLine (grammar_of options) words read.line
-
--- The words were read as this line, and it keeps the counts.
-pub record IsAcceptedLine (options : Declared) (words : List Text) (read : ReadLine) : Type 0 where
-  pub is_read : IsReadLine options words read
-  pub keeps : KeepsCounts (matched 0 (signatures_of options.groups) read.line.found)
+  pub gives : GivesLine (grammar_of options) outcome read.line
 
 -- the groups, each with its occurrences
 abbrev pub matched_view : Inside → List MatchedGroup

@@ -1,11 +1,12 @@
 -- What the functions of `scan` find in the words that they are given.
-use Rattle.std.specs.Prelude.{◌≡◌, false, None, Some, List, [], map}
+use Rattle.std.specs.Prelude.{◌≡◌, false, None, Some, [], map, Result, Ok}
 use Rattle.std.specs.String.{string_bytes}
 use Rattle.getopts.specs.Names.{Text}
 use Rattle.getopts.specs.Options.{Grammar, MayBeDeclared, names_of, grammar_of}
 use Rattle.getopts.specs.Stored.Table.{IsTableOf}
 use Rattle.getopts.specs.Canon.{Content}
-use Rattle.getopts.specs.Reading.{Dashes, is_dashed, stop_word, Reading, IsReading}
+use Rattle.getopts.specs.Fail.{Fault}
+use Rattle.getopts.specs.Reading.{Dashes, is_dashed, stop_word, Reading}
 use Rattle.getopts.specs.Reading.{occurrences_of, free_words, trailing_start}
 use Rattle.getopts.specs.Step.{IsInLongForm, IsShortForm}
 use Rattle.getopts.specs.declared.scan.Line.{Line}
@@ -36,10 +37,11 @@ HasShape grammar word (shape.Long text) =
     (dashes : Dashes) × IsInLongForm grammar dashes word text.now
 HasShape grammar word (shape.Cluster text) = IsShortForm grammar word text.now
 
--- The words have a reading, and the line is what it gives.
-pub record ReadsLine (grammar : Grammar) (words : List Text) (line : Line) : Type 0 where
+-- The outcome is a reading, and the line is what it gives.
+pub record GivesLine (grammar : Grammar) (outcome : Result Reading Fault) (line : Line)
+    : Type 0 where
   pub reading : Reading
-  pub reads : IsReading grammar reading words
+  pub outcome_is : outcome ≡ Ok reading
   pub occurrences : line.found ≡ occurrences_of grammar reading
   pub free : map string_bytes line.free.items ≡ free_words reading
   pub trailing : line.trailing_start ≡ trailing_start reading

@@ -1,10 +1,8 @@
--- The groups before this place keep their counts, if the index is that of their occurrences.
-use Rattle.std.proofs.Common.{◌≡◌, List, length, take}
-use Rattle.getopts.specs.Matches.{matched, KeepsCounts}
-use Rattle.getopts.specs.Reading.{Occurrence}
-use Rattle.getopts.specs.Stored.Index.{index_of}
+-- The groups before this place keep their counts, so the first that doesn't is among the others.
+use Rattle.std.proofs.Common.{◌≡◌, drop}
+use Rattle.getopts.specs.Stored.Index.{count_in, first_wrong}
 use Rattle.getopts.proofs.counts.check_counts.Given as goal
 
 abbrev pub invariant-loop-place : goal.invariant-loop-place
-invariant-loop-place l = (found : List Occurrence) → l.index ≡ index_of (length l.signatures) found
-    → KeepsCounts (take l.place (matched 0 l.signatures found))
+invariant-loop-place l = first_wrong 0 l.signatures (count_in l.index)
+    ≡ first_wrong l.place (drop l.place l.signatures) (count_in l.index)

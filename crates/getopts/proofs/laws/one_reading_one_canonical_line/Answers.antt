@@ -2,11 +2,11 @@
 use Rattle.getopts.specs.Canon.{with_setting}
 use Rattle.getopts.proofs.MainTheorem.SameContent.{OneContentHoldsSame_lem, LinesReadAgain_lem}
 use Rattle.getopts.proofs.MainTheorem.Results.{HasResults-declared}
-use Rattle.getopts.proofs.canon.Lines.{IsSound-says}
-use Rattle.getopts.proofs.parse.Parsed.{keeps_laws}
+use Rattle.getopts.proofs.canon.Lines.{IsSound-says, HasCanonicalLine-says}
+use Rattle.getopts.proofs.canon.Lines.{OneLineOneContent-lawful}
+use Rattle.getopts.proofs.parse.Parsed.{keeps_laws, named_here}
 use Rattle.getopts.proofs.MainTheorem.Theorem.{OneReading-options, AcceptedExactlyWhen-options}
 use Rattle.getopts.proofs.MainTheorem.Theorem.{RefusedExactlyWhen-options}
-use Rattle.getopts.proofs.MainTheorem.Theorem.{OneLineOneContent-options, HasCanonicalLine-options}
 use Rattle.getopts.proofs.canon.Answered.{KeepsLineLaws-lawful}
 use Rattle.getopts.proofs.laws.one_reading_one_canonical_line.Goals as goal
 
@@ -25,8 +25,9 @@ returns c =
       refused = RefusedExactlyWhen-options options declared;
       results = HasResults-declared options declared;
       holds_same = holds_same;
-      one_line_one_content = OneLineOneContent-options options declared;
-      canonical_lines = HasCanonicalLine-options options declared;
+      one_line_one_content = OneLineOneContent-lawful options declared.named;
+      canonical_lines = λ words content. HasCanonicalLine-says options words content declared.named
+          (named_here options declared);
       line_laws = line_laws;
       read_again = LinesReadAgain_lem options declared line_laws;
       reading_laws = keeps_laws options declared;

@@ -1,14 +1,27 @@
--- Matches of a reading fit their options, and end in the words after the stop.
-use Rattle.std.proofs.lemmas.Result.{IfOk-weaker}
+-- The result is the only one, and its matches fit the options and end in the words after the stop.
+use Rattle.std.proofs.Common.{rules}
+use Rattle.std.proofs.lemmas.Result.{IfOk-weaker, MatchResult-weaker}
+use Rattle.getopts.proofs.MainTheorem.Results.{is_read, isnt_read}
 use Rattle.getopts.proofs.parse.Holds.{FitOptions-read, EndsInTrailing-read}
+use Rattle.getopts.proofs.Weaker.{IsOutOfMemoryOr-weaker}
 use Rattle.getopts.proofs.options.Options.parse_ignoring_counts.Goals as goal
+
+pub returns-clause-read : goal.returns-clause-read
+returns-clause-read g c = search (rules, is_read)
+
+pub returns-clause-refused : goal.returns-clause-refused
+returns-clause-refused g c =
+    let read = c.read_matches.ensures in
+    MatchResult-weaker c.read_matches.result read.result (λ matches is. tt) (λ fail told.
+    IsOutOfMemoryOr-weaker fail _ _ told
+    (λ fault is. isnt_read _ _ fault is read.declared read.texts))
 
 pub returns-clause-given : goal.returns-clause-given
 returns-clause-given g c =
     IfOk-weaker c.read_matches.result _ _ (λ matches. FitOptions-read _ _ matches)
-    c.read_matches.ensures.read
+    (returns-clause-read g c)
 
 pub returns-clause-trailing : goal.returns-clause-trailing
 returns-clause-trailing g c =
     IfOk-weaker c.read_matches.result _ _ (λ matches. EndsInTrailing-read _ _ matches)
-    c.read_matches.ensures.read
+    (returns-clause-read g c)

@@ -3,12 +3,11 @@ use Rattle.std.proofs.Common.{◌+◌, take, slice_index, sym, ◌∙◌, ap, ar
 use Rattle.std.specs.Option.{option_copied}
 use Rattle.std.specs.Str.{IsCharBoundary}
 use Rattle.std.proofs.lemmas.Str.{IsCharBoundary-after_ascii}
-use Rattle.std.proofs.lemmas.Result.{err_from_is_err_and}
 use Rattle.getopts.specs.Fail.{unrecognized_option}
 use Rattle.getopts.specs.declared.groups.HasArg.{HasArg}
 use Rattle.getopts.specs.Reading.{cluster, ends_in}
 use Rattle.getopts.specs.Step.{faults, first_char, chosen_step}
-use Rattle.getopts.proofs.Weaker.{IsOutOfMemoryOr-one, IsOutOfMemoryOr-weaker}
+use Rattle.getopts.proofs.Weaker.{IsOutOfMemoryOr-one, IsOutOfMemoryOr-exit}
 use Rattle.getopts.proofs.scan.Clusters.{FlagsRead-none, FlagsRead-more, AddsItem-flags}
 use Rattle.getopts.proofs.scan.Clusters.{AddsItem-ends, cluster_step-byte, cluster_step-ends}
 use Rattle.getopts.proofs.scan.Clusters.{text_from}
@@ -57,18 +56,17 @@ returns-in-Some-clause-ok g c =
 
 pub returns-in_err-argument-in-Some-clause-err : goal.returns-in_err-argument-in-Some-clause-err
 returns-in_err-argument-in-Some-clause-err g c =
-    let left = err_from_is_err_and c.from_residual-in_err-argument-in-Some.result
-    c.from_residual-in_err-argument-in-Some.ensures.1 in
     let option = rw c.as_bytes.ensures.value at c.in-Some.ensures.option in
     let name = c.range-name.ensures.value
     ∙ slice_range-one c.args.text.now c.names.at (omega arith) in
     let bytes = take c.names.at c.args.text.now in
     let byte = slice_index c.args.text.now c.names.at in
-    rw (left.1, left.2) (IsOutOfMemoryOr-weaker c.in_err-argument-in-Some.field-0.0 _ _
+    IsOutOfMemoryOr-exit _ c.in_err-argument-in-Some.field-0.0 _ _
+    c.from_residual-in_err-argument-in-Some.ensures.1
     (rw (name, c.range_from-in-Some.ensures.value) at c.in_err-argument-in-Some.ensures.err)
     (λ fault told. cluster_step-ends (omega arith) c.names.invariant
     c.in-Some.field-0.kind (search rules) option.kind
-    ∙ ap (chosen_step (λ a. cluster bytes (ends_in byte a))) told))
+    ∙ ap (chosen_step (λ a. cluster bytes (ends_in byte a))) told)
 
 pub names-preserved : goal.names-preserved
 names-preserved g c =

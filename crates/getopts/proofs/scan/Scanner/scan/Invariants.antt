@@ -1,4 +1,4 @@
--- The words before this place spell items, whose occurrences and free words were taken.
+-- The words before this place were read, and the line has what they give.
 use Rattle.std.proofs.Common.{◌≡◌, None, length, map, ◌-◌}
 use Rattle.std.specs.String.{string_bytes}
 use Rattle.getopts.specs.Stored.Scan.{scanner_grammar}
