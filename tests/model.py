@@ -2,6 +2,7 @@
 answers test cases from what it finds."""
 
 import re
+import textwrap
 
 ESCAPES = {b"\\": b"\\\\", b"\t": b"\\t", b"\n": b"\\n", b"\r": b"\\r"}
 KINDS = {  # for each call that adds an option: whether it takes an argument, and how often it may occur
@@ -16,8 +17,8 @@ TEXTS = {
 
 
 class Group:
-    def __init__(self, short, long, kind, occur):
-        self.short, self.long, self.kind, self.occur = short, long, kind, occur
+    def __init__(self, short, long, kind, occur, desc=b"", hint=b""):
+        self.short, self.long, self.kind, self.occur, self.desc, self.hint = short, long, kind, occur, desc, hint
         self.main = long or short
         self.alias = short if short and long else None
 
@@ -145,6 +146,33 @@ class Options:
         return [b"--" + self.groups[place].main + (b"" if value is None else b"=" + value)
                 for place, _, value in occurrences] + [b"--"] + free
 
+    def usage_rows(self, columns):
+        """The rows of the usage text within so many columns."""
+        dashes, blank = (b"-" if self.long_only else b"--"), b" " * 4 if any(group.short for group in self.groups) else b""
+        for group in self.groups:
+            short = b"-%s%s " % (group.short, b"," if group.long else b"") if group.short else blank
+            hint = {"yes": group.hint, "no": b"", "maybe": b"[%s]" % group.hint}[group.kind]
+            head = b"    " + short + (b"%s%s " % (dashes, group.long) if group.long else b"") + hint
+            rows = wrapped(columns - 24, group.desc)
+            yield (head.ljust(24) if len(head) < 24 else head + NEXT_ROW) + NEXT_ROW.join(rows)
+
+    def usage(self, brief, columns=78):
+        return b"%s\n\nOptions:\n%s\n" % (brief, b"\n".join(self.usage_rows(columns)))
+
+
+NEXT_ROW = b"\n" + b" " * 24
+
+
+def wrapped(limit, desc):
+    """The rows of a description for a limit. Words wider than the limit have rows of their own."""
+    return [row.encode() for one in desc.decode().split("\n")
+            for row in textwrap.wrap(" ".join(one.split()), max(limit, 1), break_long_words=False, break_on_hyphens=False)]
+
+
+def is_measured(*texts, of=rb"[ -~]*"):
+    """Whether the rules here measure these texts: each character takes one column."""
+    return all(re.fullmatch(of, text) and b"{Z}" not in text for text in texts)
+
 
 def is_dashed(word):
     return word.startswith(b"-") and len(word) > 1
@@ -209,12 +237,28 @@ class Session:
         elif word == "mode":
             self.options.long_only = fields[0] == b"long-only"
         elif word in ("opt", "add_group"):
-            self.options.groups.append(Group(fields[0], fields[1], fields[4].decode(), fields[5].decode()))
+            short, long, desc, hint, kind, occur = fields
+            self.options.groups.append(Group(short, long, kind.decode(), occur.decode(), desc, hint))
         elif word in KINDS:
-            self.options.groups.append(Group(fields[0], fields[1], *KINDS[word]))
+            self.options.groups.append(Group(*fields[:2], *KINDS[word], *fields[2:]))
+        elif word in ("usage", "usage_in", "usage_rows", "rows", "wrap"):
+            return [self.help(word, *fields)]
         elif word != "keep":
             return [None]
         return []
+
+    def help(self, word, *fields):
+        """Help texts, if all texts are ASCII. Descriptions may also contain the white space that Python removes."""
+        descs = [fields[1]] if word == "wrap" else [group.desc for group in self.options.groups]
+        heads = [text for group in self.options.groups for text in (group.short, group.long, group.hint)]
+        if not is_measured(*descs, of=rb"[ -~\t-\r]*") or word != "wrap" and not is_measured(*heads):
+            return None
+        if word == "wrap":
+            return line(word, *wrapped(int(fields[0]), fields[1]))
+        if word in ("usage", "usage_in"):
+            return line(word, self.options.usage(fields[-1], *map(int, fields[:-1])))
+        rows = list(self.options.usage_rows(78))
+        return line(word, *([b"%d rows" % len(rows)] if word == "rows" else []), *rows)
 
     def unless(self, word, fields):
         """The result of words, unless they give a flag: help and then the version in a request, or the first field."""
@@ -279,7 +323,7 @@ def parts(written):
 
 def rows_of(text):
     """The rows of a text, each with the answers below it. `{Z}`, a character of width 0, isn't replaced, because the
-    rules here measure nothing."""
+    rules here measure only ASCII."""
     rows = []
     for one in text.split(b"\n"):
         if one.startswith(b"> "):

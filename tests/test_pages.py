@@ -154,7 +154,7 @@ FIGURES = [
 NO_FIGURES = re.compile(r"""
     \bU\+\w+ | \b0\.2\.24\b | \d{4}-\d\d-\d\d | Apache-2\.0 | x86-64(-v2)?
     | (1,000|10,000|100,000)\ words | (20|1,000)\ options | 10\ words | 100,000\ (letters|file\ names)
-    | (32|64)(\ bits|-bit) | 54\ columns | 24\ (spaces|columns) | stop\ at\ 255 | 32\ bytes\ instead\ of\ 40 | number\ 256 | 20\ to\ 40\ seconds | 4\.2\ or\ later | before\ 4\.4 | C\+\+11 | Debian\ 12 | 80\ words | 200,000\ cases
+    | (32|64)(\ bits|-bit) | (54|78)\ columns | 24\ (spaces|columns) | stop\ at\ 255 | 32\ bytes\ instead\ of\ 40 | number\ 256 | 20\ to\ 40\ seconds | 4\.2\ or\ later | before\ 4\.4 | C\+\+11 | Debian\ 12 | 80\ words | 200,000\ cases
 """, re.X)
 
 def table_figures(page):

@@ -11,6 +11,7 @@ WRONG = {"nope": "unknown word", "style\tother": "wrong fields", "mode": "wrong 
          "optflag\ta": "wrong fields", "optopt\ta\tall\tall": "wrong fields", "words\ta\\q": "wrong escape",
          "opt\ta\tall\tall\tH\tyess\tmulti": "wrong fields", "opt\ta\tall\tall\tH\tyes\toften": "wrong fields",
          "optflag\tab\t\td": "unlawful names", "same\toptions": "wrong fields", "wrap\tten\ttext": "wrong fields",
+         "usage_in\tten\tbrief": "wrong fields",
          "occurrences_at\t0": "wrong fields", "keep\tit": "wrong fields", "parse_unless": "wrong fields"}
 
 

@@ -96,12 +96,12 @@ struct getopts;
 
 /* Creates options from a table. Returns NULL if out of memory. All functions accept NULL
  * options: getopts_read and getopts_canonical return GETOPTS_NO_MEMORY, getopts_message returns
- * "Out of memory", the two usage functions return NULL, and the others behave as if nothing had
+ * "Out of memory", the usage functions return NULL, and the others behave as if nothing had
  * been read.
  *
  * If the table is NULL, or a row or the modes are invalid, getopts_message says what is wrong,
  * such as "table[2]: short name 'ab' isn't one ASCII character". Then getopts_read and
- * getopts_canonical return GETOPTS_BAD, and the two usage functions return NULL. */
+ * getopts_canonical return GETOPTS_BAD, and the usage functions return NULL. */
 struct getopts *getopts_new(const struct getopts_option *table, enum getopts_modes modes);
 
 /* Reads `count` words, such as argc - 1 and argv + 1. Returns GETOPTS_OK or an error:
@@ -174,6 +174,11 @@ int getopts_trailing_start(const struct getopts *options);
  * Returns NULL if out of memory, if the table is invalid, or if `brief` is NULL or isn't UTF-8
  * below U+10FF80. */
 char *getopts_usage(const struct getopts *options, const char *brief);
+
+/* Like getopts_usage, but descriptions end within this many columns, such as the width of a terminal;
+ * getopts_usage wraps them within 78. They begin after 24 columns. A word that doesn't fit has a row
+ * of its own. */
+char *getopts_usage_in(const struct getopts *options, const char *brief, size_t columns);
 
 /* A line with the program's name and all options, such as "Usage: head [-n COUNT] [-h]"; otherwise
  * like getopts_usage. */

@@ -5,13 +5,15 @@
 
 use crate::options::{Getopts, OUT_OF_MEMORY};
 use crate::reading::Reading;
-use crate::{Error, NO_MEMORY, OK, Status};
+use crate::{AllocResult, Error, NO_MEMORY, OK, Status};
 use core::alloc::{GlobalAlloc, Layout};
 use core::ffi::{c_int, c_long, c_uint};
 use core::mem::{ManuallyDrop, size_of};
 use core::{ptr, slice};
+use library::alloc::Global;
 use library::bytes::plain_text;
 use library::fallible::String;
+use library::proved::Options;
 
 /// A C string, or NULL.
 pub type Text = *const u8;
@@ -339,14 +341,33 @@ extern "C" fn getopts_trailing_start(options: Option<&Getopts>) -> c_int {
     start.map_or(-1, |start| start as c_int)
 }
 
+/// A usage text that a call makes for `start`, as a block that C frees.
+fn usage(
+    options: Option<&Getopts>,
+    start: Option<&[u8]>,
+    make: impl FnOnce(&Options, &str) -> AllocResult<String>,
+) -> *mut u8 {
+    owned_by_c(options.and_then(|options| options.usage(start, make)))
+}
+
 #[no_mangle]
 unsafe extern "C" fn getopts_usage(options: Option<&Getopts>, brief: Text) -> *mut u8 {
-    owned_by_c(options.and_then(|options| options.usage(unsafe { bytes(brief) }, true)))
+    usage(options, unsafe { bytes(brief) }, |options, brief| options.usage(Global, brief))
+}
+
+#[no_mangle]
+unsafe extern "C" fn getopts_usage_in(
+    options: Option<&Getopts>,
+    brief: Text,
+    columns: usize,
+) -> *mut u8 {
+    let brief = unsafe { bytes(brief) };
+    usage(options, brief, |options, brief| options.usage_in(Global, brief, columns))
 }
 
 #[no_mangle]
 unsafe extern "C" fn getopts_short_usage(options: Option<&Getopts>, program: Text) -> *mut u8 {
-    owned_by_c(options.and_then(|options| options.usage(unsafe { bytes(program) }, false)))
+    usage(options, unsafe { bytes(program) }, |options, name| options.short_usage(Global, name))
 }
 
 #[no_mangle]

@@ -152,15 +152,14 @@ impl Getopts {
         Ok(Some((bytes, line.len())))
     }
 
-    /// A usage text that begins with `start`, followed by a zero byte: the help if `whole`,
-    /// otherwise the short usage.
-    pub fn usage(&self, start: Option<&[u8]>, whole: bool) -> Option<String> {
+    /// A usage text that a call makes for `start`, followed by a zero byte.
+    pub fn usage(
+        &self,
+        start: Option<&[u8]>,
+        make: impl FnOnce(&Options, &str) -> AllocResult<String>,
+    ) -> Option<String> {
         let start = text(start.filter(|_| self.wrong.is_none())?)?;
-        let made = match whole {
-            true => self.options.usage(Global, start),
-            false => self.options.short_usage(Global, start),
-        };
-        let mut text = made.ok()?;
+        let mut text = make(&self.options, start).ok()?;
         text.try_push('\0').ok()?;
         Some(text)
     }

@@ -117,6 +117,7 @@ static void null_is_rejected(void) {
     expect(!getopts_defined(options, NULL) && getopts_count(options, NULL) == 0, "a NULL name");
     expect(getopts_position(options, NULL, 0) == -1 && getopts_value(options, NULL, 0) == NULL, "what it was given");
     expect(getopts_usage(options, NULL) == NULL && getopts_short_usage(options, NULL) == NULL, "a NULL brief");
+    expect(getopts_usage_in(options, NULL, 40) == NULL && getopts_usage_in(none, "brief", 40) == NULL, "within 40 columns");
     expect(getopts_read(options, 1, NULL) == GETOPTS_BAD, "NULL words");
     expect(getopts_read(options, 1, words + 1) == GETOPTS_BAD, "a NULL first word");
     expect(getopts_read(options, 0, NULL) == GETOPTS_OK && getopts_read(options, -1, NULL) == GETOPTS_OK, "no words");
@@ -134,6 +135,7 @@ static void null_options_mean_no_memory(void) {
     expect(strcmp(getopts_message(NULL), "Out of memory") == 0, "its message");
     expect(getopts_canonical(NULL, 1, words, &line) == GETOPTS_NO_MEMORY && line == NULL, "a line without options");
     expect(getopts_usage(NULL, "brief") == NULL && getopts_short_usage(NULL, "program") == NULL, "a usage of NULL");
+    expect(getopts_usage_in(NULL, "brief", 40) == NULL, "a usage of NULL within 40 columns");
     expect(!getopts_defined(NULL, "v") && getopts_count(NULL, "v") == 0, "a name without options");
     expect(getopts_position(NULL, "v", 0) == -1 && getopts_value(NULL, "v", GETOPTS_LAST) == NULL, "what it was given");
     expect(getopts_values(NULL, "v")[0] == NULL && getopts_free_words(NULL)[0] == NULL, "lists without options");
@@ -319,6 +321,26 @@ static void texts_match_rust(void) {
     getopts_delete(options);
 }
 
+/* The rows of descriptions end within the given columns, or have one word. */
+static void descriptions_end_within_columns(void) {
+    static const struct getopts_option table[] = {
+        { "v", "verbose", NULL, "say much more", GETOPTS_NO }, { NULL, NULL, NULL, NULL, GETOPTS_NO },
+    };
+    static const char *rows[] = {
+        "say much more", "say much more", "say much\n                        more",
+        "say\n                        much\n                        more",
+    };
+    static const size_t columns[] = { (size_t)-1, 37, 36, 0 };
+    struct getopts *options = getopts_new(table, GETOPTS_ORDINARY);
+    for (size_t nth = 0; nth < sizeof rows / sizeof *rows; nth++) {
+        char wanted[160], *usage = getopts_usage_in(options, "brief", columns[nth]);
+        snprintf(wanted, sizeof wanted, "brief\n\nOptions:\n    -v, --verbose       %s\n", rows[nth]);
+        expect(strcmp(usage, wanted) == 0, rows[nth]);
+        free(usage);
+    }
+    getopts_delete(options);
+}
+
 /* Each mode and each kind changes how words are read. */
 static void modes_and_kinds_have_effects(void) {
     static const struct getopts_option table[] = {
@@ -401,6 +423,7 @@ int main(void) {
     order_after_failures();
     missing_canonical_line();
     texts_match_rust();
+    descriptions_end_within_columns();
     modes_and_kinds_have_effects();
     wrong_rows_are_reported();
     modes_are_checked();

@@ -175,7 +175,7 @@ static int status_of_text(char *text) {
     return text != NULL ? GETOPTS_OK : GETOPTS_NO_MEMORY;
 }
 
-/* Makes one of six calls, and returns its status. */
+/* Makes one of seven calls, and returns its status. */
 static int call(int which, struct getopts *options, const struct getopts_option *table, size_t count, char **words) {
     char **line = NULL;
     if (which == 0 || which == 5) {
@@ -186,6 +186,8 @@ static int call(int which, struct getopts *options, const struct getopts_option 
     }
     if (which == 1)
         return getopts_read(options, (int)count, words);
+    if (which == 6)
+        return status_of_text(getopts_usage_in(options, "brief", 40));
     if (which > 2)
         return status_of_text((which == 3 ? getopts_usage : getopts_short_usage)(options, "brief"));
     int status = getopts_canonical(options, (int)count, words, &line);
@@ -195,7 +197,7 @@ static int call(int which, struct getopts *options, const struct getopts_option 
 
 /* If an allocation fails, a call reports it, leaks nothing, and keeps what was read before (half of the words). */
 static void check_failures(struct getopts *options, const struct getopts_option *table, size_t count, char **words) {
-    for (int which = 0; which < 6; which++)
+    for (int which = 0; which < 7; which++)
         for (int on = 0; on < 2; on++)
             for (size_t at = 1; at == 1 || heap.failures > 0; at++, heap.runs += heap.failures > 0) {
                 getopts_read(options, (int)count / 2, words);

@@ -479,6 +479,25 @@ impl Options {
         granted(self.named().usage(Global, brief))
     }
 
+    /// Returns the help text with descriptions that end within this many columns, such as the width
+    /// of a terminal. `usage(brief)` is `usage_in(brief, 78)`.
+    ///
+    /// Descriptions begin after 24 columns. A word that doesn't fit has a row of its own.
+    ///
+    /// ```
+    /// let mut options = getopts::Options::new();
+    /// options.optflag("h", "help", "print this and exit");
+    /// let text = options.usage_in("Usage: copy FILE", 34);
+    /// let rows = "    -h, --help          print this\n                        and exit\n";
+    /// assert_eq!(text, format!("Usage: copy FILE\n\nOptions:\n{rows}"));
+    /// ```
+    ///
+    /// # Panics
+    /// Panics if both names of an option are empty.
+    pub fn usage_in(&self, brief: &str, columns: usize) -> String {
+        granted(self.named().usage_in(Global, brief, columns))
+    }
+
     /// Passes the rows that describe the options to a closure, and returns its result. All rows are
     /// created before it runs.
     ///

@@ -258,6 +258,7 @@ fn failed_declarations_leave_options_unchanged() {
 fn usage_and_clones_report_every_failed_allocation() {
     let options = options(3);
     assert!(fail_each_of(&options, |o| o.usage(Global, "Usage: program")) > 0);
+    assert!(fail_each_of(&options, |o| o.usage_in(Global, "Usage: program", 40)) > 0);
     assert!(fail_each_of(&options, |o| o.short_usage(Global, "program")) > 0);
     assert!(fail_each_of(&options, |o| o.usage_rows(Global)) > 7);
     assert!(

@@ -9,6 +9,7 @@ fn results_may_be_ignored() {
     let mut options = Options::new();
     options.optopt("o", "", "", "FILE");
     options.usage("brief");
+    options.usage_in("brief", 40);
     options.short_usage("program");
     options.usage_with_format(|rows| rows.collect());
     let matches = options.parse(["-ofile", "--", "free"]).unwrap();

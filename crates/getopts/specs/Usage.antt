@@ -99,16 +99,35 @@ padding head = if nat_lt (width_of head) 24 then spaces (24 - width_of head) els
 abbrev pub row_text : Text → List Text → Text
 row_text head description = head ++ (padding head ++ joined next_row description)
 
--- This is the group's row: its head, its padding, and the description's rows in 54 columns.
-abbrev pub IsUsageRow : Bool → Bool → Group → Text → Type 0
-IsUsageRow long_only among_shorts group row =
-    (description : List Text) × IsDescriptionRows 54 group.description description
+-- the most columns of a description's row, if rows end within so many columns
+abbrev pub description_columns : ℕ → ℕ
+description_columns columns = columns - 24
+
+-- This is the group's row within so many columns: its head, its padding, and the description's
+-- rows, which end within them.
+abbrev pub IsUsageRowIn : ℕ → Bool → Bool → Group → Text → Type 0
+IsUsageRowIn columns long_only among_shorts group row =
+    (description : List Text)
+    × IsDescriptionRows (description_columns columns) group.description description
     × (row ≡ row_text (head long_only among_shorts group) description)
 
--- These are the rows of the groups, in order of declaration.
+-- These are the rows of the groups within so many columns, in order of declaration.
+abbrev pub AreUsageRowsIn : ℕ → Declared → List Text → Type 0
+AreUsageRowsIn columns options rows =
+    AllZip (IsUsageRowIn columns options.long_only (any_short options.groups)) options.groups rows
+
+-- the columns of a usage text unless the caller chooses them, which leave 54 for descriptions
+abbrev pub usual_columns : ℕ
+usual_columns = 78
+
+-- This is the group's row within the usual columns.
+abbrev pub IsUsageRow : Bool → Bool → Group → Text → Type 0
+IsUsageRow long_only among_shorts group row =
+    IsUsageRowIn usual_columns long_only among_shorts group row
+
+-- These are the rows of the groups within the usual columns.
 abbrev pub AreUsageRows : Declared → List Text → Type 0
-AreUsageRows options rows =
-    AllZip (IsUsageRow options.long_only (any_short options.groups)) options.groups rows
+AreUsageRows options rows = AreUsageRowsIn usual_columns options rows
 
 -- ---- the usage text
 
@@ -117,7 +136,11 @@ abbrev pub usage_text : Text → List Text → Text
 usage_text brief rows =
     brief ++ (codes "\n\nOptions:\n" ++ (joined (codes "\n") rows ++ codes "\n"))
 
--- This is the usage text of these options.
+-- This is the usage text of these options within so many columns.
+abbrev pub IsUsageTextIn : ℕ → Declared → Text → Text → Type 0
+IsUsageTextIn columns options brief text =
+    (rows : List Text) × AreUsageRowsIn columns options rows × (text ≡ usage_text brief rows)
+
+-- This is the usage text of these options within the usual columns.
 abbrev pub IsUsageText : Declared → Text → Text → Type 0
-IsUsageText options brief text =
-    (rows : List Text) × AreUsageRows options rows × (text ≡ usage_text brief rows)
+IsUsageText options brief text = IsUsageTextIn usual_columns options brief text

@@ -1,7 +1,7 @@
 //! One group's row in a usage text: its head, with the description beside or below it.
 ghost use Rattle.std.specs.Prelude.{◌≡◌, ◌++◌, string_bytes, IfOk, OnOk};
 ghost use Rattle.getopts.specs.Wrap.{width_of};
-ghost use Rattle.getopts.specs.Usage.{IsUsageRow, argument_part, has_columns, head};
+ghost use Rattle.getopts.specs.Usage.{IsUsageRowIn, argument_part, has_columns, head};
 ghost use Rattle.getopts.specs.Usage.{long_part, padding, short_part};
 ghost use Rattle.getopts.specs.Stored.Groups.{names_view};
 ghost use Rattle.getopts.specs.Stored.Help.{group_view};
@@ -17,17 +17,16 @@ use unicode_width::UnicodeWidthStr;
 /// The number of columns before a description.
 const MARGIN: usize = 24;
 
-/// The most columns in a row of a description.
-const DESCRIPTION_COLUMNS: usize = 54;
-
 /// A line end, and a space for each column before a description.
 const NEXT_ROW: &str = "\n                        ";
 
-/// What the heads of all rows in a usage text have in common.
+/// What all rows in a usage text have in common.
 #[derive(Clone, Copy)]
 pub(crate) struct Layout {
     pub long_only: bool,
     pub any_short: bool,
+    /// The columns within which the rows of descriptions end.
+    pub columns: usize,
 }
 
 /// The bytes that most rows need. Without this guess, the job `usage` takes 40 % more instructions.
@@ -40,14 +39,14 @@ pub(crate) fn row_of(
     group: GroupView<'_>,
 ) -> Result<String, AllocError>
     ensures { IfOk result (λ row. IsTheOnly
-        (IsUsageRow layout.long_only layout.any_short (group_view group.entry))
+        (IsUsageRowIn layout.columns layout.long_only layout.any_short (group_view group.entry))
         (string_bytes row)) }
 {
     let mut row = String::with_capacity(alloc, ROW_ROOM)?;
     push_head(&mut row, layout, group)?;
     let padding = padding_after(row.as_str());
     row.push_str(padding)?;
-    let rows = each_split_within(alloc, group.desc, DESCRIPTION_COLUMNS)?;
+    let rows = each_split_within(alloc, group.desc, layout.columns.saturating_sub(MARGIN))?;
     push_joined(&mut row, &rows, NEXT_ROW)?;
     Ok(row)
 }

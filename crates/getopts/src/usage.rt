@@ -5,7 +5,8 @@ ghost use Rattle.getopts.specs.Stored.Groups.{names_view};
 ghost use Rattle.getopts.specs.Stored.Help.{group_view};
 ghost use Rattle.getopts.specs.Names.{Text};
 ghost use Rattle.getopts.specs.Only.{IsTheOnly};
-ghost use Rattle.getopts.specs.Usage.{AreUsageRows, IsUsageText, any_short};
+ghost use Rattle.getopts.specs.Usage.{AreUsageRows, AreUsageRowsIn, IsUsageText, IsUsageTextIn};
+ghost use Rattle.getopts.specs.Usage.{any_short};
 ghost use Rattle.getopts.specs.Usage.{option_name, option_text, short_usage_text};
 ghost use Rattle.getopts.specs.Wrap.{joined};
 
@@ -18,6 +19,9 @@ use crate::wrap::push_joined;
 use std::alloc::{AllocError, Global};
 use std::marker::Model;
 use std::vec;
+
+/// The columns of a usage text unless the caller chooses them, which leave 54 for descriptions.
+const USUAL_COLUMNS: usize = 78;
 
 /// The rows of a usage text, one for each option group, in order of declaration.
 ///
@@ -108,7 +112,32 @@ impl Options {
         ensures text { IfOk result (λ text.
             IsTheOnly (IsUsageText self.now brief.now) (string_bytes text)) }
     {
-        let rows = self.usage_rows(alloc)?;
+        self.usage_in(alloc, brief, USUAL_COLUMNS)
+    }
+
+    /// Returns a usage text, as `usage` does, whose descriptions end within this many columns.
+    ///
+    /// Descriptions begin after 24 columns, in rows of at most `columns - 24`; a wider word has a
+    /// row of its own. With 24 columns or fewer, every word has. Heads, hints and the brief aren't
+    /// wrapped, and may be wider. `usage(brief)` is `usage_in(brief, 78)`.
+    ///
+    /// ```
+    /// options.optflag("h", "help", "print this help and exit")?;
+    /// let text = options.usage_in(alloc, "Usage: copy [options] FILE", 40)?;
+    /// // Usage: copy [options] FILE
+    /// //
+    /// // Options:
+    /// //     -h, --help          print this help
+    /// //                         and exit
+    /// ```
+    ///
+    /// Fails only if an allocation fails. The Rust crate has no such method.
+    pub fn usage_in(&self, alloc: Global, brief: &str, columns: usize) -> Result<String, AllocError>
+        // This is the only usage text within these columns, byte for byte.
+        ensures text { IfOk result (λ text.
+            IsTheOnly (IsUsageTextIn columns self.now brief.now) (string_bytes text)) }
+    {
+        let rows = self.usage_rows_in(alloc, columns)?;
         let mut text = String::from_str(alloc, brief)?;
         text.push_str("\n\nOptions:\n")?;
         push_joined(&mut text, &rows, "\n")?;
@@ -157,7 +186,15 @@ impl Options {
         ensures rows { IfOk result (λ rows.
             IsTheOnly (AreUsageRows self.now) (map string_bytes rows.items)) }
     {
-        let layout = self.layout();
+        self.usage_rows_in(alloc, USUAL_COLUMNS)
+    }
+
+    /// The rows of the usage text within this many columns.
+    fn usage_rows_in(&self, alloc: Global, columns: usize) -> Result<Vec<String>, AllocError>
+        ensures rows { IfOk result (λ rows.
+            IsTheOnly (AreUsageRowsIn columns self.now) (map string_bytes rows.items)) }
+    {
+        let layout = self.layout(columns);
         let groups = self.groups();
         let mut rows = Vec::with_capacity(alloc, groups.len())?;
         for place in 0..groups.len() {
@@ -181,10 +218,11 @@ impl Options {
         Ok(texts)
     }
 
-    /// What the heads of all rows have in common.
-    fn layout(&self) -> Layout
+    /// What all rows within this many columns have in common.
+    fn layout(&self, columns: usize) -> Layout
         ensures long_only { result.long_only ≡ self.now.long_only }
         ensures any_short { result.any_short ≡ any_short self.now.groups }
+        ensures columns { result.columns ≡ columns }
     {
         let groups = self.groups();
         let mut any_short = false;
@@ -194,6 +232,7 @@ impl Options {
         Layout {
             long_only: self.is_long_only(),
             any_short,
+            columns,
         }
     }
 }

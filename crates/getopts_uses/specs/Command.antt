@@ -44,6 +44,10 @@ add_options = record {
 abbrev pub add_help : Text
 add_help = codes "Usage: add [options] FILE..\n\nOptions:\n    -f, --force         add ignored files too\n    -h, --help          print this help\n"
 
+-- the help of `add` within 40 columns, byte for byte
+abbrev pub narrow_add_help : Text
+narrow_add_help = codes "Usage: add [options] FILE..\n\nOptions:\n    -f, --force         add ignored\n                        files too\n    -h, --help          print this help\n"
+
 -- This is what a command line of `add` asks for, or none if that is help, or its error.
 abbrev pub IsAddOrError : Result (Option Matched) Fault → Result (Option Add) Fail → Type 0
 IsAddOrError asked (Err fail) = IsOutOfMemoryOr fail (λ fault. asked ≡ Err fault)

@@ -2,8 +2,10 @@
 
 ghost use Rattle.std.specs.Prelude.{◌≡◌, codes, map, IfOk};
 ghost use Rattle.std.specs.String.{string_bytes};
+ghost use Rattle.getopts.specs.Only.{IsTheOnly};
 ghost use Rattle.getopts.specs.Prelude.{parse_unless_result};
-ghost use Rattle.getopts_uses.specs.Command.{IsAddOrError, add_help, add_options};
+ghost use Rattle.getopts.specs.Usage.{IsUsageTextIn};
+ghost use Rattle.getopts_uses.specs.Command.{IsAddOrError, add_help, add_options, narrow_add_help};
 
 use getopts::{Fail, Options};
 use std::alloc::{AllocError, Global};
@@ -33,6 +35,23 @@ pub fn help_text(alloc: Global) -> Result<String, AllocError>
 {
     let options = options(alloc)?;
     options.usage(alloc, "Usage: add [options] FILE..")
+}
+
+/// The help of `add` within this many columns, such as the width of a terminal.
+pub fn help_text_in(alloc: Global, columns: usize) -> Result<String, AllocError>
+    ensures text { IfOk result (λ text. IsTheOnly
+        (IsUsageTextIn columns add_options (codes "Usage: add [options] FILE.."))
+        (string_bytes text)) }
+{
+    let options = options(alloc)?;
+    options.usage_in(alloc, "Usage: add [options] FILE..", columns)
+}
+
+/// The help of `add` within 40 columns.
+pub fn narrow_help_text(alloc: Global) -> Result<String, AllocError>
+    ensures text { IfOk result (λ text. string_bytes text ≡ narrow_add_help) }
+{
+    help_text_in(alloc, 40)
 }
 
 /// What the words after `add` ask for, or none if they ask for help.

@@ -59,6 +59,7 @@ fn push_caller(
         "wrapper" => push(text, handed_on(alloc, words)),
         "command" => push(text, read_run(alloc, words)),
         "add_help" => push(text, add::help_text(alloc)),
+        "narrow_add_help" => push(text, add::narrow_help_text(alloc)),
         "log_help" => push(text, log::help_text(alloc)),
         "output" => push(text, output_of(alloc, words)),
         "driver" => push(text, driver::read_job(alloc, words)),

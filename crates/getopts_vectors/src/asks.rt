@@ -24,6 +24,13 @@ pub fn ask(alloc: Global, options: &Options, word: &str, fields: &[String], answ
         "wrap" => wrapped(alloc, field_at(fields, 0), field_at(fields, 1), answer),
         "short" => answer.given(options.short_usage(alloc, field_at(fields, 0))),
         "usage" => answer.given(options.usage(alloc, field_at(fields, 0))),
+        "usage_in" => usage_in(
+            alloc,
+            options,
+            field_at(fields, 0),
+            field_at(fields, 1),
+            answer,
+        ),
         "rows" => formatted_rows(alloc, options, answer),
         "usage_rows" => answer.given(options.usage_rows(alloc)),
         "called" => called(alloc, options, answer),
@@ -42,6 +49,14 @@ pub fn ask(alloc: Global, options: &Options, word: &str, fields: &[String], answ
 fn wrapped(alloc: Global, limit: &str, desc: &str, answer: &mut Answer) {
     match limit.parse::<usize>() {
         Ok(limit) => answer.given(each_split_within(alloc, desc, limit)),
+        Err(_) => answer.stop(WRONG_FIELDS),
+    }
+}
+
+/// Answers the usage text within these columns.
+fn usage_in(alloc: Global, options: &Options, columns: &str, brief: &str, answer: &mut Answer) {
+    match columns.parse::<usize>() {
+        Ok(columns) => answer.given(options.usage_in(alloc, brief, columns)),
         Err(_) => answer.stop(WRONG_FIELDS),
     }
 }

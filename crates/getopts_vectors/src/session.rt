@@ -284,7 +284,7 @@ const COUNTS: [(usize, &str); 6] = [
     (1, "case mode same short style usage"),
     (
         2,
-        "error lawful number occurrences_at opt_default option truth wrap",
+        "error lawful number occurrences_at opt_default option truth usage_in wrap",
     ),
     (3, "optflag optflagmulti"),
     (4, "optflagopt optmulti optopt reqopt"),

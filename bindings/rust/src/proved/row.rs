@@ -13,17 +13,16 @@ use crate::width::UnicodeWidthStr;
 /// The number of columns before a description.
 const MARGIN: usize = 24;
 
-/// The most columns in a row of a description.
-const DESCRIPTION_COLUMNS: usize = 54;
-
 /// A line end, and a space for each column before a description.
 const NEXT_ROW: &str = "\n                        ";
 
-/// What the heads of all rows in a usage text have in common.
+/// What all rows in a usage text have in common.
 #[derive(Clone, Copy)]
 pub(crate) struct Layout {
     pub long_only: bool,
     pub any_short: bool,
+    /// The columns within which the rows of descriptions end.
+    pub columns: usize,
 }
 
 /// The bytes that most rows need. Without this guess, the job `usage` takes 40 % more instructions.
@@ -39,7 +38,7 @@ pub(crate) fn row_of(
     push_head(&mut row, layout, group)?;
     let padding = padding_after(row.as_str());
     row.try_push_str(padding)?;
-    let rows = each_split_within(alloc, group.desc, DESCRIPTION_COLUMNS)?;
+    let rows = each_split_within(alloc, group.desc, layout.columns.saturating_sub(MARGIN))?;
     push_joined(&mut row, &rows, NEXT_ROW)?;
     Ok(row)
 }

@@ -12,6 +12,9 @@ use super::wrap::push_joined;
 use crate::alloc::{AllocError, Global};
 use crate::heap::vec;
 
+/// The columns of a usage text unless the caller chooses them, which leave 54 for descriptions.
+const USUAL_COLUMNS: usize = 78;
+
 /// The rows of a usage text, one for each option group, in order of declaration.
 ///
 /// `Options::usage_with_format` passes them to its closure. They have all been built by then, so
@@ -80,7 +83,33 @@ impl Options {
     /// In the Rust crate this method can't fail. That crate leaves out a short name that takes no
     /// column, such as a tab in old width tables. Here every short name that isn't empty is shown.
     pub fn usage(&self, alloc: Global, brief: &str) -> Result<String, AllocError> {
-        let rows = self.usage_rows(alloc)?;
+        self.usage_in(alloc, brief, USUAL_COLUMNS)
+    }
+
+    /// Returns a usage text, as `usage` does, whose descriptions end within this many columns.
+    ///
+    /// Descriptions begin after 24 columns, in rows of at most `columns - 24`; a wider word has a
+    /// row of its own. With 24 columns or fewer, every word has. Heads, hints and the brief aren't
+    /// wrapped, and may be wider. `usage(brief)` is `usage_in(brief, 78)`.
+    ///
+    /// ```text
+    /// options.optflag("h", "help", "print this help and exit")?;
+    /// let text = options.usage_in(alloc, "Usage: copy [options] FILE", 40)?;
+    /// // Usage: copy [options] FILE
+    /// //
+    /// // Options:
+    /// //     -h, --help          print this help
+    /// //                         and exit
+    /// ```
+    ///
+    /// Fails only if an allocation fails. The Rust crate has no such method.
+    pub fn usage_in(
+        &self,
+        alloc: Global,
+        brief: &str,
+        columns: usize,
+    ) -> Result<String, AllocError> {
+        let rows = self.usage_rows_in(alloc, columns)?;
         let mut text = String::copy_of(alloc, brief)?;
         text.try_push_str("\n\nOptions:\n")?;
         push_joined(&mut text, &rows, "\n")?;
@@ -119,7 +148,12 @@ impl Options {
     /// Returns the rows of the usage text as separate texts, as `usage_with_format` passes them to
     /// its closure. Fails only if an allocation fails. The Rust crate has no such method.
     pub fn usage_rows(&self, alloc: Global) -> Result<Vec<String>, AllocError> {
-        let layout = self.layout();
+        self.usage_rows_in(alloc, USUAL_COLUMNS)
+    }
+
+    /// The rows of the usage text within this many columns.
+    fn usage_rows_in(&self, alloc: Global, columns: usize) -> Result<Vec<String>, AllocError> {
+        let layout = self.layout(columns);
         let groups = self.groups();
         let mut rows = Vec::of_capacity(alloc, groups.len())?;
         for place in 0..groups.len() {
@@ -140,8 +174,8 @@ impl Options {
         Ok(texts)
     }
 
-    /// What the heads of all rows have in common.
-    fn layout(&self) -> Layout {
+    /// What all rows within this many columns have in common.
+    fn layout(&self, columns: usize) -> Layout {
         let groups = self.groups();
         let mut any_short = false;
         for place in 0..groups.len() {
@@ -150,6 +184,7 @@ impl Options {
         Layout {
             long_only: self.is_long_only(),
             any_short,
+            columns,
         }
     }
 }

@@ -14,7 +14,7 @@ use Rattle.getopts.specs.Names.{Text, is_empty}
 use Rattle.getopts.specs.Options.{Group, Declared}
 use Rattle.getopts.specs.Only.{IsTheOnly}
 use Rattle.getopts.specs.Usage.{any_short, spaces, head, next_row, padding, row_text}
-use Rattle.getopts.specs.Usage.{IsUsageRow, AreUsageRows}
+use Rattle.getopts.specs.Usage.{IsUsageRowIn, AreUsageRowsIn, description_columns}
 use Rattle.getopts.specs.Wrap.{width_of, IsDescriptionRows, joined}
 use Rattle.getopts.specs.declared.help.GroupView.{GroupView}
 use Rattle.getopts.proofs.Lists.{take_more_at}
@@ -63,46 +63,48 @@ padding_narrow own columns is narrow =
 -- ---- rows
 
 -- a row made of the only description rows is the only row
-pub row_is_the_only : (long_only among_shorts : Bool) (group : Group) (rows : List Text)
-    (headed row : Text)
+pub row_is_the_only : (columns : ℕ) (long_only among_shorts : Bool) (group : Group)
+    (rows : List Text) (headed row : Text)
     → headed ≡ head long_only among_shorts group
-    → IsTheOnly (IsDescriptionRows 54 group.description) rows
+    → IsTheOnly (IsDescriptionRows (description_columns columns) group.description) rows
     → row ≡ (headed ++ padding headed) ++ joined next_row rows
-    → IsTheOnly (IsUsageRow long_only among_shorts group) row
-row_is_the_only long_only among_shorts group rows headed row headed_is only row_is =
-    made_of_the_only (IsDescriptionRows 54 group.description)
+    → IsTheOnly (IsUsageRowIn columns long_only among_shorts group) row
+row_is_the_only columns long_only among_shorts group rows headed row headed_is only row_is =
+    made_of_the_only (IsDescriptionRows (description_columns columns) group.description)
     (row_text (head long_only among_shorts group)) rows row only
     (row_is ∙ append_assoc headed (padding headed) (joined next_row rows)
     ∙ ap (λ (headed : Text). row_text headed rows) headed_is)
 
 -- the only rows of the groups before a place, in order
-abbrev pub AreRowsBefore : Declared → ℕ → List Text → Type 0
-AreRowsBefore options place rows =
-    AllZip (λ group row. IsTheOnly (IsUsageRow options.long_only (any_short options.groups) group)
-    row)
+abbrev pub AreRowsBefore : ℕ → Declared → ℕ → List Text → Type 0
+AreRowsBefore columns options place rows =
+    AllZip (λ group row.
+    IsTheOnly (IsUsageRowIn columns options.long_only (any_short options.groups) group) row)
     (take place options.groups) rows
 
 -- one more row
-pub rows_more : (options : Declared) (place : ℕ) (group : GroupView)
+pub rows_more : (columns : ℕ) (options : Declared) (place : ℕ) (group : GroupView)
     → Some (group_view group) ≡ slice_get options.groups place
-    → (long_only among_shorts : Bool) → long_only ≡ options.long_only
+    → (own : ℕ) (long_only among_shorts : Bool) → own ≡ columns → long_only ≡ options.long_only
     → among_shorts ≡ any_short options.groups → (rows : List Text) (row : Text)
-    → AreRowsBefore options place rows
-    → IsTheOnly (IsUsageRow long_only among_shorts (group_view group)) row
-    → AreRowsBefore options (place + 1) (rows ++ row ∷ [])
-rows_more options place group is long_only among_shorts long_only_is among_shorts_is rows
-    row each only =
-    let Only : Group → Text → Type 0 =
-    λ group row. IsTheOnly (IsUsageRow options.long_only (any_short options.groups) group) row in
+    → AreRowsBefore columns options place rows
+    → IsTheOnly (IsUsageRowIn own long_only among_shorts (group_view group)) row
+    → AreRowsBefore columns options (place + 1) (rows ++ row ∷ [])
+rows_more columns options place group is own long_only among_shorts own_is long_only_is
+    among_shorts_is rows row each only =
+    let Only : Group → Text → Type 0 = λ group row.
+    IsTheOnly (IsUsageRowIn columns options.long_only (any_short options.groups) group) row in
     rw (take_more_at options.groups place (group_view group) (sym is))
     (all_zipped_more Only (take place options.groups) rows (group_view group) row each
-    (rw (long_only_is, among_shorts_is) at only))
+    (rw (own_is, long_only_is, among_shorts_is) at only))
 
 -- with the last one, these are the only usage rows
-pub rows_all : (options : Declared) (place : ℕ) (rows : List Text) → length options.groups ≤ place
-    → AreRowsBefore options place rows → IsTheOnly (AreUsageRows options) rows
-rows_all options place rows all each =
-    let Row : Group → Text → Type 0 = IsUsageRow options.long_only (any_short options.groups) in
+pub rows_all : (columns : ℕ) (options : Declared) (place : ℕ) (rows : List Text)
+    → length options.groups ≤ place → AreRowsBefore columns options place rows
+    → IsTheOnly (AreUsageRowsIn columns options) rows
+rows_all columns options place rows all each =
+    let Row : Group → Text → Type 0 =
+    IsUsageRowIn columns options.long_only (any_short options.groups) in
     each_is_the_only Row options.groups rows
     (subst (λ (groups : List Group). AllZip (λ group row. IsTheOnly (Row group) row) groups rows)
     (take_all place options.groups all) each)

@@ -8,13 +8,14 @@ use std::iter::Peekable;
 use std::str::Lines;
 
 /// Lines about calls that the Rust crate doesn't have.
-const NOT_HAD: [&str; 8] = [
+const NOT_HAD: [&str; 9] = [
     "opt_place",
     "occurrences_at",
     "parse_in_order",
     "parse_request",
     "parse_unless",
     "take_trailing",
+    "usage_in",
     "usage_rows",
     "wrap",
 ];
