@@ -2,7 +2,7 @@
 imports, and well-formed scripts and Rust.
 
 Every figure of ten or more on a page is counted, measured or recorded (FIGURES), except those in NO_FIGURES. --fix
-updates the figures and CONTRACTS.md.
+updates the figures, and what GENERATED lists.
 """
 
 import functools
@@ -28,7 +28,7 @@ tracked = all_tracked()
 pages = {name: read(name) for name in tracked if name.endswith(".md")}
 sources = {name: read(name) for name in tracked if re.match(r"crates/\w*/src/.*\.rt$", name)}
 modules = sources | {name: read(name) for name in tracked if re.match(r"bindings/.*\.rs$", name)}
-CALLING, CONTRACTS = (next(name for name in pages if name.endswith(end)) for end in ("CALLING.md", "CONTRACTS.md"))
+CALLING = "crates/getopts/CALLING.md"
 mutants = [name for name in tracked if re.match(r"crates/\w*/must-fail/.*\.edit$", name)]
 OUTDATED = "out of date: run 'bash test.sh -k pages --fix'"
 
@@ -301,33 +301,24 @@ def contracts_in(text):
             yield owner[1] if owner else "", it[2], re.sub(f"^{it[1]}", "", it[0], flags=re.M)
 
 
+@functools.cache
 def contracts():
-    """The library's public functions with their contracts, without comments, in the order of its modules."""
+    """The library's public functions with their contracts, without comments."""
     root = read("crates/getopts/src/lib.rt")
     public = set(re.findall(r"\w+", " ".join(re.findall(r"^pub use (.*?);", root, re.M | re.S))))
-    parts = []
+    found = {}
     for visible, module in re.findall(r"^(pub )?mod (\w+);", root, re.M):
         for owner, name, text in contracts_in(read(f"crates/getopts/src/{module}.rt")):
             if (owner or name) in public or visible:
-                front = f"{owner}::" if owner else f"{module}::" if visible else ""
-                text = re.sub(r"\n *//.*|\n(?=\n)", "", text)
-                parts.append(text.replace("pub fn ", f"fn {front}", 1))
-    return "\n\n".join(shortened(part, above) for part, above in zip(parts, [""] + parts)) + "\n"
+                full = f"{owner}::{name}" if owner else name
+                found[full] = re.sub(r"\n *//.*|\n(?=\n)", "", text).replace(f"pub fn {name}", f"fn {full}", 1)
+    return found
 
 
-CLAUSE = re.compile(r"\n    (?:requires|ensures).*(?:\n(?:     |    \}).*)*")
-
-
-def shortened(part, above):
-    """A contract without the clauses of the one above it, if it has several of these, perhaps with `IfSome` in place of
-    `IfParsed`."""
-    for text, end in (above, ""), (above.replace("λ request. IfParsed request", "λ answer. IfSome answer"), "IfSome"):
-        clauses = {" ".join(it.split()) for it in CLAUSE.findall(text)}
-        if len(same := [it for it in CLAUSE.findall(part) if " ".join(it.split()) in clauses]) > 2:
-            for it in same:
-                part = part.replace(it, "", 1)
-            return part + "\n    // Other clauses: as above" + (end and f", with `{end}` in place of `IfParsed`") + "."
-    return part
+def quoted_contracts():
+    """The contracts that CALLING quotes."""
+    names = "Options::new", "Options::opt", "Options::parse_words", "Matches::opt_str", "Options::usage"
+    return "```text\n" + "\n\n".join(contracts()[name] for name in names) + "\n```"
 
 
 def clauses_in(text):
@@ -342,15 +333,19 @@ def clauses_in(text):
 def cited():
     """The library's definitions that the contracts of public calls cite."""
     imported = " ".join(re.findall(r"ghost use Rattle\.getopts\.specs\.\w+\.\{([^}]*)\};", "".join(sources.values())))
-    return set(re.findall(r"[\w-]+", imported)) & set(re.findall(r"\w+", " ".join(clauses_in(contracts()))))
+    return set(re.findall(r"[\w-]+", imported)) & set(re.findall(r"\w+", " ".join(clauses_in("\n".join(contracts().values())))))
 
 
-def test_contracts_match_sources(request):
-    """CONTRACTS.md has the contracts of all public functions, as in the sources."""
-    block = f"```text\n{contracts()}```"
-    wanted = re.sub(r"^```\w+\n.*?^```", lambda _: block, pages[CONTRACTS], flags=re.M | re.S)
-    fix_page(CONTRACTS, wanted, request)
-    assert pages[CONTRACTS] == wanted, OUTDATED
+# What --fix writes on the pages between `<!-- generated: NAME -->` and `<!-- end -->`.
+GENERATED = {"contracts": quoted_contracts}
+
+
+@pytest.mark.parametrize("page", pages)
+def test_generated_parts(page, request):
+    wanted = re.sub(r"(<!-- generated: (\w+) -->\n).*?(\n<!-- end -->)",
+                    lambda it: it[1] + GENERATED[it[2]]() + it[3], pages[page], flags=re.S)
+    fix_page(page, wanted, request)
+    assert pages[page] == wanted, OUTDATED
 
 
 def test_offered_lemmas_are_cited():
