@@ -23,7 +23,7 @@ pub fn groups_of(options: &proved::Options) -> Vec<Group<'_>> {
             hint: group.hint,
             desc: group.desc,
             hasarg: group.signature.kinds.kind,
-            occur: group.signature.kinds.occurrence,
+            occur: group.signature.kinds.occur,
         }
     };
     (0..groups.len()).map(shown).collect()
@@ -38,7 +38,7 @@ pub(crate) fn opts_of(matches: &MatchedGroups) -> Vec<Opt<'_>> {
             hint: "",
             desc: "",
             hasarg: signature.kinds.kind,
-            occur: signature.kinds.occurrence,
+            occur: signature.kinds.occur,
         })
     };
     (0..signatures.len()).map(shown).collect()

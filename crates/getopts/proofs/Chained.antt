@@ -60,18 +60,18 @@ pub use Rattle.getopts.specs.Borrows.{UnchangedIfErr}
 pub use Rattle.getopts.specs.Names.{AreLawful}
 pub use Rattle.getopts.specs.Options.{Declared, group_of, with_group}
 pub use Rattle.getopts.specs.contracts.options.Options.{the_row as Options}
-pub use Rattle.getopts.proofs.groups.HasArg.TheLaws.{the_laws as has_arg_laws, the_row_laws as has_arg_row, the_plain as has_arg_plain}
-pub use Rattle.getopts.proofs.groups.Occur.TheLaws.{the_laws as occur_laws, the_row_laws as occur_row, the_plain as occur_plain}
+pub use Rattle.getopts.proofs.kinds.HasArg.TheLaws.{the_laws as has_arg_laws, the_row_laws as has_arg_row, the_plain as has_arg_plain}
+pub use Rattle.getopts.proofs.kinds.Occur.TheLaws.{the_laws as occur_laws, the_row_laws as occur_row, the_plain as occur_plain}
 pub use Rattle.getopts.proofs.options.Options.TheLaws.{the_row_laws as options_laws}
-pub use Rattle.getopts.specs.declared.groups.HasArg.{HasArg}
-pub use Rattle.getopts.specs.declared.groups.HasArg.TheVariants.{Yes, No, Maybe}
-pub use Rattle.getopts.specs.declared.groups.Occur.{Occur}
-pub use Rattle.getopts.specs.declared.groups.Occur.TheVariants.{Req, Optional, Multi}
+pub use Rattle.getopts.specs.declared.kinds.HasArg.{HasArg}
+pub use Rattle.getopts.specs.declared.kinds.HasArg.TheVariants.{Yes, No, Maybe}
+pub use Rattle.getopts.specs.declared.kinds.Occur.{Occur}
+pub use Rattle.getopts.specs.declared.kinds.Occur.TheVariants.{Req, Optional, Multi}
 pub use denote.Enum.Laws as enums
 pub use Rattle.std.specs.contracts.result.Result as Res
 pub use Rattle.std.specs.contracts.alloc.AllocError as AE
-pub use Rattle.getopts.specs.contracts.groups.HasArg as has_arg
-pub use Rattle.getopts.specs.contracts.groups.Occur as occurs
+pub use Rattle.getopts.specs.contracts.kinds.HasArg as has_arg
+pub use Rattle.getopts.specs.contracts.kinds.Occur as occurs
 use Rattle.getopts.specs.contracts.options.Options.opt as g
 use Rattle.getopts.specs.contracts.options.Options.optflag as three
 use Rattle.getopts.specs.contracts.options.Options.optopt as four

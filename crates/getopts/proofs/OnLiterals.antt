@@ -19,9 +19,9 @@ use Rattle.getopts.specs.Results.{step, read_both, read, reading_or_error, accep
 use Rattle.getopts.specs.Returns.{IsLineOf}
 use Rattle.getopts.specs.Step.{cluster_step, first_char}
 use Rattle.getopts.specs.Wrap.{width_of}
-use Rattle.getopts.specs.declared.groups.HasArg.TheVariants.{Yes, No, Maybe}
-use Rattle.getopts.specs.declared.groups.Occur.TheVariants.{Optional, Multi}
-use Rattle.getopts.specs.declared.groups.ParsingStyle.TheVariants.{FloatingFrees}
+use Rattle.getopts.specs.declared.kinds.HasArg.TheVariants.{Yes, No, Maybe}
+use Rattle.getopts.specs.declared.kinds.Occur.TheVariants.{Optional, Multi}
+use Rattle.getopts.specs.declared.kinds.ParsingStyle.TheVariants.{FloatingFrees}
 use Rattle.unicode_width.proofs.Computing.{unicode_width}
 use Rattle.getopts.proofs.MainTheorem.Results.{HasResults-declared}
 

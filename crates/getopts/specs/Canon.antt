@@ -13,7 +13,7 @@ use Rattle.getopts.specs.Reading.{Mention, mentions, free_words}
 use Rattle.getopts.specs.ReadingLaws.{mentions_of}
 use Rattle.getopts.specs.Matches.{matches_of, KeepsCounts}
 use Rattle.getopts.specs.Parse.{Reads}
-use Rattle.getopts.specs.declared.groups.ParsingStyle.{ParsingStyle}
+use Rattle.getopts.specs.declared.kinds.ParsingStyle.{ParsingStyle}
 
 -- what a command line may say: mentions in order, and free words
 pub record Content : Type 0 where

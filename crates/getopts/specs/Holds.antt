@@ -11,9 +11,9 @@ use Rattle.getopts.specs.Accessors.{IsDefined, occurrences_of_name, first_value}
 use Rattle.getopts.specs.Reading.{FitsKind, stop_word}
 use Rattle.getopts.specs.Results.{parse_result}
 use Rattle.getopts.specs.ReadingLaws.{HavePositionsInOrder, HavePositionsBelow}
-use Rattle.getopts.specs.declared.groups.HasArg.TheVariants.{Yes}
-use Rattle.getopts.specs.declared.groups.Occur.TheVariants.{Req}
-use Rattle.getopts.specs.declared.groups.ParsingStyle.TheVariants.{StopAtFirstFree}
+use Rattle.getopts.specs.declared.kinds.HasArg.TheVariants.{Yes}
+use Rattle.getopts.specs.declared.kinds.Occur.TheVariants.{Req}
+use Rattle.getopts.specs.declared.kinds.ParsingStyle.TheVariants.{StopAtFirstFree}
 
 -- The groups in the matches have the names and kinds of the options' groups, in the same order.
 abbrev pub AreGroupsOf : Declared → List MatchedGroup → Type 0

@@ -6,8 +6,8 @@ use Rattle.getopts.specs.Names.{Text, main_name}
 use Rattle.getopts.specs.Options.{Signature, Declared, signatures_of, grammar_of}
 use Rattle.getopts.specs.Fail.{Fault, option_missing, option_duplicated}
 use Rattle.getopts.specs.Reading.{Reading, Occurrence, occurrences_of, free_words, trailing_start}
-use Rattle.getopts.specs.declared.groups.Occur.{Occur}
-use Rattle.getopts.specs.declared.groups.Occur.TheVariants.{Req, Optional, Multi}
+use Rattle.getopts.specs.declared.kinds.Occur.{Occur}
+use Rattle.getopts.specs.declared.kinds.Occur.TheVariants.{Req, Optional, Multi}
 
 -- an occurrence of a known group: its position, and its value if it has one
 pub record GroupOccurrence : Type 0 where
@@ -58,7 +58,7 @@ FitsCount Multi count = ⊤
 
 -- The group keeps its count.
 abbrev pub KeepsCount : MatchedGroup → Type 0
-KeepsCount group = FitsCount group.signature.occurrence (length group.found)
+KeepsCount group = FitsCount group.signature.occur (length group.found)
 
 -- Each group keeps its count.
 abbrev pub KeepsCounts : List MatchedGroup → Type 0

@@ -4,15 +4,15 @@ use Rattle.std.specs.List.{AllByRecursion}
 use Rattle.std.specs.Option.{option_and_then, option_map}
 use Rattle.std.specs.Str.{IsUtf8}
 use Rattle.getopts.specs.Names.{Text, Names, IsLawfullyNamed, resolution}
-use Rattle.getopts.specs.declared.groups.HasArg.{HasArg}
-use Rattle.getopts.specs.declared.groups.Occur.{Occur}
-use Rattle.getopts.specs.declared.groups.ParsingStyle.{ParsingStyle}
+use Rattle.getopts.specs.declared.kinds.HasArg.{HasArg}
+use Rattle.getopts.specs.declared.kinds.Occur.{Occur}
+use Rattle.getopts.specs.declared.kinds.ParsingStyle.{ParsingStyle}
 
 -- what parsing uses of a group: its names, its kind of argument and its kind of occurrence
 pub record Signature : Type 0 where
   pub names : Names
   pub kind : HasArg
-  pub occurrence : Occur
+  pub occur : Occur
 
 -- a group: what parsing uses of it, with its hint and description for usage texts
 pub record Group : Type 0 where
@@ -22,11 +22,11 @@ pub record Group : Type 0 where
 
 -- the group that a call adds for these arguments
 abbrev pub group_of : Text → Text → Text → Text → HasArg → Occur → Group
-group_of short long description hint kind occurrence = record {
+group_of short long description hint kind occur = record {
   signature = record {
     names = record { short = short; long = long };
     kind = kind;
-    occurrence = occurrence;
+    occur = occur;
   };
   hint = hint;
   description = description;
@@ -82,7 +82,7 @@ kind_of groups name =
 -- the kind of occurrence of the group that a name resolves to
 abbrev pub occur_of : List Group → Text → Option Occur
 occur_of groups name =
-    option_and_then (λ place. option_map (λ group. group.signature.occurrence) (slice_get groups place))
+    option_and_then (λ place. option_map (λ group. group.signature.occur) (slice_get groups place))
     (resolution (names_of groups) name)
 
 -- The options declare this name: it resolves.

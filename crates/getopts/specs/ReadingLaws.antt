@@ -13,7 +13,7 @@ use Rattle.getopts.specs.Reading.{is_bare, Tail, line_end, stop, tail_words, Rea
 use Rattle.getopts.specs.Reading.{Mention, mentions, Occurrence, at_position, word_count}
 use Rattle.getopts.specs.Reading.{occurrences_of, free_words, trailing_start}
 use Rattle.getopts.specs.Matches.{MatchedGroup}
-use Rattle.getopts.specs.declared.groups.HasArg.TheVariants.{Yes}
+use Rattle.getopts.specs.declared.kinds.HasArg.TheVariants.{Yes}
 
 -- what a reading mentions, in command-line order: its occurrences without their positions
 abbrev pub mentions_of : Grammar → Reading → List Mention

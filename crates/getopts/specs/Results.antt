@@ -12,10 +12,10 @@ use Rattle.getopts.specs.Reading.{stop, rest, Reading, holds_equals}
 use Rattle.getopts.specs.Matches.{MatchedGroup, Matched, matches_of, count_fault}
 use Rattle.getopts.specs.Canon.{Content, content_of, main_at, canonical_line}
 use Rattle.getopts.specs.Step.{Step, ends, takes, faults, long_step, cluster_step}
-use Rattle.getopts.specs.declared.groups.Occur.{Occur}
-use Rattle.getopts.specs.declared.groups.Occur.TheVariants.{Req, Optional, Multi}
-use Rattle.getopts.specs.declared.groups.ParsingStyle.{ParsingStyle}
-use Rattle.getopts.specs.declared.groups.ParsingStyle.TheVariants.{FloatingFrees, StopAtFirstFree}
+use Rattle.getopts.specs.declared.kinds.Occur.{Occur}
+use Rattle.getopts.specs.declared.kinds.Occur.TheVariants.{Req, Optional, Multi}
+use Rattle.getopts.specs.declared.kinds.ParsingStyle.{ParsingStyle}
+use Rattle.getopts.specs.declared.kinds.ParsingStyle.TheVariants.{FloatingFrees, StopAtFirstFree}
 
 -- the step of a word that isn't dashed
 abbrev pub free_step : ParsingStyle → Text → List Text → Step
@@ -83,7 +83,7 @@ broken_count group = count_fault (main_name group.signature.names) (length group
 abbrev pub first_count_fault : List MatchedGroup → Option Fault
 first_count_fault [] = None
 first_count_fault (group ∷ groups) =
-    if fits_count group.signature.occurrence (length group.found) then first_count_fault
+    if fits_count group.signature.occur (length group.found) then first_count_fault
     groups else Some (broken_count group)
 
 -- the reading, unless there is this count error

@@ -10,12 +10,12 @@ use Rattle.getopts.specs.Options.{Signature, Group, Declared}
 use Rattle.getopts.specs.Fail.{Fault, fault_index, fault_name, fault_of}
 use Rattle.getopts.specs.Matches.{GroupOccurrence, MatchedGroup, Matched}
 use Rattle.getopts.specs.declared.fail.Fail.{Fail}
-use Rattle.getopts.specs.declared.groups.HasArg.{HasArg}
-use Rattle.getopts.specs.declared.groups.Occur.{Occur}
-use Rattle.getopts.specs.declared.groups.ParsingStyle.{ParsingStyle}
-use Rattle.getopts.specs.declared.groups.HasArg.TheVariants.{Yes, No, Maybe}
-use Rattle.getopts.specs.declared.groups.Occur.TheVariants.{Req, Optional, Multi}
-use Rattle.getopts.specs.declared.groups.ParsingStyle.TheVariants.{FloatingFrees, StopAtFirstFree}
+use Rattle.getopts.specs.declared.kinds.HasArg.{HasArg}
+use Rattle.getopts.specs.declared.kinds.Occur.{Occur}
+use Rattle.getopts.specs.declared.kinds.ParsingStyle.{ParsingStyle}
+use Rattle.getopts.specs.declared.kinds.HasArg.TheVariants.{Yes, No, Maybe}
+use Rattle.getopts.specs.declared.kinds.Occur.TheVariants.{Req, Optional, Multi}
+use Rattle.getopts.specs.declared.kinds.ParsingStyle.TheVariants.{FloatingFrees, StopAtFirstFree}
 
 -- whether the short names and the long names are the same
 abbrev pub same_names : Names → Names → Bool
@@ -43,7 +43,7 @@ style_index StopAtFirstFree = 1
 abbrev pub same_signature : Signature → Signature → Bool
 same_signature = eq_of_both (on (λ signature. signature.names) same_names)
     (eq_of_both (on (λ signature. kind_index signature.kind) ◌==◌)
-    (on (λ signature. occurrence_index signature.occurrence) ◌==◌))
+    (on (λ signature. occurrence_index signature.occur) ◌==◌))
 
 -- whether all six parts of two groups are the same
 abbrev pub same_group : Group → Group → Bool

@@ -12,8 +12,8 @@ use Rattle.getopts.specs.Reading.{dash, begins_with_dash, equals_sign, is_dashed
 use Rattle.getopts.specs.Reading.{attached, separate, Dashes, dash_text, flags, ends_in, Item, long, cluster}
 use Rattle.getopts.specs.Reading.{value_of, argument_words, MayPrecede, free_items, Tail}
 use Rattle.getopts.specs.Reading.{Occurrence, at_position, mentions, word_count}
-use Rattle.getopts.specs.declared.groups.HasArg.{HasArg}
-use Rattle.getopts.specs.declared.groups.HasArg.TheVariants.{Yes, No, Maybe}
+use Rattle.getopts.specs.declared.kinds.HasArg.{HasArg}
+use Rattle.getopts.specs.declared.kinds.HasArg.TheVariants.{Yes, No, Maybe}
 
 -- A step ends the line with a tail; takes an item, and says whether the argument of its last option
 -- is the next word; or is an error.

@@ -5,9 +5,9 @@ pub mod Texts
 -- names by their places, and their keys
 pub mod Names
 -- names and kinds of groups, by their records
-pub mod Groups
+pub mod Signatures
 -- groups with their hints and descriptions
-pub mod Help
+pub mod Groups
 -- the table of names
 pub mod Table
 -- which occurrences belong to which group

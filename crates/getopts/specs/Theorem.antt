@@ -10,7 +10,7 @@ use Rattle.getopts.specs.Matches.{Matched, matches_of, IsCountFault}
 use Rattle.getopts.specs.Parse.{Reads, HasReading, IsAccepted, IsRefused}
 use Rattle.getopts.specs.Canon.{Content, content_of, IsPlain, canonical_line, IsCountKeeping, Says}
 use Rattle.getopts.specs.Canon.{with_setting}
-use Rattle.getopts.specs.declared.groups.ParsingStyle.{ParsingStyle}
+use Rattle.getopts.specs.declared.kinds.ParsingStyle.{ParsingStyle}
 use Rattle.getopts.specs.CanonAnswers.{IsWritten}
 use Rattle.getopts.specs.Returns.{HasResults}
 

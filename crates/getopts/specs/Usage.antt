@@ -5,10 +5,10 @@ use Rattle.std.specs.List.{AllZip, list_any, repeat}
 use Rattle.getopts.specs.Names.{Text, Names, is_empty}
 use Rattle.getopts.specs.Options.{Group, Declared}
 use Rattle.getopts.specs.Wrap.{width_of, IsDescriptionRows, joined}
-use Rattle.getopts.specs.declared.groups.HasArg.{HasArg}
-use Rattle.getopts.specs.declared.groups.HasArg.TheVariants as argument
-use Rattle.getopts.specs.declared.groups.Occur.{Occur}
-use Rattle.getopts.specs.declared.groups.Occur.TheVariants as occurrence
+use Rattle.getopts.specs.declared.kinds.HasArg.{HasArg}
+use Rattle.getopts.specs.declared.kinds.HasArg.TheVariants as argument
+use Rattle.getopts.specs.declared.kinds.Occur.{Occur}
+use Rattle.getopts.specs.declared.kinds.Occur.TheVariants as occurrence
 
 -- ---- texts
 
@@ -49,7 +49,7 @@ bracketed occurrence.Multi text = codes "[" ++ (text ++ codes "]..")
 -- an option in the short usage
 abbrev pub option_text : Group → Text
 option_text group =
-    bracketed group.signature.occurrence
+    bracketed group.signature.occur
     (option_name group.signature.names ++ option_argument group.signature.kind group.hint)
 
 -- the short usage of a program with these options

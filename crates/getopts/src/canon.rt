@@ -12,7 +12,7 @@ ghost use Rattle.getopts.specs.Names.{texts};
 ghost use Rattle.getopts.specs.Stored.Scan.{line_content};
 
 use crate::fail::Fail;
-use crate::help::Groups;
+use crate::groups::Groups;
 use crate::occurrences::LineOccurrences;
 use crate::options::Options;
 use crate::parse::words_from;

@@ -7,8 +7,9 @@ ghost use Rattle.getopts.specs.Results.{fits_count};
 ghost use Rattle.getopts.specs.Stored.Index.{count_in, first_wrong};
 
 use crate::fail::Fail;
-use crate::groups::{Occur, Signatures};
 use crate::index::Index;
+use crate::kinds::Occur;
+use crate::signatures::Signatures;
 use std::alloc::Global;
 
 /// Checks how often each option occurs, in order of declaration, given the index of the
@@ -26,7 +27,7 @@ pub(crate) fn check_counts(
 {
     for place in 0..signatures.len() {
         let count = index.count(place);
-        if !fits_count(signatures.record(place).kinds.occurrence, count) {
+        if !fits_count(signatures.record(place).kinds.occur, count) {
             return Err(count_fault(alloc, signatures.main(place), count));
         }
     }
@@ -34,10 +35,10 @@ pub(crate) fn check_counts(
 }
 
 /// Whether an option may occur this often.
-fn fits_count(occurrence: Occur, count: usize) -> bool
-    ensures { result ≡ fits_count occurrence count }
+fn fits_count(occur: Occur, count: usize) -> bool
+    ensures { result ≡ fits_count occur count }
 {
-    match occurrence {
+    match occur {
         Occur::Req => count == 1,
         Occur::Optional => count <= 1,
         Occur::Multi => true,

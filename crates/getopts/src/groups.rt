@@ -1,400 +1,172 @@
-//! Option groups: their kinds, and storage for the names and kinds of many groups.
+//! Declared groups: signatures with their hints and descriptions.
 
-ghost use Rattle.std.specs.Prelude.{◌≡◌, ◌++◌, ◌∷◌, [], Some, ◌+◌, ◌*◌, ◌≤◌, ◌<◌, ◌^◌, length};
-ghost use Rattle.std.specs.Prelude.{slice_get, OnOk, OnErr};
-ghost use Rattle.std.specs.Option.{option_map};
-ghost use Rattle.std.specs.String.{string_bytes, string_len, string_capacity};
+ghost use Rattle.std.specs.Prelude.{◌≡◌, ◌++◌, ◌∷◌, [], Some, ◌<◌, length, slice_get, OnOk, OnErr};
 ghost use Rattle.std.specs.Cmp.Lexicographic.{pointwise};
 ghost use Rattle.std.specs.Cmp.Rules.{comparing};
 ghost use Rattle.std.proofs.Common.{rules};
-ghost use Rattle.getopts.specs.Names.{AreLawful, IsLawfullyNamed, main_name};
-ghost use Rattle.getopts.specs.Stored.Groups.{signature_view, names_view, names_in, signature_with};
-ghost use Rattle.getopts.specs.Stored.Groups.{HasKeys, AreEndsOf, IsPairAt, pair_at, ends_of};
-ghost use Rattle.getopts.specs.Stored.Names.{names_at};
+ghost use Rattle.getopts.specs.Names.{AreLawful};
+ghost use Rattle.getopts.specs.Options.{MayBeDeclared, group_of, signatures_of};
+ghost use Rattle.getopts.specs.Canon.{main_at};
+ghost use Rattle.getopts.specs.Stored.Signatures.{AreLawfulSignatures};
 
-use crate::names::{NO_BYTE, NamesView, key_of, short_byte};
+use crate::kinds::Kinds;
+use crate::signatures::{
+    FIRST_GROUPS, FIRST_TEXT, PairEnds, SignatureView, Signatures, first_at, push_pair, second_at,
+};
 use std::alloc::{AllocError, Global};
 use std::marker::Model;
 
-/// Initial capacity: up to this many groups fit without reallocating. Without it, the job `typical`
-/// takes 32 % more instructions.
-pub(crate) const FIRST_GROUPS: usize = 32;
-
-/// Initial capacity for a text that all groups share, in bytes. Without it, the job `typical` takes
-/// 15 % more instructions.
-pub(crate) const FIRST_TEXT: usize = 1024;
-
-/// Whether options may follow the first free word.
-#[derive(Debug, Clone, Copy, PartialEq, Eq)]
-pub enum ParsingStyle {
-    /// Options and free words may be mixed. This is the style of `Options::new`.
-    FloatingFrees,
-    /// All words from the first free one on are free, even if they begin with a dash.
-    StopAtFirstFree,
-}
-
-/// Whether an option takes an argument.
-#[derive(Debug, Clone, Copy, PartialEq, Eq)]
-pub enum HasArg {
-    /// The option needs an argument, in the same word or as the next one.
-    Yes,
-    /// The option takes no argument.
-    No,
-    /// The argument is optional. It follows `=` or, for a short name in ordinary mode, it follows
-    /// the name directly or is the next word, unless that begins with a dash and is longer than
-    /// `-`.
-    Maybe,
-}
-
-/// How often an option may occur.
-#[derive(Debug, Clone, Copy, PartialEq, Eq)]
-pub enum Occur {
-    /// Exactly once. Otherwise the command line is rejected with `OptionMissing` or
-    /// `OptionDuplicated`.
-    Req,
-    /// At most once. Otherwise the command line is rejected with `OptionDuplicated`.
-    Optional,
-    /// Any number of times.
-    Multi,
-}
-
-/// The kinds of a group: whether it takes an argument, and how often it may occur.
-#[derive(Debug, Clone, Copy)]
-pub(crate) struct Kinds {
-    pub kind: HasArg,
-    pub occurrence: Occur,
-}
-
-impl PartialEq for Kinds {
-    ghost use Rattle.getopts.specs.Stored.Groups.{same_kinds};
-
-    ghost eq = { same_kinds };
-
-    ghost laws = { Prim.search (comparing, rules) depth 12 };
-
-    // Without `inline` in this file, this library takes 7 % more instructions on the job `typical`.
-    #[inline(always)]
-    fn eq(&self, other: &Kinds) -> bool {
-        self.kind == other.kind && self.occurrence == other.occurrence
-    }
-}
-
-/// What parsing needs of a group, borrowed: its names and kinds.
+/// A group with its hint and description, borrowed.
 #[derive(Clone, Copy)]
-pub(crate) struct SignatureView<'g> {
-    pub names: NamesView<'g>,
-    pub kinds: Kinds,
+pub(crate) struct GroupView<'g> {
+    pub signature: SignatureView<'g>,
+    pub hint: &'g str,
+    pub desc: &'g str,
 }
 
-impl<'g> PartialEq for SignatureView<'g> {
-    ghost use Rattle.getopts.specs.Stored.Groups.{same_signature_view};
+impl<'g> PartialEq for GroupView<'g> {
+    ghost use Rattle.getopts.specs.Stored.Groups.{same_group_view};
 
-    ghost eq = { same_signature_view };
+    ghost eq = { same_group_view };
 
     ghost laws = { Prim.search (comparing, rules) depth 12 };
 
-    fn eq(&self, other: &SignatureView<'g>) -> bool {
-        self.names.short == other.names.short
-            && self.names.long == other.names.long
-            && self.kinds == other.kinds
+    fn eq(&self, other: &GroupView<'g>) -> bool {
+        self.signature == other.signature && self.hint == other.hint && self.desc == other.desc
     }
 }
 
-/// Where two adjacent texts are in a longer one: the start of the first, and the end of each.
-#[derive(Debug, Clone, Copy)]
-pub(crate) struct PairEnds {
-    pub start: usize,
-    pub first: usize,
-    pub second: usize,
-}
-
-/// A stored group: where its long name begins and ends in the text of all names, what to look its
-/// names up by, and its kinds. It has 32 bytes, so that the first list, of `FIRST_GROUPS` records,
-/// fits in malloc's cache.
-#[derive(Debug, Clone, Copy)]
-pub(crate) struct SignatureRecord {
-    pub long: usize,
-    pub end: usize,
-    /// The key of the main name.
-    pub key: u64,
-    /// The byte of the short name, or `NO_BYTE`.
-    pub short: u16,
-    pub has_long: bool,
-    pub kinds: Kinds,
-}
-
-impl PartialEq for SignatureRecord {
-    ghost use Rattle.getopts.specs.Stored.Groups.{same_record};
-
-    ghost eq = { same_record };
-
-    ghost laws = { Prim.search (comparing, rules) depth 12 };
-
-    /// Whether the short names are equal, the long names are at the same places, and the kinds are
-    /// equal.
-    #[inline(always)]
-    fn eq(&self, other: &SignatureRecord) -> bool {
-        self.long == other.long
-            && self.end == other.end
-            && self.short == other.short
-            && self.kinds == other.kinds
-    }
-}
-
-impl SignatureRecord {
-    /// Where its names start and end: a short name has one byte.
-    #[inline(always)]
-    fn ends(&self) -> PairEnds
-        ensures { result ≡ ends_of self.now }
-    {
-        let start = if self.short == NO_BYTE {
-            self.long
-        } else {
-            self.long.saturating_sub(1)
-        };
-        PairEnds {
-            start,
-            first: self.long,
-            second: self.end,
-        }
-    }
-}
-
-/// Appends a text that there is room for, and returns its end.
-#[inline(always)]
-pub(crate) fn push_reserved(texts: &mut String, text: &str) -> usize
-    requires { string_len texts.old + length text.now ≤ string_capacity texts.old }
-    ensures bytes { string_bytes texts.new ≡ string_bytes texts.old ++ text.now }
-    ensures end { result ≡ length (string_bytes texts.new) }
-    ensures room { string_capacity texts.old ≤ string_capacity texts.new }
-{
-    if text.is_empty() {
-        return texts.len();
-    }
-    match texts.push_str(text) {
-        Ok(()) => texts.len(),
-        Err(_) => unreachable!(),
-    }
-}
-
-/// Appends two texts that there is room for, and returns where they are.
-#[inline(always)]
-pub(crate) fn push_pair(texts: &mut String, first: &str, second: &str) -> PairEnds
-    requires { string_len texts.old + (length first.now + length second.now)
-        ≤ string_capacity texts.old }
-    ensures bytes { string_bytes texts.new ≡ string_bytes texts.old ++ (first.now ++ second.now) }
-    ensures two { IsPairAt (string_bytes texts.new) result (first.now, second.now) }
-    ensures first { result.first ≡ result.start + length first.now }
-{
-    let start = texts.len();
-    let first = push_reserved(texts, first);
-    let second = push_reserved(texts, second);
-    PairEnds {
-        start,
-        first,
-        second,
-    }
-}
-
-/// The first of the two texts at `ends`.
-#[inline(always)]
-pub(crate) fn first_at(text: &str, ends: PairEnds) -> &str
-    requires { AreEndsOf text.now ends }
-    ensures { result.now ≡ (pair_at text.now ends).0 }
-{
-    &text[ends.start..ends.first]
-}
-
-/// The second of the two texts at `ends`.
-#[inline(always)]
-pub(crate) fn second_at(text: &str, ends: PairEnds) -> &str
-    requires { AreEndsOf text.now ends }
-    ensures { result.now ≡ (pair_at text.now ends).1 }
-{
-    &text[ends.first..ends.second]
-}
-
-/// What parsing needs of validly named groups: one text with the short and long name of each group
-/// in turn, and a record for each group.
+/// Validly named groups: their names and kinds, one text with all hints and descriptions, and the
+/// places of each group's hint and description in that text.
 #[derive(Debug)]
-pub(crate) struct Signatures {
-    text: String,
-    records: Vec<SignatureRecord>,
+pub(crate) struct Groups {
+    signatures: Signatures,
+    texts: String,
+    ends: Vec<PairEnds>,
 }
 
-impl Drop for Signatures {
+impl Drop for Groups {
     fn drop(self) {
-        let Signatures {
-            text: _,
-            records: _,
+        let Groups {
+            signatures: _,
+            texts: _,
+            ends: _,
         } = self;
     }
 }
 
-impl Model for Signatures {
+impl Model for Groups {
     ghost use Rattle.std.specs.Prelude.{List};
-    ghost use Rattle.getopts.specs.Options.{Signature};
-    ghost use Rattle.getopts.specs.Stored.Groups.{signatures_view, HoldSignatures};
+    ghost use Rattle.getopts.specs.Options.{Group};
+    ghost use Rattle.getopts.specs.Stored.Groups.{groups_view, HoldGroups};
 
-    ghost Value = { List Signature };
+    ghost Value = { List Group };
 
-    ghost view = { signatures_view };
+    ghost view = { groups_view };
 
-    ghost invariant = { HoldSignatures };
+    ghost invariant = { HoldGroups };
 }
 
-impl Signatures {
-    ghost use Rattle.getopts.specs.Stored.Groups.{kinds_of};
+impl Groups {
+    ghost use Rattle.getopts.specs.Stored.Groups.{group_view};
 
     /// No groups. Allocates nothing.
-    pub(crate) fn new(alloc: Global) -> Signatures
+    pub(crate) fn new(alloc: Global) -> Groups
         ensures { result ≡ [] }
     {
-        Signatures {
-            text: String::new(alloc),
-            records: Vec::new(alloc),
+        Groups {
+            signatures: Signatures::new(alloc),
+            texts: String::new(alloc),
+            ends: Vec::new(alloc),
         }
     }
 
-    #[inline]
     pub(crate) fn len(&self) -> usize
-        ensures len { result ≡ length self.now }
-        ensures small { 2 * result < 2 ^ 64 }
+        ensures { result ≡ length self.now }
     {
-        self.records.len()
+        self.ends.len()
     }
 
-    /// The record of the group at `place`.
-    #[inline(always)]
-    pub(crate) fn record(&self, place: usize) -> SignatureRecord
-        requires { place < length self.now }
-        ensures keys { HasKeys result (names_at (names_in self.now) place) }
-        ensures kinds { Some result.kinds ≡ option_map kinds_of (slice_get self.now place) }
-        ensures lawful { IsLawfullyNamed (names_at (names_in self.now) place) }
+    /// The names and kinds of the groups.
+    pub(crate) fn signatures(&self) -> &Signatures
+        ensures signatures { result.now ≡ signatures_of self.now }
+        ensures declared { MayBeDeclared self.now }
+        ensures lawful { AreLawfulSignatures result.now }
     {
-        self.records[place]
-    }
-
-    /// The short name of the group at `place`.
-    #[inline(always)]
-    pub(crate) fn short(&self, place: usize) -> &str
-        requires { place < length self.now }
-        ensures { result.now ≡ (names_at (names_in self.now) place).short }
-    {
-        first_at(&self.text, self.records[place].ends())
-    }
-
-    /// The long name of the group at `place`.
-    #[inline(always)]
-    pub(crate) fn long(&self, place: usize) -> &str
-        requires { place < length self.now }
-        ensures { result.now ≡ (names_at (names_in self.now) place).long }
-    {
-        second_at(&self.text, self.records[place].ends())
-    }
-
-    /// Both names of the group at `place`.
-    #[inline]
-    pub(crate) fn names(&self, place: usize) -> NamesView<'_>
-        requires { place < length self.now }
-        ensures { names_view result ≡ names_at (names_in self.now) place }
-    {
-        NamesView {
-            short: self.short(place),
-            long: self.long(place),
-        }
+        &self.signatures
     }
 
     /// The main name of the group at `place`.
-    #[inline]
     pub(crate) fn main(&self, place: usize) -> &str
         requires { place < length self.now }
-        ensures { result.now ≡ main_name (names_at (names_in self.now) place) }
+        ensures { result.now ≡ main_at self.now place }
     {
-        if self.record(place).has_long {
-            self.long(place)
-        } else {
-            self.short(place)
-        }
+        self.signatures.main(place)
     }
 
-    /// The main name of the group at `place`, or an empty text past the last group. Sorting and
-    /// searching a table need closures that accept any entry.
-    pub(crate) fn main_or_empty(&self, place: usize) -> &str
-        ensures { result.now ≡ main_name (names_at (names_in self.now) place) }
-    {
-        if place < self.len() {
-            self.main(place)
-        } else {
-            ""
-        }
-    }
-
-    /// The names and kinds of the group at `place`.
-    #[inline(always)]
-    pub(crate) fn get(&self, place: usize) -> SignatureView<'_>
+    /// The group at `place`.
+    pub(crate) fn get(&self, place: usize) -> GroupView<'_>
         requires { place < length self.now }
-        ensures { Some (signature_view result) ≡ slice_get self.now place }
+        ensures { Some (group_view result) ≡ slice_get self.now place }
     {
-        SignatureView {
-            names: self.names(place),
-            kinds: self.record(place).kinds,
+        let pair = self.ends[place];
+        GroupView {
+            signature: self.signatures.get(place),
+            hint: first_at(&self.texts, pair),
+            desc: second_at(&self.texts, pair),
         }
     }
 
-    /// Appends the names and kinds of a group. After an error nothing has changed.
-    // Without `inline` here and at `Groups::push`, the job `typical` takes 3.3 % more instructions.
+    /// Appends a group. After an error nothing has changed.
     #[inline]
-    pub(crate) fn push(&mut self, short: &str, long: &str, kinds: Kinds) -> Result<(), AllocError>
+    pub(crate) fn push(
+        &mut self,
+        short: &str,
+        long: &str,
+        hint: &str,
+        desc: &str,
+        kinds: Kinds,
+    ) -> Result<(), AllocError>
         requires { AreLawful short.now long.now }
-        ensures ok { OnOk result
-            (self.new ≡ self.old ++ signature_with kinds short.now long.now ∷ []) }
+        ensures ok { OnOk result (self.new ≡ self.old
+            ++ group_of short.now long.now desc.now hint.now kinds.kind kinds.occur ∷ []) }
         ensures err { OnErr result (self.new ≡ self.old) }
     {
-        let bytes = short.len().saturating_add(long.len());
-        if self.records.is_empty() {
-            self.records.reserve(FIRST_GROUPS)?;
-            self.text.reserve(bytes.max(FIRST_TEXT))?;
+        let bytes = hint.len().saturating_add(desc.len());
+        if self.ends.is_empty() {
+            self.ends.reserve(FIRST_GROUPS)?;
+            self.texts.reserve(bytes.max(FIRST_TEXT))?;
         } else {
-            self.records.reserve(1)?;
-            self.text.reserve(bytes)?;
+            self.ends.reserve(1)?;
+            self.texts.reserve(bytes)?;
         }
-        let names = push_pair(&mut self.text, short, long);
-        let key = key_of(NamesView { short, long }.main().as_bytes());
-        self.records.push_reserved(SignatureRecord {
-            long: names.first,
-            end: names.second,
-            key,
-            short: short_byte(short),
-            has_long: !long.is_empty(),
-            kinds,
-        });
+        self.signatures.push(short, long, kinds)?;
+        let pair = push_pair(&mut self.texts, hint, desc);
+        self.ends.push_reserved(pair);
         Ok(())
     }
 }
 
-impl Clone for Signatures {
+impl Clone for Groups {
     ghost is_clone = { λ a b. b ≡ a };
 
-    fn clone(&self) -> Result<Signatures, AllocError> {
-        Ok(Signatures {
-            text: self.text.clone()?,
-            records: self.records.clone()?,
+    fn clone(&self) -> Result<Groups, AllocError> {
+        Ok(Groups {
+            signatures: self.signatures.clone()?,
+            texts: self.texts.clone()?,
+            ends: self.ends.clone()?,
         })
     }
 }
 
-impl PartialEq for Signatures {
-    ghost use Rattle.getopts.specs.Same.{same_signature};
+impl PartialEq for Groups {
+    ghost use Rattle.getopts.specs.Same.{same_group};
 
-    ghost eq = { pointwise same_signature };
+    ghost eq = { pointwise same_group };
 
     ghost laws = { Prim.search (comparing, rules) depth 12 };
 
-    fn eq(&self, other: &Signatures) -> bool {
-        if self.text == other.text && self.records == other.records {
-            return true;
-        }
+    fn eq(&self, other: &Groups) -> bool {
         if self.len() != other.len() {
             return false;
         }

@@ -3,7 +3,7 @@
 
 ghost use Rattle.getopts.specs.Canon.{Content, Says, IsSound, IsPlain, HasCanonicalLine};
 ghost use Rattle.getopts.specs.Canon.{with_setting};
-ghost use Rattle.getopts.specs.declared.groups.ParsingStyle.{ParsingStyle};
+ghost use Rattle.getopts.specs.declared.kinds.ParsingStyle.{ParsingStyle};
 ghost use Rattle.std.specs.Prelude.{List, Bool};
 ghost use Rattle.getopts.specs.Accessors.{held_names};
 ghost use Rattle.getopts.specs.CanonAnswers.{IsParseAnswer, IsCanonicalAnswer, KeepsLineLaws};

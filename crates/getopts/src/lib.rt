@@ -3,11 +3,13 @@
 
 // Which pairs of names are valid.
 mod names;
+// Parsing styles, and the kinds of options.
+mod kinds;
 // The names and kinds of option groups, stored together: one text with all names, and a record for
 // each group.
+mod signatures;
+// Declared groups: signatures with their hints and descriptions.
 mod groups;
-// Declared groups, with their hints and descriptions.
-mod help;
 // What a caller declares: groups, a style and a mode.
 mod options;
 // Why a command line is rejected.
@@ -42,7 +44,7 @@ mod usage;
 mod laws;
 
 pub use fail::Fail;
-pub use groups::{HasArg, Occur, ParsingStyle};
+pub use kinds::{HasArg, Occur, ParsingStyle};
 pub use laws::{
     declared_options_keep_laws, equal_input_equal_answers, held_names_resolve, names_resolve,
     one_reading_one_canonical_line, results_are_computed,

@@ -14,10 +14,10 @@ ghost use Rattle.getopts.specs.Stored.Matches.{IsOfSignatures};
 
 use crate::counts::check_counts;
 use crate::fail::Fail;
-use crate::groups::Signatures;
 use crate::index::Index;
 use crate::occurrences::{LineOccurrences, Occurrences};
 use crate::scan::Line;
+use crate::signatures::Signatures;
 use crate::table::Table;
 use std::alloc::{AllocError, Global};
 use std::marker::Model;

@@ -34,7 +34,7 @@ pub(crate) struct NamesView<'g> {
 
 impl<'g> NamesView<'g> {
     ghost use Rattle.getopts.specs.Names.{main_name};
-    ghost use Rattle.getopts.specs.Stored.Groups.{names_view};
+    ghost use Rattle.getopts.specs.Stored.Signatures.{names_view};
 
     /// The main name: the long name or, if that is empty, the short name.
     pub(crate) fn main(self) -> &'g str

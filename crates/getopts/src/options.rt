@@ -5,12 +5,13 @@ ghost use Rattle.std.specs.Borrow.{sem};
 ghost use Rattle.std.specs.Cmp.Rules.{comparing};
 ghost use Rattle.std.proofs.Common.{rules};
 ghost use Rattle.getopts.specs.Names.{AreLawful};
-ghost use Rattle.getopts.specs.Stored.Groups.{AreLawfulSignatures};
+ghost use Rattle.getopts.specs.Stored.Signatures.{AreLawfulSignatures};
 ghost use Rattle.getopts.specs.Borrows.{UnchangedIfErr};
 ghost use Rattle.getopts.specs.Options.{group_of, with_group, signatures_of, MayBeDeclared};
 
-use crate::groups::{HasArg, Kinds, Occur, ParsingStyle, Signatures};
-use crate::help::Groups;
+use crate::groups::Groups;
+use crate::kinds::{HasArg, Kinds, Occur, ParsingStyle};
+use crate::signatures::Signatures;
 use std::alloc::{AllocError, Global};
 use std::marker::Model;
 
@@ -91,7 +92,7 @@ impl Options {
     {
         let kinds = Kinds {
             kind: hasarg,
-            occurrence: occur,
+            occur,
         };
         self.groups.push(short_name, long_name, hint, desc, kinds)
     }

@@ -3,13 +3,14 @@ ghost use Rattle.std.specs.Prelude.{◌≡◌, ◌++◌, string_bytes, IfOk, OnO
 ghost use Rattle.getopts.specs.Wrap.{width_of};
 ghost use Rattle.getopts.specs.Usage.{IsUsageRowIn, argument_part, has_columns, head};
 ghost use Rattle.getopts.specs.Usage.{long_part, padding, short_part};
-ghost use Rattle.getopts.specs.Stored.Groups.{names_view};
-ghost use Rattle.getopts.specs.Stored.Help.{group_view};
+ghost use Rattle.getopts.specs.Stored.Signatures.{names_view};
+ghost use Rattle.getopts.specs.Stored.Groups.{group_view};
 ghost use Rattle.getopts.specs.Only.{IsTheOnly};
 
-use crate::groups::{HasArg, SignatureView};
-use crate::help::GroupView;
+use crate::groups::GroupView;
+use crate::kinds::HasArg;
 use crate::names::NamesView;
+use crate::signatures::SignatureView;
 use crate::wrap::{each_split_within, push_joined};
 use std::alloc::{AllocError, Global};
 use unicode_width::UnicodeWidthStr;

@@ -11,7 +11,7 @@ ghost use Rattle.getopts.specs.Names.{AreTexts, Text};
 ghost use Rattle.getopts.specs.Step.{with_equals, first_char, chosen_end, Chooses};
 
 use crate::fail::Fail;
-use crate::groups::{HasArg, ParsingStyle};
+use crate::kinds::{HasArg, ParsingStyle};
 use crate::occurrences::LineOccurrences;
 use crate::options::Options;
 use crate::table::Table;
@@ -86,7 +86,7 @@ pub(crate) struct Scanner<'o> {
 
 /// The option that a name resolves to: the place of its group, and whether it takes an argument.
 #[derive(Clone, Copy)]
-pub(crate) struct Named {
+pub(crate) struct Resolved {
     pub place: usize,
     pub kind: HasArg,
 }
@@ -230,7 +230,7 @@ impl<'o> Scanner<'o> {
     ghost use Rattle.getopts.specs.Results.{read};
 
     /// The option that a name resolves to.
-    fn option(&self, name: &str) -> Option<Named>
+    fn option(&self, name: &str) -> Option<Resolved>
         requires { IsLawfulScanner self.now }
         ensures { let grammar = scanner_grammar self.now in
             MatchOption result (grammar.kind name.now ≡ None) (IsNamedBy grammar name.now) }
@@ -238,7 +238,7 @@ impl<'o> Scanner<'o> {
         let signatures = self.options.signatures();
         let place = self.table.resolve(signatures, name)?;
         let kind = signatures.record(place).kinds.kind;
-        Some(Named { place, kind })
+        Some(Resolved { place, kind })
     }
 
     /// Reads a long item: `text` follows the dashes in its first word, and `after` is the words
@@ -282,7 +282,7 @@ impl<'o> Scanner<'o> {
     }
 
     /// The option that a byte in a cluster names. A byte that isn't ASCII is never a name.
-    fn option_at(&self, byte: u8) -> Option<Named>
+    fn option_at(&self, byte: u8) -> Option<Resolved>
         requires { IsLawfulScanner self.now }
         ensures option { let grammar = scanner_grammar self.now in
             MatchOption result (grammar.kind (byte ∷ []) ≡ None) (IsNamedBy grammar (byte ∷ [])) }
@@ -293,7 +293,7 @@ impl<'o> Scanner<'o> {
         }
         let place = self.table.resolve_byte(byte)?;
         let kind = self.options.signatures().record(place).kinds.kind;
-        Some(Named { place, kind })
+        Some(Resolved { place, kind })
     }
 
     /// Reads a cluster: `text` follows the dash in its first word, and `after` is the words after
@@ -323,12 +323,12 @@ impl<'o> Scanner<'o> {
                     return Err(Fail::unrecognized_option(alloc, name));
                 }
                 Some(
-                    Named {
+                    Resolved {
                         place,
                         kind: HasArg::No,
                     },
                 ) => found.push(place, position, None)?,
-                Some(Named { place, kind }) => {
+                Some(Resolved { place, kind }) => {
                     let name = &text[at..at + 1];
                     let argument = last_argument(alloc, kind, name, &text[at + 1..], after)?;
                     found.push(place, position, argument.value)?;

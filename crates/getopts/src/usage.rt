@@ -1,8 +1,8 @@
 //! Usage texts: all options in one line, and a row for each option with its description.
 ghost use Rattle.std.specs.Prelude.{◌≡◌, ◌++◌, List, codes, map, string_bytes, IfOk, OnOk};
 ghost use Rattle.std.specs.Iterator.{YieldsFirstBy, item_count};
-ghost use Rattle.getopts.specs.Stored.Groups.{names_view};
-ghost use Rattle.getopts.specs.Stored.Help.{group_view};
+ghost use Rattle.getopts.specs.Stored.Signatures.{names_view};
+ghost use Rattle.getopts.specs.Stored.Groups.{group_view};
 ghost use Rattle.getopts.specs.Names.{Text};
 ghost use Rattle.getopts.specs.Only.{IsTheOnly};
 ghost use Rattle.getopts.specs.Usage.{AreUsageRows, AreUsageRowsIn, IsUsageText, IsUsageTextIn};
@@ -10,11 +10,12 @@ ghost use Rattle.getopts.specs.Usage.{any_short};
 ghost use Rattle.getopts.specs.Usage.{option_name, option_text, short_usage_text};
 ghost use Rattle.getopts.specs.Wrap.{joined};
 
-use crate::groups::{HasArg, Occur, SignatureView};
-use crate::help::GroupView;
+use crate::groups::GroupView;
+use crate::kinds::{HasArg, Occur};
 use crate::names::NamesView;
 use crate::options::Options;
 use crate::row::{Layout, push_argument, row_of};
+use crate::signatures::SignatureView;
 use crate::wrap::push_joined;
 use std::alloc::{AllocError, Global};
 use std::marker::Model;
@@ -243,7 +244,7 @@ fn push_option(text: &mut String, group: GroupView<'_>) -> Result<(), AllocError
         ++ option_text (group_view group.entry)) }
 {
     let SignatureView { names, kinds } = group.signature;
-    let (before, after) = match kinds.occurrence {
+    let (before, after) = match kinds.occur {
         Occur::Req => ("", ""),
         Occur::Optional => ("[", "]"),
         Occur::Multi => ("[", "].."),

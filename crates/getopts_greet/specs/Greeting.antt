@@ -9,9 +9,9 @@ use Rattle.getopts.specs.Prelude.{Declared, Fault, IsParsedAs, Matched, Text, fa
 use Rattle.getopts.specs.Prelude.{group_of, occurrences_of_name}
 use Rattle.getopts.specs.declared.fail.Fail.{Fail}
 use Rattle.getopts.specs.declared.fail.Fail.TheVariants as fail
-use Rattle.getopts.specs.declared.groups.HasArg.TheVariants.{No, Yes}
-use Rattle.getopts.specs.declared.groups.Occur.TheVariants.{Optional, Req}
-use Rattle.getopts.specs.declared.groups.ParsingStyle.TheVariants.{FloatingFrees}
+use Rattle.getopts.specs.declared.kinds.HasArg.TheVariants.{No, Yes}
+use Rattle.getopts.specs.declared.kinds.Occur.TheVariants.{Optional, Req}
+use Rattle.getopts.specs.declared.kinds.ParsingStyle.TheVariants.{FloatingFrees}
 use Rattle.getopts.specs.declared.request.Request.{Request}
 use Rattle.getopts.specs.declared.request.Request.TheVariants.{Help, Parsed, Version}
 use Rattle.getopts_greet.specs.declared.greeting.Greeting.{Greeting}

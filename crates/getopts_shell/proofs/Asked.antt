@@ -16,7 +16,7 @@ use Rattle.getopts.specs.Results.{made_of}
 use Rattle.getopts.specs.Results.{parse_ignoring_counts_result, parse_result, reading_or_error}
 use Rattle.getopts.specs.Results.{unless_fault}
 use Rattle.getopts.specs.Results.{with_counts_kept}
-use Rattle.getopts.specs.declared.groups.Occur.{Occur}
+use Rattle.getopts.specs.declared.kinds.Occur.{Occur}
 use Rattle.getopts.proofs.MainTheorem.Results.{made_of-ok}
 use Rattle.getopts_shell.specs.Program.{Asked, asked_fault}
 use Rattle.getopts_shell.specs.Stored.{entry_of_row, groups_of, held_signatures}
@@ -123,10 +123,10 @@ counts_from groups rows place row same below row_is =
     by_place (group ∷ groups) (other ∷ rows) zero same below row_is =
         let is : group.signature ≡ (group_of_entry false (entry_of_row other)).signature = cc in
         let same_row : row ≡ other = row_is in
-        let occurrence : group.signature.occurrence ≡ occurrence_of false row.frequency =
-        ap (λ (s : Signature). s.occurrence) is
+        let occurrence : group.signature.occur ≡ occurrence_of false row.frequency =
+        ap (λ (s : Signature). s.occur) is
         ∙ sym (ap (λ (r : Row). occurrence_of false r.frequency) same_row) in
-        by_test (fits_count group.signature.occurrence (length group.found))
+        by_test (fits_count group.signature.occur (length group.found))
         ∙ ap (λ (o : Occur). fits_count o (length group.found)
         && is_none (first_count_fault groups)) occurrence
       where

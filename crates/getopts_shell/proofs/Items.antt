@@ -8,8 +8,8 @@ use Rattle.std.specs.Option.{option_map_or, unwrap_or}
 use Rattle.std.proofs.lemmas.Bool.Decides.{nat_tests}
 use Rattle.std.proofs.lemmas.List.{append_cancel_right}
 use Rattle.getopts.specs.Names.{Text, Names, is_empty}
-use Rattle.getopts.specs.declared.groups.HasArg.{HasArg}
-use Rattle.getopts.specs.declared.groups.HasArg.TheVariants.{Yes, No, Maybe}
+use Rattle.getopts.specs.declared.kinds.HasArg.{HasArg}
+use Rattle.getopts.specs.declared.kinds.HasArg.TheVariants.{Yes, No, Maybe}
 use Rattle.getopts_shell.specs.Table.{is_name, is_hint, names_text, MayBeNames, AreNames}
 use Rattle.getopts_shell.specs.Table.{IsArgument, HasParts, IsBracketed, bare, bracketed, IsItem}
 use Rattle.getopts_shell.specs.Table.{end_means, begins_name, fits, is_hint_byte}

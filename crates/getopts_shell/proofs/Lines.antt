@@ -9,7 +9,7 @@ use Rattle.std.specs.Option.{option_to_list}
 use Rattle.std.proofs.lemmas.List.{take-append-drop, at_drop_more}
 use Rattle.std.proofs.lemmas.List.Concat.{flat_map-append}
 use Rattle.getopts.specs.Names.{Names, Text, is_empty}
-use Rattle.getopts.specs.declared.groups.HasArg.{HasArg}
+use Rattle.getopts.specs.declared.kinds.HasArg.{HasArg}
 use Rattle.getopts.specs.Wrap.{lines_of}
 use Rattle.getopts_shell.specs.Stored.{IsOutOfMemoryOrFault}
 use Rattle.getopts_shell.specs.declared.table.TableError.{TableError}

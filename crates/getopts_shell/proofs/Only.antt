@@ -4,7 +4,7 @@ use Rattle.std.proofs.Common.{refl, sym, ap, subst, ◌∙◌, append_assoc, ari
 use Rattle.std.specs.Prelude.{◌||◌, ◌&&◌, if◌then◌else◌, not}
 use Rattle.std.specs.Option.{option_to_list}
 use Rattle.getopts.specs.Names.{Names, Text}
-use Rattle.getopts.specs.declared.groups.HasArg.{HasArg}
+use Rattle.getopts.specs.declared.kinds.HasArg.{HasArg}
 use Rattle.getopts.specs.Wrap.{lines_of}
 use Rattle.getopts_shell.specs.Table.{AreNames, Entry, IsItem, HasParts, IsArgument, is_operand}
 use Rattle.getopts_shell.specs.Table.{declares_no_option, is_skipped, item_of, Declares, DeclareEntries}

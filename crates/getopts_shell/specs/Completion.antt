@@ -11,8 +11,8 @@ use Rattle.getopts.specs.Names.{Text, is_empty, main_name}
 use Rattle.getopts.specs.Options.{Declared}
 use Rattle.getopts.specs.Reading.{Reading, Tail, line_end}
 use Rattle.getopts.specs.Results.{reading_or_error}
-use Rattle.getopts.specs.declared.groups.HasArg.{HasArg}
-use Rattle.getopts.specs.declared.groups.HasArg.TheVariants.{No}
+use Rattle.getopts.specs.declared.kinds.HasArg.{HasArg}
+use Rattle.getopts.specs.declared.kinds.HasArg.TheVariants.{No}
 use Rattle.getopts_shell.specs.declared.complete.TheConstants.{BASH, ZSH, FISH}
 use Rattle.getopts_shell.specs.Quote.{quoted_byte}
 use Rattle.getopts_shell.specs.Table.{Entry, is_long_name}

@@ -19,9 +19,9 @@ use Rattle.getopts.specs.Reading.{stop_word}
 use Rattle.getopts.specs.Results.{canonical_result, parse_ignoring_counts_result, parse_result}
 use Rattle.getopts.specs.Usage.{IsUsageText, next_row, short_usage_text, spaces}
 use Rattle.getopts.specs.Wrap.{IsDescriptionRows, joined}
-use Rattle.getopts.specs.declared.groups.HasArg.TheVariants.{Yes, No}
-use Rattle.getopts.specs.declared.groups.Occur.TheVariants.{Optional}
-use Rattle.getopts.specs.declared.groups.ParsingStyle.TheVariants.{FloatingFrees, StopAtFirstFree}
+use Rattle.getopts.specs.declared.kinds.HasArg.TheVariants.{Yes, No}
+use Rattle.getopts.specs.declared.kinds.Occur.TheVariants.{Optional}
+use Rattle.getopts.specs.declared.kinds.ParsingStyle.TheVariants.{FloatingFrees, StopAtFirstFree}
 use Rattle.getopts_bytes.specs.Marks.{bytes_of}
 use Rattle.getopts_shell.specs.Completion.{functions, offer, stub, takes_argument}
 use Rattle.getopts_shell.specs.Quote.{quoted, shell_words}

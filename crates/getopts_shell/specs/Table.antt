@@ -12,10 +12,10 @@ use Rattle.getopts.specs.Names.{Text, Names, AreLawful, is_empty}
 use Rattle.getopts.specs.Options.{Group}
 use Rattle.getopts.specs.Reading.{begins_with_dash}
 use Rattle.getopts.specs.Wrap.{lines_of}
-use Rattle.getopts.specs.declared.groups.HasArg.{HasArg}
-use Rattle.getopts.specs.declared.groups.HasArg.TheVariants.{Yes, No, Maybe}
-use Rattle.getopts.specs.declared.groups.Occur.{Occur}
-use Rattle.getopts.specs.declared.groups.Occur.TheVariants.{Req, Optional, Multi}
+use Rattle.getopts.specs.declared.kinds.HasArg.{HasArg}
+use Rattle.getopts.specs.declared.kinds.HasArg.TheVariants.{Yes, No, Maybe}
+use Rattle.getopts.specs.declared.kinds.Occur.{Occur}
+use Rattle.getopts.specs.declared.kinds.Occur.TheVariants.{Req, Optional, Multi}
 use Rattle.getopts_shell.specs.declared.item.TheConstants.{NAMES_TOGETHER, TWO_DASHES_AFTER_BAR, BRACKETS_AROUND_WHOLE, LONG_NAME_BYTES, LONG_NAME_END}
 use Rattle.getopts_shell.specs.declared.item.TheConstants.{NAME_FORMS, AFTER_BRACKET, ARGUMENT_AFTER_SPACE, DESCRIPTION_AFTER_GAP, SHORT_NAME_BYTES, LONG_NAME_LENGTH}
 use Rattle.getopts_shell.specs.declared.item.TheConstants.{MARK_WITHOUT_ARGUMENT, ONE_OPTION_A_LINE, MISSING_BRACKET, OPERAND_FORMS, SHORT_NAME_FIRST, SHORT_NAME_LENGTH}
@@ -213,7 +213,7 @@ group_of_entry shown entry = record {
   signature = record {
     names = entry.names;
     kind = entry.kind;
-    occurrence = occurrence_of shown entry.frequency;
+    occur = occurrence_of shown entry.frequency;
   };
   hint = entry.hint;
   description = entry.description;

@@ -9,8 +9,8 @@ use Rattle.std.specs.Str.{IsUtf8, bytes_eq}
 use Rattle.getopts.specs.Accessors.{each_value, occurrences_of_group}
 use Rattle.getopts.specs.Matches.{GroupOccurrence, MatchedGroup}
 use Rattle.getopts.specs.Names.{AreTexts, Text, is_empty, main_name}
-use Rattle.getopts.specs.declared.groups.HasArg.{HasArg}
-use Rattle.getopts.specs.declared.groups.HasArg.TheVariants.{No}
+use Rattle.getopts.specs.declared.kinds.HasArg.{HasArg}
+use Rattle.getopts.specs.declared.kinds.HasArg.TheVariants.{No}
 use Rattle.getopts_bytes.specs.Marks.{bytes_of}
 use Rattle.getopts_shell.specs.Completion.{holds_all}
 use Rattle.getopts_shell.specs.Quote.{quoted, quoted_words, shell_words}

@@ -7,7 +7,7 @@ ghost use Rattle.std.specs.List.{AllByRecursion, ends_with, list_all, position_o
 ghost use Rattle.std.specs.Option.{option_copied, option_map_or};
 ghost use Rattle.getopts.specs.Names.{Text, Names, is_empty};
 ghost use Rattle.getopts.specs.Reading.{begins_with_dash};
-ghost use Rattle.getopts.specs.declared.groups.HasArg.{HasArg as Kind};
+ghost use Rattle.getopts.specs.declared.kinds.HasArg.{HasArg as Kind};
 ghost use Rattle.getopts_shell.specs.Table.{is_name, is_name_byte, is_hint, is_hint_byte, AreNames};
 ghost use Rattle.getopts_shell.specs.Table.{is_long_name, is_long_byte, MayBeNames, IsArgument};
 ghost use Rattle.getopts_shell.specs.Table.{HasParts, IsBracketed, IsItem, end_means};

@@ -13,9 +13,9 @@ use Rattle.getopts.specs.Reading.{Occurrence, Reading}
 use Rattle.getopts.specs.Returns.{IsLineOf}
 use Rattle.getopts.specs.Only.{IsTheOnly}
 use Rattle.getopts.specs.Usage.{IsUsageText}
-use Rattle.getopts.specs.declared.groups.HasArg.TheVariants.{Yes, No, Maybe}
-use Rattle.getopts.specs.declared.groups.Occur.TheVariants.{Optional, Multi}
-use Rattle.getopts.specs.declared.groups.ParsingStyle.TheVariants.{FloatingFrees}
+use Rattle.getopts.specs.declared.kinds.HasArg.TheVariants.{Yes, No, Maybe}
+use Rattle.getopts.specs.declared.kinds.Occur.TheVariants.{Optional, Multi}
+use Rattle.getopts.specs.declared.kinds.ParsingStyle.TheVariants.{FloatingFrees}
 
 -- the program's groups
 abbrev pub program_groups : List Group

@@ -14,9 +14,9 @@ use Rattle.getopts.specs.Prelude.{Declared, Fault, Matched, Text, fault_of, firs
 use Rattle.getopts.specs.Prelude.{first_value_or, group_of, occurrences_of_name, values_of}
 use Rattle.getopts.specs.declared.fail.Fail.{Fail}
 use Rattle.getopts.specs.declared.fail.Fail.TheVariants as fail
-use Rattle.getopts.specs.declared.groups.HasArg.TheVariants.{Maybe, Yes}
-use Rattle.getopts.specs.declared.groups.Occur.TheVariants.{Optional, Multi}
-use Rattle.getopts.specs.declared.groups.ParsingStyle.TheVariants.{FloatingFrees}
+use Rattle.getopts.specs.declared.kinds.HasArg.TheVariants.{Maybe, Yes}
+use Rattle.getopts.specs.declared.kinds.Occur.TheVariants.{Optional, Multi}
+use Rattle.getopts.specs.declared.kinds.ParsingStyle.TheVariants.{FloatingFrees}
 use Rattle.getopts_uses.specs.declared.checked.Color.{Color}
 use Rattle.getopts_uses.specs.declared.checked.Color.TheVariants.{Auto, Always, Never}
 use Rattle.getopts_uses.specs.declared.checked.Pair.{Pair}

@@ -7,9 +7,9 @@ use Rattle.getopts.specs.Prelude.{Declared, Fault, IsOutOfMemoryOr, Matched, Tex
 use Rattle.getopts.specs.Prelude.{parse_unless_result}
 use Rattle.getopts.specs.Prelude.{group_of, is_present, occurrences_of_name}
 use Rattle.getopts.specs.declared.fail.Fail.{Fail}
-use Rattle.getopts.specs.declared.groups.HasArg.TheVariants.{No, Yes}
-use Rattle.getopts.specs.declared.groups.Occur.TheVariants.{Optional}
-use Rattle.getopts.specs.declared.groups.ParsingStyle.TheVariants.{FloatingFrees, StopAtFirstFree}
+use Rattle.getopts.specs.declared.kinds.HasArg.TheVariants.{No, Yes}
+use Rattle.getopts.specs.declared.kinds.Occur.TheVariants.{Optional}
+use Rattle.getopts.specs.declared.kinds.ParsingStyle.TheVariants.{FloatingFrees, StopAtFirstFree}
 use Rattle.getopts_uses.specs.Log.{IsLogOrError, log_options}
 use Rattle.getopts_uses.specs.declared.add.Add.{Add}
 use Rattle.getopts_uses.specs.declared.subcommand.Command.{Command}

@@ -6,9 +6,9 @@ use Rattle.std.specs.String.{string_bytes}
 use Rattle.getopts.specs.Prelude.{Declared, Fault, Group, IsOutOfMemoryOr, Matched, first_value}
 use Rattle.getopts.specs.Prelude.{first_value_or, group_of, is_present, occurrences_of_name}
 use Rattle.getopts.specs.Prelude.{values_of}
-use Rattle.getopts.specs.declared.groups.HasArg.TheVariants.{No, Yes, Maybe}
-use Rattle.getopts.specs.declared.groups.Occur.TheVariants.{Optional, Multi}
-use Rattle.getopts.specs.declared.groups.ParsingStyle.TheVariants.{FloatingFrees}
+use Rattle.getopts.specs.declared.kinds.HasArg.TheVariants.{No, Yes, Maybe}
+use Rattle.getopts.specs.declared.kinds.Occur.TheVariants.{Optional, Multi}
+use Rattle.getopts.specs.declared.kinds.ParsingStyle.TheVariants.{FloatingFrees}
 use Rattle.getopts_uses.specs.declared.driver.Extras.{Extras}
 use Rattle.getopts_uses.specs.declared.driver.Job.{Job}
 use Rattle.getopts_uses.specs.declared.driver.Refusal.{Refusal}

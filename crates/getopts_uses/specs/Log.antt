@@ -5,9 +5,9 @@ use Rattle.getopts.specs.Prelude.{Declared, Fault, IsOutOfMemoryOr, Matched, Tex
 use Rattle.getopts.specs.Prelude.{occurrences_of_name}
 use Rattle.getopts.specs.Prelude.{group_of, values_of}
 use Rattle.getopts.specs.declared.fail.Fail.{Fail}
-use Rattle.getopts.specs.declared.groups.HasArg.TheVariants.{No, Yes}
-use Rattle.getopts.specs.declared.groups.Occur.TheVariants.{Optional, Multi, Req}
-use Rattle.getopts.specs.declared.groups.ParsingStyle.TheVariants.{FloatingFrees}
+use Rattle.getopts.specs.declared.kinds.HasArg.TheVariants.{No, Yes}
+use Rattle.getopts.specs.declared.kinds.Occur.TheVariants.{Optional, Multi, Req}
+use Rattle.getopts.specs.declared.kinds.ParsingStyle.TheVariants.{FloatingFrees}
 use Rattle.getopts_uses.specs.declared.log.Log.{Log}
 
 -- the options of `log`

@@ -3,9 +3,9 @@ use Rattle.std.specs.Prelude.{◌≡◌, ◌==◌, if◌then◌else◌, false, �
 use Rattle.std.specs.Prelude.{Option, Some, None, Result, Ok, Err, unwrap_or}
 use Rattle.getopts.specs.Prelude.{Declared, Fault, IsOutOfMemoryOr, group_of}
 use Rattle.getopts.specs.declared.fail.Fail.{Fail}
-use Rattle.getopts.specs.declared.groups.HasArg.TheVariants.{No, Yes}
-use Rattle.getopts.specs.declared.groups.Occur.TheVariants.{Optional, Multi}
-use Rattle.getopts.specs.declared.groups.ParsingStyle.TheVariants.{FloatingFrees}
+use Rattle.getopts.specs.declared.kinds.HasArg.TheVariants.{No, Yes}
+use Rattle.getopts.specs.declared.kinds.Occur.TheVariants.{Optional, Multi}
+use Rattle.getopts.specs.declared.kinds.ParsingStyle.TheVariants.{FloatingFrees}
 use Rattle.getopts_uses.specs.declared.loudness.Loudness.{Loudness}
 use Rattle.getopts_uses.specs.declared.loudness.Loudness.TheVariants.{Normal, Quiet, Verbose}
 

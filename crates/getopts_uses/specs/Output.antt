@@ -5,9 +5,9 @@ use Rattle.getopts.specs.Prelude.{Declared, Fault, IsOutOfMemoryOr, Matched, fir
 use Rattle.getopts.specs.Prelude.{occurrences_of_name}
 use Rattle.getopts.specs.declared.fail.Fail.{Fail}
 use Rattle.std.specs.declared.alloc.Global.{Global}
-use Rattle.getopts.specs.declared.groups.HasArg.TheVariants.{No, Yes}
-use Rattle.getopts.specs.declared.groups.Occur.TheVariants.{Optional, Multi}
-use Rattle.getopts.specs.declared.groups.ParsingStyle.TheVariants.{FloatingFrees}
+use Rattle.getopts.specs.declared.kinds.HasArg.TheVariants.{No, Yes}
+use Rattle.getopts.specs.declared.kinds.Occur.TheVariants.{Optional, Multi}
+use Rattle.getopts.specs.declared.kinds.ParsingStyle.TheVariants.{FloatingFrees}
 
 -- an output, and a flag
 abbrev pub output_options : Declared

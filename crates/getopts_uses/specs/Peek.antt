@@ -8,9 +8,9 @@ use Rattle.getopts.specs.Prelude.{Declared, Fault, IsOutOfMemoryOr, IsParsedAs, 
 use Rattle.getopts.specs.Prelude.{first_value}
 use Rattle.getopts.specs.Prelude.{first_value_or, group_of, is_present, occurrences_of_name}
 use Rattle.getopts.specs.Prelude.{values_of}
-use Rattle.getopts.specs.declared.groups.HasArg.TheVariants.{No, Yes, Maybe}
-use Rattle.getopts.specs.declared.groups.Occur.TheVariants.{Optional, Req, Multi}
-use Rattle.getopts.specs.declared.groups.ParsingStyle.TheVariants.{FloatingFrees}
+use Rattle.getopts.specs.declared.kinds.HasArg.TheVariants.{No, Yes, Maybe}
+use Rattle.getopts.specs.declared.kinds.Occur.TheVariants.{Optional, Req, Multi}
+use Rattle.getopts.specs.declared.kinds.ParsingStyle.TheVariants.{FloatingFrees}
 use Rattle.getopts.specs.declared.request.Request.{Request}
 use Rattle.getopts.specs.declared.request.Request.TheVariants.{Help, Version, Parsed}
 use Rattle.getopts_uses.specs.declared.peek.Peek.{Peek}

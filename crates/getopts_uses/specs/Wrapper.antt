@@ -2,9 +2,9 @@
 use Rattle.std.specs.Prelude.{◌≡◌, false, List, [], ◌∷◌, codes, IfSome, Ok}
 use Rattle.getopts.specs.Prelude.{Declared, EndsInTrailing, Matched, Text, group_of, parse_result}
 use Rattle.getopts.specs.Prelude.{trailing_words}
-use Rattle.getopts.specs.declared.groups.HasArg.TheVariants.{No}
-use Rattle.getopts.specs.declared.groups.Occur.TheVariants.{Optional}
-use Rattle.getopts.specs.declared.groups.ParsingStyle.TheVariants.{FloatingFrees}
+use Rattle.getopts.specs.declared.kinds.HasArg.TheVariants.{No}
+use Rattle.getopts.specs.declared.kinds.Occur.TheVariants.{Optional}
+use Rattle.getopts.specs.declared.kinds.ParsingStyle.TheVariants.{FloatingFrees}
 
 -- the wrapper's own options
 abbrev pub wrapper_options : Declared

@@ -5,7 +5,7 @@
 use crate::fallible::*;
 
 use super::fail::Fail;
-use super::help::Groups;
+use super::groups::Groups;
 use super::occurrences::LineOccurrences;
 use super::options::Options;
 use super::parse::words_from;

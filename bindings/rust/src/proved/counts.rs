@@ -2,8 +2,9 @@
 //! Whether options occur as often as they may.
 
 use super::fail::Fail;
-use super::groups::{Occur, Signatures};
 use super::index::Index;
+use super::kinds::Occur;
+use super::signatures::Signatures;
 use crate::alloc::Global;
 
 /// Checks how often each option occurs, in order of declaration, given the index of the
@@ -17,7 +18,7 @@ pub(crate) fn check_counts(
 ) -> Result<(), Fail> {
     for place in 0..signatures.len() {
         let count = index.count(place);
-        if !fits_count(signatures.record(place).kinds.occurrence, count) {
+        if !fits_count(signatures.record(place).kinds.occur, count) {
             return Err(count_fault(alloc, signatures.main(place), count));
         }
     }
@@ -25,8 +26,8 @@ pub(crate) fn check_counts(
 }
 
 /// Whether an option may occur this often.
-fn fits_count(occurrence: Occur, count: usize) -> bool {
-    match occurrence {
+fn fits_count(occur: Occur, count: usize) -> bool {
+    match occur {
         Occur::Req => count == 1,
         Occur::Optional => count <= 1,
         Occur::Multi => true,

@@ -5,10 +5,10 @@ use crate::fallible::*;
 
 use super::counts::check_counts;
 use super::fail::Fail;
-use super::groups::Signatures;
 use super::index::Index;
 use super::occurrences::{LineOccurrences, Occurrences};
 use super::scan::Line;
+use super::signatures::Signatures;
 use super::table::Table;
 use crate::alloc::{AllocError, Global};
 

@@ -3,11 +3,13 @@
 
 // Which pairs of names are valid.
 mod names;
+// Parsing styles, and the kinds of options.
+mod kinds;
 // The names and kinds of option groups, stored together: one text with all names, and a record for
 // each group.
+mod signatures;
+// Declared groups: signatures with their hints and descriptions.
 mod groups;
-// Declared groups, with their hints and descriptions.
-mod help;
 // What a caller declares: groups, a style and a mode.
 mod options;
 // Why a command line is rejected.
@@ -40,7 +42,7 @@ mod row;
 mod usage;
 
 pub use fail::Fail;
-pub use groups::{HasArg, Occur, ParsingStyle};
+pub use kinds::{HasArg, Occur, ParsingStyle};
 pub use matches::Matches;
 pub use names::names_lawful;
 pub use occurrences::{Occurrences, OccurrencesIter};

@@ -3,8 +3,9 @@
 
 use crate::fallible::*;
 
-use super::groups::{HasArg, Kinds, Occur, ParsingStyle, Signatures};
-use super::help::Groups;
+use super::groups::Groups;
+use super::kinds::{HasArg, Kinds, Occur, ParsingStyle};
+use super::signatures::Signatures;
 use crate::alloc::{AllocError, Global};
 
 /// The options of a program: option groups, a parsing style and a mode. Methods such as `optflag`
@@ -50,7 +51,7 @@ impl Options {
     ) -> Result<(), AllocError> {
         let kinds = Kinds {
             kind: hasarg,
-            occurrence: occur,
+            occur,
         };
         self.groups
             .try_push(short_name, long_name, hint, desc, kinds)

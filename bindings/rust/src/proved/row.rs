@@ -3,9 +3,10 @@
 
 use crate::fallible::*;
 
-use super::groups::{HasArg, SignatureView};
-use super::help::GroupView;
+use super::groups::GroupView;
+use super::kinds::HasArg;
 use super::names::NamesView;
+use super::signatures::SignatureView;
 use super::wrap::{each_split_within, push_joined};
 use crate::alloc::{AllocError, Global};
 use crate::width::UnicodeWidthStr;

@@ -4,7 +4,7 @@
 use crate::fallible::*;
 
 use super::fail::Fail;
-use super::groups::{HasArg, ParsingStyle};
+use super::kinds::{HasArg, ParsingStyle};
 use super::occurrences::LineOccurrences;
 use super::options::Options;
 use super::table::Table;
@@ -67,7 +67,7 @@ pub(crate) struct Scanner<'o> {
 
 /// The option that a name resolves to: the place of its group, and whether it takes an argument.
 #[derive(Clone, Copy)]
-pub(crate) struct Named {
+pub(crate) struct Resolved {
     pub place: usize,
     pub kind: HasArg,
 }
@@ -183,11 +183,11 @@ fn last_argument<'w, S: AsStr>(
 
 impl<'o> Scanner<'o> {
     /// The option that a name resolves to.
-    fn option(&self, name: &str) -> Option<Named> {
+    fn option(&self, name: &str) -> Option<Resolved> {
         let signatures = self.options.signatures();
         let place = self.table.resolve(signatures, name)?;
         let kind = signatures.record(place).kinds.kind;
-        Some(Named { place, kind })
+        Some(Resolved { place, kind })
     }
 
     /// Reads a long item: `text` follows the dashes in its first word, and `after` is the words
@@ -220,13 +220,13 @@ impl<'o> Scanner<'o> {
     }
 
     /// The option that a byte in a cluster names. A byte that isn't ASCII is never a name.
-    fn option_at(&self, byte: u8) -> Option<Named> {
+    fn option_at(&self, byte: u8) -> Option<Resolved> {
         if !byte.is_ascii() {
             return None;
         }
         let place = self.table.resolve_byte(byte)?;
         let kind = self.options.signatures().record(place).kinds.kind;
-        Some(Named { place, kind })
+        Some(Resolved { place, kind })
     }
 
     /// Reads a cluster: `text` follows the dash in its first word, and `after` is the words after
@@ -245,11 +245,11 @@ impl<'o> Scanner<'o> {
                     let name = first_character(&text[at..]);
                     return Err(Fail::unrecognized_option(alloc, name));
                 }
-                Some(Named {
+                Some(Resolved {
                     place,
                     kind: HasArg::No,
                 }) => found.try_push(place, position, None)?,
-                Some(Named { place, kind }) => {
+                Some(Resolved { place, kind }) => {
                     let name = &text[at..at + 1];
                     let argument = last_argument(alloc, kind, name, &text[at + 1..], after)?;
                     found.try_push(place, position, argument.value)?;

@@ -3,11 +3,12 @@
 
 use crate::fallible::*;
 
-use super::groups::{HasArg, Occur, SignatureView};
-use super::help::GroupView;
+use super::groups::GroupView;
+use super::kinds::{HasArg, Occur};
 use super::names::NamesView;
 use super::options::Options;
 use super::row::{Layout, push_argument, row_of};
+use super::signatures::SignatureView;
 use super::wrap::push_joined;
 use crate::alloc::{AllocError, Global};
 use crate::heap::vec;
@@ -192,7 +193,7 @@ impl Options {
 /// Appends one option of the short usage.
 fn push_option(text: &mut String, group: GroupView<'_>) -> Result<(), AllocError> {
     let SignatureView { names, kinds } = group.signature;
-    let (before, after) = match kinds.occurrence {
+    let (before, after) = match kinds.occur {
         Occur::Req => ("", ""),
         Occur::Optional => ("[", "]"),
         Occur::Multi => ("[", "].."),

@@ -11,7 +11,7 @@ use Rattle.getopts.specs.Matches.{Matched, matches_of}
 use Rattle.getopts.specs.Parse.{Reads, HasReading, IsAccepted}
 use Rattle.getopts.specs.Holds.{HaveLastWordsFree, Accepts}
 use Rattle.getopts.proofs.parse.Holds.{EndsInTrailing-read}
-use Rattle.getopts.specs.declared.groups.ParsingStyle.TheVariants.{FloatingFrees, StopAtFirstFree}
+use Rattle.getopts.specs.declared.kinds.ParsingStyle.TheVariants.{FloatingFrees, StopAtFirstFree}
 use Rattle.getopts.proofs.MainTheorem.Accepted.{parse_result-accepted}
 use Rattle.getopts.proofs.Only.{meets}
 use Rattle.getopts.proofs.parse.Parsed.{only_reads, positions_below-read}

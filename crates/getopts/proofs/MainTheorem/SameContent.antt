@@ -14,7 +14,7 @@ use Rattle.getopts.specs.Matches.{Matched, occurrences_mentioning, matched, matc
 use Rattle.getopts.specs.Accessors.{place_of, occurrences_of_group, occurrences_of_name, each_value}
 use Rattle.getopts.specs.Theorem.{AcceptedExactlyWhen, HaveSameValues, OneContentHoldsSame}
 use Rattle.getopts.specs.Theorem.{LinesReadAgain}
-use Rattle.getopts.specs.declared.groups.ParsingStyle.{ParsingStyle}
+use Rattle.getopts.specs.declared.kinds.ParsingStyle.{ParsingStyle}
 use Rattle.getopts.proofs.canon.Lines.{KeepsCounts-mentions}
 use Rattle.getopts.proofs.canon.Answered.{reads_of}
 use Rattle.getopts.proofs.Stored.Matches.{signatures-matched}

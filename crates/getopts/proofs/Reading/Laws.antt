@@ -26,7 +26,7 @@ use Rattle.getopts.specs.ReadingLaws.{ClusterSplits, OneDashOrTwo, is_last_bare,
 use Rattle.getopts.specs.ReadingLaws.{HasContentOfBoth, LinesCompose, IsAfterStop}
 use Rattle.getopts.specs.ReadingLaws.{TrailingStartIsAfterStop, IsSubsequence}
 use Rattle.getopts.specs.ReadingLaws.{FreeWordsAreSubsequence, HavePositionsInOrder}
-use Rattle.getopts.specs.declared.groups.HasArg.TheVariants.{Yes}
+use Rattle.getopts.specs.declared.kinds.HasArg.TheVariants.{Yes}
 use Rattle.getopts.proofs.Lists.{AllByRecursion-append, AllByRecursion-left, AllByRecursion-right}
 use Rattle.getopts.proofs.Reading.Positions.{mentions_of-items, positions_in-one_higher}
 use Rattle.getopts.proofs.Reading.Readings.{EndsOrIsDashed-spelled, spelled_all-append}

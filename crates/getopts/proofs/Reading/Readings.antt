@@ -11,7 +11,7 @@ use Rattle.getopts.specs.Reading.{stop_word, Argument, separate, line_end, IsRea
 use Rattle.getopts.specs.Reading.{Item, free, long, cluster, Tail, stop, rest, Reading}
 use Rattle.getopts.specs.Reading.{argument_words, IsLawfulItem, EndsOrIsDashed, AreWellFollowed}
 use Rattle.getopts.specs.Reading.{item_words, spelled_all, tail_words, IsLawfulTail, IsScanFault}
-use Rattle.getopts.specs.declared.groups.ParsingStyle.{ParsingStyle}
+use Rattle.getopts.specs.declared.kinds.ParsingStyle.{ParsingStyle}
 use Rattle.getopts.proofs.Lists.{AllByRecursion-right}
 use Rattle.getopts.specs.Results.{made_of}
 use Rattle.getopts.specs.Step.{Step, ends, takes, faults}

@@ -22,10 +22,10 @@ use Rattle.getopts.specs.Reading.{IsLawfulCluster, HasAfterFlags, long_unfinishe
 use Rattle.getopts.specs.Step.{with_equals, Step, ends, takes, faults, IsInLongForm, IsShortForm}
 use Rattle.getopts.specs.Step.{chosen_long, chosen_end, chosen_step, named_step, cut_at_equals}
 use Rattle.getopts.specs.Step.{long_step, first_char, byte_step, cluster_step}
-use Rattle.getopts.specs.declared.groups.HasArg.{HasArg}
-use Rattle.getopts.specs.declared.groups.HasArg.TheVariants.{Yes, No, Maybe}
-use Rattle.getopts.specs.declared.groups.ParsingStyle.{ParsingStyle}
-use Rattle.getopts.specs.declared.groups.ParsingStyle.TheVariants.{FloatingFrees, StopAtFirstFree}
+use Rattle.getopts.specs.declared.kinds.HasArg.{HasArg}
+use Rattle.getopts.specs.declared.kinds.HasArg.TheVariants.{Yes, No, Maybe}
+use Rattle.getopts.specs.declared.kinds.ParsingStyle.{ParsingStyle}
+use Rattle.getopts.specs.declared.kinds.ParsingStyle.TheVariants.{FloatingFrees, StopAtFirstFree}
 use Rattle.getopts.proofs.Lists.{AllByRecursion-append, filled-append}
 use Rattle.getopts.proofs.Reading.Reader.{spelled, IsNamed, free_step, step}
 use Rattle.getopts.proofs.Reading.Texts.{cut_at_equals-joined, holds_equals-name}

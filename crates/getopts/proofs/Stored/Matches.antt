@@ -15,7 +15,7 @@ use Rattle.std.proofs.lemmas.List.Elements.{recursion_from_All}
 use Rattle.std.proofs.lemmas.Option.{slice_get_past}
 use Rattle.getopts.specs.Names.{Text, Names, IsLawfullyNamed, resolution}
 use Rattle.getopts.specs.Options.{Signature}
-use Rattle.getopts.specs.Stored.Groups.{names_in}
+use Rattle.getopts.specs.Stored.Signatures.{names_in}
 use Rattle.getopts.specs.Stored.Index.{places_of, index_of}
 use Rattle.getopts.specs.Reading.{Occurrence}
 use Rattle.getopts.specs.Matches.{GroupOccurrence, MatchedGroup, occurrences_mentioning, matched}

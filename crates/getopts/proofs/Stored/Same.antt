@@ -12,12 +12,12 @@ use Rattle.getopts.specs.Same.{occurrence_index, style_index, same_names, same_s
 use Rattle.getopts.specs.Same.{same_group, same_options}
 use Rattle.getopts.specs.Names.{Names}
 use Rattle.getopts.specs.Options.{Signature, Group, Declared}
-use Rattle.getopts.specs.declared.groups.HasArg.{HasArg}
-use Rattle.getopts.specs.declared.groups.Occur.{Occur}
-use Rattle.getopts.specs.declared.groups.ParsingStyle.{ParsingStyle}
-use Rattle.getopts.specs.declared.groups.HasArg.TheVariants.{Yes, No, Maybe}
-use Rattle.getopts.specs.declared.groups.Occur.TheVariants.{Req, Optional, Multi}
-use Rattle.getopts.specs.declared.groups.ParsingStyle.TheVariants.{FloatingFrees, StopAtFirstFree}
+use Rattle.getopts.specs.declared.kinds.HasArg.{HasArg}
+use Rattle.getopts.specs.declared.kinds.Occur.{Occur}
+use Rattle.getopts.specs.declared.kinds.ParsingStyle.{ParsingStyle}
+use Rattle.getopts.specs.declared.kinds.HasArg.TheVariants.{Yes, No, Maybe}
+use Rattle.getopts.specs.declared.kinds.Occur.TheVariants.{Req, Optional, Multi}
+use Rattle.getopts.specs.declared.kinds.ParsingStyle.TheVariants.{FloatingFrees, StopAtFirstFree}
 
 same_kind : (a b : HasArg) → kind_index a ≡ kind_index b → a ≡ b
 same_kind Yes Yes h = refl
@@ -60,18 +60,18 @@ same_signature-decides a b = Decides-like (same_signature a b)
     (λ h. λ i. record {
       names = h.0 i;
       kind = same_kind a.kind b.kind h.1.0 i;
-      occurrence = same_occurrence a.occurrence b.occurrence h.1.1 i;
+      occur = same_occurrence a.occur b.occur h.1.1 i;
     })
     (λ e. (
       ap (λ k. k.names) e,
       (
         ap (λ k. kind_index k.kind) e,
-        ap (λ k. occurrence_index k.occurrence) e,
+        ap (λ k. occurrence_index k.occur) e,
       ),
     ))
     (Decides-and _ _ (same_names-decides a.names b.names)
     (Decides-and _ _ (Decides-eqb (kind_index a.kind) (kind_index b.kind))
-    (Decides-eqb (occurrence_index a.occurrence) (occurrence_index b.occurrence))))
+    (Decides-eqb (occurrence_index a.occur) (occurrence_index b.occur))))
 
 -- the comparison of two groups decides equality
 pub same_group-decides : (a b : Group) → Decides (same_group a b) (a ≡ b)

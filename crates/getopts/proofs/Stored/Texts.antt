@@ -13,8 +13,8 @@ use Rattle.std.proofs.Math.Seq.{drop-append_seam}
 use Rattle.std.proofs.Math.Utf8.{encode, encodes, scalar, scalars, scalar_cases}
 use Rattle.getopts.specs.Names.{Text}
 use Rattle.getopts.specs.Stored.Texts.{between, IsOfBytes}
-use Rattle.getopts.specs.Stored.Groups.{pair_at, AreEndsOf, IsPairAt}
-use Rattle.getopts.specs.declared.groups.PairEnds.{PairEnds}
+use Rattle.getopts.specs.Stored.Signatures.{pair_at, AreEndsOf, IsPairAt}
+use Rattle.getopts.specs.declared.signatures.PairEnds.{PairEnds}
 
 -- a text may still be split at a place with more after it
 pub IsCharBoundary-append : (text more : List ℕ) → IsUtf8 more → (place : ℕ)

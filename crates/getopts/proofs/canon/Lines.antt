@@ -26,9 +26,9 @@ use Rattle.getopts.specs.Canon.{IsPlain, IsSound, canonical_word, canonical_line
 use Rattle.getopts.specs.Canon.{canonical_item, canonical_reading, with_setting, IsAcceptedWith}
 use Rattle.getopts.specs.Canon.{Says, ReadsBack, HasCanonicalLine, HasNoItem, HasUnwritable}
 use Rattle.getopts.specs.Theorem.{OneLineOneContent}
-use Rattle.getopts.specs.declared.groups.HasArg.{HasArg}
-use Rattle.getopts.specs.declared.groups.HasArg.TheVariants.{Yes, No, Maybe}
-use Rattle.getopts.specs.declared.groups.ParsingStyle.{ParsingStyle}
+use Rattle.getopts.specs.declared.kinds.HasArg.{HasArg}
+use Rattle.getopts.specs.declared.kinds.HasArg.TheVariants.{Yes, No, Maybe}
+use Rattle.getopts.specs.declared.kinds.ParsingStyle.{ParsingStyle}
 use Rattle.getopts.proofs.Lists.{AllByRecursion-append, AllByRecursion-follows, AllByRecursion-map}
 use Rattle.getopts.proofs.Lists.{length-filter-map}
 use Rattle.getopts.proofs.table.Names.{main_at-Some, resolution-main_name, resolution-nil}
@@ -319,7 +319,7 @@ KeepsCounts-numbers : (signatures : List Signature) (place : ℕ) (old new : Lis
     → KeepsCounts (matched place signatures old) → KeepsCounts (matched place signatures new)
 KeepsCounts-numbers [] place old new same keeps = tt
 KeepsCounts-numbers (signature ∷ signatures) place old new same keeps = (
-  subst (λ (count : ℕ). FitsCount signature.occurrence count) (same place) keeps.0,
+  subst (λ (count : ℕ). FitsCount signature.occur count) (same place) keeps.0,
   KeepsCounts-numbers signatures (place + 1) old new same keeps.1,
 )
 

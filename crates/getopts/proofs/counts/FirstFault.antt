@@ -5,8 +5,8 @@ use Rattle.std.proofs.lemmas.Bool.Decides.{nat_tests}
 use Rattle.std.proofs.lemmas.Bool.{cases_Bool}
 use Rattle.getopts.specs.Fail.{Fault}
 use Rattle.getopts.specs.Matches.{MatchedGroup, FitsCount, KeepsCount, KeepsCounts, IsCountFault}
-use Rattle.getopts.specs.declared.groups.Occur.{Occur}
-use Rattle.getopts.specs.declared.groups.Occur.TheVariants.{Req, Optional, Multi}
+use Rattle.getopts.specs.declared.kinds.Occur.{Occur}
+use Rattle.getopts.specs.declared.kinds.Occur.TheVariants.{Req, Optional, Multi}
 use Rattle.getopts.specs.Results.{fits_count, first_count_fault, broken_count}
 
 fits_count-true : (occurrence : Occur) (count : ℕ) → fits_count occurrence count ≡ true
@@ -44,7 +44,7 @@ pub first_count_fault-is : (groups : List MatchedGroup)
     → HaveFault groups (first_count_fault groups)
 first_count_fault-is [] = tt
 first_count_fault-is (group ∷ groups) =
-    elim (cases_Bool (fits_count group.signature.occurrence (length group.found))) [
+    elim (cases_Bool (fits_count group.signature.occur (length group.found))) [
       | inl fits ↦ rw fits (HaveFault-more group groups (first_count_fault groups)
           (fits_count-true _ _ fits) (first_count_fault-is groups))
       | inr breaks ↦ rw breaks (record {
@@ -63,7 +63,7 @@ pub first_count_fault-kept : (groups : List MatchedGroup) → KeepsCounts groups
     → first_count_fault groups ≡ None
 first_count_fault-kept [] kept = refl
 first_count_fault-kept (group ∷ groups) kept =
-    elim (cases_Bool (fits_count group.signature.occurrence (length group.found))) [
+    elim (cases_Bool (fits_count group.signature.occur (length group.found))) [
       | inl fits ↦ rw fits (first_count_fault-kept groups kept.1)
       | inr breaks ↦ absurd (fits_count-false _ _ breaks kept.0)
     ]
@@ -72,12 +72,12 @@ first_count_fault-at : (before : List MatchedGroup) (group : MatchedGroup)
     (after : List MatchedGroup) → KeepsCounts before → ¬ (KeepsCount group)
     → first_count_fault (before ++ group ∷ after) ≡ Some (broken_count group)
 first_count_fault-at [] group after kept broken =
-    elim (cases_Bool (fits_count group.signature.occurrence (length group.found))) [
+    elim (cases_Bool (fits_count group.signature.occur (length group.found))) [
       | inl fits ↦ absurd (broken (fits_count-true _ _ fits))
       | inr breaks ↦ rw breaks refl
     ]
 first_count_fault-at (first ∷ before) group after kept broken =
-    elim (cases_Bool (fits_count first.signature.occurrence (length first.found))) [
+    elim (cases_Bool (fits_count first.signature.occur (length first.found))) [
       | inl fits ↦ rw fits (first_count_fault-at before group after kept.1 broken)
       | inr breaks ↦ absurd (fits_count-false _ _ breaks kept.0)
     ]

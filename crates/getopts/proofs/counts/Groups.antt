@@ -12,8 +12,8 @@ use Rattle.getopts.specs.Matches.{occurrences_mentioning, matched, count_fault}
 use Rattle.getopts.specs.Results.{first_count_fault, fits_count}
 use Rattle.getopts.specs.Stored.Index.{index_of, count_in, first_wrong}
 use Rattle.getopts.specs.Stored.Names.{names_at}
-use Rattle.getopts.specs.Stored.Groups.{kinds_of, names_in}
-use Rattle.getopts.specs.declared.groups.Kinds.{Kinds}
+use Rattle.getopts.specs.Stored.Signatures.{kinds_of, names_in}
+use Rattle.getopts.specs.declared.kinds.Kinds.{Kinds}
 use Rattle.getopts.proofs.Stored.Index.{length-places_of, slice_get-places_by_group}
 
 -- the number of a group's occurrences, from the index
@@ -39,7 +39,7 @@ length-matched first (signature ∷ signatures) occurrences =
 pub first_wrong-at : (signatures : List Signature) (i place : ℕ) (kinds : Kinds) (count : ℕ → ℕ)
     → Some kinds ≡ option_map kinds_of (slice_get signatures i)
     → first_wrong place (drop i signatures) count
-    ≡ (if fits_count kinds.occurrence (count place)
+    ≡ (if fits_count kinds.occur (count place)
     then first_wrong (place + 1) (drop (i + 1) signatures) count
     else Some (count_fault (main_name (names_at (names_in signatures) i)) (count place)))
 first_wrong-at [] i place kinds count there = cc there

@@ -19,16 +19,16 @@ use Rattle.getopts.specs.Accessors.{first_value}
 use Rattle.getopts.specs.Parse.{IsAccepted, HasReading}
 use Rattle.getopts.specs.Holds.{AreGroupsOf, HaveValuesByKind}
 use Rattle.getopts.specs.Holds.{FitOptions, FitOptionsAndCounts, EndsInTrailing}
-use Rattle.getopts.specs.declared.groups.HasArg.{HasArg}
-use Rattle.getopts.specs.declared.groups.HasArg.TheVariants.{Yes}
-use Rattle.getopts.specs.declared.groups.Occur.{Occur}
-use Rattle.getopts.specs.declared.groups.Occur.TheVariants.{Req}
+use Rattle.getopts.specs.declared.kinds.HasArg.{HasArg}
+use Rattle.getopts.specs.declared.kinds.HasArg.TheVariants.{Yes}
+use Rattle.getopts.specs.declared.kinds.Occur.{Occur}
+use Rattle.getopts.specs.declared.kinds.Occur.TheVariants.{Req}
 use Rattle.getopts.proofs.Lists.{AllByRecursion-unmap}
 use Rattle.getopts.proofs.canon.Lines.{kind_at, FitsGroup, IsFitting-reading}
 use Rattle.getopts.proofs.Stored.Matches.{signatures-matched}
 use Rattle.getopts.proofs.Reading.Laws.{TrailingStartIsAfterStop_lem}
 use Rattle.getopts.proofs.Reading.Readings.{spelled_all-append}
-use Rattle.getopts.proofs.Stored.Groups.{names-signatures_of}
+use Rattle.getopts.proofs.Stored.Signatures.{names-signatures_of}
 use Rattle.getopts.proofs.parse.Parsed.{HavePositionsInOrder-read}
 
 -- each occurrence has a value or none, as this kind of argument requires
@@ -90,10 +90,10 @@ kind-signature (group ∷ groups) zero kind there = (group.signature, refl, same
 kind-signature (group ∷ groups) (suc place) kind there = kind-signature groups place kind there
 
 occurrence-signature : (groups : List Group) (place : ℕ) (occurrence : Occur)
-    → option_map (λ (group : Group). group.signature.occurrence) (slice_get groups place)
+    → option_map (λ (group : Group). group.signature.occur) (slice_get groups place)
     ≡ Some occurrence
     → (signature : Signature) × (slice_get (signatures_of groups) place ≡ Some signature)
-    × (signature.occurrence ≡ occurrence)
+    × (signature.occur ≡ occurrence)
 occurrence-signature [] place occurrence there = cc there
 occurrence-signature (group ∷ groups) zero occurrence there =
     (group.signature, refl, same_Some _ _ there)
@@ -108,12 +108,12 @@ module _ (options : Declared) (groups : List MatchedGroup) (are : AreGroupsOf op
   required-groups keeps name required =
       option_and_then_some _ (resolution (names_of options.groups) name) Req required by_place where
         by_place : (place : ℕ) → resolution (names_of options.groups) name ≡ Some place
-            → option_map (λ (group : Group). group.signature.occurrence)
+            → option_map (λ (group : Group). group.signature.occur)
             (slice_get options.groups place)
             ≡ Some Req → length (occurrences_of_name groups name) ≡ 1
         by_place place resolves there =
             let signature = occurrence-signature options.groups place Req there in
-            let fits = at_place (λ signature found. FitsCount signature.occurrence (length found))
+            let fits = at_place (λ signature found. FitsCount signature.occur (length found))
             (signatures_of options.groups) groups are keeps place signature.0 signature.1 in
             let once : FitsCount Req (length (occurrences_of_group groups place)) =
             subst (λ (occurrence : Occur). FitsCount occurrence (length (occurrences_of_group groups place)))

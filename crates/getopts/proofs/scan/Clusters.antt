@@ -10,8 +10,8 @@ use Rattle.getopts.specs.Options.{Grammar}
 use Rattle.getopts.specs.Reading.{none, flags, ends_in, cluster, IsFlag, Occurrence, at_position}
 use Rattle.getopts.specs.Reading.{mention_of, mentions}
 use Rattle.getopts.specs.Step.{chosen_end, chosen_step, byte_step, cluster_step, Chooses, AddsItem}
-use Rattle.getopts.specs.declared.groups.HasArg.{HasArg}
-use Rattle.getopts.specs.declared.groups.HasArg.TheVariants.{No}
+use Rattle.getopts.specs.declared.kinds.HasArg.{HasArg}
+use Rattle.getopts.specs.declared.kinds.HasArg.TheVariants.{No}
 use Rattle.getopts.proofs.Reading.Steps.{byte_step-end}
 use Rattle.getopts.proofs.scan.Items.{length-argument}
 

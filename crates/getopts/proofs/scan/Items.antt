@@ -9,8 +9,8 @@ use Rattle.getopts.specs.Fail.{Fault, IsOutOfMemoryOr}
 use Rattle.getopts.specs.Step.{with_equals, faults, chosen_long, chosen_step}
 use Rattle.getopts.specs.Step.{named_step, long_step, Chooses, AddsItem}
 use Rattle.getopts.specs.declared.fail.Fail.{Fail}
-use Rattle.getopts.specs.declared.groups.HasArg.{HasArg}
-use Rattle.getopts.specs.declared.groups.HasArg.TheVariants.{Maybe}
+use Rattle.getopts.specs.declared.kinds.HasArg.{HasArg}
+use Rattle.getopts.specs.declared.kinds.HasArg.TheVariants.{Maybe}
 use Rattle.getopts.proofs.Weaker.{IsOutOfMemoryOr-one}
 use Rattle.getopts.proofs.Reading.Steps.{long_step_cut}
 

@@ -18,7 +18,7 @@ use Rattle.getopts.specs.Results.{made_of}
 use Rattle.getopts.specs.Step.{Step, takes, faults, AddsItem}
 use Rattle.getopts.specs.Stored.Scan.{GivesLine}
 use Rattle.getopts.specs.declared.scan.Line.{Line}
-use Rattle.getopts.specs.declared.groups.ParsingStyle.TheVariants.{FloatingFrees, StopAtFirstFree}
+use Rattle.getopts.specs.declared.kinds.ParsingStyle.TheVariants.{FloatingFrees, StopAtFirstFree}
 use Rattle.getopts.proofs.Lists.{drop_past}
 use Rattle.getopts.proofs.Reading.Laws.{free_items-append}
 use Rattle.getopts.proofs.Reading.Reader.{step, with_items, read}

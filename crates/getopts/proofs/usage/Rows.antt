@@ -9,14 +9,14 @@ use Rattle.std.proofs.lemmas.Bool.Decides.{nat_tests}
 use Rattle.std.proofs.lemmas.List.{take_all}
 use Rattle.std.proofs.lemmas.List.Folds.{list_any-append}
 use Rattle.std.proofs.lemmas.Slice.Zip.{all_zipped_more}
-use Rattle.getopts.specs.Stored.Help.{group_view}
+use Rattle.getopts.specs.Stored.Groups.{group_view}
 use Rattle.getopts.specs.Names.{Text, is_empty}
 use Rattle.getopts.specs.Options.{Group, Declared}
 use Rattle.getopts.specs.Only.{IsTheOnly}
 use Rattle.getopts.specs.Usage.{any_short, spaces, head, next_row, padding, row_text}
 use Rattle.getopts.specs.Usage.{IsUsageRowIn, AreUsageRowsIn, description_columns}
 use Rattle.getopts.specs.Wrap.{width_of, IsDescriptionRows, joined}
-use Rattle.getopts.specs.declared.help.GroupView.{GroupView}
+use Rattle.getopts.specs.declared.groups.GroupView.{GroupView}
 use Rattle.getopts.proofs.Lists.{take_more_at}
 use Rattle.getopts.proofs.Only.{made_of_the_only, each_is_the_only}
 

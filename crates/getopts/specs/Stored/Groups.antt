@@ -1,109 +1,43 @@
--- The names and kinds of groups, as they are stored or borrowed.
-use Rattle.std.specs.Prelude.{◌≡◌, ◌==◌, ◌≤◌, ◌-◌, Bool, not, cond, List, [], map}
+-- Groups with their hints and descriptions, as they are stored or borrowed.
+use Rattle.std.specs.Prelude.{◌≡◌, Bool, List, [], ◌∷◌, length, map}
 use Rattle.std.specs.List.{AllByRecursion}
-use Rattle.std.specs.Ordering.{on, eq_of_both}
-use Rattle.std.specs.Str.{IsUtf8, IsCharBoundary}
+use Rattle.std.specs.Ordering.{on}
 use Rattle.std.specs.String.{string_bytes}
-use Rattle.getopts.specs.Names.{Text, Names, IsLawfullyNamed, is_empty, main_name}
-use Rattle.getopts.specs.Options.{Signature}
-use Rattle.getopts.specs.Same.{same_signature}
-use Rattle.getopts.specs.Stored.Texts.{between}
-use Rattle.getopts.specs.Stored.Names.{key_of, short_code}
-use Rattle.getopts.specs.declared.names.NamesView.{NamesView}
-use Rattle.getopts.specs.declared.groups.Kinds.{Kinds}
-use Rattle.getopts.specs.declared.groups.PairEnds.{PairEnds}
-use Rattle.getopts.specs.declared.groups.SignatureRecord.{SignatureRecord}
-use Rattle.getopts.specs.declared.groups.SignatureView.{SignatureView}
-use Rattle.getopts.specs.declared.groups.Signatures.TheInside.{Inside}
+use Rattle.getopts.specs.Names.{Text}
+use Rattle.getopts.specs.Options.{Signature, Group}
+use Rattle.getopts.specs.Same.{same_group}
+use Rattle.getopts.specs.Stored.Signatures.{pair_at, AreEndsOf, AreLawfulSignatures, signature_view}
+use Rattle.getopts.specs.declared.groups.GroupView.{GroupView}
+use Rattle.getopts.specs.declared.groups.Groups.TheInside.{Inside}
 
--- two borrowed names
-abbrev pub names_view : NamesView → Names
-names_view held = record { short = held.short.now; long = held.long.now }
+-- groups with these signatures, each with the next two texts
+abbrev pub groups_with : List Signature → List (Text × Text) → List Group
+groups_with (signature ∷ signatures) (texts ∷ more) = record {
+  signature = signature;
+  hint = texts.0;
+  description = texts.1;
+} ∷ groups_with signatures more
+groups_with signatures more = []
 
--- the signature of a group with these kinds and names
-abbrev pub signature_with : Kinds → Text → Text → Signature
-signature_with kinds short long = record {
-  names = record { short = short; long = long };
-  kind = kinds.kind;
-  occurrence = kinds.occurrence;
+-- the groups that are stored
+abbrev pub groups_view : Inside → List Group
+groups_view inside =
+    groups_with inside.signatures (map (pair_at (string_bytes inside.texts)) inside.ends.items)
+
+-- The groups have valid names, and each has a hint and a description in the text of all.
+pub record HoldGroups (inside : Inside) : Type 0 where
+  pub held : AllByRecursion (AreEndsOf (string_bytes inside.texts)) inside.ends.items
+  pub as_many : length inside.ends.items ≡ length inside.signatures
+  pub lawful : AreLawfulSignatures inside.signatures
+
+-- a borrowed group
+abbrev pub group_view : GroupView → Group
+group_view held = record {
+  signature = signature_view held.signature;
+  hint = held.hint.now;
+  description = held.desc.now;
 }
 
--- the kinds of a group
-abbrev pub kinds_of : Signature → Kinds
-kinds_of signature = record { kind = signature.kind; occurrence = signature.occurrence }
-
--- the names of each group
-abbrev pub names_in : List Signature → List Names
-names_in signatures = map (λ signature. signature.names) signatures
-
--- whether two groups' kinds are the same
-abbrev pub same_kinds : Kinds → Kinds → Bool
-same_kinds = on (λ kinds. signature_with kinds [] []) same_signature
-
--- where the names of a record are: a short name has one byte
-abbrev pub ends_of : SignatureRecord → PairEnds
-ends_of group = record {
-  start = cond (group.short == 256) group.long (group.long - 1);
-  first = group.long;
-  second = group.end;
-}
-
--- whether two records have the same short name, long names at the same places, and the same kinds
-abbrev pub same_record : SignatureRecord → SignatureRecord → Bool
-same_record = eq_of_both (on (λ group. group.long) ◌==◌)
-    (eq_of_both (on (λ group. group.end) ◌==◌)
-    (eq_of_both (on (λ group. group.short) ◌==◌) (on (λ group. group.kinds) same_kinds)))
-
--- the two texts at these places
-abbrev pub pair_at : Text → PairEnds → Text × Text
-pair_at text e = (between text e.start e.first, between text e.first e.second)
-
--- The places are in order, and between characters.
-pub record AreEndsOf (text : Text) (e : PairEnds) : Type 0 where
-  pub start : IsCharBoundary text e.start
-  pub first : (e.start ≤ e.first) × IsCharBoundary text e.first
-  pub second : (e.first ≤ e.second) × IsCharBoundary text e.second
-
--- These two texts are at these places.
-pub record IsPairAt (text : Text) (e : PairEnds) (two : Text × Text) : Type 0 where
-  pub ends : AreEndsOf text e
-  pub are : pair_at text e ≡ two
-
--- the signature of a record, by the text of all names
-abbrev pub signature_in : Text → SignatureRecord → Signature
-signature_in text group =
-    let names = pair_at text (ends_of group) in signature_with group.kinds names.0 names.1
-
--- the names and kinds that are stored
-abbrev pub signatures_view : Inside → List Signature
-signatures_view inside = map (signature_in (string_bytes inside.text)) inside.records.items
-
--- Each group has valid names, which are UTF-8.
-pub record AreLawfulSignatures (signatures : List Signature) : Type 0 where
-  pub named : AllByRecursion (λ signature. IsLawfullyNamed signature.names) signatures
-  pub shorts : AllByRecursion (λ signature. IsUtf8 signature.names.short) signatures
-  pub longs : AllByRecursion (λ signature. IsUtf8 signature.names.long) signatures
-
--- The record has the main name's key, the short name's byte, and whether there is a long name.
-pub record HasKeys (group : SignatureRecord) (names : Names) : Type 0 where
-  pub key : group.key ≡ key_of (main_name names)
-  pub short : group.short ≡ short_code names.short
-  pub has_long : group.has_long ≡ not (is_empty names.long)
-
--- The names of the record are in the text of all names, and it has their keys.
-pub record IsStored (text : Text) (group : SignatureRecord) : Type 0 where
-  pub ends : AreEndsOf text (ends_of group)
-  pub keys : HasKeys group (signature_in text group).names
-
--- Each record has its names and keys, and the groups are valid.
-pub record HoldSignatures (inside : Inside) : Type 0 where
-  pub held : AllByRecursion (IsStored (string_bytes inside.text)) inside.records.items
-  pub lawful : AreLawfulSignatures (signatures_view inside)
-
--- the signature of a borrowed group
-abbrev pub signature_view : SignatureView → Signature
-signature_view held = signature_with held.kinds held.names.short.now held.names.long.now
-
--- whether the signatures of two borrowed groups are the same
-abbrev pub same_signature_view : SignatureView → SignatureView → Bool
-same_signature_view = on signature_view same_signature
+-- whether two borrowed groups are the same
+abbrev pub same_group_view : GroupView → GroupView → Bool
+same_group_view = on group_view same_group

@@ -5,7 +5,7 @@ use Rattle.getopts.specs.Fail.{Fault}
 use Rattle.getopts.specs.Options.{Signature, Declared, signatures_of, grammar_of}
 use Rattle.getopts.specs.Matches.{MatchedGroup, matched}
 use Rattle.getopts.specs.Reading.{Reading}
-use Rattle.getopts.specs.Stored.Groups.{names_in}
+use Rattle.getopts.specs.Stored.Signatures.{names_in}
 use Rattle.getopts.specs.Stored.Index.{index_of}
 use Rattle.getopts.specs.Stored.Scan.{GivesLine}
 use Rattle.getopts.specs.Stored.Table.{IsTableOf}

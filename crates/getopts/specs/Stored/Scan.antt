@@ -10,7 +10,7 @@ use Rattle.getopts.specs.Reading.{Dashes, is_dashed, stop_word, Reading}
 use Rattle.getopts.specs.Reading.{occurrences_of, free_words, trailing_start}
 use Rattle.getopts.specs.Step.{IsInLongForm, IsShortForm}
 use Rattle.getopts.specs.declared.scan.Line.{Line}
-use Rattle.getopts.specs.declared.scan.Named.{Named}
+use Rattle.getopts.specs.declared.scan.Resolved.{Resolved}
 use Rattle.getopts.specs.declared.scan.Scanner.{Scanner}
 use Rattle.getopts.specs.declared.scan.Shape.{Shape}
 use Rattle.getopts.specs.declared.scan.Shape.TheVariants as shape
@@ -25,7 +25,7 @@ pub record IsLawfulScanner (scanner : Scanner) : Type 0 where
   pub table : IsTableOf (names_of scanner.options.now.groups) scanner.table.now
 
 -- The name resolves to this option.
-pub record IsNamedBy (grammar : Grammar) (name : Text) (option : Named) : Type 0 where
+pub record IsNamedBy (grammar : Grammar) (name : Text) (option : Resolved) : Type 0 where
   pub place : grammar.place name ≡ Some option.place
   pub kind : grammar.kind name ≡ Some option.kind
 

@@ -1,7 +1,7 @@
 -- The row is the head, its padding and the description's rows, which are unique.
 use Rattle.std.proofs.Common.{◌++◌, map, string_bytes, ap, ◌∙◌}
 use Rattle.getopts.specs.Names.{Text}
-use Rattle.getopts.specs.Stored.Help.{group_view}
+use Rattle.getopts.specs.Stored.Groups.{group_view}
 use Rattle.getopts.specs.Usage.{head, padding, next_row}
 use Rattle.getopts.specs.Wrap.{joined}
 use Rattle.getopts.proofs.usage.Rows.{row_is_the_only}

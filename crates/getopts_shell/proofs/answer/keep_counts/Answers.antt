@@ -3,7 +3,7 @@ use Rattle.std.specs.Prelude.{◌&&◌}
 use Rattle.std.specs.Option.{is_none}
 use Rattle.getopts.specs.Matches.{MatchedGroup}
 use Rattle.getopts.specs.Results.{first_count_fault, fits_count}
-use Rattle.getopts.specs.declared.groups.Occur.{Occur}
+use Rattle.getopts.specs.declared.kinds.Occur.{Occur}
 use Rattle.getopts_shell.specs.Table.{occurrence_of}
 use Rattle.getopts_shell.proofs.Asked.{counts_from, none_left}
 use Rattle.getopts_shell.proofs.answer.keep_counts.Goals as goal

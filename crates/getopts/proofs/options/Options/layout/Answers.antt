@@ -1,7 +1,7 @@
 use Rattle.std.proofs.Common.{◌||◌, Bool, not, ap, sym, ◌∙◌, arith}
 use Rattle.std.proofs.lemmas.List.{take_all}
 use Rattle.getopts.specs.Usage.{any_short}
-use Rattle.getopts.specs.Stored.Help.{group_view}
+use Rattle.getopts.specs.Stored.Groups.{group_view}
 use Rattle.getopts.proofs.usage.Rows.{any_short_more}
 use Rattle.getopts.proofs.options.Options.layout.Goals as goal
 

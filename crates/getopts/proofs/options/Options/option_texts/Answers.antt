@@ -1,7 +1,7 @@
 use Rattle.std.proofs.Common.{◌∷◌, [], List, length, map, string_bytes, refl, sym, ap, ◌∙◌, arith}
 use Rattle.std.proofs.lemmas.List.{map-append, take_all}
 use Rattle.getopts.specs.Options.{Group}
-use Rattle.getopts.specs.Stored.Help.{group_view}
+use Rattle.getopts.specs.Stored.Groups.{group_view}
 use Rattle.getopts.specs.Usage.{option_text}
 use Rattle.getopts.proofs.Lists.{map-take_more}
 use Rattle.getopts.proofs.options.Options.option_texts.Goals as goal

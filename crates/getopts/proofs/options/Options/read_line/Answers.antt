@@ -1,7 +1,7 @@
 -- The line that was read, and its scan error, belong to the declared options.
 use Rattle.getopts.specs.Results.{reading_or_error}
 use Rattle.getopts.proofs.parse.Parsed.{keeps_laws}
-use Rattle.getopts.proofs.Stored.Groups.{names-signatures_of}
+use Rattle.getopts.proofs.Stored.Signatures.{names-signatures_of}
 use Rattle.getopts.proofs.options.Options.read_line.Goals as goal
 
 pub scan-requires : goal.scan-requires

@@ -4,7 +4,7 @@ use Rattle.std.specs.Option.{option_copied}
 use Rattle.std.specs.Str.{IsCharBoundary}
 use Rattle.std.proofs.lemmas.Str.{IsCharBoundary-after_ascii}
 use Rattle.getopts.specs.Fail.{unrecognized_option}
-use Rattle.getopts.specs.declared.groups.HasArg.{HasArg}
+use Rattle.getopts.specs.declared.kinds.HasArg.{HasArg}
 use Rattle.getopts.specs.Reading.{cluster, ends_in}
 use Rattle.getopts.specs.Step.{faults, first_char, chosen_step}
 use Rattle.getopts.proofs.Weaker.{IsOutOfMemoryOr-one, IsOutOfMemoryOr-exit}

@@ -3,10 +3,10 @@ use Rattle.std.proofs.Common.{refl, sym, ap, ◌∙◌, arith}
 use Rattle.std.proofs.lemmas.List.{length-map}
 use Rattle.std.specs.Option.{option_map}
 use Rattle.getopts.specs.Options.{Signature}
-use Rattle.getopts.specs.Stored.Groups.{names_in}
-use Rattle.getopts.specs.declared.groups.Kinds.{Kinds}
+use Rattle.getopts.specs.Stored.Signatures.{names_in}
+use Rattle.getopts.specs.declared.kinds.Kinds.{Kinds}
 use Rattle.getopts.proofs.table.Names.{resolution_within}
-use Rattle.getopts.proofs.Stored.Groups.{names-signatures_of, kinds-signatures_of, kind_of-kinds}
+use Rattle.getopts.proofs.Stored.Signatures.{names-signatures_of, kinds-signatures_of, kind_of-kinds}
 use Rattle.getopts.proofs.scan.Scanner.option.Goals as goal
 
 pub resolve-requires : goal.resolve-requires

@@ -5,10 +5,10 @@ use Rattle.std.proofs.lemmas.List.{length-map}
 use Rattle.std.specs.Option.{option_map}
 use Rattle.getopts.specs.Names.{Names, resolution}
 use Rattle.getopts.specs.Options.{Signature}
-use Rattle.getopts.specs.Stored.Groups.{names_in}
-use Rattle.getopts.specs.declared.groups.Kinds.{Kinds}
+use Rattle.getopts.specs.Stored.Signatures.{names_in}
+use Rattle.getopts.specs.declared.kinds.Kinds.{Kinds}
 use Rattle.getopts.proofs.table.Names.{resolution_within, wide_unknown}
-use Rattle.getopts.proofs.Stored.Groups.{names-signatures_of, kinds-signatures_of, kind_of-kinds}
+use Rattle.getopts.proofs.Stored.Signatures.{names-signatures_of, kinds-signatures_of, kind_of-kinds}
 use Rattle.getopts.proofs.scan.Scanner.option_at.Goals as goal
 
 pub returns-then-not-is_ascii-clause-option : goal.returns-then-not-is_ascii-clause-option

@@ -5,7 +5,7 @@ use Rattle.getopts.specs.Fail.{argument_missing, unrecognized_option, unexpected
 use Rattle.getopts.specs.Reading.{none, attached, separate}
 use Rattle.getopts.specs.Step.{chosen_long, Chooses}
 use Rattle.getopts.specs.Stored.Scan.{scanner_grammar}
-use Rattle.getopts.specs.declared.groups.HasArg.TheVariants.{Yes, No}
+use Rattle.getopts.specs.declared.kinds.HasArg.TheVariants.{Yes, No}
 use Rattle.getopts.proofs.scan.Items.{Chooses-ok, Chooses-maybe, IsOutOfMemoryOr-long}
 use Rattle.getopts.proofs.scan.Items.{AddsItem-long}
 use Rattle.getopts.proofs.scan.Items.{texts-first, texts-none}

@@ -4,7 +4,7 @@ use Rattle.std.specs.String.{string_bytes}
 use Rattle.std.proofs.lemmas.List.{drop-map, append-nil, drop_all, length-map, take_rest}
 use Rattle.getopts.specs.Reading.{line_end, stop, rest}
 use Rattle.getopts.specs.Stored.Scan.{scanner_grammar}
-use Rattle.getopts.specs.declared.groups.ParsingStyle.TheVariants.{FloatingFrees, StopAtFirstFree}
+use Rattle.getopts.specs.declared.kinds.ParsingStyle.TheVariants.{FloatingFrees, StopAtFirstFree}
 use Rattle.getopts.proofs.Reading.Reader.{read}
 use Rattle.getopts.proofs.Reading.Readings.{read_nil}
 use Rattle.getopts.proofs.Reading.Steps.{step_long, step_short}

@@ -1,0 +1,245 @@
+-- Signatures and groups as they are stored: which one is at a place, and what appending one
+-- changes.
+use Rattle.std.proofs.Common.{◌≡◌, ℕ, zero, suc, ◌<◌, List, [], ◌∷◌, map, ◌++◌, length, get_or}
+use Rattle.std.proofs.Common.{slice_get, Some, refl, ap, sym, ◌∙◌, subst, arith, Option, None}
+use Rattle.std.specs.List.{AllByRecursion}
+use Rattle.std.specs.Option.{option_map}
+use Rattle.std.specs.Str.{IsUtf8}
+use Rattle.std.specs.String.{string_bytes}
+use Rattle.std.proofs.lemmas.List.{length-map, map-append}
+use Rattle.std.proofs.lemmas.List.Elements.{All-nil}
+use Rattle.std.proofs.lemmas.Option.{same_Some, slice_get-map, slice_get_read}
+use Rattle.getopts.specs.Names.{Text, Names, IsLawfullyNamed, main_name}
+use Rattle.getopts.specs.Options.{Signature, Group, MayBeDeclared, signatures_of, names_of}
+use Rattle.getopts.specs.Canon.{main_at}
+use Rattle.getopts.specs.Stored.Names.{names_at, HaveNamesOfBytes}
+use Rattle.getopts.specs.Stored.Signatures.{signature_with, names_in, pair_at, AreEndsOf, IsPairAt}
+use Rattle.getopts.specs.Stored.Signatures.{ends_of}
+use Rattle.getopts.specs.Stored.Signatures.{signature_in, AreLawfulSignatures, HasKeys, IsStored}
+use Rattle.getopts.specs.Stored.Signatures.{kinds_of}
+use Rattle.getopts.specs.Stored.Groups.{groups_with, groups_view, HoldGroups}
+use Rattle.getopts.specs.declared.groups.Groups.TheInside.{Inside}
+use Rattle.getopts.specs.declared.signatures.PairEnds.{PairEnds}
+use Rattle.getopts.specs.declared.signatures.SignatureRecord.{SignatureRecord}
+use Rattle.getopts.specs.declared.kinds.Kinds.{Kinds}
+use Rattle.getopts.proofs.Lists.{AllByRecursion-map, AllByRecursion-unmap, AllByRecursion-at}
+use Rattle.getopts.proofs.Lists.{AllByRecursion-append, each_kept}
+use Rattle.getopts.proofs.Stored.Texts.{IsOfBytes-utf8, two-append}
+
+-- the names of the signatures are those of the groups
+pub names-signatures_of : (groups : List Group)
+    → map (λ (signature : Signature). signature.names) (signatures_of groups) ≡ names_of groups
+names-signatures_of [] = refl
+names-signatures_of (group ∷ groups) =
+    ap (λ (more : List Names). group.signature.names ∷ more) (names-signatures_of groups)
+
+-- so are the kinds at a place
+pub kinds-signatures_of : (groups : List Group) (place : ℕ)
+    → option_map (λ (group : Group). kinds_of group.signature) (slice_get groups place)
+    ≡ option_map kinds_of (slice_get (signatures_of groups) place)
+kinds-signatures_of [] place = refl
+kinds-signatures_of (group ∷ groups) zero = refl
+kinds-signatures_of (group ∷ groups) (suc place) = kinds-signatures_of groups place
+
+-- the kind of argument, from the kinds of the group
+pub kind_of-kinds : (group : Option Group)
+    → option_map (λ (k : Kinds). k.kind) (option_map (λ (g : Group). kinds_of g.signature) group)
+    ≡ option_map (λ (g : Group). g.signature.kind) group
+kind_of-kinds None = refl
+kind_of-kinds (Some group) = refl
+
+-- the record of an existing signature
+pub record_within : (text : Text) (records : List SignatureRecord) (signatures : List Signature)
+    (place : ℕ) → map (signature_in text) records ≡ signatures → place < length signatures
+    → place < length records
+record_within text records signatures place are within =
+    omega (
+      arith,
+      within,
+      ap (λ (signatures : List Signature). length signatures) are,
+      length-map records (signature_in text),
+    )
+
+-- the record at a place, and the signature there
+pub stored_at : (text : Text) (records : List SignatureRecord) (signatures : List Signature)
+    (place : ℕ) (r : SignatureRecord) → AllByRecursion (IsStored text) records
+    → map (signature_in text) records ≡ signatures → place < length signatures
+    → r ≡ get_or records place r
+    → IsStored text r × (slice_get signatures place ≡ Some (signature_in text r))
+stored_at text records signatures place r held are within is =
+    let at = slice_get_read records _ place r refl
+    (record_within text records signatures place are within) is in (
+      AllByRecursion-at (IsStored text) records place r held at,
+      rw (← are) (slice_get-map (signature_in text) records place
+          ∙ ap (option_map (signature_in text)) at),
+    )
+
+-- ---- names
+
+-- the names at a place are those of its signature
+pub names_at-signature : (signatures : List Signature) (place : ℕ) (signature : Signature)
+    → slice_get signatures place ≡ Some signature
+    → names_at (names_in signatures) place ≡ signature.names
+names_at-signature [] place signature is = cc is
+names_at-signature (first ∷ signatures) zero signature is =
+    ap (λ k. k.names) (same_Some first signature is)
+names_at-signature (first ∷ signatures) (suc place) signature is =
+    names_at-signature signatures place signature is
+
+-- if groups have valid names, the names at a place are valid
+pub fits_at : (groups : List Names) → AllByRecursion IsLawfullyNamed groups → (i : ℕ)
+    → i < length groups → IsLawfullyNamed (names_at groups i)
+fits_at [] lawful i within = absurd (omega (arith, within))
+fits_at (first ∷ groups) lawful zero within = lawful.0
+fits_at (first ∷ groups) lawful (suc i) within = fits_at groups lawful.1 i (omega (arith, within))
+
+-- names of valid signatures are valid
+pub lawful_names : (signatures : List Signature) → AreLawfulSignatures signatures
+    → AllByRecursion IsLawfullyNamed (names_in signatures)
+lawful_names signatures lawful = AllByRecursion-map IsLawfullyNamed (λ (s : Signature). s.names)
+    signatures lawful.named
+
+-- and consist of bytes
+pub HaveNamesOfBytes-lawful : (signatures : List Signature) → AreLawfulSignatures signatures
+    → HaveNamesOfBytes (names_in signatures)
+HaveNamesOfBytes-lawful [] lawful place =
+    (All-nil (λ byte. byte < 256), All-nil (λ byte. byte < 256))
+HaveNamesOfBytes-lawful (s ∷ more) lawful zero = (
+  IsOfBytes-utf8 s.names.short lawful.shorts.0,
+  IsOfBytes-utf8 s.names.long lawful.longs.0,
+)
+HaveNamesOfBytes-lawful (s ∷ more) lawful (suc place) = HaveNamesOfBytes-lawful more (record {
+  named = lawful.named.1;
+  shorts = lawful.shorts.1;
+  longs = lawful.longs.1;
+}) place
+
+-- ---- one more
+
+-- with more text, records are held as before, and one more is the last
+pub signatures-push : (text more : Text) → IsUtf8 more → (records : List SignatureRecord)
+    → AllByRecursion (IsStored text) records
+    → (added : SignatureRecord) → IsStored (text ++ more) added
+    → AllByRecursion (IsStored (text ++ more)) (records ++ added ∷ [])
+    × (map (signature_in (text ++ more)) (records ++ added ∷ [])
+    ≡ map (signature_in text) records ++ signature_in (text ++ more) added ∷ [])
+signatures-push text more utf8 records held added last =
+    let kept = each_kept (IsStored text) (IsStored (text ++ more)) (signature_in text)
+    (signature_in (text ++ more)) (λ r held.
+    let stand = two-append text more utf8 (ends_of r) held.ends in
+    let same : signature_in (text ++ more) r ≡ signature_in text r =
+    ap (λ (names : Text × Text). signature_with r.kinds names.0 names.1) stand.are in (
+      record {
+        ends = stand.ends;
+        keys = subst (λ (s : Signature). HasKeys r s.names) (sym same) held.keys;
+      },
+      same,
+    )) records held in (
+      AllByRecursion-append (IsStored (text ++ more)) records (added ∷ []) kept.0 (last, tt),
+      map-append (signature_in (text ++ more)) records (added ∷ [])
+          ∙ ap (λ (ss : List Signature). ss ++ signature_in (text ++ more) added ∷ []) kept.1,
+    )
+
+-- with more text, the two texts of each group are as before, and two more are the last
+pub twos-push : (text more : Text) → IsUtf8 more → (ends : List PairEnds)
+    → AllByRecursion (AreEndsOf text) ends → (added : PairEnds) (two : Text × Text)
+    → IsPairAt (text ++ more) added two
+    → AllByRecursion (AreEndsOf (text ++ more)) (ends ++ added ∷ [])
+    × (map (pair_at (text ++ more)) (ends ++ added ∷ []) ≡ map (pair_at text) ends ++ two ∷ [])
+twos-push text more utf8 ends held added two last =
+    let kept = each_kept (AreEndsOf text) (AreEndsOf (text ++ more)) (pair_at text)
+    (pair_at (text ++ more)) (λ e held. let stand = two-append text more utf8 e held in
+    (stand.ends, stand.are)) ends held in (
+      AllByRecursion-append (AreEndsOf (text ++ more)) ends (added ∷ []) kept.0 (last.ends, tt),
+      map-append (pair_at (text ++ more)) ends (added ∷ [])
+          ∙ (λ i. kept.1 i ++ last.are i ∷ []),
+    )
+
+-- one more group has the texts after the others
+pub groups_with-push : (signature : Signature) (texts : Text × Text) (signatures : List Signature)
+    (twos : List (Text × Text)) → length twos ≡ length signatures
+    → groups_with (signatures ++ signature ∷ []) (twos ++ texts ∷ [])
+    ≡ groups_with signatures twos ++ record {
+      signature = signature;
+      hint = texts.0;
+      description = texts.1;
+    } ∷ []
+groups_with-push signature texts [] [] as_many = refl
+groups_with-push signature texts [] (two ∷ twos) as_many = absurd (omega (arith, as_many))
+groups_with-push signature texts (first ∷ signatures) [] as_many = absurd (omega (arith, as_many))
+groups_with-push signature texts (first ∷ signatures) (two ∷ twos) as_many =
+    ap (λ (more : List Group). record {
+      signature = first;
+      hint = two.0;
+      description = two.1;
+    } ∷ more)
+    (groups_with-push signature texts signatures twos (omega (arith, as_many)))
+
+-- ---- groups
+
+-- the group at a place
+pub groups_with-at : (signatures : List Signature) (twos : List (Text × Text)) (i : ℕ)
+    (signature : Signature) (texts : Text × Text) → slice_get signatures i ≡ Some signature
+    → slice_get twos i ≡ Some texts → slice_get (groups_with signatures twos) i ≡ Some (record {
+      signature = signature;
+      hint = texts.0;
+      description = texts.1;
+    })
+groups_with-at [] twos i signature texts at there = cc at
+groups_with-at (first ∷ signatures) [] i signature texts at there = cc there
+groups_with-at (first ∷ signatures) (two ∷ twos) zero signature texts at there =
+    λ k. Some (record {
+      signature = same_Some first signature at k;
+      hint = (same_Some two texts there k).0;
+      description = (same_Some two texts there k).1;
+    })
+groups_with-at (first ∷ signatures) (two ∷ twos) (suc i) signature texts at there =
+    groups_with-at signatures twos i signature texts at there
+
+-- the signatures of groups
+pub signatures_of-with : (signatures : List Signature) (twos : List (Text × Text))
+    → length twos ≡ length signatures → signatures_of (groups_with signatures twos) ≡ signatures
+signatures_of-with [] twos as_many = refl
+signatures_of-with (first ∷ signatures) [] as_many = absurd (omega (arith, as_many))
+signatures_of-with (first ∷ signatures) (two ∷ twos) as_many =
+    ap (λ (more : List Signature). first ∷ more)
+    (signatures_of-with signatures twos (omega (arith, as_many)))
+
+-- there are as many groups as signatures
+length-groups_with : (signatures : List Signature) (twos : List (Text × Text))
+    → length twos ≡ length signatures
+    → length (groups_with signatures twos) ≡ length signatures
+length-groups_with signatures twos as_many =
+    sym (length-map (groups_with signatures twos) (λ (g : Group). g.signature))
+    ∙ ap (λ (signatures : List Signature). length signatures)
+    (signatures_of-with signatures twos as_many)
+
+-- the signatures that are held are those of the groups
+pub signatures_stored : (inside : Inside) (groups : List Group) → HoldGroups inside
+    → groups_view inside ≡ groups
+    → (inside.signatures ≡ signatures_of groups) × (length groups ≡ length inside.signatures)
+signatures_stored inside groups holds are =
+    let twos = map (pair_at (string_bytes inside.texts)) inside.ends.items in
+    let as_many = length-map inside.ends.items (pair_at (string_bytes inside.texts))
+    ∙ holds.as_many in (
+      sym (ap signatures_of (sym are) ∙ signatures_of-with inside.signatures twos as_many),
+      ap (λ (groups : List Group). length groups) (sym are)
+          ∙ length-groups_with inside.signatures twos as_many,
+    )
+
+-- the main name at a place
+pub main_at-names : (groups : List Group) (place : ℕ)
+    → main_at groups place ≡ main_name (names_at (names_in (signatures_of groups)) place)
+main_at-names [] place = refl
+main_at-names (group ∷ groups) zero = refl
+main_at-names (group ∷ groups) (suc place) = main_at-names groups place
+
+-- groups with valid signatures may be declared
+pub MayBeDeclared-lawful : (groups : List Group) → AreLawfulSignatures (signatures_of groups)
+    → MayBeDeclared groups
+MayBeDeclared-lawful groups lawful = record {
+  named = AllByRecursion-unmap (λ (s : Signature). IsLawfullyNamed s.names)
+      (λ (g : Group). g.signature) groups lawful.named;
+  shorts = AllByRecursion-unmap (λ (s : Signature). IsUtf8 s.names.short)
+      (λ (g : Group). g.signature) groups lawful.shorts;
+}

@@ -1,0 +1,21 @@
+-- The long name is the second of the two texts of the record.
+use Rattle.std.proofs.Common.{arith}
+use Rattle.getopts.proofs.Stored.Signatures.{stored_at, record_within, names_at-signature}
+use Rattle.getopts.proofs.signatures.Signatures.long.Goals as goal
+
+pub index-requires : goal.index-requires
+index-requires c =
+    let within = record_within _ c.self.inside.records.items _ _ c.self.view_is c.requires in
+    omega (arith, within)
+
+pub second_at-requires : goal.second_at-requires
+second_at-requires c =
+    rw (c.ends.ensures, c.deref.ensures) (stored_at _ c.self.inside.records.items _ _ c.index.result.now
+    c.self.invariant.held c.self.view_is c.requires c.index.ensures).0.ends
+
+pub returns : goal.returns
+returns c =
+    let held = stored_at _ c.self.inside.records.items _ _ c.index.result.now
+    c.self.invariant.held c.self.view_is c.requires c.index.ensures in
+    let is = rw (c.ends.ensures, c.deref.ensures) at c.second_at.ensures in
+    rw (names_at-signature _ _ _ held.1) is

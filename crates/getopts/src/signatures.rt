@@ -1,0 +1,354 @@
+//! Signatures of option groups, their names and kinds: stored together, and borrowed.
+
+ghost use Rattle.std.specs.Prelude.{◌≡◌, ◌++◌, ◌∷◌, [], Some, ◌+◌, ◌*◌, ◌≤◌, ◌<◌, ◌^◌, length};
+ghost use Rattle.std.specs.Prelude.{slice_get, OnOk, OnErr};
+ghost use Rattle.std.specs.Option.{option_map};
+ghost use Rattle.std.specs.String.{string_bytes, string_len, string_capacity};
+ghost use Rattle.std.specs.Cmp.Lexicographic.{pointwise};
+ghost use Rattle.std.specs.Cmp.Rules.{comparing};
+ghost use Rattle.std.proofs.Common.{rules};
+ghost use Rattle.getopts.specs.Names.{AreLawful, IsLawfullyNamed, main_name};
+ghost use Rattle.getopts.specs.Stored.Signatures.{signature_view, names_view, names_in, signature_with};
+ghost use Rattle.getopts.specs.Stored.Signatures.{HasKeys, AreEndsOf, IsPairAt, pair_at, ends_of};
+ghost use Rattle.getopts.specs.Stored.Names.{names_at};
+
+use crate::kinds::{HasArg, Kinds, Occur};
+use crate::names::{NO_BYTE, NamesView, key_of, short_byte};
+use std::alloc::{AllocError, Global};
+use std::marker::Model;
+
+/// Initial capacity: up to this many groups fit without reallocating. Without it, the job `typical`
+/// takes 32 % more instructions.
+pub(crate) const FIRST_GROUPS: usize = 32;
+
+/// Initial capacity for a text that all groups share, in bytes. Without it, the job `typical` takes
+/// 15 % more instructions.
+pub(crate) const FIRST_TEXT: usize = 1024;
+
+/// What parsing needs of a group, borrowed: its names and kinds.
+#[derive(Clone, Copy)]
+pub(crate) struct SignatureView<'g> {
+    pub names: NamesView<'g>,
+    pub kinds: Kinds,
+}
+
+impl<'g> PartialEq for SignatureView<'g> {
+    ghost use Rattle.getopts.specs.Stored.Signatures.{same_signature_view};
+
+    ghost eq = { same_signature_view };
+
+    ghost laws = { Prim.search (comparing, rules) depth 12 };
+
+    fn eq(&self, other: &SignatureView<'g>) -> bool {
+        self.names.short == other.names.short
+            && self.names.long == other.names.long
+            && self.kinds == other.kinds
+    }
+}
+
+/// Where two adjacent texts are in a longer one: the start of the first, and the end of each.
+#[derive(Debug, Clone, Copy)]
+pub(crate) struct PairEnds {
+    pub start: usize,
+    pub first: usize,
+    pub second: usize,
+}
+
+/// A stored group: where its long name begins and ends in the text of all names, what to look its
+/// names up by, and its kinds. It has 32 bytes, so that the first list, of `FIRST_GROUPS` records,
+/// fits in malloc's cache.
+#[derive(Debug, Clone, Copy)]
+pub(crate) struct SignatureRecord {
+    pub long: usize,
+    pub end: usize,
+    /// The key of the main name.
+    pub key: u64,
+    /// The byte of the short name, or `NO_BYTE`.
+    pub short: u16,
+    pub has_long: bool,
+    pub kinds: Kinds,
+}
+
+impl PartialEq for SignatureRecord {
+    ghost use Rattle.getopts.specs.Stored.Signatures.{same_record};
+
+    ghost eq = { same_record };
+
+    ghost laws = { Prim.search (comparing, rules) depth 12 };
+
+    /// Whether the short names are equal, the long names are at the same places, and the kinds are
+    /// equal.
+    #[inline(always)]
+    fn eq(&self, other: &SignatureRecord) -> bool {
+        self.long == other.long
+            && self.end == other.end
+            && self.short == other.short
+            && self.kinds == other.kinds
+    }
+}
+
+impl SignatureRecord {
+    /// Where its names start and end: a short name has one byte.
+    #[inline(always)]
+    fn ends(&self) -> PairEnds
+        ensures { result ≡ ends_of self.now }
+    {
+        let start = if self.short == NO_BYTE {
+            self.long
+        } else {
+            self.long.saturating_sub(1)
+        };
+        PairEnds {
+            start,
+            first: self.long,
+            second: self.end,
+        }
+    }
+}
+
+/// Appends a text that there is room for, and returns its end.
+#[inline(always)]
+pub(crate) fn push_reserved(texts: &mut String, text: &str) -> usize
+    requires { string_len texts.old + length text.now ≤ string_capacity texts.old }
+    ensures bytes { string_bytes texts.new ≡ string_bytes texts.old ++ text.now }
+    ensures end { result ≡ length (string_bytes texts.new) }
+    ensures room { string_capacity texts.old ≤ string_capacity texts.new }
+{
+    if text.is_empty() {
+        return texts.len();
+    }
+    match texts.push_str(text) {
+        Ok(()) => texts.len(),
+        Err(_) => unreachable!(),
+    }
+}
+
+/// Appends two texts that there is room for, and returns where they are.
+#[inline(always)]
+pub(crate) fn push_pair(texts: &mut String, first: &str, second: &str) -> PairEnds
+    requires { string_len texts.old + (length first.now + length second.now)
+        ≤ string_capacity texts.old }
+    ensures bytes { string_bytes texts.new ≡ string_bytes texts.old ++ (first.now ++ second.now) }
+    ensures two { IsPairAt (string_bytes texts.new) result (first.now, second.now) }
+    ensures first { result.first ≡ result.start + length first.now }
+{
+    let start = texts.len();
+    let first = push_reserved(texts, first);
+    let second = push_reserved(texts, second);
+    PairEnds {
+        start,
+        first,
+        second,
+    }
+}
+
+/// The first of the two texts at `ends`.
+#[inline(always)]
+pub(crate) fn first_at(text: &str, ends: PairEnds) -> &str
+    requires { AreEndsOf text.now ends }
+    ensures { result.now ≡ (pair_at text.now ends).0 }
+{
+    &text[ends.start..ends.first]
+}
+
+/// The second of the two texts at `ends`.
+#[inline(always)]
+pub(crate) fn second_at(text: &str, ends: PairEnds) -> &str
+    requires { AreEndsOf text.now ends }
+    ensures { result.now ≡ (pair_at text.now ends).1 }
+{
+    &text[ends.first..ends.second]
+}
+
+/// What parsing needs of validly named groups: one text with the short and long name of each group
+/// in turn, and a record for each group.
+#[derive(Debug)]
+pub(crate) struct Signatures {
+    text: String,
+    records: Vec<SignatureRecord>,
+}
+
+impl Drop for Signatures {
+    fn drop(self) {
+        let Signatures {
+            text: _,
+            records: _,
+        } = self;
+    }
+}
+
+impl Model for Signatures {
+    ghost use Rattle.std.specs.Prelude.{List};
+    ghost use Rattle.getopts.specs.Options.{Signature};
+    ghost use Rattle.getopts.specs.Stored.Signatures.{signatures_view, HoldSignatures};
+
+    ghost Value = { List Signature };
+
+    ghost view = { signatures_view };
+
+    ghost invariant = { HoldSignatures };
+}
+
+impl Signatures {
+    ghost use Rattle.getopts.specs.Stored.Signatures.{kinds_of};
+
+    /// No groups. Allocates nothing.
+    pub(crate) fn new(alloc: Global) -> Signatures
+        ensures { result ≡ [] }
+    {
+        Signatures {
+            text: String::new(alloc),
+            records: Vec::new(alloc),
+        }
+    }
+
+    #[inline]
+    pub(crate) fn len(&self) -> usize
+        ensures len { result ≡ length self.now }
+        ensures small { 2 * result < 2 ^ 64 }
+    {
+        self.records.len()
+    }
+
+    /// The record of the group at `place`.
+    #[inline(always)]
+    pub(crate) fn record(&self, place: usize) -> SignatureRecord
+        requires { place < length self.now }
+        ensures keys { HasKeys result (names_at (names_in self.now) place) }
+        ensures kinds { Some result.kinds ≡ option_map kinds_of (slice_get self.now place) }
+        ensures lawful { IsLawfullyNamed (names_at (names_in self.now) place) }
+    {
+        self.records[place]
+    }
+
+    /// The short name of the group at `place`.
+    #[inline(always)]
+    pub(crate) fn short(&self, place: usize) -> &str
+        requires { place < length self.now }
+        ensures { result.now ≡ (names_at (names_in self.now) place).short }
+    {
+        first_at(&self.text, self.records[place].ends())
+    }
+
+    /// The long name of the group at `place`.
+    #[inline(always)]
+    pub(crate) fn long(&self, place: usize) -> &str
+        requires { place < length self.now }
+        ensures { result.now ≡ (names_at (names_in self.now) place).long }
+    {
+        second_at(&self.text, self.records[place].ends())
+    }
+
+    /// Both names of the group at `place`.
+    #[inline]
+    pub(crate) fn names(&self, place: usize) -> NamesView<'_>
+        requires { place < length self.now }
+        ensures { names_view result ≡ names_at (names_in self.now) place }
+    {
+        NamesView {
+            short: self.short(place),
+            long: self.long(place),
+        }
+    }
+
+    /// The main name of the group at `place`.
+    #[inline]
+    pub(crate) fn main(&self, place: usize) -> &str
+        requires { place < length self.now }
+        ensures { result.now ≡ main_name (names_at (names_in self.now) place) }
+    {
+        if self.record(place).has_long {
+            self.long(place)
+        } else {
+            self.short(place)
+        }
+    }
+
+    /// The main name of the group at `place`, or an empty text past the last group. Sorting and
+    /// searching a table need closures that accept any entry.
+    pub(crate) fn main_or_empty(&self, place: usize) -> &str
+        ensures { result.now ≡ main_name (names_at (names_in self.now) place) }
+    {
+        if place < self.len() {
+            self.main(place)
+        } else {
+            ""
+        }
+    }
+
+    /// The names and kinds of the group at `place`.
+    #[inline(always)]
+    pub(crate) fn get(&self, place: usize) -> SignatureView<'_>
+        requires { place < length self.now }
+        ensures { Some (signature_view result) ≡ slice_get self.now place }
+    {
+        SignatureView {
+            names: self.names(place),
+            kinds: self.record(place).kinds,
+        }
+    }
+
+    /// Appends the names and kinds of a group. After an error nothing has changed.
+    // Without `inline` here and at `Groups::push`, the job `typical` takes 3.3 % more instructions.
+    #[inline]
+    pub(crate) fn push(&mut self, short: &str, long: &str, kinds: Kinds) -> Result<(), AllocError>
+        requires { AreLawful short.now long.now }
+        ensures ok { OnOk result
+            (self.new ≡ self.old ++ signature_with kinds short.now long.now ∷ []) }
+        ensures err { OnErr result (self.new ≡ self.old) }
+    {
+        let bytes = short.len().saturating_add(long.len());
+        if self.records.is_empty() {
+            self.records.reserve(FIRST_GROUPS)?;
+            self.text.reserve(bytes.max(FIRST_TEXT))?;
+        } else {
+            self.records.reserve(1)?;
+            self.text.reserve(bytes)?;
+        }
+        let names = push_pair(&mut self.text, short, long);
+        let key = key_of(NamesView { short, long }.main().as_bytes());
+        self.records.push_reserved(SignatureRecord {
+            long: names.first,
+            end: names.second,
+            key,
+            short: short_byte(short),
+            has_long: !long.is_empty(),
+            kinds,
+        });
+        Ok(())
+    }
+}
+
+impl Clone for Signatures {
+    ghost is_clone = { λ a b. b ≡ a };
+
+    fn clone(&self) -> Result<Signatures, AllocError> {
+        Ok(Signatures {
+            text: self.text.clone()?,
+            records: self.records.clone()?,
+        })
+    }
+}
+
+impl PartialEq for Signatures {
+    ghost use Rattle.getopts.specs.Same.{same_signature};
+
+    ghost eq = { pointwise same_signature };
+
+    ghost laws = { Prim.search (comparing, rules) depth 12 };
+
+    fn eq(&self, other: &Signatures) -> bool {
+        if self.text == other.text && self.records == other.records {
+            return true;
+        }
+        if self.len() != other.len() {
+            return false;
+        }
+        for place in 0..self.len() {
+            if self.get(place) != other.get(place) {
+                return false;
+            }
+        }
+        true
+    }
+}
