@@ -1,8 +1,7 @@
 """The pages: their names, quotations and figures match the sources, the proofs and the records. Also: no circular
 imports, and well-formed scripts and Rust.
 
-Every figure of ten or more on a page is counted, measured or recorded (FIGURES), except those in NO_FIGURES. --fix
-updates the figures, and what GENERATED lists.
+--fix writes the tables of figures, and what else GENERATED lists. Prose has no figures that change.
 """
 
 import functools
@@ -10,7 +9,6 @@ import graphlib
 import itertools
 import os
 import re
-import shutil
 import textwrap
 
 import bench as bench_py
@@ -30,7 +28,6 @@ sources = {name: read(name) for name in tracked if re.match(r"crates/\w*/src/.*\
 modules = sources | {name: read(name) for name in tracked if re.match(r"bindings/.*\.rs$", name)}
 CALLING = "crates/getopts/CALLING.md"
 mutants = [name for name in tracked if re.match(r"crates/\w*/must-fail/.*\.edit$", name)]
-OUTDATED = "out of date: run 'bash test.sh -k pages --fix'"
 
 
 def assert_none(failures):
@@ -38,65 +35,68 @@ def assert_none(failures):
     assert not failures, "\n".join(failures)
 
 
-def fix_page(page, text, request):
-    """With --fix, updates a page."""
-    if request.config.getoption("--fix") and text != pages[page]:
-        (ROOT / page).write_text(text, encoding="utf-8")
-        pages[page] = text
-
-
 # ---- figures
 
-INSTRUCTIONS = "Instructions per iteration"
+
+def table(heads, *rows):
+    first, *others = (f"| {' | '.join(line)} |" for line in (heads, *rows))
+    return "\n".join([first, "|" + "---|" * len(heads), *others])
 
 
-tables = functools.cache(bench_py.recorded)
+def measured(title, job, *columns):
+    """What bench/last_run.txt says about a job, in some columns of the table with this title."""
+    cells = bench_py.recorded().get((title, job), {})
+    return [re.sub(r"^\d+", lambda it: f"{int(it[0]):,}", cells.get(column, "-")) for column in columns]
 
 
-def cell(title, job, column):
-    return tables().get((title, job), {}).get(column, "0").rstrip("*")
+def described(job):
+    options, words = map(len, bench_py.parts(job))
+    return f"`{job}`: {options:,} options, {words:,} words"
 
 
-def share(job):
-    """The drop-in's instructions as a percentage of the Rust crate's."""
-    return f"{100 * int(cell(INSTRUCTIONS, job, 'bindings/rust')) / max(1, int(cell(INSTRUCTIONS, job, 'Rust crate'))):.0f}"
-
-
-def ahead(column, title=INSTRUCTIONS, ours="bindings/rust"):
-    """The jobs on which another library takes fewer instructions than ours, as a page lists them."""
-    both = {job: (int(cells[column].rstrip("*")), int(cells[ours].rstrip("*"))) for (kind, job), cells in tables().items()
-            if kind == title and "-" not in (cells[column], cells[ours])}
-    fewer = [f"`{job}`" for job, (peers, own) in both.items() if peers < own]
-    others = [f"`{job}`" for job, (peers, own) in both.items() if peers >= own]
-    return ", ".join(fewer) if len(fewer) <= len(others) else f"all but {', '.join(others)}"
-
-
-@functools.cache
-def minutes(command):
-    """The shortest and longest times of a command in tests/times.txt: processor time and elapsed time, in minutes."""
-    rows = [line.rsplit(maxsplit=2) for line in read("tests/times.txt").split("\n") if line and line[0] != "#"]
-    spans = []
-    for kind in (1, 2):
-        of = [round(int(row[kind]) / 60) for row in rows if row[0] == command] or [0]
-        spans.append(f"{min(of)} to {max(of)} minutes" if min(of) < max(of) else f"{min(of)} minutes")
-    return spans
-
-
-@functools.cache
-def logic():
-    """The checksum of the toolchain's logic. Toolchains with different names may have the same logic."""
-    return [run("rt", "version")[0].split()[-1] if shutil.which("rt") else "unknown"]
-
-
-def oldest_rust(*folders):
-    """The oldest version of Rust that builds each of these folders of bindings."""
-    return [re.search(r'rust-version = "(.*)"', read(f"bindings/{folder}/Cargo.toml"))[1] for folder in folders]
-
-
-def peers(*names):
-    """The versions of these libraries with which the benchmarks were counted."""
+def speed():
+    """README: the instructions of some jobs, and the time of one."""
     versions = dict(re.findall(r"([\w-]+) ([\d.]+)", read("bench/last_run.txt").split("\n")[0]))
-    return [versions.get(name, "unknown") for name in names]
+    peers = ["lexopt", "pico-args", "clap"]
+    columns = ["this library", "Rust crate", "bindings/rust"]
+
+    def row(title, name, job):
+        return [name, *measured(title, job, *columns), *measured(title, f"copied-{job}", "bindings/rust"),
+                *measured(title, job, *peers)]
+
+    return table(["job", "this library", "Rust crate", "drop-in", "drop-in, copying", *(f"{it} {versions[it]}" for it in peers)],
+                 *(row("Instructions per iteration", described(job), job) for job in ("small", "typical", "long", "files")),
+                 row("Microseconds per iteration", "`typical`, in microseconds", "typical"))
+
+
+def speed_in_c():
+    columns = "bindings/c", "getopt_long", "argp"
+    return table(["job", *columns], *([described(job), *measured("Instructions per iteration in C", job, *columns)]
+                                      for job in ("small", "typical", "long")))
+
+
+def memory():
+    jobs = {"held-small": "3 words", "held-described": "options with long descriptions", "held-long": "1,000 words",
+            "held-cluster": "a cluster of 100,000 letters", "held-values": "three values of 1 MB", "memory": "100,000 words"}
+    columns = "this library", "bindings/rust", "Rust crate"
+    return table(["job", "this library", "drop-in", "Rust crate"], *(
+        [f"`{job}`: {words}", *measured("Bytes that matches take" if "-" in job else
+                                        "Peak bytes while parsing, besides the words and the options", job, *columns)]
+        for job, words in jobs.items()))
+
+
+def times():
+    """README: the shortest and longest times of the commands in tests/times.txt, in minutes."""
+    rows = [line.rsplit(maxsplit=2) for line in read("tests/times.txt").split("\n") if line and line[0] != "#"]
+
+    def span(command, kind):
+        of = [round(int(row[kind]) / 60) for row in rows if row[0] == command]
+        return f"{min(of)} to {max(of)} minutes" if min(of) < max(of) else f"{min(of)} minutes"
+
+    commands = {"rt lib": ("`(cd crates/getopts && rt lib)`", "proves the library"),
+                "bash test.sh": ("`bash test.sh`", "proves and tests everything")}
+    return table(["command", "what it does", "processor time", "time on four processors"],
+                 *([*shown, span(command, 1), span(command, 2)] for command, shown in commands.items()))
 
 
 def lines_in(folder, *omitted):
@@ -108,106 +108,49 @@ def lines_in(folder, *omitted):
     return f"{round(len(code), -2):,}"
 
 
-HELD = "Bytes that matches take"
-# The libraries in README's list of those that need fewer instructions than the drop-in on some jobs.
-AHEAD = {"Rust crate": "the Rust crate", "lexopt": "`lexopt`", "pico-args": "`pico-args`"}
-# Figures outside the tables of jobs: the page, a pattern whose groups are the figures, and the expected values.
-FIGURES = [
-    ("README.md", r"\| ([\d,]+) mutants, written by hand", lambda: [str(len(mutants))]),
-    ("docs/PROOFS.md", r"the ([\d,]+) mutants", lambda: [str(len(mutants))]),
-    ("docs/PROOFS.md", r"about ([\d,]+) lines, the source ([\d,]+) and the proofs ([\d,]+)\.",
-     lambda: [lines_in("specs", "Results", "Step", "Stored"), lines_in("src"), lines_in("proofs")]),
-    ("README.md", r"toolchain \(checksum of its logic: `(\w+)`", logic),
-    ("README.md", r"`\(cd crates/getopts && rt lib\)` .* \| ([^|]*) \| ([^|]*) \|", lambda: minutes("rt lib")),
-    ("README.md", r"`bash test.sh` .* \| ([^|]*) \| ([^|]*) \|", lambda: minutes("bash test.sh")),
-    ("README.md", r"drop-in ([\d.]+) µs, and the Rust crate ([\d.]+) µs", lambda: [
-        tables().get(("Microseconds per iteration", "typical"), {}).get(column, "unknown") for column in ("bindings/rust", "Rust crate")]),
-    ("README.md", r"takes (\d+) %\sof the crate's [^%]*\s(\d+) %\son\s[^%]*\s(\d+) %\s",
-     lambda: [share("copied-small"), share("copied-long"), share("files")]),
-    ("README.md", r"\| Rust ([\d.]+) .*\n.*\| Rust ([\d.]+), .*\n.* Rust ([\d.]+) ", lambda: oldest_rust("rust", "c", "shell")),
-    ("README.md", r"`lexopt` ([\d.]+),\s`pico-args` ([\d.]+)\sand `clap` ([\d.]+),", lambda: peers("lexopt", "pico-args", "clap")),
-    *((f"bindings/{folder}/README.md", r"Rust ([\d.]+) or later", lambda folder=folder: oldest_rust(folder))
-      for folder in ("rust", "c", "shell")),
-    ("bindings/c/README.md", r"grows by (\d+) KB", lambda: re.findall(r"grows by (\d+) KB", read("bindings/c/getopts.h"))),
-    *(("bindings/c/README.md", rf"\| {line} \| ([\d,]+) \| ([\d,]+) \| ([\d,]+) \|", lambda job=job: [
-        f"{int(cell(f'{INSTRUCTIONS} in C', job, column)):,}" for column in ("bindings/c", "getopt_long", "argp")])
-      for job, line in {"small": "5 options, 3 words", "typical": "20 options, .*",
-                        "long": "5 options, 1,000 words"}.items()),
-    *(("README.md", rf"`{line}`: ([\d,]+) options, ([\d,]+) ", lambda line=line: [f"{len(part):,}" for part in bench_py.parts(line)])
-      for line in ("small", "typical", "long", "files")),
-    ("bench/README.md", r"`files`: ([\d,]+) file names", lambda: [f"{len(bench_py.parts('files')[1]):,}"]),
-    ("bench/README.md", r"takes ([\d,]+) instructions for each word, ([\d.]+) times",
-     lambda: [f"{int(cell(INSTRUCTIONS, 'files', 'bindings/rust')) / len(bench_py.parts('files')[1]):.0f}", f"{int(share('files')) / 100:.1f}"]),
-    ("bench/README.md", r"takes ([\d.]+) µs with the drop-in, ([\d.]+) µs with the Rust crate, and ([\d.]+) µs with",
-     lambda: [tables().get(("Microseconds per iteration", "typical"), {}).get(column, "unknown")
-              for column in ("bindings/rust", "Rust crate", "clap")]),
-    ("bench/README.md", r"`sub60`: ([\d,]+) options", lambda: [str(len(bench_py.parts("sub60")[0]))]),
-    ("bench/README.md", r"`many`: ([\d,]+) options", lambda: [str(len(bench_py.parts("many")[0]))]),
-    *(("README.md", rf"\n- {name}(?:, .*,)? on (.*)\n", lambda column=column: [ahead(column)])
-      for column, name in AHEAD.items()),
-    *(("bench/README.md", rf"\n- `{column}` on (.*)\n",
-       lambda column=column: [ahead(column, f"{INSTRUCTIONS} in C", "bindings/c")]) for column in ("getopt_long", "argp")),
-    ("bench/README.md", r"than the Rust crate's on (.*)\.", lambda: [ahead("Rust crate", HELD)]),
-]
-
-# Numbers that aren't checked: versions, rules of the language, benchmark jobs and sizes of tests.
-NO_FIGURES = re.compile(r"""
-    \bU\+\w+ | \b0\.2\.24\b | \d{4}-\d\d-\d\d | Apache-2\.0 | x86-64(-v2)?
-    | (1,000|10,000|100,000)\ words | (20|1,000)\ options | 10\ words | 100,000\ (letters|file\ names)
-    | (32|64)(\ bits|-bit) | (54|78)\ columns | 24\ (spaces|columns) | stop\ at\ 255 | 32\ bytes\ instead\ of\ 40 | number\ 256 | 20\ to\ 40\ seconds | 4\.2\ or\ later | before\ 4\.4 | C\+\+11 | Debian\ 12 | 80\ words | 200,000\ cases
-""", re.X)
-
-def table_figures(page):
-    """The figures in tables of jobs, with their expected values."""
-    columns = []
-    for row in re.finditer(r"^\|.*\|$", pages[page], re.M):
-        cells = [(row.start() + it.start(1), it[1]) for it in re.finditer(r"(?<=\|) *([^|]*?) *(?=\|)", row[0])]
-        if cells[0][1] == "job":
-            columns = [it for _, it in cells]
-        elif columns and (job := re.match(r"`([\w-]+)`", cells[0][1])):
-            for (at, cell_text), column in list(zip(cells, columns))[1:]:
-                counted = next((counted for (_, name), counted in tables().items() if name == job[1]), {})
-                if wanted := counted.get("bindings/rust" if column == "drop-in" else column):
-                    yield at, cell_text, re.sub(r"^\d+", lambda it: f"{int(it[0]):,}", wanted)
+def sizes():
+    """PROOFS: the lines of the library, and the mutants of all crates."""
+    return table(["definitions", "source", "proofs", "mutants"],
+                 [lines_in("specs", "Results", "Step", "Stored"), lines_in("src"), lines_in("proofs"), str(len(mutants))])
 
 
-def figures_of(page):
-    """The known figures of a page: position, text and expected text."""
-    yield from table_figures(page)
-    for name, pattern, values in FIGURES:
-        if name == page:
-            it = re.search(pattern, pages[page])
-            for group, wanted in enumerate(values(), 1):
-                yield (it.start(group), it[group], wanted) if it else (0, f"no match for '{pattern}'", wanted)
+def quoted_contracts():
+    """CALLING: the contracts that callers cite most."""
+    names = "Options::new", "Options::opt", "Options::parse_words", "Matches::opt_str", "Options::usage"
+    return "```text\n" + "\n\n".join(contracts()[name] for name in names) + "\n```"
 
 
-def unknown_in(page):
-    """The numbers of ten or more in a page's prose that nothing checks."""
-    blank = lambda it: " " * len(it[0])
-    prose = re.sub(r"^```.*?^```|^    [^\n]*$|`[^`\n]*`|\]\([^)]*\)", blank, pages[page], flags=re.M | re.S)
-    prose = list(NO_FIGURES.sub(blank, prose))
-    for at, is_now, _ in figures_of(page):
-        prose[at:at + len(is_now)] = " " * len(is_now)
-    for it in re.finditer(r"(?<![\w.,-])\d[\d,]*(?:\.\d+)?(?!\w)", "".join(prose)):
-        if len(re.sub(r"\D", "", it[0])) > 1:
-            yield it.start(), it[0]
+# What --fix writes between `<!-- generated: NAME -->` and `<!-- end -->`.
+GENERATED = {make.__name__: make for make in (speed, speed_in_c, memory, times, sizes, quoted_contracts)}
 
 
 @pytest.mark.parametrize("page", pages)
-def test_figures_match_measurements(page, request):
-    def place(at):
-        return f"{page}:{pages[page].count(chr(10), 0, at) + 1}"
+def test_generated_parts(page, request):
+    wanted = re.sub(r"^(<!-- generated: (\w+) -->\n).*?(\n<!-- end -->)$",
+                    lambda it: it[1] + GENERATED[it[2]]() + it[3], pages[page], flags=re.M | re.S)
+    if request.config.getoption("--fix") and wanted != pages[page]:
+        (ROOT / page).write_text(wanted, encoding="utf-8")
+        pages[page] = wanted
+    assert pages[page] == wanted, "out of date: run 'bash test.sh -k pages --fix'"
 
-    def wrong():
-        return [(at, is_now, wanted) for at, is_now, wanted in figures_of(page) if is_now != wanted != "unknown"]
 
-    text = pages[page]
-    for at, is_now, wanted in sorted(wrong(), reverse=True):
-        text = text[:at] + wanted + text[at + len(is_now):] if at else text
-    fix_page(page, text, request)
-    assert_none([f"{place(at)}: {is_now} should be {wanted} (measured: see bench/last_run.txt and tests/times.txt)"
-                 for at, is_now, wanted in wrong()] +
-         [f"{place(at)}: nothing checks the figure {it}" for at, it in unknown_in(page)])
+def test_generated_parts_are_used():
+    used = re.findall(r"^<!-- generated: (\w+) -->$", "\n".join(pages.values()), re.M)
+    assert sorted(used) == sorted(GENERATED)
+
+
+@pytest.mark.parametrize("folder", ["rust", "c", "shell"])
+def test_oldest_rust(folder):
+    """The pages name the oldest Rust that builds this folder."""
+    oldest = re.search(r'rust-version = "(.*)"', read(f"bindings/{folder}/Cargo.toml"))[1]
+    row = re.search(rf"^\| \[.*\]\(bindings/{folder}/README.md\).*", pages["README.md"], re.M)[0]
+    assert f"Rust {oldest}" in row and f"Rust {oldest} or later" in pages[f"bindings/{folder}/README.md"]
+
+
+def test_toolchain_is_named():
+    """README names the logic with which the library is proved."""
+    logic = re.search(r"logic (\w+)", read("bindings/shell/proved.sha256"))[1]
+    assert f"`{logic}`" in pages["README.md"]
 
 
 def joined(text):
@@ -240,10 +183,6 @@ def test_example_lines():
         assert reading == wanted, line
         texts = " ∷ ".join(f'codes "{word}"' for word in line.split())
         assert f"({texts} ∷ [])" in proofs, f"OnLiterals.antt doesn't state {line}"
-
-
-def test_libraries_ahead_are_listed():
-    assert {column for column in tables()[INSTRUCTIONS, "small"] if ahead(column)} <= {"this library", *AHEAD}
 
 
 # ---- code
@@ -315,12 +254,6 @@ def contracts():
     return found
 
 
-def quoted_contracts():
-    """The contracts that CALLING quotes."""
-    names = "Options::new", "Options::opt", "Options::parse_words", "Matches::opt_str", "Options::usage"
-    return "```text\n" + "\n\n".join(contracts()[name] for name in names) + "\n```"
-
-
 def clauses_in(text):
     """The clauses of contracts, without their names and comments."""
     text = re.sub(r"//.*", "", text)
@@ -334,18 +267,6 @@ def cited():
     """The library's definitions that the contracts of public calls cite."""
     imported = " ".join(re.findall(r"ghost use Rattle\.getopts\.specs\.\w+\.\{([^}]*)\};", "".join(sources.values())))
     return set(re.findall(r"[\w-]+", imported)) & set(re.findall(r"\w+", " ".join(clauses_in("\n".join(contracts().values())))))
-
-
-# What --fix writes on the pages between `<!-- generated: NAME -->` and `<!-- end -->`.
-GENERATED = {"contracts": quoted_contracts}
-
-
-@pytest.mark.parametrize("page", pages)
-def test_generated_parts(page, request):
-    wanted = re.sub(r"(<!-- generated: (\w+) -->\n).*?(\n<!-- end -->)",
-                    lambda it: it[1] + GENERATED[it[2]]() + it[3], pages[page], flags=re.S)
-    fix_page(page, wanted, request)
-    assert pages[page] == wanted, OUTDATED
 
 
 def test_offered_lemmas_are_cited():
@@ -417,12 +338,12 @@ OTHERS = """Send Sync unicode-width x86-64-v2 POSIXLY_CORRECT optind IFS BASH_EN
 @functools.cache
 def words():
     """The words in the sources, and the file names."""
-    found = set(OTHERS.split()) | set(logic()) | {part for name in tracked for part in re.split(r"[/.]", name)}
+    found = set(OTHERS.split()) | {part for name in tracked for part in re.split(r"[/.]", name)}
     for name in tracked:
-        if re.search(r"\.(rt|antt|rs|c|h|cpp|sh|py|edit|toml|txt|ini|rows)$|/stdin$|^crates.txt$|^HANDLES$", name):
+        if re.search(r"\.(rt|antt|rs|c|h|cpp|sh|py|edit|toml|txt|ini|rows|sha256)$|/stdin$|^crates.txt$|^HANDLES$", name):
             text = read(name)
             found |= set(re.findall(r"[\w+-]+", text)) | set(re.findall(r"\w+", text))
-    return found if shutil.which("rt") else found | set(re.findall(r"logic: `(\w+)`", pages["README.md"]))
+    return found
 
 
 @pytest.mark.parametrize("page", pages)
