@@ -7,11 +7,11 @@ use std::fmt::{Debug, Formatter, Result};
 
 /// A declared option, with its short and long name.
 pub struct Group<'a> {
-    pub names: [&'a str; 2],
-    pub hint: &'a str,
-    pub desc: &'a str,
-    pub hasarg: HasArg,
-    pub occur: Occur,
+    names: [&'a str; 2],
+    hint: &'a str,
+    desc: &'a str,
+    hasarg: HasArg,
+    occur: Occur,
 }
 
 pub fn groups_of(options: &proved::Options) -> Vec<Group<'_>> {

@@ -1,7 +1,7 @@
 //! The options that a program declares.
 
 use crate::alloc::Global;
-use crate::debug::{Group, groups_of};
+use crate::debug::groups_of;
 use crate::fail::granted;
 use crate::fallible::TryClone;
 use crate::{Fail, HasArg, Matches, Occur, ParsingStyle, Result, proved};
@@ -11,8 +11,8 @@ use std::fmt;
 /// The options that a program accepts, and how to parse them.
 ///
 /// Methods that declare options can be chained. Their first arguments are a short name of one ASCII
-/// character and a long name; one of them may be empty. In the help text, `desc` describes the
-/// option, and `hint` names its argument, as `FILE` does in `-o FILE`.
+/// character and a long name of several bytes; one of them may be empty, but not both. In the help
+/// text, `desc` describes the option, and `hint` names its argument, as `FILE` does in `-o FILE`.
 ///
 /// ```
 /// let mut options = getopts::Options::new();
@@ -25,10 +25,7 @@ use std::fmt;
 /// ```
 #[derive(PartialEq, Eq)]
 pub struct Options {
-    proved: proved::Options,
-    /// The options with two empty names, which the proved library doesn't allow: each with its
-    /// index among all options, hint and description.
-    nameless: Vec<(usize, [String; 2], HasArg, Occur)>,
+    pub(crate) proved: proved::Options,
 }
 
 impl Default for Options {
@@ -39,19 +36,14 @@ impl Default for Options {
 
 impl Clone for Options {
     fn clone(&self) -> Options {
-        Options { proved: granted(self.proved.try_clone()), nameless: self.nameless.clone() }
+        Options { proved: granted(self.proved.try_clone()) }
     }
 }
 
 impl fmt::Debug for Options {
     fn fmt(&self, f: &mut fmt::Formatter<'_>) -> fmt::Result {
-        let mut shown = groups_of(&self.proved);
-        for &(place, [ref hint, ref desc], hasarg, occur) in &self.nameless {
-            let names = ["", ""];
-            shown.insert(place, Group { names, hint, desc, hasarg, occur });
-        }
         f.debug_struct("Options")
-            .field("grps", &shown)
+            .field("grps", &groups_of(&self.proved))
             .field("parsing_style", &self.proved.style())
             .field("long_only", &self.proved.is_long_only())
             .finish()
@@ -147,7 +139,7 @@ impl Options {
     /// assert_eq!(options.parse(["in.txt"]).unwrap().free, ["in.txt"]);
     /// ```
     pub fn new() -> Options {
-        Options { proved: proved::Options::new(Global), nameless: Vec::new() }
+        Options { proved: proved::Options::new(Global) }
     }
 
     /// Sets whether options may follow the first positional argument (*free word*).
@@ -187,7 +179,7 @@ impl Options {
     /// ```
     ///
     /// # Panics
-    /// Panics if the short name has more than one byte, or the long name has exactly one.
+    /// Panics if a name is invalid (see [`Options`]).
     pub fn opt(
         &mut self,
         short_name: &str,
@@ -197,12 +189,7 @@ impl Options {
         hasarg: HasArg,
         occur: Occur,
     ) -> &mut Options {
-        if short_name.is_empty() && long_name.is_empty() {
-            self.push_nameless(desc, hint, hasarg, occur);
-        } else {
-            let proved = &mut self.proved;
-            granted(proved.add_group(short_name, long_name, desc, hint, hasarg, occur));
-        }
+        granted(self.proved.add_group(short_name, long_name, desc, hint, hasarg, occur));
         self
     }
 
@@ -215,7 +202,7 @@ impl Options {
     /// ```
     ///
     /// # Panics
-    /// Panics if the short name has more than one byte, or the long name has exactly one.
+    /// Panics if a name is invalid (see [`Options`]).
     pub fn optflag(&mut self, short: &str, long: &str, desc: &str) -> &mut Options {
         self.opt(short, long, desc, "", HasArg::No, Occur::Optional)
     }
@@ -229,7 +216,7 @@ impl Options {
     /// ```
     ///
     /// # Panics
-    /// Panics if the short name has more than one byte, or the long name has exactly one.
+    /// Panics if a name is invalid (see [`Options`]).
     pub fn optflagmulti(&mut self, short: &str, long: &str, desc: &str) -> &mut Options {
         self.opt(short, long, desc, "", HasArg::No, Occur::Multi)
     }
@@ -243,7 +230,7 @@ impl Options {
     /// ```
     ///
     /// # Panics
-    /// Panics if the short name has more than one byte, or the long name has exactly one.
+    /// Panics if a name is invalid (see [`Options`]).
     pub fn optflagopt(&mut self, short: &str, long: &str, desc: &str, hint: &str) -> &mut Options {
         self.opt(short, long, desc, hint, HasArg::Maybe, Occur::Optional)
     }
@@ -257,7 +244,7 @@ impl Options {
     /// ```
     ///
     /// # Panics
-    /// Panics if the short name has more than one byte, or the long name has exactly one.
+    /// Panics if a name is invalid (see [`Options`]).
     pub fn optmulti(&mut self, short: &str, long: &str, desc: &str, hint: &str) -> &mut Options {
         self.opt(short, long, desc, hint, HasArg::Yes, Occur::Multi)
     }
@@ -271,7 +258,7 @@ impl Options {
     /// ```
     ///
     /// # Panics
-    /// Panics if the short name has more than one byte, or the long name has exactly one.
+    /// Panics if a name is invalid (see [`Options`]).
     pub fn optopt(&mut self, short: &str, long: &str, desc: &str, hint: &str) -> &mut Options {
         self.opt(short, long, desc, hint, HasArg::Yes, Occur::Optional)
     }
@@ -285,24 +272,9 @@ impl Options {
     /// ```
     ///
     /// # Panics
-    /// Panics if the short name has more than one byte, or the long name has exactly one.
+    /// Panics if a name is invalid (see [`Options`]).
     pub fn reqopt(&mut self, short: &str, long: &str, desc: &str, hint: &str) -> &mut Options {
         self.opt(short, long, desc, hint, HasArg::Yes, Occur::Req)
-    }
-
-    #[cold]
-    fn push_nameless(&mut self, desc: &str, hint: &str, hasarg: HasArg, occur: Occur) {
-        let place = self.proved.groups().len() + self.nameless.len();
-        let texts = [hint, desc].map(String::from);
-        self.nameless.push((place, texts, hasarg, occur));
-    }
-
-    /// The proved options. Panics if an option has two empty names.
-    pub(crate) fn named(&self) -> &proved::Options {
-        if !self.nameless.is_empty() {
-            panic!("this long-format option was given no name");
-        }
-        &self.proved
     }
 
     /// Parses a command line, excluding the program's own name.
@@ -322,9 +294,6 @@ impl Options {
     ///
     /// # Errors
     /// See [`Fail`].
-    ///
-    /// # Panics
-    /// Panics if both names of an option are empty.
     pub fn parse<C: IntoIterator>(&self, args: C) -> Result
     where
         C::Item: AsRef<OsStr>,
@@ -358,9 +327,6 @@ impl Options {
     ///
     /// # Errors
     /// Fails with `ArgumentMissing`, `UnrecognizedOption` or `UnexpectedArgument`; see [`Fail`].
-    ///
-    /// # Panics
-    /// Panics if both names of an option are empty.
     pub fn parse_ignoring_counts<C: IntoIterator>(&self, args: C) -> Result
     where
         C::Item: AsRef<OsStr>,
@@ -391,9 +357,6 @@ impl Options {
     ///
     /// # Errors
     /// Fails if `parse` would.
-    ///
-    /// # Panics
-    /// Panics if both names of an option are empty.
     pub fn parse_in_order<C: IntoIterator>(
         &self,
         args: C,
@@ -413,11 +376,10 @@ impl Options {
     where
         C::Item: AsRef<OsStr>,
     {
-        let options = self.named();
         read_words(
             args.into_iter(),
             OsStr::to_str,
-            |texts| ask(options, texts).map_err(Fail::of),
+            |texts| ask(&self.proved, texts).map_err(Fail::of),
             |word, _| Err(Fail::UnrecognizedOption(format!("{word:?}"))),
         )
     }
@@ -437,9 +399,6 @@ impl Options {
     ///
     /// # Errors
     /// Fails if `parse` would.
-    ///
-    /// # Panics
-    /// Panics if both names of an option are empty.
     pub fn canonical<C: IntoIterator>(
         &self,
         args: C,
@@ -457,11 +416,8 @@ impl Options {
     /// options.reqopt("i", "input", "", "NAME").optflag("q", "quiet", "");
     /// assert_eq!(options.short_usage("copy"), "Usage: copy -i NAME [-q]");
     /// ```
-    ///
-    /// # Panics
-    /// Panics if both names of an option are empty.
     pub fn short_usage(&self, program_name: &str) -> String {
-        granted(self.named().short_usage(Global, program_name))
+        granted(self.proved.short_usage(Global, program_name))
     }
 
     /// Returns the help text: `brief`, and each option with its description.
@@ -472,11 +428,8 @@ impl Options {
     /// let text = options.usage("Usage: copy FILE");
     /// assert_eq!(text, "Usage: copy FILE\n\nOptions:\n    -h, --help          print this\n");
     /// ```
-    ///
-    /// # Panics
-    /// Panics if both names of an option are empty.
     pub fn usage(&self, brief: &str) -> String {
-        granted(self.named().usage(Global, brief))
+        granted(self.proved.usage(Global, brief))
     }
 
     /// Returns the help text with descriptions that end within this many columns, such as the width
@@ -491,11 +444,8 @@ impl Options {
     /// let rows = "    -h, --help          print this\n                        and exit\n";
     /// assert_eq!(text, format!("Usage: copy FILE\n\nOptions:\n{rows}"));
     /// ```
-    ///
-    /// # Panics
-    /// Panics if both names of an option are empty.
     pub fn usage_in(&self, brief: &str, columns: usize) -> String {
-        granted(self.named().usage_in(Global, brief, columns))
+        granted(self.proved.usage_in(Global, brief, columns))
     }
 
     /// Passes the rows that describe the options to a closure, and returns its result. All rows are
@@ -507,14 +457,11 @@ impl Options {
     /// let text = options.usage_with_format(|rows| rows.collect::<Vec<_>>().join("\n"));
     /// assert_eq!(text, "    -h, --help          print this");
     /// ```
-    ///
-    /// # Panics
-    /// Panics if both names of an option are empty.
     pub fn usage_with_format<F: FnMut(&mut dyn Iterator<Item = String>) -> String>(
         &self,
         mut formatter: F,
     ) -> String {
-        let rows = granted(self.named().usage_rows(Global));
+        let rows = granted(self.proved.usage_rows(Global));
         formatter(&mut rows.into_iter())
     }
 }

@@ -59,9 +59,6 @@ impl Options {
     ///
     /// # Errors
     /// See [`Fail`].
-    ///
-    /// # Panics
-    /// Panics if both names of an option are empty.
     pub fn parse_os<C: IntoIterator>(&self, args: C) -> Result<OsMatches, Fail>
     where
         C::Item: AsRef<OsStr>,
@@ -80,9 +77,6 @@ impl Options {
     ///
     /// # Errors
     /// See `parse_ignoring_counts`.
-    ///
-    /// # Panics
-    /// Panics if both names of an option are empty.
     pub fn parse_os_ignoring_counts<C: IntoIterator>(&self, args: C) -> Result<OsMatches, Fail>
     where
         C::Item: AsRef<OsStr>,
@@ -102,9 +96,6 @@ impl Options {
     ///
     /// # Errors
     /// Fails if `parse_os` would.
-    ///
-    /// # Panics
-    /// Panics if both names of an option are empty.
     pub fn parse_os_in_order<C: IntoIterator>(
         &self,
         args: C,
@@ -129,8 +120,7 @@ impl Options {
     where
         C::Item: AsRef<OsStr>,
     {
-        let options = self.named();
-        let answer = |texts: &[&str], marked| match ask(options, texts) {
+        let answer = |texts: &[&str], marked| match ask(&self.proved, texts) {
             Ok(given) => Ok(of(given, marked)),
             Err(fail) => Err(shown(Fail::of(fail))),
         };

@@ -43,18 +43,3 @@ fn debug_of_matches_matches_getopts() {
     let fail = options.parse(["--nope"]);
     assert_eq!(format!("{fail:?}"), "Err(UnrecognizedOption(\"nope\"))");
 }
-
-#[test]
-fn debug_of_nameless_option_matches_getopts() {
-    let mut options = Options::new();
-    options.optflag("", "", "none").optflag("a", "", "").optopt("", "", "", "X");
-    assert_eq!(
-        format!("{options:?}"),
-        "Options { grps: [OptGroup { short_name: \"\", long_name: \"\", hint: \"\", desc: \"none\", hasarg: No, \
-         occur: Optional }, OptGroup { short_name: \"a\", long_name: \"\", hint: \"\", desc: \"\", hasarg: No, \
-         occur: Optional }, OptGroup { short_name: \"\", long_name: \"\", hint: \"X\", desc: \"\", hasarg: Yes, \
-         occur: Optional }], parsing_style: FloatingFrees, long_only: false }"
-    );
-    assert_eq!(options, options.clone());
-    assert_ne!(options, Options::new());
-}
