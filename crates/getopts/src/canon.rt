@@ -1,7 +1,8 @@
 //! Canonical lines, which are accepted command lines rewritten with main names only, and the order
 //! of options.
 
-ghost use Rattle.std.specs.Prelude.{◌≡◌, ◌<◌, length, map, IfOk, IfErr, IfSome, IfNone, OnOk, not};
+ghost use Rattle.std.specs.Prelude.{◌≡◌, ◌<◌, ℕ, length, map, not, false, IfOk, IfErr};
+ghost use Rattle.std.specs.Prelude.{IfSome, IfNone, OnOk};
 ghost use Rattle.std.specs.List.{AllByRecursion, list_all};
 ghost use Rattle.std.specs.Option.{option_copied, option_map};
 ghost use Rattle.std.specs.String.{string_bytes};
@@ -27,12 +28,28 @@ fn holds_equals(text: &str) -> bool
     text.contains('=')
 }
 
-/// Whether no main name of an option in the command line contains `=`.
+/// Whether a declared option has a main name that contains `=`.
+fn declare_equals(groups: &Groups) -> bool
+    ensures { result ≡ false → (place : ℕ) → holds_equals (main_at groups.now place) ≡ false }
+{
+    for place in 0..groups.len() {
+        if holds_equals(groups.main(place)) {
+            return true;
+        }
+    }
+    false
+}
+
+/// Whether no main name of an option in the command line contains `=`. Tests the declared names
+/// first if they are fewer than the occurrences.
 fn are_plain(groups: &Groups, found: &LineOccurrences) -> bool
     requires { AllByRecursion (λ o. o.mention.group < length groups.now) found.now }
     ensures { result
         ≡ list_all (λ o. not (holds_equals (main_at groups.now o.mention.group))) found.now }
 {
+    if groups.len() < found.len() && !declare_equals(groups) {
+        return true;
+    }
     for place in 0..found.len() {
         if holds_equals(groups.main(found.at(place).group)) {
             return false;

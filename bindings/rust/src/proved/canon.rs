@@ -18,8 +18,22 @@ fn holds_equals(text: &str) -> bool {
     text.contains('=')
 }
 
-/// Whether no main name of an option in the command line contains `=`.
+/// Whether a declared option has a main name that contains `=`.
+fn declare_equals(groups: &Groups) -> bool {
+    for place in 0..groups.len() {
+        if holds_equals(groups.main(place)) {
+            return true;
+        }
+    }
+    false
+}
+
+/// Whether no main name of an option in the command line contains `=`. Tests the declared names
+/// first if they are fewer than the occurrences.
 fn are_plain(groups: &Groups, found: &LineOccurrences) -> bool {
+    if groups.len() < found.len() && !declare_equals(groups) {
+        return true;
+    }
     for place in 0..found.len() {
         if holds_equals(groups.main(found.at(place).group)) {
             return false;

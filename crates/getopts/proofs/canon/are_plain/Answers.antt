@@ -1,7 +1,8 @@
 -- Each occurrence is tested, up to one that fails.
-use Rattle.std.proofs.Common.{◌<◌, ◌∷◌, [], not, take, refl, sym, ap, ◌∙◌, arith}
+use Rattle.std.proofs.Common.{rules, ◌<◌, ◌∷◌, [], not, take, refl, sym, ap, ◌∙◌, arith}
 use Rattle.std.proofs.lemmas.List.{take_all}
 use Rattle.std.proofs.lemmas.List.Folds.{list_all-append, list_all_at}
+use Rattle.std.proofs.lemmas.List.Sums.{list_all-from_AllPass}
 use Rattle.std.proofs.lemmas.Option.{slice_get_within, get_or_from_slice_get}
 use Rattle.std.specs.List.{list_all}
 use Rattle.std.specs.Option.{option_copied}
@@ -9,6 +10,10 @@ use Rattle.getopts.specs.Canon.{main_at}
 use Rattle.getopts.specs.Reading.{Occurrence, at_position, holds_equals}
 use Rattle.getopts.proofs.Lists.{take_more_at, AllByRecursion-at}
 use Rattle.getopts.proofs.canon.are_plain.Goals as goal
+
+pub returns-then-not-declare_equals : goal.returns-then-not-declare_equals
+returns-then-not-declare_equals c = sym (list_all-from_AllPass _ c.args.found.now
+    (λ k o within. ap not (c.declare_equals.ensures (search rules) _)))
 
 pub main-requires : goal.main-requires
 main-requires c =
