@@ -54,6 +54,17 @@ def described(job):
     return f"`{job}`: {options:,} options, {words:,} words"
 
 
+def shown(groups, brief, **settings):
+    """A help text, as the second implementation of the rules prints it."""
+    return f"```text\n{Options(groups, **settings).usage(brief).decode()}```"
+
+
+def help_text():
+    """README: the help for the options of its example."""
+    return shown([Group(b"o", b"output", "yes", "optional", b"set output file name", b"NAME"),
+                  Group(b"v", b"verbose", "no", "multi", b"say more")], b"Usage: join [options] FILE..")
+
+
 def speed():
     """README: the instructions of some jobs, and the time of one."""
     versions = dict(re.findall(r"([\w-]+) ([\d.]+)", read("bench/last_run.txt").split("\n")[0]))
@@ -121,7 +132,7 @@ def quoted_contracts():
 
 
 # What --fix writes between `<!-- generated: NAME -->` and `<!-- end -->`.
-GENERATED = {make.__name__: make for make in (speed, speed_in_c, memory, times, sizes, quoted_contracts)}
+GENERATED = {make.__name__: make for make in (help_text, speed, speed_in_c, memory, times, sizes, quoted_contracts)}
 
 
 @pytest.mark.parametrize("page", pages)
@@ -150,7 +161,7 @@ def test_oldest_rust(folder):
 def test_toolchain_is_named():
     """README names the logic with which the library is proved."""
     logic = re.search(r"logic (\w+)", read("bindings/shell/proved.sha256"))[1]
-    assert f"`{logic}`" in pages["README.md"]
+    assert f"logic {logic}`" in pages["README.md"]
 
 
 def joined(text):
@@ -206,8 +217,8 @@ examples = sources | {name: read(name) for name in tracked if name.startswith("b
 
 
 def test_first_command():
-    """The first indented line of README is the command that tests/fresh.sh runs."""
-    first = re.search(r"^ {4}.*", pages["README.md"], re.M)[0]
+    """README has the command that tests/fresh.sh looks for and runs."""
+    first = re.search(r"^ *\(cd .*rt try.*", pages["README.md"], re.M)[0]
     assert first == "    (cd crates/getopts_show && rt try -- --output=x.txt --verbose in.txt)"
 
 
