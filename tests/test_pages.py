@@ -6,7 +6,6 @@ imports, and well-formed scripts and Rust.
 
 import functools
 import graphlib
-import itertools
 import os
 import re
 import textwrap
@@ -63,6 +62,14 @@ def help_text():
     """README: the help for the options of its example."""
     return shown([Group(b"o", b"output", "yes", "optional", b"set output file name", b"NAME"),
                   Group(b"v", b"verbose", "no", "multi", b"say more")], b"Usage: join [options] FILE..")
+
+
+def usage_example():
+    """GRAMMAR: a usage text with each kind of row."""
+    return shown([Group(b"i", b"input", "yes", "required", b"read this file", b"FILE"),
+                  Group(b"", b"color", "maybe", "optional", b"colour the output: always, never or, which is usual, only on a terminal", b"WHEN"),
+                  Group(b"v", b"", "no", "multi", b"say more"),
+                  Group(b"", b"stay-in-the-first-folder", "no", "optional", b"ignore the others")], b"Usage: x FILE..")
 
 
 def speed():
@@ -132,7 +139,7 @@ def quoted_contracts():
 
 
 # What --fix writes between `<!-- generated: NAME -->` and `<!-- end -->`.
-GENERATED = {make.__name__: make for make in (help_text, speed, speed_in_c, memory, times, sizes, quoted_contracts)}
+GENERATED = {make.__name__: make for make in (help_text, usage_example, speed, speed_in_c, memory, times, sizes, quoted_contracts)}
 
 
 @pytest.mark.parametrize("page", pages)
@@ -265,21 +272,6 @@ def contracts():
     return found
 
 
-def clauses_in(text):
-    """The clauses of contracts, without their names and comments."""
-    text = re.sub(r"//.*", "", text)
-    for it in re.finditer(r"\b(?:requires|ensures) (?:\w+ )?\{", text):
-        ends = itertools.accumulate((char == "{") - (char == "}") for char in text[it.end():])
-        yield text[it.end():it.end() + list(ends).index(-1)]
-
-
-@functools.cache
-def cited():
-    """The library's definitions that the contracts of public calls cite."""
-    imported = " ".join(re.findall(r"ghost use Rattle\.getopts\.specs\.\w+\.\{([^}]*)\};", "".join(sources.values())))
-    return set(re.findall(r"[\w-]+", imported)) & set(re.findall(r"\w+", " ".join(clauses_in("\n".join(contracts().values())))))
-
-
 def test_offered_lemmas_are_cited():
     """Each lemma that CALLING.md offers is in the module that it names, and imported by some proof."""
     proofs = "".join(read(name) for name in tracked if re.match(r"crates/\w+/proofs/", name))
@@ -319,25 +311,13 @@ def test_promised_clauses_exist():
 
 # ---- names
 
-# The page with the rules of a crate.
-RULES = {"getopts": "docs/GRAMMAR.md", "getopts_bytes": "docs/GRAMMAR.md", "getopts_show": "crates/getopts_show/README.md",
-         "getopts_shell": "crates/getopts_shell/README.md"}
-
-
-@pytest.mark.parametrize("crate", RULES)
-def test_definitions_are_in_the_rules(crate):
-    """The rules name each public definition that has a capital letter, which states a fact, and each that the contract of
-    a public call of the library cites."""
-    named = set(re.findall(r"`([A-Za-z_][\w-]*)`", pages[RULES[crate]]))
-    here = [name for name in tracked if name.startswith(f"crates/{crate}/specs/")]
-    # Definitions that only private clauses cite are explained in comments instead.
-    order = read(f"crates/{crate}/specs/Lib.antt") if here else ""
-    private = re.findall(r"mod (\w+)", order.partition("Cited by private clauses alone")[2]) + ["Stored"]
+def test_definitions_are_explained():
+    """Each public definition that states a fact has a comment above it, or its crate's page names it."""
     missing = []
-    for name in here:
-        if not re.match(rf"crates/{crate}/specs/(?:{'|'.join(private)})\b", name):
-            for it in re.findall(r"^(?:abbrev |unfoldable )?pub (?:record |data )?([A-Za-z_][\w-]*)", read(name), re.M):
-                missing += [f"{it} of {name}"] if (it[0].isupper() or crate == "getopts" and it in cited()) and it not in named else []
+    for name in (name for name in tracked if re.match(r"crates/\w+/specs/.*\.antt$", name)):
+        page = pages.get(f"crates/{name.split('/')[1]}/README.md", "")
+        for comment, it in re.findall(r"(^--.*\n)?^(?:abbrev |unfoldable )?pub (?:record |data )?([A-Z][\w-]*)", read(name), re.M):
+            missing += [] if comment or f"`{it}`" in page else [f"{it} of {name}"]
     assert_none(missing)
 
 
