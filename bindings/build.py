@@ -4,9 +4,9 @@
 usage: bindings/build.py [--check] [shell | rust]..
 
 The program is proved with the libraries that `rt ci`, or `rt lib` in their folders, left, and built for every processor
-from one proof. proved.sha256 records the checksums of the toolchain's logic, of the binaries and of their sources,
-without comments; what hasn't changed since isn't rebuilt. With --check, nothing is proved or built, and the status is
-1 if anything is out of date.
+from one proof. proved.sha256 records the program's version, and the checksums of the toolchain's logic, of the binaries
+and of their sources, without comments; what hasn't changed since isn't rebuilt. With --check, nothing is proved or built,
+and the status is 1 if anything is out of date.
 """
 
 import hashlib
@@ -79,20 +79,22 @@ def sum_of(file):
 
 
 def sums():
-    """The lines that proved.sha256 should have now: the toolchain's logic, the binaries and their sources."""
+    """The lines that proved.sha256 should have now: the version, the toolchain's logic, the binaries and their sources."""
     files = [*(FOLDER / processor / CRATE for processor in PROCESSORS), FOLDER / "start.c", FOLDER / "start.h"]
     crates = dict.fromkeys([CRATE, *(more for one in libraries(CRATE) for more in (one, *libraries(one)))])
     for crate in crates:
         files += sorted((ROOT / f"crates/{crate}/src").rglob("*.rt"))
-    version = subprocess.run([kit() / "bin/rt", "version"], capture_output=True, text=True, check=True).stdout
-    return [f"# logic {version.split()[-1]}", *(f"{sum_of(file)}  {file.relative_to(ROOT)}" for file in files)]
+    version = re.search(r'^version = "(.*)"', (FOLDER / "Cargo.toml").read_text(), re.M)[1]
+    toolchain = subprocess.run([kit() / "bin/rt", "version"], capture_output=True, text=True, check=True).stdout
+    return [f"# {CRATE} {version}", f"# logic {toolchain.split()[-1]}",
+            *(f"{sum_of(file)}  {file.relative_to(ROOT)}" for file in files)]
 
 
 def shell(check):
     """Rebuilds the binaries if something has changed, or with --check only reports it."""
     kept = FOLDER / "proved.sha256"
     lines = kept.read_text().splitlines() if kept.exists() else []
-    changed = sorted({line.split("  ")[-1] for line in set(lines) ^ set(sums())})
+    changed = sorted({line.split("  ")[-1].removeprefix("# ") for line in set(lines) ^ set(sums())})
     if not changed:
         return print("bindings/shell is up to date")
     if check:
