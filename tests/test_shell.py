@@ -1,6 +1,9 @@
-"""getopts_shell: its output, and what each installed shell does with its code. The tests run the proved program, the
-checked-in ones (for aarch64 in qemu), and the one that cargo builds, also for Windows. Also: installation, start.c,
-the manual page."""
+"""getopts_shell: its output, and what each installed shell does with its code. Also: installation, start.c, the manual
+page.
+
+All programs have to print the same: the proved one, the checked-in ones (for aarch64 in qemu), and the one that cargo
+builds, also for Windows. So only one of them is tried in each shell. The checked-in programs are left out if the source
+has another version."""
 
 import functools
 import os
@@ -14,7 +17,7 @@ import textwrap
 from pathlib import Path
 
 import pytest
-from conftest import MACHINE, MARGIN, ROOT, answer, check_page, need, need_compiler, rows_in, run, script
+from conftest import MACHINE, MARGIN, ROOT, answer, check_page, need, need_compiler, other_version, rows_in, run, script
 from shell import lines, tables
 from targets import cargo, cargo_for, commit_repository, copy_folders, need_cargo, offline, passed, runner
 
@@ -26,12 +29,17 @@ ROWS = rows_in("tests/shell/answers.rows")
 TABLE = next(fields[3] for fields, _ in ROWS if fields[1:3] == ["-u", "backup"])
 
 # The programs, by the names of their fixtures. One worker builds everything that cargo builds.
+OTHER = other_version()
 PROVED = pytest.param("shell", id="proved", marks=pytest.mark.built)
+SAME_VERSION = pytest.mark.skipif(OTHER is not None, reason=OTHER or "")
+CHECKED_IN, BY_QEMU = (pytest.param(name, marks=SAME_VERSION) for name in ("checked_in", "by_qemu"))
 BY_CARGO = pytest.param("by_cargo", marks=pytest.mark.xdist_group("getopts_shell by cargo"))
 BY_WINE = pytest.param("by_wine", marks=[pytest.mark.xdist_group("getopts_shell by wine"), pytest.mark.full])
-HERE = pytest.mark.parametrize("program", [PROVED, "checked_in", BY_CARGO], indirect=True)
-EACH = pytest.mark.parametrize("program", [PROVED, "checked_in", BY_CARGO, "by_qemu", BY_WINE], indirect=True)
-OTHERS = pytest.mark.parametrize("program", [BY_CARGO, "by_qemu", BY_WINE], indirect=True)
+EACH = pytest.mark.parametrize("program", [PROVED, CHECKED_IN, BY_CARGO, BY_QEMU, BY_WINE], indirect=True)
+HERE = pytest.mark.parametrize("program", [PROVED, CHECKED_IN, BY_CARGO], indirect=True)
+# The program that is tried in each shell.
+ONE = BY_CARGO if OTHER else CHECKED_IN
+IN_SHELLS = pytest.mark.parametrize("program", [ONE], indirect=True)
 # The indexes of rows whose arguments are too long for Windows.
 LONG = [at for at, (fields, _) in enumerate(ROWS) if sum(map(len, fields)) > 10_000]
 
@@ -104,6 +112,12 @@ def program(request, tmp_path_factory, monkeypatch):
     return folder / "getopts_shell"
 
 
+@pytest.fixture
+def in_shells(request):
+    """The program that is tried in each shell."""
+    return request.getfixturevalue(ONE.values[0])
+
+
 @pytest.fixture(params=SHELLS)
 def one_shell(request):
     """The command of one of the shells."""
@@ -112,26 +126,43 @@ def one_shell(request):
     return words
 
 
+@functools.cache
+def random_scripts(program, way, count):
+    return lines.random_scripts(program, way, count)
+
+
 # ---- output
 
 @EACH
-@pytest.mark.parametrize("at", [at for at in range(len(ROWS)) if at not in LONG])
-def test_stored_answer(program, at):
-    (status, *words), text = ROWS[at]
-    assert run(program, *words, status=int(status)) == ((text, "") if status == "0" else ("", text))
+def test_stored_answers(program):
+    wrong = []
+    for at, ((status, *words), text) in enumerate(ROWS):
+        if at not in LONG or program.parent.name != "bin-by_wine":
+            done = subprocess.run([program, *words], capture_output=True)
+            said = [str(done.returncode), os.fsdecode(done.stdout), os.fsdecode(done.stderr)]
+            if said != [status, *((text, "") if status == "0" else ("", text))]:
+                wrong.append(f"{words}: status {said[0]}, {said[1]!r} and {said[2]!r}")
+    assert not wrong, "\n".join(wrong)
 
 
-@pytest.mark.parametrize("program", [PROVED, "checked_in", BY_CARGO, "by_qemu"], indirect=True)
-@pytest.mark.parametrize("at", LONG)
-def test_stored_answer_to_long_words(program, at):
-    test_stored_answer(program, at)
+@pytest.mark.parametrize("program", [BY_CARGO], indirect=True)
+def test_version_matches_package(program):
+    version = re.search(r'^version = "(.*)"', (SHELL / "Cargo.toml").read_text(), re.M)[1]
+    assert run(program, "--version")[0] == f"getopts_shell {version}\n"
 
 
-@OTHERS
-@pytest.mark.parametrize("name", ["bash", "zsh", "fish"])
-def test_completion_matches_checked_in_program(program, name, checked_in):
-    words = ["--complete", name, "backup", TABLE]
-    assert run(program, *words) == (run(checked_in, *words)[0], "")
+@EACH
+def test_completion_matches_other_program(program, in_shells):
+    for name in ("bash", "zsh", "fish"):
+        words = ["--complete", name, "backup", TABLE]
+        assert run(program, *words) == (run(in_shells, *words)[0], "")
+
+
+@HERE
+@pytest.mark.parametrize("way", ["words", "variables", "arrays"])
+def test_random_code_matches_other_program(program, in_shells, cases, way):
+    count = cases(100, 50)
+    assert random_scripts(program, way, count) == random_scripts(in_shells, way, count)
 
 
 @pytest.mark.full
@@ -142,13 +173,13 @@ def test_arguments_on_windows(by_wine, for_windows):
 
 
 @HERE
-@pytest.mark.parametrize("own", [["-V", "opt_"], ["-AV", "opt_"]], ids=" ".join)
-@pytest.mark.parametrize("words", [["--help"], ["-x"], ["x"], ["-ia", "-ib"], ["-i"]], ids=" ".join)
-def test_help_and_errors_with_variables(program, own, words):
-    both = [subprocess.run([program, *more, "try", TABLE, *words], capture_output=True) for more in ([], own)]
-    plain, variables = ((done.returncode, done.stdout, done.stderr) for done in both)
-    status, name = (0, 1) if words == ["--help"] else (2, 2)
-    assert plain == variables and plain[0] == status and b"Usage: try " in plain[name]
+def test_help_and_errors_with_variables(program):
+    for words in ["--help"], ["-x"], ["x"], ["-ia", "-ib"], ["-i"]:
+        three = [subprocess.run([program, *own, "try", TABLE, *words], capture_output=True)
+                 for own in ([], ["-V", "opt_"], ["-AV", "opt_"])]
+        plain, *others = [(done.returncode, done.stdout, done.stderr) for done in three]
+        status, name = (0, 1) if words == ["--help"] else (2, 2)
+        assert others == [plain, plain] and plain[0] == status and b"Usage: try " in plain[name], words
 
 
 @HERE
@@ -187,7 +218,7 @@ def read_by_getopt(options, words):
     return lines.canonical(options, given, wrote)
 
 
-@HERE
+@IN_SHELLS
 def test_matches_getopt(program):
     need("getopt")
     if answer("getopt", "--test")[1] != 4:
@@ -213,23 +244,17 @@ def test_matches_getopt(program):
 
 # ---- in each shell
 
-@functools.cache
-def random_scripts(program, way, count):
-    return lines.random_scripts(program, way, count)
-
-
 WAYS = [(way, name) for name in SHELLS for way in ("words", "variables", "arrays")
         if way != "arrays" or name.split()[0] in lines.WITH_ARRAYS]
 
 
-@HERE
+@IN_SHELLS
 @pytest.mark.parametrize("way, one_shell", WAYS, indirect=["one_shell"])
 def test_random_lines(program, one_shell, tmp_path, cases, way):
-    count = cases(500, 40) if program.parent.name == "bin-shell" else cases(100, 50)
-    lines.run_in_shell(one_shell, tmp_path, *random_scripts(program, way, count))
+    lines.run_in_shell(one_shell, tmp_path, *random_scripts(program, way, cases(500, 40)))
 
 
-@HERE
+@IN_SHELLS
 def test_scripts_on_page(program, one_shell, tmp_path, monkeypatch):
     """The README's first script, its two loops over options, one with output added, and the examples."""
     page = (SHELL / "README.md").read_text()
@@ -259,7 +284,7 @@ SENTENCES = [pytest.param(row, name, id=f"{row[0][0]}-{name}") for row in rows_i
              for name in SHELLS if row[0][1] == "all" or name.split()[0] in row[0][1].split()]
 
 
-@HERE
+@IN_SHELLS
 @pytest.mark.parametrize("row, one_shell", SENTENCES, indirect=["one_shell"])
 def test_sentence_on_page(program, one_shell, row):
     (_, _, out), script = row
@@ -297,7 +322,7 @@ SETTINGS = {"set -eu": [], "set -fx": [], "set -v": [], "IFS=-_o2": [], "PS4='$(
 SET = [(setting, name) for setting, forking in SETTINGS.items() for name in SHELLS if name.split()[0] not in forking]
 
 
-@HERE
+@IN_SHELLS
 @pytest.mark.parametrize("setting, one_shell", SET, indirect=["one_shell"])
 def test_same_options_after_a_setting(program, one_shell, open_room, setting):
     """After such a command, a script reads the same options, and starts few processes."""
@@ -311,7 +336,7 @@ printf '%s|' "$o_v" "$o_L" "$1"
     assert wrote == "1|'1' '2 3'|a b|" and count < 25
 
 
-@HERE
+@IN_SHELLS
 @pytest.mark.parametrize("where", ["its name", "BASH_ENV", ".zshenv"])
 def test_script_that_calls_itself(program, open_room, where):
     """A script called getopts_shell calls itself forever. As the README warns, so does a script whose shell runs the
@@ -329,6 +354,7 @@ code=$(getopts_shell backup '[-v]  say more' "$@") || exit
     assert count > 25
 
 
+@SAME_VERSION
 @pytest.mark.parametrize("words, status", [
     ("-vi a x", 0), ("--input=a -v -- -v", 0), ("--help", 0), ("-x", 2), ("--completion fish", 0)])
 def test_root_with_only_busybox(words, status, checked_in, tmp_path):
