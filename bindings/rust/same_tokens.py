@@ -28,6 +28,8 @@ PATHS = {"mod matches": "pub ( crate ) mod matches", "crate ::": "super ::", "st
 PATHS |= {"unicode_width": "crate :: width", "pub fn add_group": "pub ( crate ) fn add_valid_group"}
 PATHS |= {"std :: convert": "crate :: convert", "std :: error": "crate :: error", "std :: vec": "crate :: heap :: vec"}
 PATHS |= {"std ::": "core ::", "str :: from_utf8": "core :: str :: from_utf8"}
+for name in "opt optflag optflagmulti optflagopt optmulti optopt reqopt".split():
+    PATHS["pub fn " + name] = "# [ track_caller ] pub fn " + name
 # In crates that aren't part of the library.
 HOST = {"resize": "try_resize", "trim_ascii": "trimmed_ascii", "str :: from_utf8": "std :: str :: from_utf8"}
 HOST |= {"format !": "text !", "write !": "add !", "writeln !": "add_line !", "fn main": "pub fn main"}

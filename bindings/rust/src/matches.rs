@@ -60,6 +60,7 @@ impl Matches {
 
     /// The index of the option with this name.
     #[inline]
+    #[track_caller]
     pub(crate) fn place(&self, name: &str) -> usize {
         match self.held.place_of(name) {
             Some(place) => place,
@@ -73,6 +74,7 @@ impl Matches {
     }
 
     #[inline]
+    #[track_caller]
     fn given(&self, name: &str) -> Occurrences<'_> {
         self.given_at(self.place(name))
     }
@@ -110,6 +112,7 @@ impl Matches {
     ///
     /// # Panics
     /// Panics if no option has this name.
+    #[track_caller]
     pub fn value(&self, name: &str) -> Option<&str> {
         self.given(name).first_value()
     }
@@ -127,6 +130,7 @@ impl Matches {
     /// # Panics
     /// Panics if no option has this name.
     #[inline]
+    #[track_caller]
     pub fn values(&self, name: &str) -> impl Iterator<Item = &str> + '_ {
         self.occurrences(name).filter_map(|(_, value)| value)
     }
@@ -144,6 +148,7 @@ impl Matches {
     /// # Panics
     /// Panics if no option has this name.
     #[inline]
+    #[track_caller]
     pub fn occurrences(&self, name: &str) -> impl Iterator<Item = (usize, Option<&str>)> + '_ {
         self.given(name).into_iter()
     }
@@ -170,6 +175,8 @@ impl Matches {
     ///
     /// # Panics
     /// Panics if no option has this name.
+    #[inline]
+    #[track_caller]
     pub fn opt_present(&self, name: &str) -> bool {
         !self.given(name).is_empty()
     }
@@ -184,6 +191,7 @@ impl Matches {
     ///
     /// # Panics
     /// Panics if no option has this name.
+    #[track_caller]
     pub fn opt_count(&self, name: &str) -> usize {
         self.given(name).len()
     }
@@ -200,6 +208,7 @@ impl Matches {
     ///
     /// # Panics
     /// Panics if no option has this name.
+    #[track_caller]
     pub fn opt_positions(&self, name: &str) -> Vec<usize> {
         granted(self.given(name).positions(Global))
     }
@@ -227,11 +236,18 @@ impl Matches {
     ///
     /// # Panics
     /// Panics if it reaches a name that no option has.
+    #[track_caller]
     pub fn opts_present_any<C: IntoIterator>(&self, names: C) -> bool
     where
         C::Item: AsRef<str>,
     {
-        names.into_iter().any(|name| self.opt_present(name.as_ref()))
+        // A closure wouldn't know the caller.
+        for name in names {
+            if self.opt_present(name.as_ref()) {
+                return true;
+            }
+        }
+        false
     }
 
     /// The first value that `opt_str` returns for one of these names. Stops at that name.
@@ -245,8 +261,9 @@ impl Matches {
     ///
     /// # Panics
     /// Panics if it reaches a name that no option has.
+    #[track_caller]
     pub fn opts_str(&self, names: &[String]) -> Option<String> {
-        names.iter().find_map(|name| self.opt_str(name))
+        self.opts_str_first(names)
     }
 
     /// The first value that `opt_str` returns for one of these names. Stops at that name.
@@ -260,11 +277,17 @@ impl Matches {
     ///
     /// # Panics
     /// Panics if it reaches a name that no option has.
+    #[track_caller]
     pub fn opts_str_first<C: IntoIterator>(&self, names: C) -> Option<String>
     where
         C::Item: AsRef<str>,
     {
-        names.into_iter().find_map(|name| self.opt_str(name.as_ref()))
+        for name in names {
+            if let Some(value) = self.value(name.as_ref()) {
+                return Some(value.to_string());
+            }
+        }
+        None
     }
 
     /// The values of an option's occurrences, in command-line order.
@@ -277,6 +300,7 @@ impl Matches {
     ///
     /// # Panics
     /// Panics if no option has this name.
+    #[track_caller]
     pub fn opt_strs(&self, name: &str) -> Vec<String> {
         let given = self.given(name);
         let (count, mut values) = (given.len(), Vec::new());
@@ -301,6 +325,7 @@ impl Matches {
     ///
     /// # Panics
     /// Panics if no option has this name.
+    #[track_caller]
     pub fn opt_strs_pos(&self, name: &str) -> Vec<(usize, String)> {
         granted(self.given(name).pairs(Global))
     }
@@ -315,6 +340,7 @@ impl Matches {
     ///
     /// # Panics
     /// Panics if no option has this name.
+    #[track_caller]
     pub fn opt_str(&self, name: &str) -> Option<String> {
         self.value(name).map(str::to_string)
     }
@@ -331,6 +357,7 @@ impl Matches {
     ///
     /// # Panics
     /// Panics if no option has this name.
+    #[track_caller]
     pub fn opt_default(&self, name: &str, def: &str) -> Option<String> {
         let value = self.given(name).first_value_or(def);
         value.map(str::to_string)
@@ -349,6 +376,7 @@ impl Matches {
     ///
     /// # Panics
     /// Panics if no option has this name.
+    #[track_caller]
     pub fn opt_get<T: FromStr>(&self, name: &str) -> Result<Option<T>, T::Err> {
         self.value(name).map(str::parse).transpose()
     }
@@ -368,6 +396,7 @@ impl Matches {
     ///
     /// # Panics
     /// Panics if no option has this name.
+    #[track_caller]
     pub fn opt_get_default<T: FromStr>(&self, name: &str, def: T) -> Result<T, T::Err> {
         self.value(name).map_or(Ok(def), str::parse)
     }

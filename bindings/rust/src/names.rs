@@ -13,6 +13,7 @@ impl Options {
     /// # Panics
     /// Panics if the names are invalid (see [`names_lawful`]).
     #[inline]
+    #[track_caller]
     pub fn add_group(
         &mut self,
         short_name: &str,
@@ -29,18 +30,20 @@ impl Options {
     }
 }
 
-/// Panics with the message of the crate getopts about invalid names.
+/// Panics with the message of the crate getopts about invalid names, and the name.
 #[cold]
+#[track_caller]
 fn reject(short_name: &str, long_name: &str) -> ! {
     assert!(
         short_name.len() <= 1,
         "the short_name (first argument) should be a single character, \
-         or an empty string for none"
+         or an empty string for none: {short_name:?} has {} bytes",
+        short_name.len()
     );
     assert!(
         long_name.len() != 1,
         "the long_name (second argument) should be longer than a single \
-         character, or an empty string for none"
+         character, or an empty string for none: {long_name:?}"
     );
     panic!("this long-format option was given no name");
 }

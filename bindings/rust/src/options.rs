@@ -180,6 +180,7 @@ impl Options {
     ///
     /// # Panics
     /// Panics if a name is invalid (see [`Options`]).
+    #[track_caller]
     pub fn opt(
         &mut self,
         short_name: &str,
@@ -203,6 +204,7 @@ impl Options {
     ///
     /// # Panics
     /// Panics if a name is invalid (see [`Options`]).
+    #[track_caller]
     pub fn optflag(&mut self, short: &str, long: &str, desc: &str) -> &mut Options {
         self.opt(short, long, desc, "", HasArg::No, Occur::Optional)
     }
@@ -217,6 +219,7 @@ impl Options {
     ///
     /// # Panics
     /// Panics if a name is invalid (see [`Options`]).
+    #[track_caller]
     pub fn optflagmulti(&mut self, short: &str, long: &str, desc: &str) -> &mut Options {
         self.opt(short, long, desc, "", HasArg::No, Occur::Multi)
     }
@@ -231,6 +234,7 @@ impl Options {
     ///
     /// # Panics
     /// Panics if a name is invalid (see [`Options`]).
+    #[track_caller]
     pub fn optflagopt(&mut self, short: &str, long: &str, desc: &str, hint: &str) -> &mut Options {
         self.opt(short, long, desc, hint, HasArg::Maybe, Occur::Optional)
     }
@@ -245,6 +249,7 @@ impl Options {
     ///
     /// # Panics
     /// Panics if a name is invalid (see [`Options`]).
+    #[track_caller]
     pub fn optmulti(&mut self, short: &str, long: &str, desc: &str, hint: &str) -> &mut Options {
         self.opt(short, long, desc, hint, HasArg::Yes, Occur::Multi)
     }
@@ -259,6 +264,7 @@ impl Options {
     ///
     /// # Panics
     /// Panics if a name is invalid (see [`Options`]).
+    #[track_caller]
     pub fn optopt(&mut self, short: &str, long: &str, desc: &str, hint: &str) -> &mut Options {
         self.opt(short, long, desc, hint, HasArg::Yes, Occur::Optional)
     }
@@ -273,6 +279,7 @@ impl Options {
     ///
     /// # Panics
     /// Panics if a name is invalid (see [`Options`]).
+    #[track_caller]
     pub fn reqopt(&mut self, short: &str, long: &str, desc: &str, hint: &str) -> &mut Options {
         self.opt(short, long, desc, hint, HasArg::Yes, Occur::Req)
     }

@@ -176,6 +176,7 @@ impl OsMatches {
     /// options.optflag("q", "quiet", "say less");
     /// assert!(options.parse_os(["-q"]).unwrap().opt_present("quiet"));
     /// ```
+    #[track_caller]
     pub fn opt_present(&self, name: &str) -> bool {
         self.matches.opt_present(name)
     }
@@ -187,6 +188,7 @@ impl OsMatches {
     /// options.optflagmulti("v", "verbose", "say more");
     /// assert_eq!(options.parse_os(["-vv", "--verbose"]).unwrap().opt_count("v"), 3);
     /// ```
+    #[track_caller]
     pub fn opt_count(&self, name: &str) -> usize {
         self.matches.opt_count(name)
     }
@@ -200,6 +202,7 @@ impl OsMatches {
     /// let matches = options.parse_os(["-v", "-o", "x", "-vv"]).unwrap();
     /// assert_eq!(matches.opt_positions("v"), [0, 3, 3]);
     /// ```
+    #[track_caller]
     pub fn opt_positions(&self, name: &str) -> Vec<usize> {
         self.matches.opt_positions(name)
     }
@@ -212,6 +215,7 @@ impl OsMatches {
     /// assert_eq!(options.parse_os(["-ofile"]).unwrap().value("output").unwrap(), "file");
     /// ```
     #[inline]
+    #[track_caller]
     pub fn value(&self, name: &str) -> Option<&OsStr> {
         self.occurrences(name).next()?.1
     }
@@ -225,6 +229,7 @@ impl OsMatches {
     /// assert!(matches.values("L").eq(["a", "b"]));
     /// ```
     #[inline]
+    #[track_caller]
     pub fn values(&self, name: &str) -> impl Iterator<Item = &OsStr> + '_ {
         self.occurrences(name).filter_map(|(_, value)| value)
     }
@@ -238,6 +243,7 @@ impl OsMatches {
     /// assert_eq!(matches.occurrences("c").next(), Some((1, None)));
     /// ```
     #[inline]
+    #[track_caller]
     pub fn occurrences(&self, name: &str) -> impl Iterator<Item = (usize, Option<&OsStr>)> + '_ {
         self.given_at(self.matches.place(name))
     }
@@ -261,6 +267,7 @@ impl OsMatches {
     /// let matches = options.parse_os(["--color"]).unwrap();
     /// assert_eq!(matches.opt_default("color", "auto").unwrap(), "auto");
     /// ```
+    #[track_caller]
     pub fn opt_default<'a>(
         &'a self,
         name: &str,
@@ -281,6 +288,7 @@ impl OsMatches {
     /// # Errors
     /// Fails with `Some(error)` if the value can't be parsed as a `T`, and with `None` if it isn't
     /// UTF-8.
+    #[track_caller]
     pub fn opt_get<T: FromStr>(&self, name: &str) -> Result<Option<T>, Option<T::Err>> {
         let read = |value: &OsStr| value.to_str().ok_or(None)?.parse().map_err(Some);
         self.value(name).map(read).transpose()

@@ -2,7 +2,9 @@
 //! messages of the crate getopts, and undeclared names count as not given.
 #![cfg(any(feature = "std", feature = "proved"))]
 
-use std::panic::{AssertUnwindSafe, catch_unwind};
+use std::cell::RefCell;
+use std::panic::{AssertUnwindSafe, catch_unwind, set_hook, take_hook};
+use std::sync::Once;
 
 const SHORT: &str =
     "the short_name (first argument) should be a single character, or an empty string for none";
@@ -10,26 +12,40 @@ const LONG: &str = "the long_name (second argument) should be longer than a sing
                     or an empty string for none";
 const NONE: &str = "this long-format option was given no name";
 
-/// Invalid names, each with the panic message of the crate getopts.
-const INVALID: [(&str, &str, &str); 8] = [
-    ("ab", "c", SHORT),
-    ("ab", "", SHORT),
-    ("é", "", SHORT),
-    ("é", "long", SHORT),
-    ("日", "c", SHORT),
-    ("", "a", LONG),
-    ("a", "b", LONG),
-    ("", "", NONE),
+/// Invalid names, each with the panic message of the crate getopts, and what follows it.
+const INVALID: [(&str, &str, &str, &str); 8] = [
+    ("ab", "c", SHORT, ": \"ab\" has 2 bytes"),
+    ("ab", "", SHORT, ": \"ab\" has 2 bytes"),
+    ("é", "", SHORT, ": \"é\" has 2 bytes"),
+    ("é", "long", SHORT, ": \"é\" has 2 bytes"),
+    ("日", "c", SHORT, ": \"日\" has 3 bytes"),
+    ("", "a", LONG, ": \"a\""),
+    ("a", "b", LONG, ": \"b\""),
+    ("", "", NONE, ""),
 ];
 
 /// Unusual names that are valid.
 const VALID: [(&str, &str); 6] =
     [("-", "--"), ("=", "a="), ("\0", "é"), (" ", "\u{10FFFF}"), ("", "  "), ("\t", "")];
 
-/// The message of a call's panic.
-fn panic_of<T>(call: impl FnOnce() -> T) -> String {
+thread_local!(static PLACE: RefCell<String> = RefCell::default());
+
+/// The file and line at which a call panics, and the message.
+fn panic_of<T>(call: impl FnOnce() -> T) -> (String, String) {
+    static ONCE: Once = Once::new();
+    ONCE.call_once(|| {
+        let usual = take_hook();
+        set_hook(Box::new(move |panic| {
+            let place = panic.location().unwrap();
+            PLACE.with(|last| last.replace(format!("{}:{}", place.file(), place.line())));
+            usual(panic);
+        }));
+    });
     let panic = catch_unwind(AssertUnwindSafe(call)).map(drop).expect_err("it doesn't panic");
-    panic.downcast_ref::<&str>().map_or_else(String::new, |text| text.to_string())
+    let text = panic
+        .downcast::<String>()
+        .map_or_else(|text| text.downcast_ref::<&str>().unwrap().to_string(), |text| *text);
+    (PLACE.with(RefCell::take), text)
 }
 
 #[cfg(feature = "std")]
@@ -40,6 +56,7 @@ mod of_the_crate {
     #[test]
     fn invalid_names_panic() {
         type Add = for<'o> fn(&'o mut Options, &str, &str) -> &'o mut Options;
+        let first = line!() + 2;
         let calls: [Add; 7] = [
             |o, short, long| o.opt(short, long, "", "", HasArg::Yes, Occur::Req),
             |o, short, long| o.optflag(short, long, ""),
@@ -49,12 +66,49 @@ mod of_the_crate {
             |o, short, long| o.optopt(short, long, "", ""),
             |o, short, long| o.reqopt(short, long, "", ""),
         ];
-        for add in calls {
+        for (line, add) in (first..).zip(calls) {
             let mut options = Options::new();
-            for (short, long, message) in INVALID {
-                assert_eq!(panic_of(|| _ = add(&mut options, short, long)), message);
+            for (short, long, front, end) in INVALID {
+                let panic = panic_of(|| _ = add(&mut options, short, long));
+                assert_eq!(panic, (format!("{}:{line}", file!()), format!("{front}{end}")));
             }
             assert_eq!(options, Options::new());
+        }
+    }
+
+    #[test]
+    fn undefined_names_panic() {
+        let (options, names) = (Options::new(), ["y".to_string()]);
+        let (matches, os) = (options.parse(["x"]).unwrap(), options.parse_os(["x"]).unwrap());
+        let first = line!() + 2;
+        let calls: [&dyn Fn(); 23] = [
+            &|| _ = matches.value("y"),
+            &|| _ = matches.values("y"),
+            &|| _ = matches.occurrences("y"),
+            &|| _ = matches.opt_present("y"),
+            &|| _ = matches.opt_count("y"),
+            &|| _ = matches.opt_positions("y"),
+            &|| _ = matches.opts_present_any(&names),
+            &|| _ = matches.opts_str(&names),
+            &|| _ = matches.opts_str_first(&names),
+            &|| _ = matches.opt_strs("y"),
+            &|| _ = matches.opt_strs_pos("y"),
+            &|| _ = matches.opt_str("y"),
+            &|| _ = matches.opt_default("y", ""),
+            &|| _ = matches.opt_get::<u8>("y"),
+            &|| _ = matches.opt_get_default("y", 7),
+            &|| _ = os.value("y"),
+            &|| _ = os.values("y"),
+            &|| _ = os.occurrences("y"),
+            &|| _ = os.opt_present("y"),
+            &|| _ = os.opt_count("y"),
+            &|| _ = os.opt_positions("y"),
+            &|| _ = os.opt_default("y", ""),
+            &|| _ = os.opt_get::<u8>("y"),
+        ];
+        for (line, call) in (first..).zip(calls) {
+            let message = "No option 'y' defined".to_string();
+            assert_eq!(panic_of(call), (format!("{}:{line}", file!()), message));
         }
     }
 
@@ -91,6 +145,7 @@ mod of_the_proved_source {
     #[test]
     fn invalid_names_panic() {
         type Add = fn(&mut Options, &str, &str) -> Result<(), AllocError>;
+        let first = line!() + 2;
         let calls: [Add; 8] = [
             |o, short, long| o.add_group(short, long, "", "", HasArg::Yes, Occur::Req),
             |o, short, long| o.opt(short, long, "", "", HasArg::Yes, Occur::Req).map(drop),
@@ -101,11 +156,12 @@ mod of_the_proved_source {
             |o, short, long| o.optopt(short, long, "", "").map(drop),
             |o, short, long| o.reqopt(short, long, "", "").map(drop),
         ];
-        for add in calls {
+        for (line, add) in (first..).zip(calls) {
             let mut options = options();
-            for (short, long, message) in INVALID {
+            for (short, long, front, end) in INVALID {
                 assert!(!names_lawful(short, long));
-                assert_eq!(panic_of(|| add(&mut options, short, long)), message);
+                let panic = panic_of(|| _ = add(&mut options, short, long));
+                assert_eq!(panic, (format!("{}:{line}", file!()), format!("{front}{end}")));
             }
             assert!(options == self::options());
         }

@@ -161,23 +161,6 @@ fn values_are_borrowed() {
     assert!(matches.occurrences("c").eq([(1, Some("")), (3, Some("y")), (5, None)]));
 }
 
-#[test]
-fn undefined_name_panics() {
-    let matches = options().parse(["x"]).unwrap();
-    let os = options().parse_os(["x"]).unwrap();
-    std::panic::set_hook(Box::new(|_| {}));
-    let says = |call: &dyn Fn()| {
-        let panic = std::panic::catch_unwind(std::panic::AssertUnwindSafe(call)).unwrap_err();
-        assert_eq!(panic.downcast_ref::<String>().unwrap(), "No option 'y' defined");
-    };
-    says(&|| assert!(matches.value("y").is_none()));
-    says(&|| assert!(matches.values("y").next().is_none()));
-    says(&|| assert!(matches.occurrences("y").next().is_none()));
-    says(&|| assert!(os.value("y").is_none()));
-    says(&|| assert!(!os.opt_present("y")));
-    says(&|| assert!(os.occurrences("y").next().is_none()));
-}
-
 /// Items of 200,000 bytes.
 struct Large([u8; 200_000]);
 

@@ -92,6 +92,7 @@ impl Options {
     ///
     /// The Rust crate panics here if a name is too long or too short, and accepts two empty names,
     /// on which its `parse` panics.
+    #[track_caller]
     pub fn opt(
         &mut self,
         short_name: &str,
@@ -112,6 +113,7 @@ impl Options {
     /// `options.optflag("q", "quiet", "say less")?` accepts `-q` or `--quiet`, once per command
     /// line. As in the Rust crate, usage texts show no hint for it. Requirements, result and errors
     /// are the same as for `opt`.
+    #[track_caller]
     pub fn optflag(
         &mut self,
         short_name: &str,
@@ -126,6 +128,7 @@ impl Options {
     /// `options.optflagmulti("v", "verbose", "say more")?` accepts `-v`, `-vvv` and `-v --verbose`.
     /// As in the Rust crate, usage texts show no hint for it. Requirements, result and errors are
     /// the same as for `opt`.
+    #[track_caller]
     pub fn optflagmulti(
         &mut self,
         short_name: &str,
@@ -143,6 +146,7 @@ impl Options {
     /// word if that begins with a dash and is longer than `-`: `-c -v` gives `c` no argument and is
     /// followed by the option `-v`, and `-c -` gives it the argument `-`. Requirements, result and
     /// errors are the same as for `opt`.
+    #[track_caller]
     pub fn optflagopt(
         &mut self,
         short_name: &str,
@@ -164,6 +168,7 @@ impl Options {
     ///
     /// `options.optmulti("L", "", "add a folder", "DIR")?` reads `-L a -Lb` as two folders.
     /// Requirements, result and errors are the same as for `opt`.
+    #[track_caller]
     pub fn optmulti(
         &mut self,
         short_name: &str,
@@ -178,6 +183,7 @@ impl Options {
     ///
     /// `options.optopt("o", "output", "set the output file", "NAME")?` accepts `-o a`, `-oa`,
     /// `--output a` and `--output=a`. Requirements, result and errors are the same as for `opt`.
+    #[track_caller]
     pub fn optopt(
         &mut self,
         short_name: &str,
@@ -200,6 +206,7 @@ impl Options {
     /// `options.reqopt("i", "input", "read this file", "NAME")?` accepts `-i a`, and rejects a
     /// command line without `input` with `Fail::OptionMissing`. Requirements, result and errors are
     /// the same as for `opt`.
+    #[track_caller]
     pub fn reqopt(
         &mut self,
         short_name: &str,

@@ -25,7 +25,9 @@ pub fn lines() -> Vec<String> {
                 add(&mut options, short, long);
                 options.parse(Vec::<String>::new())
             });
-            lines.push(format!("{short:?} {long:?}: {text}"));
+            // The drop-in adds the name to the message of the Rust crate.
+            let (message, _) = text.split_once(": ").unwrap_or((&text, ""));
+            lines.push(format!("{short:?} {long:?}: {message}"));
         }
     }
     let mut options = Options::new();
