@@ -27,13 +27,6 @@ def test_instructions_near_record(job, bench, tmp_path):
     assert abs(counted - int(recorded[1])) <= WITHIN * int(recorded[1]), f"{counted}: run bench/bench.py again"
 
 
-def test_words_are_handed_over():
-    """Each Rust peer gets its words by value only: none can borrow words that another one has to free."""
-    source = (ROOT / "bench/peers/src/input.rs").read_text(encoding="utf-8")
-    assert re.findall(r"pub .*\b(?:words|args|Args)\b.*", source) == [
-        "pub fn args(&self) -> Args {", "pub struct Args(std::vec::IntoIter<OsString>);"]
-
-
 def test_charts(tmp_path):
     """bench/chart.py draws the stored charts from bench/last_run.txt, with the version of matplotlib that drew them."""
     pythons = [python for python in (sys.executable, "/usr/bin/python3")

@@ -8,7 +8,7 @@ import shutil
 import textwrap
 
 import pytest
-from conftest import LINES, MARGIN, ROOT, answer, check_page, need, need_compiler, fail_each_allocation, run, script
+from conftest import LINES, MARGIN, ROOT, answer, check_page, need, need_compiler, run, script
 from targets import OLD, cargo, cargo_for, copy_folders, need_cargo, need_target, runner
 
 C = ROOT / "bindings/c"
@@ -132,11 +132,6 @@ def test_show_frees_everything(build, show_c):
     program = build(C / "show.c")
     for line in LINES:
         assert answer(*program, *line.split()) == answer(show_c, *line.split()), line
-
-
-@pytest.mark.parametrize("line", LINES[1:4])
-def test_show_when_allocations_fail(show_c, failing_malloc, line):
-    fail_each_allocation(failing_malloc, [show_c, *line.split()])
 
 
 @pytest.mark.parametrize("compiler", ["gcc", "clang", "g++", "clang++"])
@@ -390,13 +385,13 @@ def test_uninstall_keeps_other_files(copies, tmp_path):
     assert "include/getopts.h" in run("sh", C / "install.sh", to, status=1, env=copies)[1]
 
 
-@pytest.mark.parametrize("sign", '"$#\\:\n')
-@pytest.mark.parametrize("words", [["sh"], ["busybox", "sh"]])
-def test_prefix_with_special_characters(words, sign, tmp_path):
-    need(words[0])
-    for name in [f"a{sign}b", f"{sign}", f"b{sign}"] + [f"b{blank}{end}" for blank in " \t\r" for end in ("", "//")]:
-        errors = run(*words, C / "install.sh", f"{tmp_path}/{name}", status=1)[1]
-        assert "PREFIX must not" in errors and not list(tmp_path.iterdir())
+@pytest.mark.parametrize("words, names", [
+    ("sh", ['a"b', "$", "b#", "\\", "a:b", "b\n", "b ", "b\t//"]), ("busybox sh", ["a\nb", "b\r//"])])
+def test_prefix_with_special_characters(words, names, tmp_path):
+    need(words.split()[0])
+    for name in names:
+        errors = run(*words.split(), C / "install.sh", f"{tmp_path}/{name}", status=1)[1]
+        assert "PREFIX must not" in errors and not list(tmp_path.iterdir()), name
 
 
 def test_install_usage(tmp_path):
