@@ -2,8 +2,7 @@
 use Rattle.std.specs.Prelude.{◌≡◌, ◌<◌, ℕ, List, [], ◌∷◌, ◌++◌, drop, length, map, Some, None}
 use Rattle.std.specs.Prelude.{IfSome, IsSome, Ok}
 use Rattle.std.specs.List.{AllByRecursion}
-use Rattle.std.specs.Borrow.{Bor}
-use Rattle.getopts.specs.Names.{Text, texts}
+use Rattle.getopts.specs.Names.{Text}
 use Rattle.getopts.specs.Options.{Declared, Declares, signatures_of, kind_of, occur_of}
 use Rattle.getopts.specs.Matches.{Matched, MatchedGroup, KeepsCounts}
 use Rattle.getopts.specs.Parse.{IsAccepted}
@@ -68,9 +67,8 @@ pub record EndsInTrailing (words : List Text) (matches : Matched) (start : ℕ) 
 -- Positions are indexes of words. Under `StopAtFirstFree` the words end in the free words. If there
 -- is a trailing start, they end in `--` and the free words from there on.
 -- The options accept the words with these matches.
-pub record Accepts (options : Declared) (words : List (Bor Text)) (matches : Matched)
-    : Type 0 where
-  pub accepted : IsAccepted options (texts words) matches
+pub record Accepts (options : Declared) (words : List Text) (matches : Matched) : Type 0 where
+  pub accepted : IsAccepted options words matches
   pub positions_below : HavePositionsBelow (length words) matches.groups
-  pub free_last : HaveLastWordsFree options (texts words) matches
-  pub trailing : IfSome matches.trailing_start (EndsInTrailing (texts words) matches)
+  pub free_last : HaveLastWordsFree options words matches
+  pub trailing : IfSome matches.trailing_start (EndsInTrailing words matches)

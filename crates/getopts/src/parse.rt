@@ -1,6 +1,6 @@
 //! Parsing a command line: its words are scanned, then its counts are checked.
 
-ghost use Rattle.std.specs.Prelude.{◌≡◌, IfOk, IfErr, IfSome, OnOk, Err, length, map};
+ghost use Rattle.std.specs.Prelude.{◌≡◌, IfOk, IfErr, IfSome, OnOk, Err, map};
 ghost use Rattle.std.specs.Iterator.{IsFinite};
 ghost use Rattle.std.specs.Iterator.Runs.{WholeRun};
 ghost use Rattle.getopts.specs.Fail.{IsOutOfMemoryOr};
@@ -18,14 +18,11 @@ use std::convert::AsStr;
 
 impl Options {
     ghost use Rattle.getopts.specs.Options.{MayBeDeclared, grammar_of};
-    ghost use Rattle.getopts.specs.ReadingLaws.{HavePositionsBelow};
-    ghost use Rattle.getopts.specs.Parse.{IsAccepted, IsRefused, HasReading, HasNoReading};
-    ghost use Rattle.getopts.specs.Parse.{KeepsReadingLaws};
+    ghost use Rattle.getopts.specs.Parse.{IsRefused, HasReading, HasNoReading, KeepsReadingLaws};
     ghost use Rattle.getopts.specs.Returns.{ReturnsConverted, ReturnsResult};
     ghost use Rattle.getopts.specs.Results.{parse_result, parse_ignoring_counts_result};
     ghost use Rattle.getopts.specs.Results.{accepted_reading, reading_or_error};
-    ghost use Rattle.getopts.specs.Holds.{FitOptionsAndCounts, FitOptions, HaveLastWordsFree};
-    ghost use Rattle.getopts.specs.Holds.{Accepts, EndsInTrailing};
+    ghost use Rattle.getopts.specs.Holds.{FitOptionsAndCounts, FitOptions, Accepts, EndsInTrailing};
     ghost use Rattle.getopts.specs.Stored.Matches.{IsReadLine};
 
     /// Parses a command line, given without the program's own name.
@@ -41,18 +38,12 @@ impl Options {
     /// The Rust crate has no such method: its `parse` takes an iterator.
     pub fn parse_words<S: AsStr>(&self, alloc: Global, words: &[S]) -> crate::Result
         ensures result { ReturnsResult result (parse_result self.now (map S.text words.now)) }
-        ensures accepted { IfOk result (IsAccepted self.now (map S.text words.now)) }
+        ensures accepted { IfOk result (Accepts self.now (map S.text words.now)) }
         ensures refused { IfErr result (λ fail. IsOutOfMemoryOr fail
             (IsRefused self.now (map S.text words.now))) }
 
         // The matches have each declared option, with occurrences that fit its declaration.
         ensures declared { IfOk result (λ matches. FitOptionsAndCounts self.now matches.groups) }
-        ensures positions_below { IfOk result (λ matches.
-            HavePositionsBelow (length words.now) matches.groups) }
-        ensures free_last { IfOk result (λ matches.
-            HaveLastWordsFree self.now (map S.text words.now) matches) }
-        ensures trailing { IfOk result (λ matches. IfSome matches.trailing_start
-            (EndsInTrailing (map S.text words.now) matches)) }
 
         // Laws about other spellings of a command line, joined command lines, free words and
         // positions.
@@ -98,7 +89,7 @@ impl Options {
             (λ answer. WholeRun I.next_gives args
             (λ run. parse_result self.now (texts run.items) ≡ answer)) }
         ensures accepted { IfOk result (λ matches. WholeRun I.next_gives args
-            (λ run. Accepts self.now run.items matches)) }
+            (λ run. Accepts self.now (texts run.items) matches)) }
         ensures refused { IfErr result
             (λ fail. IsOutOfMemoryOr fail (λ fault. WholeRun I.next_gives args
             (λ run. IsRefused self.now (texts run.items) fault))) }

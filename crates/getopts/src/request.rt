@@ -1,12 +1,11 @@
 //! Help and the version, which a command line may request even if a required option is missing.
 
-ghost use Rattle.std.specs.Prelude.{map, length, IfOk, IfErr, IfSome, OnOk};
+ghost use Rattle.std.specs.Prelude.{map, IfOk, IfErr, IfSome, OnOk};
 ghost use Rattle.getopts.specs.Fail.{IsOutOfMemoryOr};
 ghost use Rattle.getopts.specs.Options.{grammar_of};
-ghost use Rattle.getopts.specs.ReadingLaws.{HavePositionsBelow};
-ghost use Rattle.getopts.specs.Parse.{IsAccepted, IsRefused, KeepsReadingLaws};
+ghost use Rattle.getopts.specs.Parse.{IsRefused, KeepsReadingLaws};
 ghost use Rattle.getopts.specs.Returns.{ReturnsResult};
-ghost use Rattle.getopts.specs.Holds.{EndsInTrailing, FitOptionsAndCounts, HaveLastWordsFree};
+ghost use Rattle.getopts.specs.Holds.{Accepts, FitOptionsAndCounts};
 ghost use Rattle.getopts.specs.Unless.{parse_unless_result, parse_request_result, IfParsed};
 
 use crate::fail::Fail;
@@ -42,19 +41,13 @@ impl Options {
         ensures result { ReturnsResult result
             (parse_request_result self.now (map S.text words.now)) }
         ensures accepted { IfOk result (λ request. IfParsed request
-            (IsAccepted self.now (map S.text words.now))) }
+            (Accepts self.now (map S.text words.now))) }
         ensures refused { IfErr result (λ fail. IsOutOfMemoryOr fail
             (IsRefused self.now (map S.text words.now))) }
 
         // The matches are those that `parse_words` returns.
         ensures declared { IfOk result (λ request. IfParsed request (λ matches.
             FitOptionsAndCounts self.now matches.groups)) }
-        ensures positions_below { IfOk result (λ request. IfParsed request (λ matches.
-            HavePositionsBelow (length words.now) matches.groups)) }
-        ensures free_last { IfOk result (λ request. IfParsed request (λ matches.
-            HaveLastWordsFree self.now (map S.text words.now) matches)) }
-        ensures trailing { IfOk result (λ request. IfParsed request (λ matches.
-            IfSome matches.trailing_start (EndsInTrailing (map S.text words.now) matches))) }
         ensures laws { OnOk result (KeepsReadingLaws (grammar_of self.now)) }
     {
         let matches = self.read_matches(alloc, words)?;
@@ -84,19 +77,13 @@ impl Options {
         ensures result { ReturnsResult result
             (parse_unless_result self.now flag.now (map S.text words.now)) }
         ensures accepted { IfOk result (λ answer. IfSome answer
-            (IsAccepted self.now (map S.text words.now))) }
+            (Accepts self.now (map S.text words.now))) }
         ensures refused { IfErr result (λ fail. IsOutOfMemoryOr fail
             (IsRefused self.now (map S.text words.now))) }
 
         // The matches are those that `parse_words` returns.
         ensures declared { IfOk result (λ answer. IfSome answer (λ matches.
             FitOptionsAndCounts self.now matches.groups)) }
-        ensures positions_below { IfOk result (λ answer. IfSome answer (λ matches.
-            HavePositionsBelow (length words.now) matches.groups)) }
-        ensures free_last { IfOk result (λ answer. IfSome answer (λ matches.
-            HaveLastWordsFree self.now (map S.text words.now) matches)) }
-        ensures trailing { IfOk result (λ answer. IfSome answer (λ matches.
-            IfSome matches.trailing_start (EndsInTrailing (map S.text words.now) matches))) }
         ensures laws { OnOk result (KeepsReadingLaws (grammar_of self.now)) }
     {
         let read = self.read_matches(alloc, words)?;

@@ -1,8 +1,7 @@
 -- Under `StopAtFirstFree` the words before the free ones give the same options.
 use Rattle.std.proofs.Common.{◌≡◌, List, [], ◌∷◌, ◌++◌, None, refl, sym, ap, ◌∙◌, append-nil}
-use Rattle.std.proofs.Common.{Bor, Result, Ok, Err, IfOk}
 use Rattle.std.specs.List.{AllByRecursion}
-use Rattle.getopts.specs.Names.{Text, texts}
+use Rattle.getopts.specs.Names.{Text}
 use Rattle.getopts.specs.Options.{Declared, Grammar, MayBeDeclared, grammar_of}
 use Rattle.getopts.specs.Reading.{Item, free, long, cluster, Tail, line_end, stop, rest, Reading}
 use Rattle.getopts.specs.Reading.{IsLawfulItem, IsLawfulTail, EndsOrIsDashed, AreWellFollowed}
@@ -67,7 +66,7 @@ cut_matches options items line_end none = rw none refl
 cut_matches options items (stop words) none = rw none refl
 cut_matches options items (rest words) none = rw none refl
 
-pub HaveLastWordsFree-accepted : (options : Declared) → MayBeDeclared options.groups
+HaveLastWordsFree-accepted : (options : Declared) → MayBeDeclared options.groups
     → (words : List Text) (m : Matched) → IsAccepted options words m
     → HaveLastWordsFree options words m
 HaveLastWordsFree-accepted options declared words m accepted style =
@@ -100,15 +99,12 @@ HaveLastWordsFree-accepted options declared words m accepted style =
           (record { read = read; counts = accepted.counts });
     }
 
--- what a result says about accepted words
-pub Accepts-answered : {E : Type 0} (options : Declared) (words : List (Bor Text))
-    → (answer : Result Matched E) → IfOk answer (IsAccepted options (texts words))
-    → IfOk answer (HaveLastWordsFree options (texts words)) → IfOk answer (Accepts options words)
-Accepts-answered options words (Ok matches) accepted last = record {
+-- what accepted matches say
+pub Accepts-accepted : (options : Declared) → MayBeDeclared options.groups → (words : List Text)
+    → (m : Matched) → IsAccepted options words m → Accepts options words m
+Accepts-accepted options declared words m accepted = record {
   accepted = accepted;
-  positions_below =
-      positions_below-read (λ (w : Bor Text). w.now) words options matches accepted.read;
-  free_last = last;
-  trailing = EndsInTrailing-read options (texts words) matches accepted.read;
+  positions_below = positions_below-read options words m accepted.read;
+  free_last = HaveLastWordsFree-accepted options declared words m accepted;
+  trailing = EndsInTrailing-read options words m accepted.read;
 }
-Accepts-answered options words (Err error) accepted last = tt

@@ -1,7 +1,6 @@
 -- For options with valid names: a reading is the only reading, a scan error the only scan error,
 -- and `parse` returns them.
-use Rattle.std.proofs.Common.{List, length, map, refl, ap, sym, subst}
-use Rattle.std.proofs.lemmas.List.{length-map}
+use Rattle.std.proofs.Common.{List, length, refl, ap, sym, subst}
 use Rattle.getopts.specs.Only.{IsTheOnly}
 use Rattle.getopts.specs.Names.{Text, AreTexts}
 use Rattle.getopts.specs.Options.{Declared, MayBeDeclared, signatures_of, grammar_of}
@@ -81,10 +80,9 @@ HavePositionsInOrder-read options words matches has =
     (HavePositionsInOrder-matched (grammar_of options) has.reading 0 (signatures_of options.groups))
 
 -- positions are below the number of words
-pub positions_below-read : {X : Type 0} (text : X → Text) (words : List X) (options : Declared)
-    (matches : Matched) → HasReading options (map text words) matches
-    → HavePositionsBelow (length words) matches.groups
-positions_below-read text words options matches has =
+pub positions_below-read : (options : Declared) (words : List Text) (matches : Matched)
+    → HasReading options words matches → HavePositionsBelow (length words) matches.groups
+positions_below-read options words matches has =
     subst (HavePositionsBelow (length words)) (ap (λ (m : Matched). m.groups) (sym has.matches_are))
-    (rw length-map at (HavePositionsBelow-matched (grammar_of options) has.reading (map text words)
-    (meets (Reads options (map text words)) has.reading has.only) 0 (signatures_of options.groups)))
+    (HavePositionsBelow-matched (grammar_of options) has.reading words
+    (meets (Reads options words) has.reading has.only) 0 (signatures_of options.groups))

@@ -6,5 +6,5 @@ returns-clause-handed g c = record {
   matches = c.in_ok-matches.matches;
   accepted = rw c.in_ok-options.ensures at c.in_ok-matches.ensures.result;
   handed_are = c.in_ok-take_trailing.ensures.taken;
-  after_stop = c.in_ok-matches.ensures.trailing;
+  after_stop = c.in_ok-matches.ensures.accepted.trailing;
 }

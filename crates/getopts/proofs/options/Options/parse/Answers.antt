@@ -2,16 +2,13 @@
 use Rattle.std.proofs.Common.{◌∙◌}
 use Rattle.std.proofs.lemmas.Result.{IfOk-weaker, IfErr-weaker, MatchResult-weaker}
 use Rattle.getopts.proofs.Weaker.{IsOutOfMemoryOr-weaker}
-use Rattle.getopts.proofs.MainTheorem.BeforeFree.{Accepts-answered}
 use Rattle.getopts.proofs.options.Options.parse.Goals as goal
 
 pub returns-clause-accepted : goal.returns-clause-accepted
 returns-clause-accepted g c =
     let run = c.in_ok-words.ensures in
     IfOk-weaker c.parse_words.result _ _ (λ matches is. (run.0, run.1, run.2, is))
-    (Accepts-answered c.args.self.now run.0.items c.parse_words.result
     (rw (c.deref.ensures.value ∙ run.3) at c.parse_words.ensures.accepted)
-    (rw (c.deref.ensures.value ∙ run.3) at c.parse_words.ensures.free_last))
 
 pub returns-clause-refused : goal.returns-clause-refused
 returns-clause-refused g c =

@@ -4,12 +4,11 @@ use Rattle.std.proofs.Common.{◌≡◌, rules, refl, sym, subst, ◌∙◌, map
 use Rattle.getopts.specs.Fail.{IsOutOfMemoryOr}
 use Rattle.getopts.specs.Matches.{Matched}
 use Rattle.getopts.specs.Results.{first_count_fault, parse_result}
-use Rattle.getopts.proofs.MainTheorem.BeforeFree.{HaveLastWordsFree-accepted}
+use Rattle.getopts.proofs.MainTheorem.BeforeFree.{Accepts-accepted}
 use Rattle.getopts.proofs.MainTheorem.Counted.{parse_result-broken, parse_result-kept}
 use Rattle.getopts.proofs.MainTheorem.Results.{is_accepted, is_refused, unread_refused}
 use Rattle.getopts.proofs.Weaker.{IsOutOfMemoryOr-weaker, IsOutOfMemoryOr-exit}
-use Rattle.getopts.proofs.parse.Holds.{FitOptionsAndCounts-accepted, EndsInTrailing-read}
-use Rattle.getopts.proofs.parse.Parsed.{positions_below-read}
+use Rattle.getopts.proofs.parse.Holds.{FitOptionsAndCounts-accepted}
 use Rattle.getopts.proofs.options.Options.parse_unless.Given.{Over}
 use Rattle.getopts.proofs.options.Options.parse_unless.Goals as goal
 use Rattle.getopts.proofs.options.Options.parse_unless.Goals.{In_err-check_all}
@@ -48,20 +47,10 @@ returns-clause-result g c =
 
 pub returns-clause-accepted : goal.returns-clause-accepted
 returns-clause-accepted g c =
-    is_accepted _ _ _ (parse_result-kept _ _ _ c.in_ok-read.ensures.result
+    let read = c.in_ok-read.ensures in
+    Accepts-accepted _ read.declared _ _ (is_accepted _ _ _ (parse_result-kept _ _ _ read.result
     (subst (λ (m : Matched). first_count_fault m.groups ≡ None) c.read.view_is
-    c.in_ok-check_all.ensures.ok)) c.in_ok-read.ensures.declared c.in_ok-read.ensures.texts
+    c.in_ok-check_all.ensures.ok)) read.declared read.texts)
 
 pub returns-clause-declared : goal.returns-clause-declared
-returns-clause-declared g c = FitOptionsAndCounts-accepted _ _ _ (returns-clause-accepted g c)
-
-pub returns-clause-positions_below : goal.returns-clause-positions_below
-returns-clause-positions_below g c =
-    positions_below-read g.S.AsStr.text c.args.words.now _ _ (returns-clause-accepted g c).read
-
-pub returns-clause-free_last : goal.returns-clause-free_last
-returns-clause-free_last g c =
-    HaveLastWordsFree-accepted _ c.in_ok-read.ensures.declared _ _ (returns-clause-accepted g c)
-
-pub returns-clause-trailing : goal.returns-clause-trailing
-returns-clause-trailing g c = EndsInTrailing-read _ _ _ (returns-clause-accepted g c).read
+returns-clause-declared g c = FitOptionsAndCounts-accepted _ _ _ (returns-clause-accepted g c).accepted

@@ -1,11 +1,10 @@
 -- The line that was read gives accepted matches, and the laws of readings hold for its options.
 use Rattle.std.proofs.Common.{◌≡◌, ◌∙◌, sym, Ok, rules}
 use Rattle.getopts.specs.Options.{signatures_of}
-use Rattle.getopts.proofs.MainTheorem.BeforeFree.{HaveLastWordsFree-accepted}
+use Rattle.getopts.proofs.MainTheorem.BeforeFree.{Accepts-accepted}
 use Rattle.getopts.proofs.MainTheorem.Results.{HasResults-declared, is_refused}
 use Rattle.getopts.proofs.parse.Made.{made_of-matches}
-use Rattle.getopts.proofs.parse.Parsed.{positions_below-read}
-use Rattle.getopts.proofs.parse.Holds.{FitOptionsAndCounts-accepted, EndsInTrailing-read}
+use Rattle.getopts.proofs.parse.Holds.{FitOptionsAndCounts-accepted}
 use Rattle.getopts.proofs.options.Options.parse_words.Goals as goal
 
 pub returns-clause-result : goal.returns-clause-result
@@ -17,22 +16,12 @@ returns-clause-result g c =
 pub returns-clause-accepted : goal.returns-clause-accepted
 returns-clause-accepted g c =
     let before = c.in_ok-accepted.ensures in
-    ((HasResults-declared _ before.declared _ before.texts).parse (Ok _)).1
-    (sym (returns-clause-result g c))
+    Accepts-accepted _ before.declared _ _
+    (((HasResults-declared _ before.declared _ before.texts).parse (Ok _)).1
+    (sym (returns-clause-result g c)))
 
 pub returns-clause-declared : goal.returns-clause-declared
-returns-clause-declared g c = FitOptionsAndCounts-accepted _ _ _ (returns-clause-accepted g c)
-
-pub returns-clause-positions_below : goal.returns-clause-positions_below
-returns-clause-positions_below g c =
-    positions_below-read g.S.AsStr.text c.args.words.now _ _ (returns-clause-accepted g c).read
-
-pub returns-clause-free_last : goal.returns-clause-free_last
-returns-clause-free_last g c =
-    HaveLastWordsFree-accepted _ c.signatures.ensures.declared _ _ (returns-clause-accepted g c)
-
-pub returns-clause-trailing : goal.returns-clause-trailing
-returns-clause-trailing g c = EndsInTrailing-read _ _ _ (returns-clause-accepted g c).read
+returns-clause-declared g c = FitOptionsAndCounts-accepted _ _ _ (returns-clause-accepted g c).accepted
 
 pub returns-in_err-accepted-clause-refused : goal.returns-in_err-accepted-clause-refused
 returns-in_err-accepted-clause-refused g c = search (rules, is_refused)
