@@ -1,16 +1,16 @@
 -- What the program shows for its names and groups.
 use Rattle.std.proofs.Common.{◌≡◌, ℕ, Bool, zero, suc, ◌<◌, List, [], ◌∷◌, length}
-use Rattle.std.proofs.Common.{get_or, map, refl, ap, ◌∙◌, sym, subst, arith, Result, Ok}
+use Rattle.std.proofs.Common.{get_or, map, refl, ap, ◌∙◌, sym, subst, arith, Result, Ok, Err}
 use Rattle.std.specs.Borrow.{Bor}
 use Rattle.std.specs.List.{AllByRecursion, flat_map}
-use Rattle.getopts.specs.Results.{accepted_reading, parse_result}
+use Rattle.getopts.specs.Results.{accepted_reading, made_of, parse_result}
 use Rattle.getopts.specs.Fail.{Fault}
 use Rattle.getopts.specs.Matches.{Matched, MatchedGroup, matches_of}
-use Rattle.getopts.specs.Names.{AreTexts, Text, main_name, texts}
+use Rattle.getopts.specs.Names.{Text, main_name, texts}
 use Rattle.getopts.specs.Options.{Group, grammar_of}
 use Rattle.getopts.specs.Reading.{Reading, occurrences_of}
-use Rattle.getopts.proofs.OnLiterals.{MayBeDeclared-plain}
-use Rattle.getopts.proofs.MainTheorem.Results.{HasResults-declared, made_of-ok}
+use Rattle.getopts.specs.Only.{IsTheOnly}
+use Rattle.getopts.specs.Returns.{IsLineOf}
 use Rattle.getopts_show.specs.Program.{HasProgramGroups, IsProgramText, IsReadingText}
 use Rattle.getopts_show.specs.Program.{IsResultText, asks_help}
 use Rattle.getopts_show.specs.Program.{group_lines, named_lines, program_groups}
@@ -33,27 +33,30 @@ pub lines_of_names : (groups : List MatchedGroup) → HasProgramGroups groups
 lines_of_names groups (occurrences, is) = subst
     (λ (gs : List MatchedGroup). flat_map (named_lines gs) main_names ≡ flat_map group_lines gs) (sym is) refl
 
--- the computed result of the words is their only one
-pub of_computed : (words : List Text) → AreTexts words → (text : Text) (status : ℕ)
+-- the text of the only result of the words
+pub of_the_only : (words : List Text) (text : Text) (status : ℕ)
+    → IsTheOnly (IsLineOf program_options words) (accepted_reading program_options words)
     → IsResultText (accepted_reading program_options words) text status
     → IsProgramText words text status
-of_computed words texts text status is =
-    let declared = MayBeDeclared-plain program_options refl in (
-      accepted_reading program_options words,
-      (HasResults-declared program_options declared words texts).line,
-      is,
-    )
+of_the_only words text status only is = (accepted_reading program_options words, only, is)
+
+-- matches are computed from a reading
+of_reading : (outcome : Result Reading Fault) (matches : Matched)
+    → made_of (matches_of program_options) outcome ≡ Ok matches
+    → (reading : Reading) × (outcome ≡ Ok reading) × (matches_of program_options reading ≡ matches)
+of_reading (Ok reading) matches is = (reading, refl, cc)
+of_reading (Err fault) matches is = cc
 
 -- the matches and the text of accepted words
 module _ (words : List Text) (matches : Matched) (is : parse_result program_options words ≡ Ok matches) where
   pub program_groups_of : HasProgramGroups matches.groups
   program_groups_of =
-      let made = made_of-ok (matches_of program_options) (accepted_reading program_options words) matches is in
+      let made = of_reading (accepted_reading program_options words) matches is in
       (occurrences_of (grammar_of program_options) made.0, ap (λ (m : Matched). m.groups) (sym made.2))
 
   pub are_accepted : (reading : Reading) × (accepted_reading program_options words ≡ Ok reading)
   are_accepted =
-      let made = made_of-ok (matches_of program_options) (accepted_reading program_options words) matches is in
+      let made = of_reading (accepted_reading program_options words) matches is in
       (made.0, made.1)
 
   -- a text of the reading is theirs
@@ -62,7 +65,7 @@ module _ (words : List Text) (matches : Matched) (is : parse_result program_opti
       → matches_of program_options reading ≡ matches → IsReadingText asks reading text)
       → IsResultText (accepted_reading program_options words) text 0
   text_of_reading asks text asked says =
-      let made = made_of-ok (matches_of program_options) (accepted_reading program_options words) matches is in
+      let made = of_reading (accepted_reading program_options words) matches is in
       let asks_it : asks_help (matches_of program_options made.0) ≡ asks = ap asks_help made.2 ∙ asked in
       subst (λ (r : Result Reading Fault). IsResultText r text 0) (sym made.1)
       (subst (λ (b : Bool). IsReadingText b made.0 text) (sym asks_it) (says made.0 made.1 made.2), refl)

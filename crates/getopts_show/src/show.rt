@@ -12,7 +12,8 @@ ghost use Rattle.getopts.specs.Names.{texts};
 ghost use Rattle.getopts.specs.Options.{with_groups};
 ghost use Rattle.getopts.specs.Canon.{canonical_line, content_of};
 ghost use Rattle.getopts.specs.CanonAnswers.{IsUnwritable};
-ghost use Rattle.getopts.specs.Returns.{ReturnsConverted, ReturnsResult};
+ghost use Rattle.getopts.specs.Only.{IsTheOnly};
+ghost use Rattle.getopts.specs.Returns.{IsLineOf, ReturnsConverted, ReturnsResult};
 ghost use Rattle.getopts.specs.Reading.{Reading};
 ghost use Rattle.getopts.specs.Results.{accepted_reading, canonical_result, parse_result};
 ghost use Rattle.getopts_show.specs.Program.{IsHelpText, IsProgramText, IsResultText};
@@ -22,7 +23,7 @@ ghost use Rattle.getopts_show.specs.Program.{fault_line, matches_text};
 ghost use Rattle.getopts_show.specs.Program.{named_lines, position_mark, program_groups};
 ghost use Rattle.getopts_show.specs.Program.{program_options, value_line, word_line};
 
-use getopts::{Fail, HasArg, Matches, Occur, Options, are_texts};
+use getopts::{Fail, HasArg, Matches, Occur, Options, are_texts, one_reading_one_canonical_line};
 use std::alloc::{AllocError, Global};
 use std::io;
 use std::io::Write;
@@ -83,13 +84,13 @@ fn print<W: Write>(out: &mut W, text: &str) -> io::Result<()>
 }
 
 /// What the program answers to these words.
-#[tactic(auto, using(crate::proofs::ShowLemmas::of_computed))]
+#[tactic(auto, using(crate::proofs::ShowLemmas::of_the_only))]
 fn answer_to(alloc: Global, words: &[&str]) -> Result<Answer, AllocError>
     ensures { IfOk result (λ answer.
         IsProgramText (texts words.now) (string_bytes answer.text) answer.status) }
 {
-    are_texts(words);
     let options = program_options(alloc)?;
+    have_one_result(&options, words);
     match parsed(alloc, &options, words) {
         Ok(matches) => Ok(Answer {
             text: accepted_text(alloc, &options, words, &matches)?,
@@ -100,6 +101,17 @@ fn answer_to(alloc: Global, words: &[&str]) -> Result<Answer, AllocError>
             status: REFUSED,
         }),
     }
+}
+
+/// The only result of words, by the contract of the library's main theorem. This is a lemma for
+/// proofs, which does nothing.
+fn have_one_result(options: &Options, words: &[&str])
+    requires { options.now ≡ program_options }
+    ensures { IsTheOnly (IsLineOf program_options (texts words.now))
+        (accepted_reading program_options (texts words.now)) }
+{
+    are_texts(words);
+    one_reading_one_canonical_line(options);
 }
 
 /// The matches of words, or their first error.

@@ -3,8 +3,7 @@ use Rattle.getopts.specs.CanonAnswers.{IsUnwritable}
 use Rattle.getopts.specs.Names.{texts}
 use Rattle.getopts.specs.Results.{canonical_result}
 use Rattle.std.proofs.lemmas.Result.{IfOk-weaker}
-use Rattle.getopts.proofs.Weaker.{IfNone-weaker}
-use Rattle.getopts_show.proofs.Items.{of_run, result_of_run}
+use Rattle.getopts_show.proofs.Items.{none_of_run, result_of_run}
 use Rattle.getopts_show.proofs.show.rewritten.Goals as goal
 
 pub returns-clause-result : goal.returns-clause-result
@@ -16,7 +15,6 @@ returns-clause-result c =
 pub returns-clause-unwritable : goal.returns-clause-unwritable
 returns-clause-unwritable c =
     IfOk-weaker c.canonical.result _ _
-    (λ answer. IfNone-weaker answer _ _
-    (of_run _ _ _ _ c.iter.ensures.runs c.iter.ensures.rest c.copied.ensures.runs
-    (λ words. IsUnwritable c.args.options.now (texts words))))
+    (none_of_run _ _ _ _ c.iter.ensures.runs c.iter.ensures.rest c.copied.ensures.runs
+    (λ words. IsUnwritable c.args.options.now (texts words)))
     c.canonical.ensures.unwritable
