@@ -2,9 +2,9 @@
 
 use crate::alloc::AllocError;
 use crate::{Matches, proved};
-use std::alloc::{Layout, handle_alloc_error};
 use std::error::Error;
 use std::fmt;
+use std::io::Write;
 
 /// Why a command line was rejected.
 ///
@@ -71,10 +71,11 @@ impl Fail {
     }
 }
 
-/// Aborts the process, like any failed allocation in Rust.
+/// Aborts the process, like any failed allocation in Rust. The size isn't known here.
 #[cold]
 fn out_of_memory() -> ! {
-    handle_alloc_error(Layout::new::<u8>())
+    let _ = std::io::stderr().write_all(b"memory allocation failed\n");
+    std::process::abort()
 }
 
 /// Returns a result, or aborts if an allocation failed.

@@ -158,6 +158,23 @@ fn sort_matches_rust() {
     }
 }
 
+/// Runs itself as a process whose first allocation in `parse` fails.
+#[cfg(feature = "std")]
+#[test]
+fn out_of_memory_ends_the_process() {
+    if std::env::var_os("OUT_OF_MEMORY").is_some() {
+        let options = getopts::Options::new();
+        GRANTED.with(|state| state.set(Some((0, true))));
+        let _ = options.parse(["x"]);
+        return;
+    }
+    let mut program = std::process::Command::new(std::env::current_exe().unwrap());
+    program.args(["--exact", "out_of_memory_ends_the_process"]).env("OUT_OF_MEMORY", "");
+    let done = program.output().unwrap();
+    assert_eq!(String::from_utf8_lossy(&done.stderr), "memory allocation failed\n");
+    assert!(!done.status.success());
+}
+
 /// Options with four groups and `more` others. Only sorting more than 20 names allocates.
 fn options(more: usize) -> Options {
     let mut options = Options::new(Global);
