@@ -215,23 +215,27 @@ def test_package(folder, tmp_path):
 
 
 def test_git_dependency(tmp_path):
-    """From a git URL, with the README's lines and flags: `proved-getopts` as a dependency, `getopts` as a patch of the
-    crate getopts, and both."""
+    """From a git URL, with the README's lines and flags: `proved-getopts` as a dependency, as an optional one, `getopts`
+    as a patch of the crate getopts, with the feature that Rust's own library asks for, and both. Documentation too."""
     need_cargo(RUST)
     clone = copy_folders(tmp_path / "clone", "bindings") / "bindings"
     url, page = commit_repository(clone), (RUST / "README.md").read_text()
     page = page.replace("URL", url).replace("COMMIT", run("git", "rev-parse", "HEAD", cwd=clone)[0].strip())
     manifest, flags = (re.search(rf"^```{kind}\n(.*?)^```", page, re.M | re.S)[1] for kind in ("toml", "sh"))
-    (direct, patch), renamed = manifest.split("\n\n"), re.search(r"`(proved = .*?)`", page)[1]
-    original = '[dependencies]\ngetopts = "0.2"\n'
-    for name, dependencies in (("direct", direct), ("patch", original + patch), ("both", f"{original}{renamed}\n{patch}")):
+    (direct, patch), (renamed, optional) = manifest.split("\n\n"), re.findall(r"`(\w+ = \{ package .*?)`", page)
+    original = '[dependencies]\ngetopts = { version = "0.2", features = ["rustc-dep-of-std"] }\n'
+    optional = f'[features]\ndefault = ["getopts"]\n[dependencies]\n{optional}'
+    both = f"{original}{renamed}\n{patch}"
+    for name, dependencies in {"direct": direct, "optional": optional, "patch": original + patch, "both": both}.items():
         (tmp_path / name / "src").mkdir(parents=True)
         kind = "proved" if name == "both" else "getopts"
         (tmp_path / name / "src/main.rs").write_text(f"fn main() {{ let _: {kind}::Options = getopts::Options::new(); }}\n")
         head = f'package = {{ name = "{name}", version = "0.0.0", edition = "2021" }}\n'
         (tmp_path / name / "Cargo.toml").write_text(head + dependencies)
         env = {"CARGO_HOME": str(tmp_path / "home"), "CARGO_TARGET_DIR": str(tmp_path / "target")}
-        run("cargo", "run", *(shlex.split(flags) if offline() else []), cwd=tmp_path / name, env=env)
+        words = ["doc", "-p", "proved-getopts"] if name == "patch" else ["run"]
+        run("cargo", *words, *(shlex.split(flags) if offline() else []), cwd=tmp_path / name, env=env)
+    assert (tmp_path / "target/doc/getopts/struct.Matches.html").exists()
 
 
 @pytest.fixture(scope="module")
