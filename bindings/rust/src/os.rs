@@ -129,9 +129,20 @@ impl Options {
             plain,
             |texts| answer(texts, false),
             |_, words| {
-                let texts = words.map(text_of).collect::<Result<Vec<_>, _>>()?;
-                let texts: Vec<&str> = texts.iter().map(|text| &**text).collect();
-                answer(&texts, true)
+                let words: Vec<_> = words.collect();
+                let texts =
+                    words.iter().map(|word| text_of(word)).collect::<Result<Vec<_>, _>>()?;
+                let given = answer(&borrowed(&texts), true);
+                // The first mark of an encoded character in a cluster: the character has a name.
+                if matches!(&given, Err(Fail::UnrecognizedOption(name)) if name == "\u{FFFD}") {
+                    let texts: Vec<_> = words.iter().map(|word| word.to_string_lossy()).collect();
+                    if let Err(fail @ proved::Fail::UnrecognizedOption(_)) =
+                        ask(&self.proved, &borrowed(&texts))
+                    {
+                        return Err(Fail::of(fail));
+                    }
+                }
+                given
             },
         )
     }
@@ -318,6 +329,10 @@ impl fmt::Debug for OsMatches {
 fn plain(word: &OsStr) -> Option<&str> {
     let is_plain = |text: &&str| text.is_ascii() || plain_text(text.as_bytes()).is_some();
     word.to_str().filter(is_plain)
+}
+
+fn borrowed<'t>(texts: &'t [Cow<'_, str>]) -> Vec<&'t str> {
+    texts.iter().map(|text| &**text).collect()
 }
 
 /// A word as text: itself, or encoded by marks.

@@ -132,6 +132,14 @@ fn errors_have_text() {
         let fail = options().parse_os_ignoring_counts([word.clone(), joined("-x", word)]);
         assert_eq!(fail.unwrap_err(), Fail::UnrecognizedOption("x".into()));
     }
+    // Characters whose encodings are marks.
+    for line in
+        [["-v\u{10FFFF}\u{10FF80}", ""], ["-o\u{10FF80}", "-\u{10FFFF}"], ["x", "-v\u{10FFFF}=x"]]
+    {
+        let wanted = Fail::UnrecognizedOption("\u{10FFFF}".into());
+        assert_eq!(options().parse_os(line).unwrap_err(), wanted);
+        assert_eq!(options().parse(line).unwrap_err(), wanted);
+    }
     // Where arguments have to be UTF-8, any other is an error.
     #[cfg(target_os = "wasi")]
     {
