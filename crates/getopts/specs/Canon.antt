@@ -104,7 +104,8 @@ pub record ReadsBack (options : Declared) (content : Content) : Type 0 where
   pub same : content_of options (canonical_reading options.groups content) ≡ content
 
 -- The content is sound. Its canonical line reads back in both styles and both modes, says no other
--- content, and isn't the canonical line of another sound and plain content.
+-- content, and isn't the canonical line of another sound and plain content. Whatever content this
+-- line says, that content's canonical line is this line again.
 -- These are the laws of the canonical line of a plain content that some line says.
 pub record HasCanonicalLine (options : Declared) (content : Content) : Type 0 where
   pub sound : IsSound options.groups content
@@ -113,6 +114,8 @@ pub record HasCanonicalLine (options : Declared) (content : Content) : Type 0 wh
   pub says_nothing_else : (other : Content)
       → Says options (canonical_line options.groups content) other
       → other ≡ content
+  pub again : (other : Content) → Says options (canonical_line options.groups content) other
+      → canonical_line options.groups other ≡ canonical_line options.groups content
   pub only : (other : Content) → IsSound options.groups other → IsPlain options.groups other
       → (canonical_line options.groups other ≡ canonical_line options.groups content)
       ↔ (other ≡ content)

@@ -493,6 +493,7 @@ HasCanonicalLine-says options words content lawful named says plain =
       sound = sound;
       reads_back = back;
       says_nothing_else = nothing_else;
+      again = λ other is. ap (canonical_line options.groups) (nothing_else other is);
       only = λ other sound_other plain_other.
           canonical_line-same options.groups other content lawful sound_other plain_other sound
           plain;
