@@ -5,7 +5,7 @@
 #
 # As root, it first installs the packages of tests/packages.txt that are missing, and unpacks a newer Rust if Debian 12 has
 # only rustc 1.63. If there is no pytest, pip installs it. Both are put into ~/.cache/proved-getopts, since `rt ci` refuses
-# a repository that contains links. --no-install leaves all this out.
+# a repository that contains links. The first line of its output names all this. --no-install leaves it out.
 #
 # CRATE is a folder with the Rust crate getopts 0.2.24, to compare with. --quick proves nothing: programs run unproved,
 # tests of built programs run only if these exist, other targets are left out, and there are fewer random cases. Without
@@ -52,16 +52,18 @@ find_pytest() {
         "$python" -c 'import pytest, pytest_timeout, xdist' 2>/dev/null && return
     done
 }
+packages='' unpack='' news=''
 if [ "$install" ] && [ "$(id -u)" = 0 ] && command -v apt-get >/dev/null; then
-    if lacking >/dev/null 2>&1; then
-        echo "test.sh: installing what is missing of tests/packages.txt (--no-install leaves that out)"
-        install_packages 2>&1 | sed -n 's/^E: /test.sh: apt-get: /p' | tail -1
-    fi
-    if rust_older 85 && [ ! -x "$rust/usr/bin/rustc" ] && grep -qs '^VERSION_CODENAME=bookworm' /etc/os-release; then
-        echo "test.sh: unpacking Rust 1.85 into $rust (--no-install leaves that out)"
-        { unpack_rust || { apt-get update && unpack_rust; }; } 2>&1 | sed -n 's/^E: /test.sh: apt-get: /p' | tail -1
-    fi
+    packages=$(lacking 2>/dev/null | xargs)
+    ! rust_older 85 || [ -x "$rust/usr/bin/rustc" ] || ! grep -qs '^VERSION_CODENAME=bookworm' /etc/os-release || unpack=1
+    news="${packages:+, the Debian packages $packages}${unpack:+, Rust 1.85 into $rust}"
+elif [ "$install" ] && ! find_pytest; then
+    news=", pytest into $own"
 fi
+[ -z "$news" ] || echo "test.sh: about to install (--no-install leaves this out)${news/,/:}"
+apt_errors() { sed -n 's/^E: /test.sh: apt-get: /p' | tail -1; }
+[ -z "$packages" ] || install_packages 2>&1 | apt_errors
+[ -z "$unpack" ] || { unpack_rust || { apt-get update && unpack_rust; }; } 2>&1 | apt_errors
 if rust_older 85 && [ -x "$rust/usr/bin/rustc" ]; then
     libraries=$rust/usr/lib/$(uname -m)-linux-gnu:$rust/lib/$(uname -m)-linux-gnu
     export PATH=$rust/usr/bin:$PATH LD_LIBRARY_PATH=$libraries${LD_LIBRARY_PATH:+:$LD_LIBRARY_PATH}
