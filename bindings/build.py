@@ -105,8 +105,10 @@ def shell(check):
             build(processor, f"{built}.o")
             link(processor, built, f"{built}.o")
             to.parent.mkdir(exist_ok=True)
-            shutil.copyfile(built, to)
-            to.chmod(0o755)
+            # A copy that replaces the old file: a test may be running that one.
+            shutil.copyfile(built, f"{to}.new")
+            os.chmod(f"{to}.new", 0o755)
+            os.replace(f"{to}.new", to)
             Path(f"{to}.sha256").write_text(f"{sum_of(to)}  {to.name}\n")
             print(f"built {to.relative_to(ROOT)}")
     kept.write_text("\n".join(sums()) + "\n")
