@@ -296,6 +296,8 @@ def main(words):
         for name, count in shell(*words[1:]).items():
             print(f"{name}: {count}")
     elif words and not words[0].startswith("-"):
+        if words[1:] == ["--getopts"]:
+            sys.exit("bench.py: --getopts needs a folder with the Rust crate getopts")
         getopts = words[2] if words[1:2] == ["--getopts"] else None
         tables(words[0], getopts, words[3 if getopts else 1:])
     else:

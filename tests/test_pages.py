@@ -391,7 +391,8 @@ def test_width_of_comments():
 
 def test_shell_scripts():
     need("shellcheck")
-    run("shellcheck", *(name for name in tracked if name.endswith(".sh")), cwd=ROOT)
+    scripts = (name for name in tracked if re.match(rb"#!.*[ /](ba)?sh\n", (ROOT / name).read_bytes()))
+    run("shellcheck", *scripts, cwd=ROOT)
 
 
 @pytest.mark.parametrize("manifest", [name for name in tracked if name.endswith("/Cargo.toml")])
