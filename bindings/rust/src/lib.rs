@@ -139,6 +139,8 @@ pub use matches::Matches;
 pub use options::Options;
 #[cfg(feature = "std")]
 pub use os::OsMatches;
+#[cfg(all(feature = "std", feature = "proved"))]
+pub use os::bytes_of;
 pub use proved::{HasArg, Occur, ParsingStyle};
 
 /// Tests the examples in the README.

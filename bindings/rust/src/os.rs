@@ -370,8 +370,12 @@ fn shown(fail: Fail) -> Fail {
     }
 }
 
+/// The bytes of an argument.
+///
+/// # Errors
+/// Fails on systems other than Unix and Windows, if the argument isn't UTF-8.
 #[cfg(unix)]
-fn bytes_of(word: &OsStr) -> Result<Cow<'_, [u8]>, Fail> {
+pub fn bytes_of(word: &OsStr) -> Result<Cow<'_, [u8]>, Fail> {
     Ok(Cow::Borrowed(std::os::unix::ffi::OsStrExt::as_bytes(word)))
 }
 
@@ -380,10 +384,10 @@ fn word_of(bytes: Vec<u8>) -> OsString {
     std::os::unix::ffi::OsStringExt::from_vec(bytes)
 }
 
-/// The bytes of a word. A lone surrogate is encoded as three bytes (WTF-8), which aren't valid
+/// The bytes of an argument. A lone surrogate is encoded as three bytes (WTF-8), which aren't valid
 /// UTF-8.
 #[cfg(windows)]
-fn bytes_of(word: &OsStr) -> Result<Cow<'_, [u8]>, Fail> {
+pub fn bytes_of(word: &OsStr) -> Result<Cow<'_, [u8]>, Fail> {
     let mut bytes = Vec::new();
     for unit in char::decode_utf16(std::os::windows::ffi::OsStrExt::encode_wide(word)) {
         match unit {
@@ -417,8 +421,9 @@ fn word_of(bytes: Vec<u8>) -> OsString {
     std::os::windows::ffi::OsStringExt::from_wide(&units)
 }
 
+/// The bytes of an argument, if it is UTF-8.
 #[cfg(not(any(unix, windows)))]
-fn bytes_of(word: &OsStr) -> Result<Cow<'_, [u8]>, Fail> {
+pub fn bytes_of(word: &OsStr) -> Result<Cow<'_, [u8]>, Fail> {
     match word.to_str() {
         Some(text) => Ok(Cow::Borrowed(text.as_bytes())),
         None => Err(Fail::UnrecognizedOption(format!("{word:?}"))),

@@ -4,7 +4,7 @@ pub use ::getopts::fallible::*;
 
 use self::alloc::{AllocError, Global};
 use self::env::{Env, FillError};
-use std::ffi::OsString;
+use ::getopts::bytes_of;
 use std::fmt;
 
 /// Rattle's `std::alloc`.
@@ -44,8 +44,12 @@ pub struct HostRuntime {
 
 impl HostRuntime {
     pub fn new() -> HostRuntime {
+        let words = std::env::args_os().map(|word| {
+            let bytes = bytes_of(&word).expect("arguments should be Unicode");
+            bytes.into_owned()
+        });
         HostRuntime {
-            words: std::env::args_os().map(bytes_of).collect(),
+            words: words.collect(),
         }
     }
 
@@ -65,38 +69,6 @@ impl Env for HostRuntime {
         buffer.copy_from_slice(word);
         Ok(word.len())
     }
-}
-
-#[cfg(unix)]
-fn bytes_of(word: OsString) -> Vec<u8> {
-    std::os::unix::ffi::OsStringExt::into_vec(word)
-}
-
-/// The bytes of an argument. A lone surrogate is encoded as three bytes (WTF-8), which aren't valid
-/// UTF-8.
-#[cfg(windows)]
-fn bytes_of(word: OsString) -> Vec<u8> {
-    let mut bytes = Vec::new();
-    for unit in char::decode_utf16(std::os::windows::ffi::OsStrExt::encode_wide(&*word)) {
-        match unit {
-            Ok(character) => bytes.extend(character.encode_utf8(&mut [0; 4]).bytes()),
-            Err(half) => {
-                let half = half.unpaired_surrogate();
-                let parts = [half >> 6 & 0x3F, half & 0x3F];
-                bytes.push(0xED);
-                bytes.extend(parts.map(|part| 0x80 | part as u8));
-            }
-        }
-    }
-    bytes
-}
-
-/// The bytes of an argument. On other systems, arguments have to be Unicode.
-#[cfg(not(any(unix, windows)))]
-fn bytes_of(word: OsString) -> Vec<u8> {
-    word.into_string()
-        .expect("arguments should be Unicode")
-        .into_bytes()
 }
 
 /// Trims ASCII white space. Rust has its own `trim_ascii` since 1.80.
@@ -183,8 +155,8 @@ mod tests {
     #[test]
     fn lone_surrogates_become_three_bytes() {
         let units = [0xD83D, 0xDE00, 0xD83D, 0x61, 0xDFFF];
-        let word = std::os::windows::ffi::OsStringExt::from_wide(&units);
-        let bytes = super::bytes_of(word);
-        assert_eq!(bytes, b"\xF0\x9F\x98\x80\xED\xA0\xBDa\xED\xBF\xBF");
+        let word: std::ffi::OsString = std::os::windows::ffi::OsStringExt::from_wide(&units);
+        let bytes = super::bytes_of(&word).unwrap();
+        assert_eq!(*bytes, *b"\xF0\x9F\x98\x80\xED\xA0\xBDa\xED\xBF\xBF");
     }
 }
