@@ -12,7 +12,7 @@ import shlex
 import time
 
 import pytest
-from conftest import answer, need, run, script
+from conftest import ROOT, answer, need, run, script
 from model import Group, Options
 
 TABLE = """
@@ -73,7 +73,7 @@ def room(shell, tmp_path):
     for folder in ("bin", "here", "site"):
         (tmp_path / folder).mkdir()
     (tmp_path / "bin/getopts_shell").symlink_to(shell)
-    for name in FLAGS:
+    for name in [*FLAGS, "notes"]:
         script(tmp_path / "bin" / name, '#!/bin/sh\nprintf "%s\\0" "$@" >>"$LOG"\nprintf "\\001" >>"$LOG"\n')
     for name in NAMES:
         (tmp_path / "here" / name).write_text("")
@@ -121,6 +121,9 @@ class Terminal:
             code, errors = run(room / "bin/getopts_shell", *flags.split(), "--complete", name, command, TABLE)
             assert not errors
             (room / "site" / f"_{command}").write_text(code)
+        code, _ = run("sh", ROOT / "bindings/shell/examples/notes", "--completion", name,
+                      env={"PATH": f"{room}/bin:{os.environ['PATH']}"})
+        (room / "site/_notes").write_text(code)
         read = 'for file in "$HOME"/site/*; do eval "$(cat "$file")"; done\n'
         home.write_text({
             "bash": "set -u\nPS1='> '\nbind 'set show-all-if-ambiguous on'\nbind 'set completion-query-items 0'\n"
@@ -211,4 +214,22 @@ def test_completion_in_a_terminal(room, name, files):
         form, description = line.split("\t")
         assert form in shown and " ".join(description.split()) in shown
     assert "--help" not in shown
+    terminal.close()
+
+
+# Lines of the example with subcommands, and their arguments after completion.
+NOTES = {"ad": ["add"], "--fi": ["--file"], "-f fi": ["-f", "file.txt"], "add --t": ["add", "--tag"],
+         "add x -tb --he": ["add", "x", "-tb", "--help"], "list --nu": ["list", "--number"], "list --t": ["list", "--t"],
+         "add fi": ["add", "file.txt"], "add -h --he": ["add", "-h", "--he"]}
+
+
+@pytest.mark.parametrize("name", ["bash", "zsh", "fish"])
+def test_completion_of_subcommands(room, name):
+    need(name)
+    terminal = Terminal(name, room, False)
+    terminal.type("backup ready\r")
+    for typed, wanted in NOTES.items():
+        got, shown = terminal.type(f"notes {typed}\t\r")
+        assert got == wanted, shown
+        assert not re.search("command not found|unbound|getopts_shell", shown), typed
     terminal.close()
