@@ -259,6 +259,8 @@ def test_scripts_on_page(program, one_shell, tmp_path, monkeypatch):
     """The README's first script, its two loops over options, one with output added, and the examples."""
     page = (SHELL / "README.md").read_text()
     (first, loop), values = re.findall(r"```sh\n(.*?)```", page, re.S)[:2], re.search(r"^    show_folders.*\n.*\n", page, re.M)[0]
+    begin = run(program, "--variables", "opt_", "backup", first.split("'")[1], "-vv", "x", "-i", "a b")[0].splitlines(True)
+    assert textwrap.indent("".join(begin[:5]), "    ") in page and f"`{begin[-1].strip()}`" in page
     show = "printf '%s\\n' \"$input|$output|$verbose|$color|$folders\"\nfor word do printf '%s\\n' \"$word\"; done\n"
     (tmp_path / "first").write_text(first)
     (tmp_path / "values").write_text(first.replace("for file", values + "for file"))
