@@ -441,8 +441,26 @@ def test_damaged_binary(checked_in, tmp_path):
     folder = copy_folders(tmp_path, "bindings/shell") / "bindings/shell"
     with open(folder / MACHINE / "getopts_shell", "ab") as binary:
         binary.write(b"x")
-    assert "did NOT match" in run("sh", folder / "install.sh", tmp_path / "to", status=1)[1]
+    errors = run("sh", folder / "install.sh", tmp_path / "to", status=1)[1]
+    assert errors == (f"install.sh: {MACHINE}/getopts_shell is damaged: run 'git checkout -- {MACHINE}' in {folder}, "
+                      "or clone the repository again\n")
     assert not (tmp_path / "to").exists()
+
+
+def test_failed_copy(checked_in, tmp_path):
+    """If a file can't be written, nothing is left of it, and the installed one stays."""
+    run("sh", SHELL / "install.sh", tmp_path / "to")
+    script(tmp_path / "cat", '#!/bin/sh\nhead -c 9 "$1"; echo "no space left" >&2; exit 1\n')
+    errors = run("sh", SHELL / "install.sh", tmp_path / "to", status=1, env={"PATH": f"{tmp_path}:{os.environ['PATH']}"})[1]
+    assert errors == f"no space left\ninstall.sh: can't write {tmp_path}/to/bin/getopts_shell\n"
+    assert os.listdir(tmp_path / "to/bin") == ["getopts_shell"]
+    assert (tmp_path / "to/bin/getopts_shell").read_bytes() == checked_in.read_bytes()
+
+
+@pytest.mark.parametrize("word", ["--help", "-h"])
+def test_help_of_install(word):
+    comment = re.match(r"#!.*\n((?:#.*\n)+)", (SHELL / "install.sh").read_text())[1]
+    assert run("sh", SHELL / "install.sh", word) == (re.sub("^# ?", "", comment, flags=re.M), "")
 
 
 @pytest.mark.parametrize("words", [[], [""], ["--nope"], ["a", "b"], ["--uninstall"]])

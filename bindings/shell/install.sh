@@ -1,11 +1,24 @@
 #!/bin/sh
-# Installs the program for this machine's processor, its manual page and examples, or removes them.
-# usage: install.sh [--uninstall] PREFIX
+# Installs the program for this machine's processor, or removes it:
+#
+#     bindings/shell/install.sh [--uninstall] PREFIX
+#
+# - PREFIX/bin: getopts_shell
+# - PREFIX/share/man/man1: getopts_shell.1, generated from README.md
+# - PREFIX/share/doc/getopts_shell: examples and licences
+#
 # Files are written below DESTDIR. MACHINE selects another processor, by the name that `uname -m` prints.
 set -eu
 unset CDPATH
+fail() {
+    echo "install.sh: $1" >&2
+    exit 1
+}
 remove='' licences='LICENSE-musl ../../LICENSE-MIT ../../LICENSE-APACHE ../../NOTICE' examples='backup notes'
-[ "${1-}" != --uninstall ] || { remove=yes; shift; }
+case ${1-} in
+--help | -h) sed -n '2,/^[^#]/s/^# \{0,1\}//p' "$0"; exit ;;
+--uninstall) remove=yes; shift ;;
+esac
 [ $# = 1 ] || set -- ''
 case $1 in
 '' | -*) echo "usage: install.sh [--uninstall] PREFIX" >&2; exit 2 ;;
@@ -24,27 +37,27 @@ if [ -n "$remove" ]; then
 fi
 cd "$(dirname "$0")"
 if [ -z "${MACHINE-}" ] && [ "$(uname -s)" != Linux ]; then
-    echo "install.sh: no binary for $(uname -s), only for Linux; see README.md for building with cargo" >&2
-    exit 1
+    fail "no binary for $(uname -s), only for Linux; see README.md for building with cargo"
 fi
 machine=${MACHINE:-$(uname -m)}
 case $machine in amd64) machine=x86_64 ;; arm64) machine=aarch64 ;; esac
 if [ ! -f "$machine/getopts_shell" ]; then
-    [ -d x86_64 ] || { echo "install.sh: don't run this script through a symbolic link" >&2; exit 1; }
+    [ -d x86_64 ] || fail "don't run this script through a symbolic link"
     echo "install.sh: no binary for $machine, only for" */getopts_shell | sed 's|/getopts_shell||g' >&2
     exit 1
 fi
-(cd "$machine" && sha256sum -c getopts_shell.sha256 >/dev/null)
+sum=$(sha256sum <"$machine/getopts_shell")
+read -r wanted _ <"$machine/getopts_shell.sha256"
+[ "${sum%% *}" = "$wanted" ] ||
+    fail "$machine/getopts_shell is damaged: run 'git checkout -- $machine' in $PWD, or clone the repository again"
 mkdir -p "$to/bin" "$to/share/man/man1" "$papers/examples"
 # put FILE PLACE MODE: replaces a file only once the new one is complete. FILE may be - for standard input.
 put() {
-    if [ -d "$2" ]; then
-        echo "install.sh: $2 is a folder" >&2
-        exit 1
+    [ ! -d "$2" ] || fail "$2 is a folder"
+    if ! { cat "$1" >"$2.new" && chmod "$3" "$2.new" && mv -f "$2.new" "$2"; }; then
+        rm -f "$2.new"
+        fail "can't write $2"
     fi
-    cat "$1" >"$2.new"
-    chmod "$3" "$2.new"
-    mv -f "$2.new" "$2"
 }
 put "$machine/getopts_shell" "$program" 755
 text=$(awk -f man.awk README.md)
