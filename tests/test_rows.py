@@ -6,13 +6,17 @@ import pytest
 from conftest import ROWS, VECTORS, run
 from model import answer_rows, rows_of
 
-# Invalid rows, and their errors.
-WRONG = {"nope": "unknown word", "style\tother": "wrong fields", "mode": "wrong fields", "opt_str": "wrong fields",
-         "optflag\ta": "wrong fields", "optopt\ta\tall\tall": "wrong fields", "words\ta\\q": "wrong escape",
-         "opt\ta\tall\tall\tH\tyess\tmulti": "wrong fields", "opt\ta\tall\tall\tH\tyes\toften": "wrong fields",
-         "optflag\tab\t\td": "unlawful names", "same\toptions": "wrong fields", "wrap\tten\ttext": "wrong fields",
-         "usage_in\tten\tbrief": "wrong fields",
-         "occurrences_at\t0": "wrong fields", "keep\tit": "wrong fields", "parse_unless": "wrong fields"}
+# Errors, with rows that cause them.
+WRONG = {
+    "unknown word or wrong number of fields": [
+        "nope", "mode", "opt_str", "optflag\ta", "optopt\ta\tall\tall", "occurrences_at", "keep\tit", "parse_unless",
+        "case"],
+    "wrong fields": [
+        "style\tother", "opt\ta\tall\tall\tH\tyess\tmulti", "opt\ta\tall\tall\tH\tyes\toften", "same\toptions",
+        "wrap\tten\ttext", "occurrences_at\tx\t0", "usage_in\tten\tbrief"],
+    "wrong escape": ["words\ta\\q"],
+    "unlawful names": ["optflag\tab\t\td"],
+}
 
 
 @pytest.fixture
@@ -53,10 +57,21 @@ def test_library_matches_stored_rows(vectors):
     assert said == (VECTORS / "stdout").read_text()
 
 
-@pytest.mark.parametrize("row", WRONG)
-def test_invalid_row(compare, row):
-    said, why = compare(b"case\tone\n" + row.encode() + b"\n", status=2)
-    assert why == f"getopts_vectors: line 2: {WRONG[row]}\n"
+@pytest.mark.parametrize("error, row", [(error, row) for error, rows in WRONG.items() for row in rows])
+def test_invalid_row(compare, error, row):
+    text = b"case\tone\noptflag\ta\t\td\nwords\n> accepted\t-\n" + row.encode() + b"\n"
+    assert compare(text, status=2)[1] == f"getopts_vectors: line 5: {error}\n"
+
+
+def test_difference(compare):
+    """An answer that isn't as expected is reported, also if others are."""
+    said, _ = compare(b"case\tone\nlawful\ta\t\n> lawful\ttrue\nlawful\tab\t\n> lawful\ttrue\n", status=1)
+    assert said == "some.rows: line 4 of one, expected:\nlawful\ttrue\nanswered:\nlawful\tfalse\n1 differ\n"
+
+
+@pytest.mark.parametrize("rows", [b"", b"case\tone\n", b"# case\tone\n"])
+def test_rows_without_answers(compare, rows):
+    assert compare(rows, status=2)[1] == "getopts_vectors: a file has no answers\n"
 
 
 def test_row_before_first_case(compare):

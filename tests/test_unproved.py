@@ -1,5 +1,6 @@
 """Tests without proofs: programs with their stored arguments, the crates' own tests, and a changed program."""
 
+import re
 import subprocess
 
 import pytest
@@ -47,7 +48,7 @@ def test_cases_without_zero_width_character(tmp_path):
     text = source.read_text(encoding="utf-8")
     assert text.count(".width() == 0") == 1
     source.write_text(text.replace(".width() == 0", ".width() == usize::MAX"), encoding="utf-8")
-    case = "case\t{0}\nlawful\ta\t{0}\n> lawful\ttrue\n"
+    case = "case\t{0}\nlawful\ta\t\n> lawful\ttrue\nlawful\t\t{0}\n> lawful\tfalse\n"
     (tmp_path / "some.rows").write_text("".join(map(case.format, ["one", "two{Z}", "three", "four{Z}"])))
-    said, _ = rt_try("getopts_vectors", "--", tmp_path / "some.rows", root=copy)
-    assert said.endswith("2 cases, 2 questions, 2 expected lines, 0 differ\n")
+    said, _ = rt_try("getopts_vectors", "--", tmp_path / "some.rows", status=1, root=copy)
+    assert re.findall(r"line \d+ of (.*), expected:", said) == ["one", "three"] and said.endswith("\n2 differ\n")

@@ -5,8 +5,8 @@ ghost use Rattle.std.specs.String.{string_bytes};
 ghost use Rattle.getopts.specs.Accessors.{AreDefined, IsDefined};
 ghost use Rattle.getopts.specs.Names.{texts};
 
-use crate::form::{Answer, Field, field_at};
-use crate::stop::{Stop, WRONG_FIELDS};
+use crate::form::{Answer, Field};
+use crate::stop::{Stop, UNKNOWN_LINE, WRONG_FIELDS};
 use getopts::{Matches, Occurrences};
 use std::alloc::{AllocError, Global};
 use std::str::FromStr;
@@ -30,19 +30,16 @@ pub fn has(word: &str) -> bool {
 
 /// Answers a line that asks about parsed words.
 pub fn ask(alloc: Global, matches: &Matches, word: &str, fields: &[String], answer: &mut Answer) {
-    match word {
-        "any" => any(alloc, matches, fields, answer),
-        "occurrences_at" => occurrences_at(
-            matches,
-            field_at(fields, 0),
-            field_at(fields, 1),
-            answer,
-        ),
-        _ => {
-            let name = field_at(fields, 0);
-            answer.field(name);
-            ask_by_name(alloc, matches, word, name, field_at(fields, 1), answer);
+    match (word, fields) {
+        ("any", names) => any(alloc, matches, names, answer),
+        ("occurrences_at", [place, nth]) => {
+            occurrences_at(matches, place.as_str(), nth.as_str(), answer)
         }
+        (_, [name, rest @ ..]) => {
+            answer.field(name.as_str());
+            ask_by_name(alloc, matches, word, name.as_str(), rest, answer);
+        }
+        _ => answer.stop(UNKNOWN_LINE),
     }
 }
 
@@ -52,15 +49,13 @@ fn ask_by_name(
     matches: &Matches,
     word: &str,
     name: &str,
-    default: &str,
+    rest: &[String],
     answer: &mut Answer,
 ) {
-    match word {
-        "opt_defined" => matches.opt_defined(name).put(answer),
-        "opt_place" => matches.opt_place(name).put(answer),
-        _ if matches.opt_defined(name) => ask_of_option(
-            alloc, matches, word, name, default, answer,
-        ),
+    match (word, rest) {
+        ("opt_defined", []) => matches.opt_defined(name).put(answer),
+        ("opt_place", []) => matches.opt_place(name).put(answer),
+        _ if matches.opt_defined(name) => ask_of_option(alloc, matches, word, name, rest, answer),
         _ => answer.field("undefined"),
     }
 }
@@ -71,24 +66,26 @@ fn ask_of_option(
     matches: &Matches,
     word: &str,
     name: &str,
-    default: &str,
+    rest: &[String],
     answer: &mut Answer,
 )
     requires { IsDefined matches.now.groups name.now }
 {
-    match word {
-        "opt_present" => matches.opt_present(name).put(answer),
-        "opt_count" => matches.opt_count(name).put(answer),
-        "opt_str" => answer.given(matches.opt_str(alloc, name)),
-        "opt_strs" => answer.given(matches.opt_strs(alloc, name)),
-        "opt_positions" => answer.given(matches.opt_positions(alloc, name)),
-        "opt_strs_pos" => answer.given(matches.opt_strs_pos(alloc, name)),
-        "positions" => {
+    match (word, rest) {
+        ("opt_present", []) => matches.opt_present(name).put(answer),
+        ("opt_count", []) => matches.opt_count(name).put(answer),
+        ("opt_str", []) => answer.given(matches.opt_str(alloc, name)),
+        ("opt_strs", []) => answer.given(matches.opt_strs(alloc, name)),
+        ("opt_positions", []) => answer.given(matches.opt_positions(alloc, name)),
+        ("opt_strs_pos", []) => answer.given(matches.opt_strs_pos(alloc, name)),
+        ("positions", []) => {
             answer.given(matches.opt_positions(alloc, name));
             answer.next("pairs");
             answer.given(matches.opt_strs_pos(alloc, name));
         }
-        _ => ask_or(alloc, matches, word, name, default, answer),
+        ("unreadable", []) => as_unreadable(matches, name, answer),
+        (_, [default]) => ask_or(alloc, matches, word, name, default.as_str(), answer),
+        _ => answer.stop(UNKNOWN_LINE),
     }
 }
 
@@ -111,8 +108,7 @@ fn ask_or(
         "option" => option(alloc, matches, name, default, answer),
         "number" => number(matches, name, default, answer),
         "truth" => truth(matches, name, default, answer),
-        "unreadable" => as_unreadable(matches, name, answer),
-        _ => answer.stop(WRONG_FIELDS),
+        _ => answer.stop(UNKNOWN_LINE),
     }
 }
 

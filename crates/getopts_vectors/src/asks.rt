@@ -3,9 +3,9 @@
 ghost use Rattle.std.specs.Prelude.{◌≡◌};
 
 use crate::errors::{fault, printed};
-use crate::form::{Answer, Field, field_at, is_taken};
+use crate::form::{Answer, Field, is_taken};
 use crate::iterators::{promised, taken};
-use crate::stop::{Stop, UNKNOWN_WORD, WRONG_FIELDS};
+use crate::stop::{UNKNOWN_LINE, WRONG_FIELDS};
 use getopts::wrap::each_split_within;
 use getopts::{Fail, Options, names_lawful};
 use std::alloc::{AllocError, Global};
@@ -19,29 +19,29 @@ pub fn refused(fail: &Fail, answer: &mut Answer) {
 
 /// Answers a line that asks about options, or needs none.
 pub fn ask(alloc: Global, options: &Options, word: &str, fields: &[String], answer: &mut Answer) {
-    match word {
-        "lawful" => names_lawful(field_at(fields, 0), field_at(fields, 1)).put(answer),
-        "wrap" => wrapped(alloc, field_at(fields, 0), field_at(fields, 1), answer),
-        "short" => answer.given(options.short_usage(alloc, field_at(fields, 0))),
-        "usage" => answer.given(options.usage(alloc, field_at(fields, 0))),
-        "usage_in" => usage_in(
+    match (word, fields) {
+        ("lawful", [short, long]) => names_lawful(short.as_str(), long.as_str()).put(answer),
+        ("wrap", [limit, desc]) => wrapped(alloc, limit.as_str(), desc.as_str(), answer),
+        ("short", [program]) => answer.given(options.short_usage(alloc, program.as_str())),
+        ("usage", [brief]) => answer.given(options.usage(alloc, brief.as_str())),
+        ("usage_in", [columns, brief]) => usage_in(
             alloc,
             options,
-            field_at(fields, 0),
-            field_at(fields, 1),
+            columns.as_str(),
+            brief.as_str(),
             answer,
         ),
-        "rows" => formatted_rows(alloc, options, answer),
-        "usage_rows" => answer.given(options.usage_rows(alloc)),
-        "called" => called(alloc, options, answer),
-        "closures" => closures(alloc, options, answer),
-        "taken" => taken(alloc, options, fields, answer),
-        "error" => printed(alloc, field_at(fields, 0), field_at(fields, 1), answer),
-        "canonical" | "canonical_words" | "canonical_filtered" | "canonical_promised" => {
-            canonical(&written(alloc, options, word, fields), answer)
+        ("rows", []) => formatted_rows(alloc, options, answer),
+        ("usage_rows", []) => answer.given(options.usage_rows(alloc)),
+        ("called", []) => called(alloc, options, answer),
+        ("closures", []) => closures(alloc, options, answer),
+        ("taken", words) => taken(alloc, options, words, answer),
+        ("error", [kind, name]) => printed(alloc, kind.as_str(), name.as_str(), answer),
+        ("canonical" | "canonical_words" | "canonical_filtered" | "canonical_promised", words) => {
+            canonical(&written(alloc, options, word, words), answer)
         }
-        "parse_in_order" => in_order(&options.parse_in_order(alloc, fields), answer),
-        _ => answer.stop(UNKNOWN_WORD),
+        ("parse_in_order", words) => in_order(&options.parse_in_order(alloc, words), answer),
+        _ => answer.stop(UNKNOWN_LINE),
     }
 }
 

@@ -5,7 +5,7 @@ use crate::line::Line;
 use crate::marks;
 use crate::session::Session;
 use crate::short::{put_at_length, put_written_out, put_zero_width};
-use crate::stop::{Stop, UNKNOWN_WORD};
+use crate::stop::{Stop, UNKNOWN_LINE};
 use std::alloc::Global;
 
 /// The beginning of a case in short form.
@@ -15,8 +15,8 @@ const SHORT_CASE: &str = "\n* ";
 const HIGHEST: u32 = 20;
 
 /// The state between lines: the case with its name, the parts of a line, the number of the line
-/// answered last with its actual and expected answers, counts, the report, and whether an
-/// allocation failed between marks.
+/// answered last with its actual and expected answers, whether any answer was as expected, the
+/// number of differences, the report, and whether an allocation failed between marks.
 #[derive(Drop)]
 pub struct Comparison {
     session: Session,
@@ -25,18 +25,10 @@ pub struct Comparison {
     answered: u64,
     answer: Answer,
     expected: Answer,
-    counts: Counts,
+    any_agrees: bool,
+    differences: u64,
     told: Answer,
     refused: bool,
-}
-
-/// The numbers of cases, lines with an answer, expected answers, and differences.
-#[derive(Clone, Copy)]
-struct Counts {
-    cases: u64,
-    questions: u64,
-    answers: u64,
-    differences: u64,
 }
 
 impl Comparison {
@@ -48,12 +40,8 @@ impl Comparison {
             answered: 0,
             answer: Answer::new(alloc),
             expected: Answer::new(alloc),
-            counts: Counts {
-                cases: 0,
-                questions: 0,
-                answers: 0,
-                differences: 0,
-            },
+            any_agrees: false,
+            differences: 0,
             told: Answer::new(alloc),
             refused: false,
         }
@@ -69,11 +57,13 @@ impl Comparison {
         match self.told.stopped() {
             Some(stop) => Err(stop),
             None if self.refused => Err(Stop::NoMemory),
-            None => Ok(self.counts.differences == 0),
+            None if self.differences > 0 => Ok(false),
+            None if self.any_agrees => Ok(true),
+            None => Err(Stop::NoAnswers),
         }
     }
 
-    /// Compares the rows of a text, and reports different answers, and the counts at the end.
+    /// Compares the rows of a text, and reports different answers, and their number at the end.
     pub fn compare_rows(&mut self, alloc: Global, text: &str) {
         match text.split_once(SHORT_CASE) {
             Some((rows, cases)) => {
@@ -156,14 +146,13 @@ impl Comparison {
     /// Stores a line of an expected answer, or a continuation.
     fn expect(&mut self, line: &str) {
         if let Some(text) = line.strip_prefix("> ") {
-            self.counts.answers = self.counts.answers.saturating_add(1);
             self.expected.line(text);
         } else if let Some(text) = line.strip_prefix("| ") {
             self.expected.go_on(text);
         } else if line == "|" {
             self.expected.go_on("");
         } else {
-            self.expected.stop(UNKNOWN_WORD);
+            self.expected.stop(UNKNOWN_LINE);
         }
     }
 
@@ -172,7 +161,7 @@ impl Comparison {
         self.answered = number;
         self.line.cut(alloc, line, &mut self.answer);
         self.line.answer(alloc, &mut self.session, &mut self.answer);
-        self.count();
+        self.note_case();
     }
 
     /// Answers a line between the marks. If an allocation fails, it is answered again after the
@@ -188,26 +177,25 @@ impl Comparison {
             self.refused = true;
             self.line.answer(alloc, &mut self.session, &mut self.answer);
         }
-        self.count();
+        self.note_case();
     }
 
-    /// Counts the line answered last.
-    fn count(&mut self) {
+    /// Notes the name of a case that the last line began, which isn't an answer.
+    fn note_case(&mut self) {
         if let Some(name) = self.line.case_name() {
-            self.counts.cases = self.counts.cases.saturating_add(1);
             self.case.clear();
             self.case.raw(name);
             self.answer.clear();
-        } else if !self.answer.text().is_empty() {
-            self.counts.questions = self.counts.questions.saturating_add(1);
         }
     }
 
     /// Compares the last answer with the expected one, and clears both.
     fn settle(&mut self) {
         if self.answer.text() != self.expected.text() {
-            self.counts.differences = self.counts.differences.saturating_add(1);
+            self.differences = self.differences.saturating_add(1);
             self.tell();
+        } else if !self.answer.text().is_empty() {
+            self.any_agrees = true;
         }
         self.answer.clear();
         self.expected.clear();
@@ -225,15 +213,9 @@ impl Comparison {
         self.told.raw(self.answer.text());
     }
 
-    /// Reports the counts.
+    /// Reports the number of differences.
     fn sum_up(&mut self) {
-        self.told.shown(&self.counts.cases);
-        self.told.raw(" cases, ");
-        self.told.shown(&self.counts.questions);
-        self.told.raw(" questions, ");
-        self.told.shown(&self.counts.answers);
-        self.told.raw(" expected lines, ");
-        self.told.shown(&self.counts.differences);
+        self.told.shown(&self.differences);
         self.told.raw(" differ\n");
     }
 }

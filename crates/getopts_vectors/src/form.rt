@@ -317,14 +317,6 @@ impl Field for Vec<(usize, String)> {
     }
 }
 
-/// The field with this number, or an empty text.
-pub fn field_at(fields: &[String], at: usize) -> &str {
-    match fields.get(at) {
-        Some(field) => field.as_str(),
-        None => "",
-    }
-}
-
 /// Accepts every word. Filtered by this, an iterator doesn't say how many words it has.
 pub fn is_taken(_word: &&str) -> bool {
     true

@@ -1,5 +1,5 @@
 //! Compares the library's answers with those that rows expect: reads the files named by its
-//! arguments, and prints each difference and the number of answers.
+//! arguments, and prints each difference and their number.
 //!
 //! The expected answers come from elsewhere. Those of `data/rules.rows` and `data/large.rows` are
 //! written by hand, from the rules of the Rust crate and from its tests. Those of
@@ -115,9 +115,9 @@
 //!
 //! # Exit status
 //!
-//! 0 if no answer differs, 1 if one does, 2 if a line is invalid or a file can't be read (standard
-//! error says which), 3 if an allocation failed, and 4 if a write failed. The last case of
-//! `data/large.rows` differs on purpose, to show that differences are found.
+//! 0 if no answer differs, 1 if one does, 2 if a line is invalid, or if a file has no answers or
+//! can't be read (standard error says which), 3 if an allocation failed, and 4 if a write failed.
+//! The last case of `data/large.rows` differs on purpose, to show that differences are found.
 #![tactic(auto)]
 
 mod accessors;

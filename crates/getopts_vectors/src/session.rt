@@ -2,9 +2,9 @@
 
 ghost use Rattle.getopts.specs.Names.{AreLawful};
 
-use crate::form::{Answer, Field, field_at, is_taken};
+use crate::form::{Answer, Field, is_taken};
 use crate::iterators::promised;
-use crate::stop::{NO_CASE, Stop, UNLAWFUL_NAMES, WRONG_FIELDS};
+use crate::stop::{NO_CASE, Stop, UNKNOWN_LINE, UNLAWFUL_NAMES, WRONG_FIELDS};
 use crate::{accessors, asks};
 use getopts::{HasArg, Matches, Occur, Options, ParsingStyle, Request, names_lawful};
 use std::alloc::{AllocError, Global};
@@ -96,14 +96,10 @@ impl Session {
 
     /// Executes a line, given its word and its fields, and makes its answer.
     pub fn answer(&mut self, alloc: Global, word: &str, fields: &[String], answer: &mut Answer) {
-        if !takes(word, fields.len()) {
-            answer.stop(WRONG_FIELDS);
-        } else if word == "case" {
-            self.begin(alloc, field_at(fields, 0), answer);
-        } else if self.begun {
-            self.follow(alloc, word, fields, answer);
-        } else {
-            answer.stop(NO_CASE);
+        match (word, fields) {
+            ("case", [name]) => self.begin(alloc, name.as_str(), answer),
+            _ if self.begun => self.follow(alloc, word, fields, answer),
+            _ => answer.stop(NO_CASE),
         }
     }
 
@@ -119,15 +115,17 @@ impl Session {
 
     /// Executes a line of a case.
     fn follow(&mut self, alloc: Global, word: &str, fields: &[String], answer: &mut Answer) {
-        match word {
-            "keep" => self.keep(answer),
-            "anew" => self.side = Side::new(alloc),
-            "style" => self.set_style(field_at(fields, 0), answer),
-            "mode" => self.set_mode(field_at(fields, 0), answer),
-            "clear" => self.clear(answer),
-            "take_trailing" => self.take_trailing(answer),
-            "parse_request" => self.request(alloc, fields, answer),
-            "parse_unless" => self.read_unless(alloc, fields, answer),
+        match (word, fields) {
+            ("keep", []) => self.keep(answer),
+            ("anew", []) => self.side = Side::new(alloc),
+            ("style", [style]) => self.set_style(style.as_str(), answer),
+            ("mode", [mode]) => self.set_mode(mode.as_str(), answer),
+            ("clear", []) => self.clear(answer),
+            ("take_trailing", []) => self.take_trailing(answer),
+            ("parse_request", words) => self.request(alloc, words, answer),
+            ("parse_unless", [flag, words @ ..]) => {
+                self.read_unless(alloc, flag.as_str(), words, answer)
+            }
             _ if reads(word) => self.read(alloc, word, fields, answer),
             _ if declares(word) => declare(&mut self.side.options, word, fields, answer),
             _ => self.ask(alloc, word, fields, answer),
@@ -181,13 +179,9 @@ impl Session {
     }
 
     /// Parses the words after a flag unless they give it, and answers their result.
-    fn read_unless(&mut self, alloc: Global, fields: &[String], answer: &mut Answer) {
-        let Some((flag, words)) = fields.split_first() else {
-            answer.stop(WRONG_FIELDS);
-            return;
-        };
-        match self.side.options.parse_unless(alloc, words, flag.as_str()) {
-            Ok(None) => self.forget_read("given", flag.as_str(), answer),
+    fn read_unless(&mut self, alloc: Global, flag: &str, words: &[String], answer: &mut Answer) {
+        match self.side.options.parse_unless(alloc, words, flag) {
+            Ok(None) => self.forget_read("given", flag, answer),
             Ok(Some(matches)) => self.keep_read(Ok(matches), answer),
             Err(fail) => self.keep_read(Err(fail), answer),
         }
@@ -235,12 +229,10 @@ impl Session {
     /// Answers a question with a line.
     fn ask(&self, alloc: Global, word: &str, fields: &[String], answer: &mut Answer) {
         answer.word(word);
-        if word == "same" {
-            self.same(field_at(fields, 0), answer);
-        } else if accessors::has(word) {
-            self.ask_of_matches(alloc, word, fields, answer);
-        } else {
-            asks::ask(alloc, &self.side.options, word, fields, answer);
+        match (word, fields) {
+            ("same", [what]) => self.same(what.as_str(), answer),
+            _ if accessors::has(word) => self.ask_of_matches(alloc, word, fields, answer),
+            _ => asks::ask(alloc, &self.side.options, word, fields, answer),
         }
         answer.end();
     }
@@ -264,46 +256,6 @@ impl Session {
             Some(matches) => accessors::ask(alloc, matches, word, fields, answer),
             None => answer.field("nothing"),
         }
-    }
-}
-
-/// Whether a line with this word may have this number of fields.
-fn takes(word: &str, count: usize) -> bool {
-    match count_of(word) {
-        Some(wanted) => count == wanted,
-        None => true,
-    }
-}
-
-/// Words, with their number of fields.
-const COUNTS: [(usize, &str); 6] = [
-    (
-        0,
-        "anew called clear closures keep rows take_trailing usage_rows",
-    ),
-    (1, "case mode same short style usage"),
-    (
-        2,
-        "error lawful number occurrences_at opt_default option truth usage_in wrap",
-    ),
-    (3, "optflag optflagmulti"),
-    (4, "optflagopt optmulti optopt reqopt"),
-    (6, "add_group opt"),
-];
-
-/// The number of fields of a word, unless it takes any number or is unknown.
-fn count_of(word: &str) -> Option<usize> {
-    for (count, words) in &COUNTS {
-        for known in words.split(' ') {
-            if known == word {
-                return Some(*count);
-            }
-        }
-    }
-    if accessors::has(word) && word != "any" {
-        Some(1)
-    } else {
-        None
     }
 }
 
@@ -346,91 +298,74 @@ fn declares(word: &str) -> bool {
 
 /// Adds a group with the call of this name.
 fn declare(options: &mut Options, word: &str, fields: &[String], answer: &mut Answer) {
-    let short = field_at(fields, 0);
-    let long = field_at(fields, 1);
-    if !names_lawful(short, long) {
-        answer.stop(UNLAWFUL_NAMES);
-    } else if word == "opt" || word == "add_group" {
-        declare_of_kinds(options, word, short, long, fields, answer);
-    } else if !add(options, word, short, long, fields) {
-        answer.stop(Stop::NoMemory);
-    }
-}
-
-/// Adds a group with the kinds named in the fields.
-fn declare_of_kinds(
-    options: &mut Options,
-    word: &str,
-    short: &str,
-    long: &str,
-    fields: &[String],
-    answer: &mut Answer,
-)
-    requires { AreLawful short.now long.now }
-{
-    match (kind_of(field_at(fields, 4)), occur_of(field_at(fields, 5))) {
-        (Some(kind), Some(occur)) => {
-            if !add_of_kinds(options, word, short, long, fields, kind, occur) {
-                answer.stop(Stop::NoMemory);
+    match fields {
+        [short, long, rest @ ..] => {
+            if !names_lawful(short.as_str(), long.as_str()) {
+                answer.stop(UNLAWFUL_NAMES);
+            } else if let Err(stop) = add(options, word, short.as_str(), long.as_str(), rest) {
+                answer.stop(stop);
             }
         }
-        _ => answer.stop(WRONG_FIELDS),
+        _ => answer.stop(UNKNOWN_LINE),
     }
 }
 
-/// Adds a group of these kinds. Returns whether there was memory for it.
-fn add_of_kinds(
+/// Adds a group with these names and what the other fields say.
+fn add(
     options: &mut Options,
     word: &str,
     short: &str,
     long: &str,
     fields: &[String],
-    kind: HasArg,
-    occur: Occur,
-) -> bool
+) -> Result<(), Stop>
     requires { AreLawful short.now long.now }
 {
-    let desc = field_at(fields, 2);
-    let hint = field_at(fields, 3);
-    if word == "opt" {
-        options.opt(short, long, desc, hint, kind, occur).is_ok()
-    } else {
-        options
-            .add_group(short, long, desc, hint, kind, occur)
-            .is_ok()
-    }
+    let added = match (word, fields) {
+        ("optflag", [desc]) => options.optflag(short, long, desc.as_str()).is_ok(),
+        ("optflagmulti", [desc]) => options.optflagmulti(short, long, desc.as_str()).is_ok(),
+        ("optflagopt", [desc, hint]) => options
+            .optflagopt(short, long, desc.as_str(), hint.as_str())
+            .is_ok(),
+        ("optmulti", [desc, hint]) => options
+            .optmulti(short, long, desc.as_str(), hint.as_str())
+            .is_ok(),
+        ("optopt", [desc, hint]) => options
+            .optopt(short, long, desc.as_str(), hint.as_str())
+            .is_ok(),
+        ("reqopt", [desc, hint]) => options
+            .reqopt(short, long, desc.as_str(), hint.as_str())
+            .is_ok(),
+        ("opt", [desc, hint, kind, occur]) => {
+            let (kind, occur) = (kind_of(kind.as_str())?, occur_of(occur.as_str())?);
+            options
+                .opt(short, long, desc.as_str(), hint.as_str(), kind, occur)
+                .is_ok()
+        }
+        ("add_group", [desc, hint, kind, occur]) => {
+            let (kind, occur) = (kind_of(kind.as_str())?, occur_of(occur.as_str())?);
+            options
+                .add_group(short, long, desc.as_str(), hint.as_str(), kind, occur)
+                .is_ok()
+        }
+        _ => return Err(UNKNOWN_LINE),
+    };
+    if added { Ok(()) } else { Err(Stop::NoMemory) }
 }
 
-/// Adds a group with the call of this name. Returns whether there was memory for it.
-fn add(options: &mut Options, word: &str, short: &str, long: &str, fields: &[String]) -> bool
-    requires { AreLawful short.now long.now }
-{
-    let desc = field_at(fields, 2);
-    let hint = field_at(fields, 3);
-    match word {
-        "optflag" => options.optflag(short, long, desc).is_ok(),
-        "optflagmulti" => options.optflagmulti(short, long, desc).is_ok(),
-        "optflagopt" => options.optflagopt(short, long, desc, hint).is_ok(),
-        "optmulti" => options.optmulti(short, long, desc, hint).is_ok(),
-        "optopt" => options.optopt(short, long, desc, hint).is_ok(),
-        _ => options.reqopt(short, long, desc, hint).is_ok(),
-    }
-}
-
-fn kind_of(kind: &str) -> Option<HasArg> {
+fn kind_of(kind: &str) -> Result<HasArg, Stop> {
     match kind {
-        "yes" => Some(HasArg::Yes),
-        "no" => Some(HasArg::No),
-        "maybe" => Some(HasArg::Maybe),
-        _ => None,
+        "yes" => Ok(HasArg::Yes),
+        "no" => Ok(HasArg::No),
+        "maybe" => Ok(HasArg::Maybe),
+        _ => Err(WRONG_FIELDS),
     }
 }
 
-fn occur_of(occur: &str) -> Option<Occur> {
+fn occur_of(occur: &str) -> Result<Occur, Stop> {
     match occur {
-        "req" => Some(Occur::Req),
-        "optional" => Some(Occur::Optional),
-        "multi" => Some(Occur::Multi),
-        _ => None,
+        "req" => Ok(Occur::Req),
+        "optional" => Ok(Occur::Optional),
+        "multi" => Ok(Occur::Multi),
+        _ => Err(WRONG_FIELDS),
     }
 }

@@ -10,14 +10,16 @@ pub enum Stop {
     Line(u64, &'static str),
     /// A file that can't be read.
     NotRead,
+    /// A file without an answer that is as expected.
+    NoAnswers,
     NoMemory,
     NotWritten,
 }
 
 /// The line isn't UTF-8.
 pub const NOT_TEXT: Stop = Stop::Line(0, "not UTF-8");
-/// The line's word is unknown.
-pub const UNKNOWN_WORD: Stop = Stop::Line(0, "unknown word");
+/// No line has this word and this number of fields.
+pub const UNKNOWN_LINE: Stop = Stop::Line(0, "unknown word or wrong number of fields");
 /// The line's word doesn't take these fields.
 pub const WRONG_FIELDS: Stop = Stop::Line(0, "wrong fields");
 /// The line has an unknown escape, or an unescaped carriage return.
@@ -43,7 +45,7 @@ impl Stop {
     /// The exit status.
     pub fn status(&self) -> u8 {
         match self {
-            Stop::Line(_, _) | Stop::NotRead => 2,
+            Stop::Line(_, _) | Stop::NotRead | Stop::NoAnswers => 2,
             Stop::NoMemory => 3,
             Stop::NotWritten => 4,
         }
@@ -55,6 +57,7 @@ impl fmt::Display for Stop {
         match self {
             Stop::Line(line, why) => write!(f, "line {line}: {why}"),
             Stop::NotRead => write!(f, "a file can't be read"),
+            Stop::NoAnswers => write!(f, "a file has no answers"),
             Stop::NoMemory => write!(f, "out of memory"),
             Stop::NotWritten => write!(f, "can't write"),
         }

@@ -8,7 +8,7 @@ use std::iter::Peekable;
 use std::str::Lines;
 
 /// Lines about calls that the Rust crate doesn't have.
-const NOT_HAD: [&str; 9] = [
+const NOT_HAD: &[&str] = &[
     "opt_place",
     "occurrences_at",
     "parse_in_order",
