@@ -1,5 +1,4 @@
-//! Canonical lines, which are accepted command lines rewritten with main names only, and the order
-//! of options.
+//! Canonical lines, which are accepted command lines rewritten with main names only.
 
 ghost use Rattle.std.specs.Prelude.{◌≡◌, ◌<◌, ℕ, length, map, not, false, IfOk, IfErr};
 ghost use Rattle.std.specs.Prelude.{IfSome, IfNone, OnOk};
@@ -94,19 +93,6 @@ fn option_words(
     Ok(words)
 }
 
-/// The places of the groups of the occurrences.
-fn option_places(alloc: Global, found: &LineOccurrences) -> Result<Vec<usize>, AllocError>
-    ensures { IfOk result (λ places. places.items
-        ≡ map (λ m. m.group) (map (λ o. o.mention) found.now)) }
-{
-    let mut places = Vec::with_capacity(alloc, found.len())?;
-    for place in 0..found.len() {
-        let occurrence = found.at(place);
-        places.push(occurrence.group)?;
-    }
-    Ok(places)
-}
-
 /// The words for the occurrences, then `--`, then the free words.
 fn canonical_line(alloc: Global, groups: &Groups, line: Line) -> Result<Vec<String>, AllocError>
     requires { AllByRecursion (λ o. o.mention.group < length groups.now) line.found }
@@ -127,8 +113,8 @@ impl Options {
     ghost use Rattle.std.specs.Iterator.Runs.{WholeRun};
     ghost use Rattle.getopts.specs.Parse.{IsRefused};
     ghost use Rattle.getopts.specs.Returns.{ReturnsConverted};
-    ghost use Rattle.getopts.specs.Results.{canonical_result, parse_in_order_result};
-    ghost use Rattle.getopts.specs.CanonAnswers.{IsWritten, IsUnwritable, IsOrder, KeepsLineLaws};
+    ghost use Rattle.getopts.specs.Results.{canonical_result};
+    ghost use Rattle.getopts.specs.CanonAnswers.{IsWritten, IsUnwritable, KeepsLineLaws};
     ghost use Rattle.getopts.specs.Theorem.{LinesReadAgain};
 
     /// Rewrites an accepted command line with main names only, for programs that log, compare or
@@ -170,29 +156,6 @@ impl Options {
     {
         let words = words_from(alloc, args)?;
         self.canonical_words(alloc, &words)
-    }
-
-    /// Parses a command line like `parse_words`, but returns its options in the order in which they
-    /// were given.
-    ///
-    /// Use it if the order of different options matters, for example if the last of `-q` and `-v`
-    /// wins. (Positions don't help: options in one word, such as `-vq`, share a position.) Each
-    /// option is returned as its index in the order of declaration, as from `opt_place`. With the
-    /// options `q` and `v`, `["-vq", "x", "-v"]` gives 1, 0 and 1. Free words aren't in the list.
-    /// If an index occurs for the nth time in the list, the option's value is in the nth occurrence
-    /// of `occurrences_at` for that index.
-    ///
-    /// Fails exactly as `parse_words` does. The Rust crate has no such method.
-    pub fn parse_in_order<S: AsStr>(&self, alloc: Global, words: &[S]) -> Result<Vec<usize>, Fail>
-        ensures result { ReturnsConverted (λ places. places.items) result
-            (λ answer. parse_in_order_result self.now (map S.text words.now) ≡ answer) }
-        ensures order { IfOk result (λ places.
-            IsOrder self.now (map S.text words.now) places.items) }
-        ensures refused { IfErr result (λ fail. IsOutOfMemoryOr fail
-            (IsRefused self.now (map S.text words.now))) }
-    {
-        let accepted = self.accepted_line(alloc, words)?;
-        Ok(option_places(alloc, &accepted.line.found)?)
     }
 
     /// Rewrites an accepted command line like `canonical`, from a borrowed list of words.

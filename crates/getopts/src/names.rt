@@ -32,22 +32,6 @@ pub(crate) struct NamesView<'g> {
     pub long: &'g str,
 }
 
-impl<'g> NamesView<'g> {
-    ghost use Rattle.getopts.specs.Names.{main_name};
-    ghost use Rattle.getopts.specs.Stored.Signatures.{names_view};
-
-    /// The main name: the long name or, if that is empty, the short name.
-    pub(crate) fn main(self) -> &'g str
-        ensures { result.now ≡ main_name (names_view self.entry) }
-    {
-        if self.long.is_empty() {
-            self.short
-        } else {
-            self.long
-        }
-    }
-}
-
 /// Packs the first seven bytes of a name into a key, and its length (8 if longer) into the lowest
 /// byte. So keys sort like the names' bytes, and names under eight bytes are equal if their keys
 /// are.

@@ -10,6 +10,7 @@ use crate::counts::check_counts;
 use crate::fail::Fail;
 use crate::index::Index;
 use crate::matches::{Matches, ReadLine};
+use crate::occurrences::LineOccurrences;
 use crate::options::Options;
 use crate::scan::{FIRST_ROOM, Scanner, are_texts};
 use crate::table::Table;
@@ -21,6 +22,8 @@ impl Options {
     ghost use Rattle.getopts.specs.Parse.{IsRefused, HasReading, HasNoReading, KeepsReadingLaws};
     ghost use Rattle.getopts.specs.Returns.{ReturnsConverted, ReturnsResult};
     ghost use Rattle.getopts.specs.Results.{parse_result, parse_ignoring_counts_result};
+    ghost use Rattle.getopts.specs.Results.{parse_in_order_result};
+    ghost use Rattle.getopts.specs.CanonAnswers.{IsOrder};
     ghost use Rattle.getopts.specs.Results.{accepted_reading, reading_or_error};
     ghost use Rattle.getopts.specs.Holds.{FitOptionsAndCounts, FitOptions, Accepts, EndsInTrailing};
     ghost use Rattle.getopts.specs.Stored.Matches.{IsReadLine};
@@ -100,6 +103,29 @@ impl Options {
         self.parse_words(alloc, &words)
     }
 
+    /// Parses a command line like `parse_words`, but returns its options in the order in which they
+    /// were given.
+    ///
+    /// Use it if the order of different options matters, for example if the last of `-q` and `-v`
+    /// wins. (Positions don't help: options in one word, such as `-vq`, share a position.) Each
+    /// option is returned as its index in the order of declaration, as from `opt_place`. With the
+    /// options `q` and `v`, `["-vq", "x", "-v"]` gives 1, 0 and 1. Free words aren't in the list.
+    /// If an index occurs for the nth time in the list, the option's value is in the nth occurrence
+    /// of `occurrences_at` for that index.
+    ///
+    /// Fails exactly as `parse_words` does. The Rust crate has no such method.
+    pub fn parse_in_order<S: AsStr>(&self, alloc: Global, words: &[S]) -> Result<Vec<usize>, Fail>
+        ensures result { ReturnsConverted (λ places. places.items) result
+            (λ answer. parse_in_order_result self.now (map S.text words.now) ≡ answer) }
+        ensures order { IfOk result (λ places.
+            IsOrder self.now (map S.text words.now) places.items) }
+        ensures refused { IfErr result (λ fail. IsOutOfMemoryOr fail
+            (IsRefused self.now (map S.text words.now))) }
+    {
+        let read = self.accepted_line(alloc, words)?;
+        Ok(option_places(alloc, &read.line.found)?)
+    }
+
     /// The matches of a command line, without checking its counts.
     pub(crate) fn read_matches<S: AsStr>(&self, alloc: Global, words: &[S]) -> crate::Result
         ensures result { ReturnsResult result
@@ -156,6 +182,19 @@ impl Options {
         let index = Index::of(alloc, signatures.len(), &line.found)?;
         Ok(ReadLine { table, line, index })
     }
+}
+
+/// The places of the groups of the occurrences.
+fn option_places(alloc: Global, found: &LineOccurrences) -> Result<Vec<usize>, AllocError>
+    ensures { IfOk result (λ places. places.items
+        ≡ map (λ m. m.group) (map (λ o. o.mention) found.now)) }
+{
+    let mut places = Vec::with_capacity(alloc, found.len())?;
+    for place in 0..found.len() {
+        let occurrence = found.at(place);
+        places.push(occurrence.group)?;
+    }
+    Ok(places)
 }
 
 /// The words that an iterator yields, in order. Unlike std's `collect`, this reports every failed

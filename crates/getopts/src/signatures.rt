@@ -306,13 +306,14 @@ impl Signatures {
             self.text.reserve(bytes)?;
         }
         let names = push_pair(&mut self.text, short, long);
-        let key = key_of(NamesView { short, long }.main().as_bytes());
+        let has_long = !long.is_empty();
+        let main = if has_long { long } else { short };
         self.records.push_reserved(SignatureRecord {
             long: names.first,
             end: names.second,
-            key,
+            key: key_of(main.as_bytes()),
             short: short_byte(short),
-            has_long: !long.is_empty(),
+            has_long,
             kinds,
         });
         Ok(())

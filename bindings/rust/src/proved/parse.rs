@@ -7,6 +7,7 @@ use super::counts::check_counts;
 use super::fail::Fail;
 use super::index::Index;
 use super::matches::{Matches, ReadLine};
+use super::occurrences::LineOccurrences;
 use super::options::Options;
 use super::scan::{FIRST_ROOM, Scanner, are_texts};
 use super::table::Table;
@@ -51,6 +52,22 @@ impl Options {
         self.parse_words(alloc, &words)
     }
 
+    /// Parses a command line like `parse_words`, but returns its options in the order in which they
+    /// were given.
+    ///
+    /// Use it if the order of different options matters, for example if the last of `-q` and `-v`
+    /// wins. (Positions don't help: options in one word, such as `-vq`, share a position.) Each
+    /// option is returned as its index in the order of declaration, as from `opt_place`. With the
+    /// options `q` and `v`, `["-vq", "x", "-v"]` gives 1, 0 and 1. Free words aren't in the list.
+    /// If an index occurs for the nth time in the list, the option's value is in the nth occurrence
+    /// of `occurrences_at` for that index.
+    ///
+    /// Fails exactly as `parse_words` does. The Rust crate has no such method.
+    pub fn parse_in_order<S: AsStr>(&self, alloc: Global, words: &[S]) -> Result<Vec<usize>, Fail> {
+        let read = self.accepted_line(alloc, words)?;
+        Ok(option_places(alloc, &read.line.found)?)
+    }
+
     /// The matches of a command line, without checking its counts.
     pub(crate) fn read_matches<S: AsStr>(&self, alloc: Global, words: &[S]) -> super::Result {
         let read = self.read_line(alloc, words)?;
@@ -84,6 +101,16 @@ impl Options {
         let index = Index::of(alloc, signatures.len(), &line.found)?;
         Ok(ReadLine { table, line, index })
     }
+}
+
+/// The places of the groups of the occurrences.
+fn option_places(alloc: Global, found: &LineOccurrences) -> Result<Vec<usize>, AllocError> {
+    let mut places = Vec::of_capacity(alloc, found.len())?;
+    for place in 0..found.len() {
+        let occurrence = found.at(place);
+        places.try_push(occurrence.group)?;
+    }
+    Ok(places)
 }
 
 /// The words that an iterator yields, in order. Unlike std's `collect`, this reports every failed

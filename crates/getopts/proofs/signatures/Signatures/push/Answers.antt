@@ -1,5 +1,5 @@
 -- The appended group has its names at the end of the common text.
-use Rattle.std.proofs.Common.{◌≡◌, ℕ, ◌+◌, ◌-◌, ◌<◌, ◌≤◌, ◌==◌, cond, not, List, [], ◌∷◌, ◌++◌, length, map, ap, sym}
+use Rattle.std.proofs.Common.{rules, ◌≡◌, ℕ, ◌+◌, ◌-◌, ◌<◌, ◌≤◌, ◌==◌, cond, not, List, [], ◌∷◌, ◌++◌, length, map, ap, sym}
 use Rattle.std.proofs.Common.{◌∙◌, subst, arith}
 use Rattle.std.proofs.lemmas.Bool.{ne_eqb}
 use Rattle.std.proofs.lemmas.List.Elements.{All-head}
@@ -8,7 +8,7 @@ use Rattle.std.proofs.lemmas.Str.{IsUtf8-append}
 use Rattle.std.specs.List.{AllByRecursion}
 use Rattle.std.specs.Str.{IsUtf8}
 use Rattle.std.specs.String.{string_bytes}
-use Rattle.getopts.specs.Names.{Text, IsLawfullyNamed}
+use Rattle.getopts.specs.Names.{Text, IsLawfullyNamed, main_name}
 use Rattle.getopts.specs.Options.{Signature}
 use Rattle.getopts.specs.Stored.Signatures.{signature_with, signature_in, HasKeys, IsStored, ends_of}
 use Rattle.getopts.specs.Stored.Signatures.{pair_at, AreEndsOf}
@@ -20,6 +20,7 @@ use Rattle.getopts.proofs.Stored.Signatures.{signatures-push}
 use Rattle.getopts.proofs.Stored.Texts.{IsOfBytes-utf8}
 use Rattle.getopts.proofs.signatures.Signatures.push.Goals as goal
 use Rattle.getopts.proofs.signatures.Signatures.push.Goals.{then-is_empty+in_ok-reserve+in_ok-reserve-2}
+use Rattle.getopts.proofs.signatures.Signatures.push.Goals.{then-has_long, else-has_long}
 use Rattle.getopts.proofs.signatures.Signatures.push.Goals.{
   else-is_empty+in_ok-reserve-3+in_ok-reserve-4,
 }
@@ -29,9 +30,9 @@ abbrev added : goal.After-push_reserved → SignatureRecord
 added c = record {
   long = c.push_pair-names.result.first;
   end = c.push_pair-names.result.second;
-  key = c.key_of-key.result;
+  key = c.key_of.result;
   short = c.short_byte.result;
-  has_long = not c.is_empty-2.result;
+  has_long = not c.is_empty-has_long.result;
   kinds = c.args.kinds;
 }
 
@@ -89,11 +90,18 @@ signature_is c = ap (λ (names : Text × Text). signature_with c.args.kinds name
     (ap (pair_at (string_bytes c.push_pair-names.new.texts)) (ends_are c)
     ∙ c.push_pair-names.ensures.two.are)
 
+main_is : (c : goal.After-push_reserved)
+    → c.if-has_long.main.now ≡ main_name (signature c).names
+main_is c = elim c.if-has_long.branch [
+  | then-has_long w ↦ rw (w.main-is, ← c.is_empty-has_long.ensures) (search rules)
+  | else-has_long w ↦ rw (w.main-is, ← c.is_empty-has_long.ensures) (search rules)
+]
+
 has_keys : (c : goal.After-push_reserved) → HasKeys (added c) (signature c).names
 has_keys c = record {
-  key = c.key_of-key.ensures ∙ ap key_of (c.as_bytes.ensures.value ∙ c.main.ensures);
+  key = c.key_of.ensures ∙ ap key_of (c.as_bytes.ensures.value ∙ main_is c);
   short = c.short_byte.ensures;
-  has_long = ap not c.is_empty-2.ensures;
+  has_long = ap not c.is_empty-has_long.ensures;
 }
 
 last : (c : goal.After-push_reserved)

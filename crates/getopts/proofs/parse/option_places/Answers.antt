@@ -3,7 +3,7 @@ use Rattle.std.proofs.Common.{◌++◌, ◌∷◌, [], map, take, sym, ap, ◌�
 use Rattle.std.proofs.lemmas.List.{map-append}
 use Rattle.getopts.specs.Reading.{Occurrence, Mention}
 use Rattle.getopts.proofs.Lists.{map-take_more}
-use Rattle.getopts.proofs.canon.option_places.Goals as goal
+use Rattle.getopts.proofs.parse.option_places.Goals as goal
 
 pub loop-place-preserved : goal.loop-place-preserved
 loop-place-preserved c =

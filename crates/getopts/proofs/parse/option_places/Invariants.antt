@@ -1,7 +1,7 @@
 -- The places so far are those of the occurrences so far.
 use Rattle.std.proofs.Common.{◌≡◌, map, take}
 use Rattle.getopts.specs.Reading.{Occurrence, Mention}
-use Rattle.getopts.proofs.canon.option_places.Given as goal
+use Rattle.getopts.proofs.parse.option_places.Given as goal
 
 abbrev pub invariant-loop-place : goal.invariant-loop-place
 invariant-loop-place l =
