@@ -13,8 +13,7 @@ use std::str::FromStr;
 /// What an accepted command line contains: the options, with their values, and the positional
 /// arguments.
 ///
-/// Methods accept either name of an option. They panic if no option has the given name, except
-/// `opt_defined` and `opts_present`.
+/// Methods accept either name of an option.
 ///
 /// ```
 /// let mut options = getopts::Options::new();
@@ -24,6 +23,10 @@ use std::str::FromStr;
 /// assert_eq!(matches.opt_strs("include"), ["src"]);
 /// assert_eq!(matches.free, ["in.txt"]);
 /// ```
+///
+/// # Panics
+/// Methods panic if no option has the given name, except `opt_defined` and `opts_present`. Methods
+/// that stop at the first match ignore the names after it.
 pub struct Matches {
     /// The positional arguments (*free words*), in command-line order.
     pub free: Vec<String>,
@@ -109,9 +112,6 @@ impl Matches {
     /// options.optopt("o", "output", "set the output file", "NAME");
     /// assert_eq!(options.parse(["-ofile"]).unwrap().value("output"), Some("file"));
     /// ```
-    ///
-    /// # Panics
-    /// Panics if no option has this name.
     #[track_caller]
     pub fn value(&self, name: &str) -> Option<&str> {
         self.given(name).first_value()
@@ -126,9 +126,6 @@ impl Matches {
     /// let matches = options.parse(["-La", "-L", "b"]).unwrap();
     /// assert!(matches.values("L").eq(["a", "b"]));
     /// ```
-    ///
-    /// # Panics
-    /// Panics if no option has this name.
     #[inline]
     #[track_caller]
     pub fn values(&self, name: &str) -> impl Iterator<Item = &str> + '_ {
@@ -144,9 +141,6 @@ impl Matches {
     /// let matches = options.parse(["in.txt", "--color=auto"]).unwrap();
     /// assert_eq!(matches.occurrences("c").next(), Some((1, Some("auto"))));
     /// ```
-    ///
-    /// # Panics
-    /// Panics if no option has this name.
     #[inline]
     #[track_caller]
     pub fn occurrences(&self, name: &str) -> impl Iterator<Item = (usize, Option<&str>)> + '_ {
@@ -172,9 +166,6 @@ impl Matches {
     /// options.optflag("q", "quiet", "say less");
     /// assert!(options.parse(["-q"]).unwrap().opt_present("quiet"));
     /// ```
-    ///
-    /// # Panics
-    /// Panics if no option has this name.
     #[inline]
     #[track_caller]
     pub fn opt_present(&self, name: &str) -> bool {
@@ -188,9 +179,6 @@ impl Matches {
     /// options.optflagmulti("v", "verbose", "say more");
     /// assert_eq!(options.parse(["-vv", "--verbose"]).unwrap().opt_count("v"), 3);
     /// ```
-    ///
-    /// # Panics
-    /// Panics if no option has this name.
     #[track_caller]
     pub fn opt_count(&self, name: &str) -> usize {
         self.given(name).len()
@@ -205,9 +193,6 @@ impl Matches {
     /// let matches = options.parse(["-v", "-o", "x", "-vv"]).unwrap();
     /// assert_eq!(matches.opt_positions("v"), [0, 3, 3]);
     /// ```
-    ///
-    /// # Panics
-    /// Panics if no option has this name.
     #[track_caller]
     pub fn opt_positions(&self, name: &str) -> Vec<usize> {
         granted(self.given(name).positions(Global))
@@ -233,9 +218,6 @@ impl Matches {
     /// options.optflag("a", "", "").optflag("b", "", "");
     /// assert!(options.parse(["-b"]).unwrap().opts_present_any(["a", "b"]));
     /// ```
-    ///
-    /// # Panics
-    /// Panics if it reaches a name that no option has.
     #[track_caller]
     pub fn opts_present_any<C: IntoIterator>(&self, names: C) -> bool
     where
@@ -258,9 +240,6 @@ impl Matches {
     /// let names = ["a", "b"].map(String::from);
     /// assert_eq!(options.parse(["-bx"]).unwrap().opts_str(&names).unwrap(), "x");
     /// ```
-    ///
-    /// # Panics
-    /// Panics if it reaches a name that no option has.
     #[track_caller]
     pub fn opts_str(&self, names: &[String]) -> Option<String> {
         self.opts_str_first(names)
@@ -274,9 +253,6 @@ impl Matches {
     /// let matches = options.parse(["-bx"]).unwrap();
     /// assert_eq!(matches.opts_str_first(["a", "b"]).unwrap(), "x");
     /// ```
-    ///
-    /// # Panics
-    /// Panics if it reaches a name that no option has.
     #[track_caller]
     pub fn opts_str_first<C: IntoIterator>(&self, names: C) -> Option<String>
     where
@@ -297,9 +273,6 @@ impl Matches {
     /// options.optmulti("L", "", "add a folder", "DIR");
     /// assert_eq!(options.parse(["-La", "-L", "b"]).unwrap().opt_strs("L"), ["a", "b"]);
     /// ```
-    ///
-    /// # Panics
-    /// Panics if no option has this name.
     #[track_caller]
     pub fn opt_strs(&self, name: &str) -> Vec<String> {
         let given = self.given(name);
@@ -322,9 +295,6 @@ impl Matches {
     /// let values = options.parse(["-L", "a", "-Lb"]).unwrap().opt_strs_pos("L");
     /// assert_eq!(values, [(0, "a".to_string()), (2, "b".to_string())]);
     /// ```
-    ///
-    /// # Panics
-    /// Panics if no option has this name.
     #[track_caller]
     pub fn opt_strs_pos(&self, name: &str) -> Vec<(usize, String)> {
         granted(self.given(name).pairs(Global))
@@ -337,9 +307,6 @@ impl Matches {
     /// options.optopt("o", "output", "set the output file", "NAME");
     /// assert_eq!(options.parse(["-ofile"]).unwrap().opt_str("output").unwrap(), "file");
     /// ```
-    ///
-    /// # Panics
-    /// Panics if no option has this name.
     #[track_caller]
     pub fn opt_str(&self, name: &str) -> Option<String> {
         self.value(name).map(str::to_string)
@@ -354,9 +321,6 @@ impl Matches {
     /// let matches = options.parse(["--color"]).unwrap();
     /// assert_eq!(matches.opt_default("color", "auto").unwrap(), "auto");
     /// ```
-    ///
-    /// # Panics
-    /// Panics if no option has this name.
     #[track_caller]
     pub fn opt_default(&self, name: &str, def: &str) -> Option<String> {
         let value = self.given(name).first_value_or(def);
@@ -373,9 +337,6 @@ impl Matches {
     ///
     /// # Errors
     /// Fails if the value can't be parsed as a `T`.
-    ///
-    /// # Panics
-    /// Panics if no option has this name.
     #[track_caller]
     pub fn opt_get<T: FromStr>(&self, name: &str) -> Result<Option<T>, T::Err> {
         self.value(name).map(str::parse).transpose()
@@ -393,9 +354,6 @@ impl Matches {
     ///
     /// # Errors
     /// Fails if the value can't be parsed as a `T`.
-    ///
-    /// # Panics
-    /// Panics if no option has this name.
     #[track_caller]
     pub fn opt_get_default<T: FromStr>(&self, name: &str, def: T) -> Result<T, T::Err> {
         self.value(name).map_or(Ok(def), str::parse)

@@ -23,6 +23,9 @@ use std::fmt;
 /// assert_eq!(matches.value("o"), Some("a.txt"));
 /// assert_eq!(options.short_usage("copy"), "Usage: copy [-h] [-o NAME]");
 /// ```
+///
+/// # Panics
+/// Methods that declare options panic if a name is invalid.
 #[derive(PartialEq, Eq)]
 pub struct Options {
     pub(crate) proved: proved::Options,
@@ -177,9 +180,6 @@ impl Options {
     /// options.opt("c", "color", "colour the output", "WHEN", HasArg::Maybe, Occur::Multi);
     /// assert_eq!(options.parse(["-c", "--color=auto"]).unwrap().opt_count("c"), 2);
     /// ```
-    ///
-    /// # Panics
-    /// Panics if a name is invalid (see [`Options`]).
     #[track_caller]
     pub fn opt(
         &mut self,
@@ -201,9 +201,6 @@ impl Options {
     /// options.optflag("q", "quiet", "say less");
     /// assert!(options.parse(["--quiet"]).unwrap().opt_present("q"));
     /// ```
-    ///
-    /// # Panics
-    /// Panics if a name is invalid (see [`Options`]).
     #[track_caller]
     pub fn optflag(&mut self, short: &str, long: &str, desc: &str) -> &mut Options {
         self.opt(short, long, desc, "", HasArg::No, Occur::Optional)
@@ -216,9 +213,6 @@ impl Options {
     /// options.optflagmulti("v", "verbose", "say more");
     /// assert_eq!(options.parse(["-vv", "--verbose"]).unwrap().opt_count("v"), 3);
     /// ```
-    ///
-    /// # Panics
-    /// Panics if a name is invalid (see [`Options`]).
     #[track_caller]
     pub fn optflagmulti(&mut self, short: &str, long: &str, desc: &str) -> &mut Options {
         self.opt(short, long, desc, "", HasArg::No, Occur::Multi)
@@ -231,9 +225,6 @@ impl Options {
     /// options.optflagopt("c", "color", "colour the output", "WHEN");
     /// assert_eq!(options.parse(["--color"]).unwrap().opt_default("c", "auto").unwrap(), "auto");
     /// ```
-    ///
-    /// # Panics
-    /// Panics if a name is invalid (see [`Options`]).
     #[track_caller]
     pub fn optflagopt(&mut self, short: &str, long: &str, desc: &str, hint: &str) -> &mut Options {
         self.opt(short, long, desc, hint, HasArg::Maybe, Occur::Optional)
@@ -246,9 +237,6 @@ impl Options {
     /// options.optmulti("L", "", "add a folder", "DIR");
     /// assert_eq!(options.parse(["-La", "-L", "b"]).unwrap().opt_strs("L"), ["a", "b"]);
     /// ```
-    ///
-    /// # Panics
-    /// Panics if a name is invalid (see [`Options`]).
     #[track_caller]
     pub fn optmulti(&mut self, short: &str, long: &str, desc: &str, hint: &str) -> &mut Options {
         self.opt(short, long, desc, hint, HasArg::Yes, Occur::Multi)
@@ -261,9 +249,6 @@ impl Options {
     /// options.optopt("o", "output", "set the output file", "NAME");
     /// assert_eq!(options.parse(["--output=a"]).unwrap().opt_str("o").unwrap(), "a");
     /// ```
-    ///
-    /// # Panics
-    /// Panics if a name is invalid (see [`Options`]).
     #[track_caller]
     pub fn optopt(&mut self, short: &str, long: &str, desc: &str, hint: &str) -> &mut Options {
         self.opt(short, long, desc, hint, HasArg::Yes, Occur::Optional)
@@ -276,9 +261,6 @@ impl Options {
     /// options.reqopt("i", "input", "read this file", "NAME");
     /// assert!(options.parse(["free"]).is_err());
     /// ```
-    ///
-    /// # Panics
-    /// Panics if a name is invalid (see [`Options`]).
     #[track_caller]
     pub fn reqopt(&mut self, short: &str, long: &str, desc: &str, hint: &str) -> &mut Options {
         self.opt(short, long, desc, hint, HasArg::Yes, Occur::Req)
