@@ -144,6 +144,6 @@ pub use os::bytes_of;
 pub use proved::{HasArg, Occur, ParsingStyle};
 
 /// Tests the examples in the README.
-#[cfg(all(doctest, feature = "std"))]
+#[cfg(all(doctest, feature = "std", feature = "proved"))]
 #[doc = include_str!("../README.md")]
 struct Readme;
