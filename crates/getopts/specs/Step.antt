@@ -1,6 +1,6 @@
--- One step of reading: what the first word of a command line gives, with the words
--- after it. Clauses of `scan` say that the code takes these steps, and lemmas show that they agree
--- with `Reading`.
+-- One step of reading: what the first word of a command line gives, with the words after it.
+-- Clauses of `scan` say that the code takes these steps, and lemmas show that they agree with
+-- `Reading`.
 use Rattle.std.specs.Prelude.{◌≡◌, ◌≢◌, ◌==◌, ℕ, ◌+◌, List, [], ◌∷◌, ◌++◌, length, map, Option}
 use Rattle.std.specs.Prelude.{Some, None, Result, Ok, Err, if◌then◌else◌, false, encode_utf8}
 use Rattle.std.specs.Option.{option_map_or}

@@ -1,15 +1,14 @@
 //! Lemmas for proofs: the main theorem, and other facts about all options, words and matches. They
 //! do nothing at run time.
 
-ghost use Rattle.getopts.specs.Canon.{Content, Says, IsSound, IsPlain, HasCanonicalLine};
-ghost use Rattle.getopts.specs.Canon.{with_setting};
+ghost use Rattle.getopts.specs.Canon.{Content, Says, IsSound, IsPlain, HasCanonicalLine, with_setting};
 ghost use Rattle.getopts.specs.declared.kinds.ParsingStyle.{ParsingStyle};
 ghost use Rattle.std.specs.Prelude.{List, Bool};
 ghost use Rattle.getopts.specs.Accessors.{held_names};
 ghost use Rattle.getopts.specs.CanonAnswers.{IsParseAnswer, IsCanonicalAnswer, KeepsLineLaws};
 ghost use Rattle.getopts.specs.Returns.{HasResults};
-ghost use Rattle.getopts.specs.Names.{AreTexts};
-ghost use Rattle.getopts.specs.Names.{Text, MainNameResolves, OneByteIsShort, EmptyResolvesNot};
+ghost use Rattle.getopts.specs.Names.{Text, AreTexts, MainNameResolves, OneByteIsShort};
+ghost use Rattle.getopts.specs.Names.{EmptyResolvesNot};
 ghost use Rattle.getopts.specs.Only.{AtMostOne};
 ghost use Rattle.getopts.specs.Options.{Declared, MayBeDeclared, names_of, grammar_of};
 ghost use Rattle.getopts.specs.Parse.{KeepsReadingLaws};
@@ -64,6 +63,7 @@ pub fn one_reading_one_canonical_line(options: &Options)
     ensures sound { (words : List Text) (content : Content)
         → Says options.now words content → IsSound options.now.groups content }
 {
+    // Called for its clause `declared`.
     let _signatures = options.signatures();
 }
 
@@ -92,6 +92,7 @@ pub fn names_resolve(options: &Options)
     // The premise of `declared_options_keep_laws`.
     ensures declared { MayBeDeclared options.now.groups }
 {
+    // Called for its clause `declared`.
     let _signatures = options.signatures();
 }
 
@@ -102,6 +103,7 @@ pub fn held_names_resolve(matches: &Matches)
     ensures one_byte { OneByteIsShort (held_names matches.now.groups) }
     ensures empty { EmptyResolvesNot (held_names matches.now.groups) }
 {
+    // Called for its clause `lawful`.
     let _place = matches.opt_place("");
 }
 

@@ -188,8 +188,6 @@ impl MatchedGroups {
     }
 
     /// The occurrences of the group at `place`.
-    // Without `inline` here and at `Matches::occurrences_at` and `Index::places`, the job `typical`
-    // takes 2.4 % more instructions.
     #[inline]
     pub(crate) fn occurrences_at(&self, place: usize) -> Occurrences<'_>
         ensures { result ≡ occurrences_of_group self.now place }
@@ -218,7 +216,7 @@ impl MatchedGroups {
     }
 
     /// Whether the groups are the same, and so are their occurrences.
-    // Inlined, it would cost the job `equal` 14 % more instructions.
+    // Inlined, it would slow down its caller.
     #[inline(never)]
     pub(crate) fn same(&self, other: &MatchedGroups) -> bool
         ensures { result ≡ pointwise same_matched_group self.now other.now }

@@ -35,7 +35,6 @@ pub(crate) struct NamesView<'g> {
 /// Packs the first seven bytes of a name into a key, and its length (8 if longer) into the lowest
 /// byte. So keys sort like the names' bytes, and names under eight bytes are equal if their keys
 /// are.
-// Without `inline`, the job `asked-front` takes 6 % more instructions.
 #[inline]
 pub(crate) fn key_of(name: &[u8]) -> u64
     ensures { result ≡ key_of name.now }
@@ -59,7 +58,7 @@ pub(crate) fn rest_key(name: &[u8]) -> u64
     }
 }
 
-/// Packs up to seven bytes into a `u64`, zero-padded; the low byte is zero.
+/// Packs up to seven bytes into a `u64`, zero-padded. The low byte is zero: a length can be added.
 fn up_to_seven(bytes: &[u8]) -> u64
     requires { length bytes.now < 8 }
     ensures worth { result ≡ from_be_bytes w64 bytes.now }
@@ -73,7 +72,7 @@ fn up_to_seven(bytes: &[u8]) -> u64
     }
 }
 
-/// Packs up to three bytes into four, zero-padded.
+/// Packs up to three bytes into four, zero-padded. The low byte is zero.
 fn up_to_three(bytes: &[u8]) -> u64
     requires { length bytes.now < 4 }
     ensures below { result + 8 < 2 ^ 32 }

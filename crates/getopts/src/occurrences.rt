@@ -44,14 +44,11 @@ pub(crate) struct Occurrence<'l> {
     pub value: Option<&'l str>,
 }
 
-/// Bytes reserved for all values when the first one is stored. If none were reserved, the job
-/// `typical` would take 3.5 % more instructions.
+/// Bytes reserved for all values when the first one is stored.
 const FIRST_VALUES: usize = 64;
 
 /// Appends a value, and returns where it is. The first value that isn't empty reserves
 /// `FIRST_VALUES` bytes.
-// Without `inline` here and at `LineOccurrences::at` and `push`, the job `long` takes 9.5 % more
-// instructions.
 #[inline(always)]
 fn push_value(values: &mut String, value: &str) -> Result<Span, AllocError>
     ensures ok { IfOk result (λ span.
@@ -229,7 +226,6 @@ impl<'m> Occurrences<'m> {
     }
 
     /// Returns the position of an occurrence and its value, if it has one, or `None` past the last.
-    // Without `inline` here and at `at`, the job `equal` takes 80 % more instructions.
     #[inline]
     pub fn get(&self, nth: usize) -> Option<(usize, Option<&'m str>)>
         ensures occurrence { option_map borrowed_occurrence result ≡ slice_get self.now nth }
@@ -303,7 +299,6 @@ impl<'m> Occurrences<'m> {
     }
 
     /// Whether both have the same positions and values, in the same order.
-    // Without `inline`, the job `equal` takes 20 % more instructions.
     #[inline]
     pub(crate) fn same(&self, other: &Occurrences<'_>) -> bool
         ensures { result ≡ pointwise same_group_occurrence self.now other.now }
@@ -327,7 +322,6 @@ impl<'m> IntoIterator for Occurrences<'m> {
 
     ghost into_iter_gives = { λ occurrences iterator. iterator ≡ occurrences };
 
-    // Without `inline` here and at `next`, the job `long` takes 5 % more instructions.
     #[inline]
     fn into_iter(self) -> OccurrencesIter<'m> {
         OccurrencesIter {

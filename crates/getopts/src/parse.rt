@@ -139,7 +139,6 @@ impl Options {
     }
 
     /// Reads a command line, and checks its counts.
-    // Without `inline` here and at `read_line`, the job `none` takes 6.5 % more instructions.
     #[inline(always)]
     pub(crate) fn accepted_line<S: AsStr>(
         &self,

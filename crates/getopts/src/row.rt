@@ -1,4 +1,5 @@
 //! One group's row in a usage text: its head, with the description beside or below it.
+
 ghost use Rattle.std.specs.Prelude.{◌≡◌, ◌++◌, string_bytes, IfOk, OnOk};
 ghost use Rattle.getopts.specs.Wrap.{width_of};
 ghost use Rattle.getopts.specs.Usage.{IsUsageRowIn, argument_part, has_columns, head};
@@ -30,7 +31,7 @@ pub(crate) struct Layout {
     pub columns: usize,
 }
 
-/// The bytes that most rows need. Without this guess, the job `usage` takes 40 % more instructions.
+/// The bytes that most rows need.
 const ROW_ROOM: usize = 80;
 
 /// The row of one group.

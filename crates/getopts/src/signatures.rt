@@ -17,12 +17,10 @@ use crate::names::{NO_BYTE, NamesView, key_of, short_byte};
 use std::alloc::{AllocError, Global};
 use std::marker::Model;
 
-/// Initial capacity: up to this many groups fit without reallocating. Without it, the job `typical`
-/// takes 32 % more instructions.
+/// Initial capacity: up to this many groups fit without reallocating.
 pub(crate) const FIRST_GROUPS: usize = 32;
 
-/// Initial capacity for a text that all groups share, in bytes. Without it, the job `typical` takes
-/// 15 % more instructions.
+/// Initial capacity for a text that all groups share, in bytes.
 pub(crate) const FIRST_TEXT: usize = 1024;
 
 /// What parsing needs of a group, borrowed: its names and kinds.
@@ -289,7 +287,6 @@ impl Signatures {
     }
 
     /// Appends the names and kinds of a group. After an error nothing has changed.
-    // Without `inline` here and at `Groups::push`, the job `typical` takes 3.3 % more instructions.
     #[inline]
     pub(crate) fn push(&mut self, short: &str, long: &str, kinds: Kinds) -> Result<(), AllocError>
         requires { AreLawful short.now long.now }

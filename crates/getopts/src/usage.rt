@@ -1,4 +1,5 @@
 //! Usage texts: all options in one line, and a row for each option with its description.
+
 ghost use Rattle.std.specs.Prelude.{◌≡◌, ◌++◌, List, codes, map, string_bytes, IfOk, OnOk};
 ghost use Rattle.std.specs.Iterator.{YieldsFirstBy, item_count};
 ghost use Rattle.getopts.specs.Stored.Signatures.{names_view};

@@ -1,4 +1,5 @@
 //! Descriptions in rows: each line is broken into as few rows as its words allow.
+
 ghost use Rattle.std.specs.Prelude.{◌≡◌, ◌++◌, List, map, string_bytes, IfOk, OnOk};
 ghost use Rattle.getopts.specs.Wrap.{BreaksInto, IsDescriptionRows, IsFewestBreaking};
 ghost use Rattle.getopts.specs.Wrap.{IsTightBreaking, Run, joined, parting, text_of, words_of};

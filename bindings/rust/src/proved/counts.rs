@@ -9,7 +9,6 @@ use crate::alloc::Global;
 
 /// Checks how often each option occurs, in order of declaration, given the index of the
 /// occurrences.
-// Without `inline`, the job `none` takes 1.5 % more instructions.
 #[inline(always)]
 pub(crate) fn check_counts(
     alloc: Global,

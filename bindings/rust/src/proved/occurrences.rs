@@ -33,14 +33,11 @@ pub(crate) struct Occurrence<'l> {
     pub value: Option<&'l str>,
 }
 
-/// Bytes reserved for all values when the first one is stored. If none were reserved, the job
-/// `typical` would take 3.5 % more instructions.
+/// Bytes reserved for all values when the first one is stored.
 const FIRST_VALUES: usize = 64;
 
 /// Appends a value, and returns where it is. The first value that isn't empty reserves
 /// `FIRST_VALUES` bytes.
-// Without `inline` here and at `LineOccurrences::at` and `push`, the job `long` takes 9.5 % more
-// instructions.
 #[inline(always)]
 fn push_value(values: &mut String, value: &str) -> Result<Span, AllocError> {
     let start = values.len();
@@ -157,7 +154,6 @@ impl<'m> Occurrences<'m> {
     }
 
     /// Returns the position of an occurrence and its value, if it has one, or `None` past the last.
-    // Without `inline` here and at `at`, the job `equal` takes 80 % more instructions.
     #[inline]
     pub fn get(&self, nth: usize) -> Option<(usize, Option<&'m str>)> {
         if nth >= self.len() {
@@ -215,7 +211,6 @@ impl<'m> Occurrences<'m> {
     }
 
     /// Whether both have the same positions and values, in the same order.
-    // Without `inline`, the job `equal` takes 20 % more instructions.
     #[inline]
     pub(crate) fn same(&self, other: &Occurrences<'_>) -> bool {
         if self.len() != other.len() {
@@ -235,7 +230,6 @@ impl<'m> IntoIterator for Occurrences<'m> {
 
     type IntoIter = OccurrencesIter<'m>;
 
-    // Without `inline` here and at `next`, the job `long` takes 5 % more instructions.
     #[inline]
     fn into_iter(self) -> OccurrencesIter<'m> {
         OccurrencesIter {

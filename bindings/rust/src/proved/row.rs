@@ -26,7 +26,7 @@ pub(crate) struct Layout {
     pub columns: usize,
 }
 
-/// The bytes that most rows need. Without this guess, the job `usage` takes 40 % more instructions.
+/// The bytes that most rows need.
 const ROW_ROOM: usize = 80;
 
 /// The row of one group.

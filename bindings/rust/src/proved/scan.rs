@@ -13,8 +13,7 @@ use crate::convert::AsStr;
 
 /// The most words, options and free words for which memory is reserved without looking at the
 /// words: an iterator may yield fewer words than it promises. For more words, `reserve` counts
-/// the dashed ones first. If it counted those of every line, the job `small` would take 2.6 % more
-/// instructions.
+/// the dashed ones first; short lines aren't worth it.
 pub(crate) const FIRST_ROOM: usize = 32;
 
 /// A lemma for proofs, which compiles to nothing: a `&str` is UTF-8.
@@ -120,8 +119,8 @@ fn after_dash(text: &str) -> Option<&str> {
     Some(&text[1..])
 }
 
-/// The name in the text of a long item, and the attached argument. Names are short, so checking one
-/// byte at a time is fast.
+/// The name in the text of a long item, and the attached argument. Goes byte by byte up to the
+/// first `=`, or to the end.
 fn name_and_argument(text: &str) -> (&str, Option<&str>) {
     let bytes = text.as_bytes();
     for at in 0..bytes.len() {

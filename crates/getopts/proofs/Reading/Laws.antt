@@ -33,6 +33,8 @@ use Rattle.getopts.proofs.Reading.Readings.{EndsOrIsDashed-spelled, spelled_all-
 use Rattle.getopts.proofs.Reading.Readings.{spelled_all-joined}
 use Rattle.getopts.proofs.Reading.Steps.{lawful_short, short_dashed}
 
+-- ---- replacing items
+
 -- only ordinary mode has bare clusters
 ordinary_from_bare : (grammar : Grammar) (item : Item) → IsLawfulItem grammar item
     → is_bare item ≡ true → grammar.long_only ≡ false
@@ -194,6 +196,8 @@ module _ (grammar : Grammar) (item longer : Item)
       (free_items-append (item ∷ []) back ∙ ap (λ frees. frees ++ free_items back) (sym same_free)
       ∙ sym (free_items-append (longer ∷ []) back)) reads
 
+-- ---- long options
+
 -- a valid long item fits in place of one with the same name
 FitInPlace-long : (grammar : Grammar) (dashes other : Dashes) (name : Text)
     (argument new_argument : Argument) (back : List Item) (more : List Text)
@@ -255,6 +259,8 @@ OneDashOrTwo_lem grammar = record {
       (λ before. refl) 0))
       refl reads;
 }
+
+-- ---- short options
 
 -- an argument doesn't change how a cluster begins after its dash
 begins_with_dash-argument : (names : List ℕ) (option : ℕ) (text other : Text)
@@ -358,6 +364,8 @@ Respells-split grammar flag names end filled plain front back tail words reads =
 pub ClusterSplits_lem : (grammar : Grammar) → ClusterSplits grammar
 ClusterSplits_lem grammar = record { after_flag = Respells-split grammar }
 
+-- ---- joined lines, and the trailing start
+
 -- bare clusters stay well followed if other items follow the last item, and this isn't
 -- bare
 AreWellFollowed-append : (items others : List Item) (more : List Text) → is_last_bare items ≡ false
@@ -441,6 +449,8 @@ TrailingStartIsAfterStop_lem grammar = record {
       (free_items reading.items) reading.items reading.tail start refl at;
 }
 
+-- ---- free words
+
 -- the texts are a subsequence of the words, defined word by word
 pub data IsPart : List Text → List Text → Type 0 where
   empty : IsPart [] []
@@ -489,6 +499,8 @@ FreeWordsAreSubsequence_lem grammar = record {
   subsequence = λ reading words reads. subst (IsSubsequence (free_words reading)) reads.spells
       (IsSubsequence-part _ _ (IsPart-items reading.items reading.tail));
 }
+
+-- ---- positions
 
 -- the positions are at least this one, and never decrease
 abbrev RiseFrom : ℕ → List GroupOccurrence → Type 0

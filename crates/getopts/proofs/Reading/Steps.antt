@@ -34,6 +34,8 @@ use Rattle.getopts.proofs.Reading.Texts.{begins_with_dash-front, is_dashed-text,
 use Rattle.getopts.proofs.Reading.Texts.{IsUtf8-past_asciis, begins_with_char, encode-ascii_byte}
 use Rattle.getopts.proofs.Reading.Texts.{length-encode-wide, first_char-append}
 
+-- ---- sound steps: words in long form
+
 -- a line begins with this item, and these words follow it
 pub record BeginsWith (grammar : Grammar) (words : List Text) (item : Item) (more : List Text)
     : Type 0 where
@@ -117,6 +119,8 @@ long_sound grammar dashes word text more form =
     let cut = cut_at_equals text in
     named_sound grammar dashes word cut.0 (holds_equals-name text) (grammar.kind cut.0) cut.1 more
     (subst (IsInLongForm grammar dashes word) (sym (cut_at_equals-joined text)) form) refl
+
+-- ---- sound steps: words in short form
 
 -- each flag is ASCII
 flags_ascii : (grammar : Grammar) → IsNamed grammar → (names : List ℕ)
@@ -246,6 +250,8 @@ cluster_sound grammar named word bytes (byte ∷ text) more form each =
     (subst (IsShortForm grammar word) (sym (append_assoc bytes (byte ∷ []) text)) form)
     (AllByRecursion-append (IsFlag grammar) bytes (byte ∷ []) each (flag, tt)))
 
+-- ---- sound steps: any word
+
 -- the step of a word that isn't dashed
 pub step_free : (grammar : Grammar) (word : Text) (more : List Text) → is_dashed word ≡ false
     → step grammar word more ≡ free_step grammar.style word more
@@ -337,6 +343,8 @@ step_sound grammar named (first ∷ second ∷ text) more = elim (cases_Bool (fi
   two_sound [] = rw (step_stop grammar more) (tt, refl)
   two_sound (c ∷ others) = in_long two (dash ∷ dash ∷ c ∷ others) (c ∷ others)
       (record { before = tt; word_is = refl; filled = λ e. cc e })
+
+-- ---- the step of a line's first item
 
 -- Conversely, the beginning of a line determines the step of its first word.
 
@@ -516,6 +524,8 @@ spelled_step grammar named (cluster bytes (ends_in option argument)) more lawful
           (end_chosen kind.0 (option ∷ []) argument more kind.2 (λ e. followed (rw e refl))),
       refl,
     )
+
+-- ---- the step of an error
 
 -- a wide character is unknown, by its first byte
 wide_unknown : (grammar : Grammar) → IsNamed grammar → (c byte : ℕ) (others text : Text)
