@@ -5,7 +5,10 @@ import os
 import re
 import shlex
 import shutil
+import signal
+import subprocess
 import textwrap
+import time
 
 import pytest
 from conftest import LINES, MARGIN, ROOT, answer, check_page, need, need_compiler, run, script
@@ -285,13 +288,18 @@ def test_manual_page(prefix):
 
 
 def test_program_size(prefix, tmp_path):
-    most = int(re.search(r" grows by (\d+) KB at most", (C / "getopts.h").read_text())[1]) * 1000
+    page = " ".join((C / "README.md").read_text().split())
+    about, least, most = map(int, re.search(r"grows by about (\d+) KB, or by (\d+) to (\d+) KB", page).groups())
     (tmp_path / "empty.c").write_text("int main(void) { return 0; }\n")
-    run("cc", "-O2", "-s", tmp_path / "empty.c", "-o", tmp_path / "without")
     library = ["-isystem", prefix / "include", prefix / "lib/libgetopts.a"]
-    run("cc", "-O2", "-s", C / "head.c", *library, "-o", tmp_path / "with")
-    grown = (tmp_path / "with").stat().st_size - (tmp_path / "without").stat().st_size
-    assert 0.8 * most < grown <= most
+
+    def size(*words):
+        run("cc", "-O2", "-s", *words, "-o", tmp_path / "program")
+        return (tmp_path / "program").stat().st_size / 1000
+
+    for source in ("head.c", "order.c"):
+        grown = [size(C / source, *library, *more) - size(tmp_path / "empty.c") for more in ([], ["-Wl,--gc-sections"])]
+        assert abs(grown[0] - about) < 5 and least < grown[1] < most, (source, grown)
 
 
 @pytest.fixture(scope="module", params=["clang", pytest.param("musl-gcc", marks=pytest.mark.full)])
@@ -328,7 +336,7 @@ def test_install_for_other_target(show_c, tmp_path):
 
 def test_missing_tools(tmp_path):
     _, errors = run("sh", C / "install.sh", tmp_path / "to", status=1, env={"CARGO": "no-cargo"})
-    assert "no-cargo not found: install Rust 1.68 or later (Debian's package cargo" in errors
+    assert "no-cargo not found: install Rust 1.68 or later (rustup.rs, or Debian's cargo" in errors
     env = {"CARGO": str(script(tmp_path / "cargo", "#!/bin/sh\nexit 101\n")), "CC": "true"}
     _, errors = run("sh", C / "install.sh", tmp_path / "to", status=1, env={**env, "CC": "no-cc"})
     assert "no-cc not found: install a C compiler (Debian's package gcc)" in errors
@@ -337,6 +345,22 @@ def test_missing_tools(tmp_path):
     (tmp_path / "cargo").write_text("#!/bin/sh\n")
     _, errors = run("sh", C / "install.sh", tmp_path / "to", status=1, env=env)
     assert "cargo built no libgetopts.a. If cargo's configuration" in errors and not (tmp_path / "to").exists()
+
+
+@pytest.mark.parametrize("shell", ["dash", "busybox sh", "bash"])
+def test_interrupted_install(shell, tmp_path):
+    """An install that is interrupted leaves no temporary folder."""
+    need(shell.split()[0])
+    cargo = script(tmp_path / "cargo", f"#!/bin/sh\ntouch '{tmp_path}/started'\nexec sleep 60\n")
+    (tmp_path / "tmp").mkdir()
+    env = {**os.environ, "CARGO": str(cargo), "CC": "true", "TMPDIR": str(tmp_path / "tmp")}
+    for number in (signal.SIGHUP, signal.SIGINT, signal.SIGTERM):
+        done = subprocess.Popen([*shell.split(), C / "install.sh", tmp_path / "to"], env=env, start_new_session=True)
+        while not (tmp_path / "started").exists():
+            time.sleep(0.01)
+        os.killpg(done.pid, number)
+        assert done.wait(20) == 1 and not list((tmp_path / "tmp").iterdir())
+        (tmp_path / "started").unlink()
 
 
 @pytest.fixture

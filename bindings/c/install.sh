@@ -88,12 +88,13 @@ if [ -n "$remove" ]; then
 fi
 
 command -v "$cargo" >/dev/null ||
-    fail "$cargo not found: install Rust 1.68 or later (Debian's package cargo, or rustup.rs)"
+    fail "$cargo not found: install Rust 1.68 or later (rustup.rs, or Debian's cargo; on Debian 12, cargo-web and rustc-web)"
 command -v "${cc%% *}" >/dev/null ||
     fail "${cc%% *} not found: install a C compiler (Debian's package gcc), or set CC to yours"
 [ -z "$target" ] || [ -n "${CC:-}" ] || fail "set CC to the C compiler for $target"
 room=$(mktemp -d)
 trap 'rm -rf "$room"' EXIT
+trap 'exit 1' HUP INT TERM
 
 # Build a copy, so that nothing is written to the source folder.
 mkdir "$room/c" "$room/rust" "$room/c/.cargo"
@@ -107,8 +108,8 @@ for crate in /usr/share/cargo/registry/unicode-width-*; do
 done
 # shellcheck disable=SC2086
 (cd "$room/c" && CARGO_TARGET_DIR=$room/target "$cargo" build --release --quiet ${CARGO_FLAGS:-}) ||
-    fail "cargo failed. The build needs Rust 1.68 or later with the target's standard library, and the crate unicode-width
-(without a network, from Debian's package librust-unicode-width-dev)"
+    fail "cargo failed. The build needs Rust 1.68 or later (on Debian 12, cargo-web and rustc-web) with the target's standard
+library, and the crate unicode-width (without a network, from Debian's package librust-unicode-width-dev)"
 built=$room/target/${target:+$target/}release/libgetopts.a
 [ -f "$built" ] || fail "cargo built no libgetopts.a${target:+ for $target}. If cargo's configuration sets another
 target, set CARGO_BUILD_TARGET to it, and CC to its C compiler"
