@@ -10,8 +10,7 @@ use Rattle.getopts.specs.Parse.{Reads, HasReading, HasNoReading, IsRefused}
 use Rattle.getopts.specs.Canon.{IsCountKeeping}
 use Rattle.getopts.specs.CanonAnswers.{IsParseAnswer, IsCanonicalAnswer, IsOrderAnswer}
 use Rattle.getopts.specs.Results.{reading_or_error, accepted_reading, parse_ignoring_counts_result}
-use Rattle.getopts.specs.Results.{parse_result}
-use Rattle.getopts.specs.Results.{canonical_result, parse_in_order_result}
+use Rattle.getopts.specs.Results.{parse_result, canonical_result, parse_in_order_result}
 use Rattle.getopts.specs.Unless.{IsUnlessAnswer, IsRequestAnswer, parse_unless_result}
 use Rattle.getopts.specs.Unless.{parse_request_result}
 use Rattle.getopts.specs.declared.fail.Fail.{Fail}

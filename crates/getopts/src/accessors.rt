@@ -7,10 +7,9 @@ ghost use Rattle.std.specs.Option.{option_copied, option_map};
 ghost use Rattle.std.specs.String.{string_bytes};
 ghost use Rattle.getopts.specs.Accessors.{AreDefined, HaveLawfulNames, IsDefined, IsParsedAs};
 ghost use Rattle.getopts.specs.Accessors.{first_value, first_value_among, first_value_or};
-ghost use Rattle.getopts.specs.Accessors.{occurrences_of_group};
-ghost use Rattle.getopts.specs.Accessors.{is_present, occurrences_of_name, pair_view, pairs_of};
-ghost use Rattle.getopts.specs.Accessors.{place_of};
-ghost use Rattle.getopts.specs.Accessors.{free_before_trailing, positions_of, trailing_words, values_of};
+ghost use Rattle.getopts.specs.Accessors.{occurrences_of_group, is_present, occurrences_of_name};
+ghost use Rattle.getopts.specs.Accessors.{pair_view, pairs_of, place_of, free_before_trailing};
+ghost use Rattle.getopts.specs.Accessors.{positions_of, trailing_words, values_of};
 ghost use Rattle.getopts.specs.Names.{texts};
 
 use crate::matches::Matches;

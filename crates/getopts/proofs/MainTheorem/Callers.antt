@@ -17,8 +17,7 @@ use Rattle.getopts.specs.Accessors.{values_of}
 use Rattle.getopts.specs.Parse.{HasReading}
 use Rattle.getopts.specs.Theorem.{HaveSameValues}
 use Rattle.getopts.specs.Fail.{Fault}
-use Rattle.getopts.specs.Results.{parse_result, canonical_result, made_of}
-use Rattle.getopts.specs.Results.{written_line}
+use Rattle.getopts.specs.Results.{parse_result, canonical_result, made_of, written_line}
 use Rattle.getopts.specs.declared.kinds.ParsingStyle.{ParsingStyle}
 use Rattle.getopts.proofs.canon.Lines.{is_plain-from}
 use Rattle.getopts.proofs.MainTheorem.SameContent.{LinesReadAgain_lem}

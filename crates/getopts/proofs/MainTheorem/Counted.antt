@@ -5,33 +5,31 @@ use Rattle.getopts.specs.Options.{Declared}
 use Rattle.getopts.specs.Fail.{Fault}
 use Rattle.getopts.specs.Reading.{Reading}
 use Rattle.getopts.specs.Matches.{Matched, matches_of}
-use Rattle.getopts.specs.Results.{accepted_reading, first_count_fault, made_of, reading_or_error}
-use Rattle.getopts.specs.Results.{parse_ignoring_counts_result, parse_result, unless_fault}
-use Rattle.getopts.specs.Results.{with_counts_kept}
+use Rattle.getopts.specs.Results as Spec
 use Rattle.getopts.proofs.Reading.Readings.{made_of-ok}
 
 module _ (options : Declared) (words : List Text) (matches : Matched)
-    (read : parse_ignoring_counts_result options words ≡ Ok matches) where
-  counted : (fault : Option Fault) → first_count_fault matches.groups ≡ fault → (reading : Reading)
-      × (parse_result options words ≡ made_of (matches_of options) (unless_fault reading fault))
+    (read : Spec.parse_ignoring_counts_result options words ≡ Ok matches) where
+  counted : (fault : Option Fault) → Spec.first_count_fault matches.groups ≡ fault → (reading : Reading)
+      × (Spec.parse_result options words ≡ Spec.made_of (matches_of options) (Spec.unless_fault reading fault))
       × (matches_of options reading ≡ matches)
-  unfolding reading_or_error accepted_reading
+  unfolding Spec.reading_or_error Spec.accepted_reading
   counted fault first =
-      let made = made_of-ok (matches_of options) (reading_or_error options words) matches read in
-      let same = subst (λ (m : Matched). first_count_fault m.groups ≡ fault) (sym made.2) first in (
+      let made = made_of-ok (matches_of options) (Spec.reading_or_error options words) matches read in
+      let same = subst (λ (m : Matched). Spec.first_count_fault m.groups ≡ fault) (sym made.2) first in (
         made.0,
-        ap (λ o. made_of (matches_of options) (with_counts_kept options o)) made.1
-            ∙ ap (λ f. made_of (matches_of options) (unless_fault made.0 f)) same,
+        ap (λ o. Spec.made_of (matches_of options) (Spec.with_counts_kept options o)) made.1
+            ∙ ap (λ f. Spec.made_of (matches_of options) (Spec.unless_fault made.0 f)) same,
         made.2,
       )
 
   -- if these matches keep the counts, they are the result
-  pub parse_result-kept : first_count_fault matches.groups ≡ None
-      → parse_result options words ≡ Ok matches
+  pub parse_result-kept : Spec.first_count_fault matches.groups ≡ None
+      → Spec.parse_result options words ≡ Ok matches
   parse_result-kept kept =
       let made = counted None kept in made.1 ∙ ap (λ (m : Matched). Ok m) made.2
 
   -- and otherwise their count error is
-  pub parse_result-broken : (fault : Fault) → first_count_fault matches.groups ≡ Some fault
-      → parse_result options words ≡ Err fault
+  pub parse_result-broken : (fault : Fault) → Spec.first_count_fault matches.groups ≡ Some fault
+      → Spec.parse_result options words ≡ Err fault
   parse_result-broken fault broken = (counted (Some fault) broken).1

@@ -13,16 +13,11 @@ use Rattle.getopts.specs.Parse.{Reads, IsAccepted, IsRefused, HasReading, HasNoR
 use Rattle.getopts.specs.Canon.{Content, content_of, main_at, canonical_line, IsAcceptedWith}
 use Rattle.getopts.specs.Canon.{IsCountKeeping}
 use Rattle.getopts.specs.CanonAnswers.{IsCanonicalAnswer, IsWritten, IsUnwritable, IsOrder}
-use Rattle.getopts.specs.Results.{read, first_count_fault, unless_fault, with_counts_kept}
-use Rattle.getopts.specs.Results.{reading_or_error, accepted_reading, made_of, written_line}
-use Rattle.getopts.specs.Results.{parse_ignoring_counts_result}
-use Rattle.getopts.specs.Results.{parse_result, canonical_result, parse_in_order_result}
+use Rattle.getopts.specs.Results as Spec
 use Rattle.getopts.specs.Returns.{IsReadingOf, IsLineOf, HasResults}
 use Rattle.getopts.proofs.canon.Lines.{is_plain-true, is_plain-false, Says-accepted}
 use Rattle.getopts.proofs.canon.Lines.{IsSound-says, HasUnwritable-content}
-use Rattle.getopts.proofs.canon.Answered.{only_parse_answer, only_canonical_answer}
-use Rattle.getopts.proofs.canon.Answered.{only_order_answer, only_read_answer}
-use Rattle.getopts.proofs.canon.Answered.{only_answer, only_of_reading}
+use Rattle.getopts.proofs.canon.Answered as Answered
 use Rattle.getopts.proofs.counts.FirstFault.{HaveFault, first_count_fault-is}
 use Rattle.getopts.proofs.MainTheorem.Given.{only_unless, only_request}
 use Rattle.getopts.proofs.Only.{IsTheOnly-from}
@@ -39,7 +34,7 @@ the_only {Is = Is} only value is = IsTheOnly-from Is value is (λ other also. on
 -- a result made of a reading has a property that follows from what is known of the reading
 made_of-is : {X : Type 0} (Is : X → Type 0) (No : Fault → Type 0) (Reads : Reading → Type 0)
     (make : Reading → X) (outcome : Result Reading Fault) → ((r : Reading) → Reads r → Is (make r))
-    → MatchResult outcome Reads No → MatchResult (made_of make outcome) Is No
+    → MatchResult outcome Reads No → MatchResult (Spec.made_of make outcome) Is No
 made_of-is Is No Reads make (Ok reading) so reads = so reading reads
 made_of-is Is No Reads make (Err fault) so fails = fails
 
@@ -68,7 +63,7 @@ module _ (options : Declared) (declared : MayBeDeclared options.groups) (words :
   -- the reading that keeps the counts, or the first error
   counted : (reading : Reading) → IsReading (grammar_of options) reading words
       → (fault : Option Fault) → HaveFault (matches_of options reading).groups fault
-      → IsLineOf options words (unless_fault reading fault)
+      → IsLineOf options words (Spec.unless_fault reading fault)
   counted reading reads None kept = record { reads = reads; keeps = kept }
   counted reading reads (Some fault) breaks = inr (record {
     matches = matches_of options reading;
@@ -78,9 +73,9 @@ module _ (options : Declared) (declared : MayBeDeclared options.groups) (words :
 
   line_answer : AreTexts words → (outcome : Result Reading Fault)
       → IsSoundOutcome (grammar_of options) words outcome
-      → IsLineOf options words (with_counts_kept options outcome)
+      → IsLineOf options words (Spec.with_counts_kept options outcome)
   line_answer texts (Ok reading) reads = counted reading reads
-      (first_count_fault (matches_of options reading).groups)
+      (Spec.first_count_fault (matches_of options reading).groups)
       (first_count_fault-is (matches_of options reading).groups)
   line_answer texts (Err fault) fails = inl (HasNoReading-fault options declared words texts fault fails)
 
@@ -106,37 +101,39 @@ module _ (options : Declared) (declared : MayBeDeclared options.groups) (words :
 
   -- the results are the computed ones
   pub HasResults-declared : AreTexts words → HasResults options words
-  unfolding reading_or_error accepted_reading
+  unfolding Spec.reading_or_error Spec.accepted_reading
   HasResults-declared texts =
       let sound = read_sound (grammar_of options)
       (named_here options declared) words texts _ refl in
-      let reading = reading_answer texts (read (grammar_of options) words) sound in
-      let line = line_answer texts (read (grammar_of options) words) sound in
-      let parse = the_only (only_parse_answer options words) (parse_result options words)
+      let reading = reading_answer texts (Spec.read (grammar_of options) words) sound in
+      let line = line_answer texts (Spec.read (grammar_of options) words) sound in
+      let parse = the_only (Answered.only_parse_answer options words) (Spec.parse_result options words)
       (made_of-is (IsAccepted options words) (IsRefused options words) (λ r. IsCountKeeping options r words)
-      (matches_of options) (accepted_reading options words)
+      (matches_of options) (Spec.accepted_reading options words)
       (IsAccepted-reading options declared words) line) in
       let matches = made_of-is (HasReading options words) (HasNoReading options words) (Reads options words)
-      (matches_of options) (reading_or_error options words)
+      (matches_of options) (Spec.reading_or_error options words)
       (HasReading-reading options declared words) reading in
       record {
-        reading = the_only (only_of_reading options words (λ r reads. (r, reads)) once)
-            (reading_or_error options words) reading;
-        line = the_only (only_answer options words (λ r keeps. (r, keeps))
+        reading = the_only (Answered.only_of_reading options words (λ r reads. (r, reads)) once)
+            (Spec.reading_or_error options words) reading;
+        line = the_only (Answered.only_answer options words (λ r keeps. (r, keeps))
             (λ r other keeps also. once r other keeps.reads also.reads))
-            (accepted_reading options words) line;
+            (Spec.accepted_reading options words) line;
         parse = parse;
-        read = the_only (only_read_answer options words)
-            (parse_ignoring_counts_result options words) matches;
-        canonical = the_only (only_canonical_answer options words) (canonical_result options words)
+        read = the_only (Answered.only_read_answer options words)
+            (Spec.parse_ignoring_counts_result options words) matches;
+        canonical = the_only (Answered.only_canonical_answer options words)
+            (Spec.canonical_result options words)
             (made_of-is (λ written. MatchOption written (IsUnwritable options words) (IsWritten options words))
-            (IsRefused options words) (λ r. IsCountKeeping options r words) (λ r. written_line options.groups (content_of options r))
-            (accepted_reading options words)
+            (IsRefused options words) (λ r. IsCountKeeping options r words)
+            (λ r. Spec.written_line options.groups (content_of options r))
+            (Spec.accepted_reading options words)
             (λ r keeps. written_answer (content_of options r) (with_content r keeps) _ refl) line);
-        order = the_only (only_order_answer options words) (parse_in_order_result options words)
+        order = the_only (Answered.only_order_answer options words) (Spec.parse_in_order_result options words)
             (made_of-is (IsOrder options words) (IsRefused options words) (λ r. IsCountKeeping options r words)
             (λ r. map (λ m. m.group) (content_of options r).mentions)
-            (accepted_reading options words) (λ r keeps. record {
+            (Spec.accepted_reading options words) (λ r keeps. record {
               content = content_of options r;
               accepted = with_content r keeps;
               places_are = refl;
@@ -148,30 +145,30 @@ module _ (options : Declared) (declared : MayBeDeclared options.groups) (words :
 -- What the result of a call says about the words, as lemmas for `search`.
 module _ (options : Declared) (words : List Text) where
   -- matches, with counts ignored, are those of the only reading
-  pub is_read : (matches : Matched) → parse_ignoring_counts_result options words ≡ Ok matches
+  pub is_read : (matches : Matched) → Spec.parse_ignoring_counts_result options words ≡ Ok matches
       → MayBeDeclared options.groups → AreTexts words → HasReading options words matches
   is_read matches is declared texts =
       ((HasResults-declared options declared words texts).read (Ok matches)).1 (sym is)
 
   -- an error, with counts ignored, is the only scan error
-  pub isnt_read : (fault : Fault) → parse_ignoring_counts_result options words ≡ Err fault
+  pub isnt_read : (fault : Fault) → Spec.parse_ignoring_counts_result options words ≡ Err fault
       → MayBeDeclared options.groups → AreTexts words → HasNoReading options words fault
   isnt_read fault is declared texts =
       ((HasResults-declared options declared words texts).read (Err fault)).1 (sym is)
 
   -- which rejects the words
-  pub unread_refused : (fault : Fault) → parse_ignoring_counts_result options words ≡ Err fault
+  pub unread_refused : (fault : Fault) → Spec.parse_ignoring_counts_result options words ≡ Err fault
       → MayBeDeclared options.groups → AreTexts words → IsRefused options words fault
   unread_refused fault is declared texts = inl (isnt_read fault is declared texts)
 
   -- matches accept the words
-  pub is_accepted : (matches : Matched) → parse_result options words ≡ Ok matches
+  pub is_accepted : (matches : Matched) → Spec.parse_result options words ≡ Ok matches
       → MayBeDeclared options.groups → AreTexts words → IsAccepted options words matches
   is_accepted matches is declared texts =
       ((HasResults-declared options declared words texts).parse (Ok matches)).1 (sym is)
 
   -- and an error rejects them
-  pub is_refused : (fault : Fault) → parse_result options words ≡ Err fault
+  pub is_refused : (fault : Fault) → Spec.parse_result options words ≡ Err fault
       → MayBeDeclared options.groups → AreTexts words → IsRefused options words fault
   is_refused fault is declared texts =
       ((HasResults-declared options declared words texts).parse (Err fault)).1 (sym is)

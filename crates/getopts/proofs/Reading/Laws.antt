@@ -20,12 +20,7 @@ use Rattle.getopts.specs.Reading.{Dashes, cluster, FitsEnd, is_bare, Reading, Me
 use Rattle.getopts.specs.Reading.{one, two, End, flags, Item, free, long, Tail, stop, rest}
 use Rattle.getopts.specs.Reading.{MayPrecede, EndsOrIsDashed, AreWellFollowed, occurrences_of}
 use Rattle.getopts.specs.Matches.{GroupOccurrence, matched, occurrences_mentioning}
-use Rattle.getopts.specs.ReadingLaws.{AreHigherAfter, ReadsAlike, Respells, mentions_of}
-use Rattle.getopts.specs.ReadingLaws.{positions_in, LongAttachedOrSeparate, ShortAttachedOrSeparate}
-use Rattle.getopts.specs.ReadingLaws.{ClusterSplits, OneDashOrTwo, is_last_bare, joined_reading}
-use Rattle.getopts.specs.ReadingLaws.{HasContentOfBoth, LinesCompose, IsAfterStop}
-use Rattle.getopts.specs.ReadingLaws.{TrailingStartIsAfterStop, IsSubsequence}
-use Rattle.getopts.specs.ReadingLaws.{FreeWordsAreSubsequence, HavePositionsInOrder}
+use Rattle.getopts.specs.ReadingLaws as Spec
 use Rattle.getopts.specs.declared.kinds.HasArg.TheVariants.{Yes}
 use Rattle.getopts.proofs.Lists.{AllByRecursion-append, AllByRecursion-left, AllByRecursion-right}
 use Rattle.getopts.proofs.Reading.Positions.{mentions_of-items, positions_in-one_higher}
@@ -132,8 +127,8 @@ free_items-in_place front old new same =
 -- items in front preserve equal mentions
 mentions_of-in_place : (grammar : Grammar) (front old new : List Item) (tail : Tail)
     → flat_map (mentions grammar) new ≡ flat_map (mentions grammar) old
-    → mentions_of grammar (record { items = front ++ new; tail = tail })
-    ≡ mentions_of grammar (record { items = front ++ old; tail = tail })
+    → Spec.mentions_of grammar (record { items = front ++ new; tail = tail })
+    ≡ Spec.mentions_of grammar (record { items = front ++ old; tail = tail })
 mentions_of-in_place grammar front old new tail same =
     mentions_of-items grammar (record { items = front ++ new; tail = tail })
     ∙ rw (
@@ -148,11 +143,11 @@ ReadsAlike-in_place : (grammar : Grammar) (Alike : List ℕ → List ℕ → Typ
     (front old new : List Item) (tail : Tail) (words : List Text)
     → FitInPlace grammar old new (tail_words tail)
     → flat_map (mentions grammar) new ≡ flat_map (mentions grammar) old
-    → Alike (positions_in grammar (record { items = front ++ old; tail = tail }))
-    (positions_in grammar (record { items = front ++ new; tail = tail }))
+    → Alike (Spec.positions_in grammar (record { items = front ++ old; tail = tail }))
+    (Spec.positions_in grammar (record { items = front ++ new; tail = tail }))
     → free_items new ≡ free_items old
     → IsReading grammar (record { items = front ++ old; tail = tail }) words
-    → ReadsAlike grammar Alike (record { items = front ++ old; tail = tail })
+    → Spec.ReadsAlike grammar Alike (record { items = front ++ old; tail = tail })
     (record { items = front ++ new; tail = tail })
 ReadsAlike-in_place grammar Alike front old new tail words fit same alike same_free reads =
     let same_words : free_items (front ++ new) ≡ free_items (front ++ old) =
@@ -174,9 +169,9 @@ module _ (grammar : Grammar) (item longer : Item)
   -- replacing the shorter one
   Respells-longer : ((back : List Item) (more : List Text)
       → FitInPlace grammar (item ∷ back)
-      (longer ∷ back) more) → Respells grammar item (longer ∷ []) AreHigherAfter
+      (longer ∷ back) more) → Spec.Respells grammar item (longer ∷ []) Spec.AreHigherAfter
   Respells-longer fit front back tail words reads =
-      ReadsAlike-in_place grammar (AreHigherAfter (word_count front)) front (item ∷ back)
+      ReadsAlike-in_place grammar (Spec.AreHigherAfter (word_count front)) front (item ∷ back)
       (longer ∷ back) tail words (fit back (tail_words tail))
       (ap (λ (told : List Mention). told ++ flat_map (mentions grammar) back) same)
       (positions_in-one_higher grammar item longer back same one_more front tail)
@@ -186,9 +181,9 @@ module _ (grammar : Grammar) (item longer : Item)
   -- replacing the longer one
   Respells-shorter : ((back : List Item) (more : List Text)
       → FitInPlace grammar (longer ∷ back) (item ∷ back) more)
-      → Respells grammar longer (item ∷ []) (λ position old new. AreHigherAfter position new old)
+      → Spec.Respells grammar longer (item ∷ []) (λ position old new. Spec.AreHigherAfter position new old)
   Respells-shorter fit front back tail words reads =
-      ReadsAlike-in_place grammar (λ old new. AreHigherAfter (word_count front) new old) front
+      ReadsAlike-in_place grammar (λ old new. Spec.AreHigherAfter (word_count front) new old) front
       (longer ∷ back)
       (item ∷ back) tail words (fit back (tail_words tail))
       (ap (λ (told : List Mention). told ++ flat_map (mentions grammar) back) (sym same))
@@ -221,7 +216,7 @@ IsLawfulLong-yes grammar dashes name argument new_argument kind fits lawful = re
 }
 
 -- a long option's argument, attached or separate
-pub LongAttachedOrSeparate_lem : (grammar : Grammar) → LongAttachedOrSeparate grammar
+pub LongAttachedOrSeparate_lem : (grammar : Grammar) → Spec.LongAttachedOrSeparate grammar
 LongAttachedOrSeparate_lem grammar = record {
   either = λ dashes name argument kind. record {
     to_longer = Respells-longer grammar (long dashes name (attached argument))
@@ -242,7 +237,7 @@ MayPrecede-long_only long_only one name only plain = (only, plain)
 MayPrecede-long_only long_only two name only plain = tt
 
 -- one dash or two
-pub OneDashOrTwo_lem : (grammar : Grammar) → OneDashOrTwo grammar
+pub OneDashOrTwo_lem : (grammar : Grammar) → Spec.OneDashOrTwo grammar
 OneDashOrTwo_lem grammar = record {
   other_dashes = λ dashes other name argument only plain front back tail words reads.
       ReadsAlike-in_place grammar (λ old new. new ≡ old) front (long dashes name argument ∷ back)
@@ -290,7 +285,7 @@ FitInPlace-cluster grammar names option argument new_argument back more kind fit
 }
 
 -- a short option's argument, attached or separate
-pub ShortAttachedOrSeparate_lem : (grammar : Grammar) → ShortAttachedOrSeparate grammar
+pub ShortAttachedOrSeparate_lem : (grammar : Grammar) → Spec.ShortAttachedOrSeparate grammar
 ShortAttachedOrSeparate_lem grammar = record {
   either = λ names option argument kind filled. record {
     to_longer = to_separate names option argument kind;
@@ -303,8 +298,8 @@ ShortAttachedOrSeparate_lem grammar = record {
   where
     to_separate : (names : List ℕ) (option : ℕ) (argument : Text)
         → grammar.kind (option ∷ []) ≡ Some Yes
-        → Respells grammar (cluster names (ends_in option (attached argument)))
-        (cluster names (ends_in option (separate argument)) ∷ []) AreHigherAfter
+        → Spec.Respells grammar (cluster names (ends_in option (attached argument)))
+        (cluster names (ends_in option (separate argument)) ∷ []) Spec.AreHigherAfter
     to_separate names option argument kind =
         Respells-longer grammar (cluster names (ends_in option (attached argument)))
         (cluster names (ends_in option (separate argument))) refl refl refl
@@ -328,7 +323,7 @@ IsLawfulEnd-rest grammar flag names (ends_in option argument) filled lawful = la
 -- a cluster may be split after its first flag
 Respells-split : (grammar : Grammar) (flag : ℕ) (names : List ℕ) (end : End)
     → names ++ end_text end ≢ [] → begins_with_dash (names ++ end_text end) ≡ false
-    → Respells grammar (cluster (flag ∷ names) end)
+    → Spec.Respells grammar (cluster (flag ∷ names) end)
     (cluster (flag ∷ []) flags ∷ cluster names end ∷ []) (λ position old new. ⊤)
 Respells-split grammar flag names end filled plain front back tail words reads =
     ReadsAlike-in_place grammar (λ old new. ⊤) front (cluster (flag ∷ names) end ∷ back)
@@ -361,14 +356,14 @@ Respells-split grammar flag names end filled plain front back tail words reads =
     }
 
 -- a cluster splits
-pub ClusterSplits_lem : (grammar : Grammar) → ClusterSplits grammar
+pub ClusterSplits_lem : (grammar : Grammar) → Spec.ClusterSplits grammar
 ClusterSplits_lem grammar = record { after_flag = Respells-split grammar }
 
 -- ---- joined lines, and the trailing start
 
 -- bare clusters stay well followed if other items follow the last item, and this isn't
 -- bare
-AreWellFollowed-append : (items others : List Item) (more : List Text) → is_last_bare items ≡ false
+AreWellFollowed-append : (items others : List Item) (more : List Text) → Spec.is_last_bare items ≡ false
     → AreWellFollowed items [] → AreWellFollowed others more
     → AreWellFollowed (items ++ others) more
 AreWellFollowed-append [] others more last before after = after
@@ -380,10 +375,10 @@ AreWellFollowed-append (item ∷ next ∷ items) others more last before after =
 
 -- the concatenation of two readings has the content of both
 HasContentOfBoth-joined : (grammar : Grammar) (first second : Reading) → first.tail ≡ line_end
-    → HasContentOfBoth grammar first second (joined_reading first second)
+    → Spec.HasContentOfBoth grammar first second (Spec.joined_reading first second)
 HasContentOfBoth-joined grammar first second ends = record {
   mentions = rw (
-    mentions_of-items grammar (joined_reading first second),
+    mentions_of-items grammar (Spec.joined_reading first second),
     mentions_of-items grammar first,
     mentions_of-items grammar second,
   ) (flat_map-append (mentions grammar) first.items second.items);
@@ -397,9 +392,9 @@ HasContentOfBoth-joined grammar first second ends = record {
 
 -- a first line read to its end, and the items and the tail of a second, are read together
 IsReading-joined : (grammar : Grammar) (first second : Reading) (words more : List Text)
-    → IsReading grammar first words → first.tail ≡ line_end → is_last_bare first.items ≡ false
+    → IsReading grammar first words → first.tail ≡ line_end → Spec.is_last_bare first.items ≡ false
     → IsReading grammar second more
-    → IsReading grammar (joined_reading first second) (words ++ more)
+    → IsReading grammar (Spec.joined_reading first second) (words ++ more)
 IsReading-joined grammar first second words more reads ends last after = record {
   spells = rw (
     spelled_all-joined first.items second.items (tail_words second.tail),
@@ -417,13 +412,13 @@ IsReading-joined grammar first second words more reads ends last after = record 
 -- lines compose, if a line has at most one reading
 pub LinesCompose_lem : (grammar : Grammar)
     → ((reading other : Reading) (words : List Text) → IsReading grammar reading words
-    → IsReading grammar other words → reading ≡ other) → LinesCompose grammar
+    → IsReading grammar other words → reading ≡ other) → Spec.LinesCompose grammar
 LinesCompose_lem grammar only = record {
   of_both = λ first second words more reads ends last after.
       let both = IsReading-joined grammar first second words more reads ends last after in (
         both,
-        λ whole reads_whole. subst (HasContentOfBoth grammar first second)
-            (only (joined_reading first second) whole (words ++ more) both reads_whole)
+        λ whole reads_whole. subst (Spec.HasContentOfBoth grammar first second)
+            (only (Spec.joined_reading first second) whole (words ++ more) both reads_whole)
             (HasContentOfBoth-joined grammar first second ends),
       );
 }
@@ -431,7 +426,7 @@ LinesCompose_lem grammar only = record {
 -- the trailing start of a tail after this number of free words
 IsAfterStop-tail : (frees : List Text) (items : List Item) (tail : Tail) (start : ℕ)
     → free_items items ≡ frees → trailing_after (length frees) tail ≡ Some start
-    → IsAfterStop (record { items = items; tail = tail }) start
+    → Spec.IsAfterStop (record { items = items; tail = tail }) start
 IsAfterStop-tail frees items line_end start are at = cc at
 IsAfterStop-tail frees items (rest words) start are at = cc at
 IsAfterStop-tail frees items (stop []) start are at = cc at
@@ -443,7 +438,7 @@ IsAfterStop-tail frees items (stop (word ∷ words)) start are at =
     }
 
 -- the trailing start is after the stop
-pub TrailingStartIsAfterStop_lem : (grammar : Grammar) → TrailingStartIsAfterStop grammar
+pub TrailingStartIsAfterStop_lem : (grammar : Grammar) → Spec.TrailingStartIsAfterStop grammar
 TrailingStartIsAfterStop_lem grammar = record {
   after_stop = λ reading words start reads at. IsAfterStop-tail
       (free_items reading.items) reading.items reading.tail start refl at;
@@ -460,7 +455,7 @@ pub data IsPart : List Text → List Text → Type 0 where
       → IsPart texts (word ∷ words)
 
 -- so they are a subsequence
-IsSubsequence-part : (texts words : List Text) → IsPart texts words → IsSubsequence texts words
+IsSubsequence-part : (texts words : List Text) → IsPart texts words → Spec.IsSubsequence texts words
 IsSubsequence-part _ _ empty = ([], refl)
 IsSubsequence-part _ _ (kept {texts} {words} word part) =
     let more = IsSubsequence-part texts words part in
@@ -494,9 +489,9 @@ IsPart-items (free word ∷ items) tail = kept word (IsPart-items items tail)
 IsPart-items (item ∷ items) tail = IsPart-after (item_words item) _ _ (IsPart-items items tail)
 
 -- free words are a subsequence of the words
-pub FreeWordsAreSubsequence_lem : (grammar : Grammar) → FreeWordsAreSubsequence grammar
+pub FreeWordsAreSubsequence_lem : (grammar : Grammar) → Spec.FreeWordsAreSubsequence grammar
 FreeWordsAreSubsequence_lem grammar = record {
-  subsequence = λ reading words reads. subst (IsSubsequence (free_words reading)) reads.spells
+  subsequence = λ reading words reads. subst (Spec.IsSubsequence (free_words reading)) reads.spells
       (IsSubsequence-part _ _ (IsPart-items reading.items reading.tail));
 }
 
@@ -572,7 +567,7 @@ NeverDecrease-reading grammar reading place =
 -- the positions of groups in a reading's matches are in order
 pub HavePositionsInOrder-matched : (grammar : Grammar) (reading : Reading) (place : ℕ)
     (signatures : List Signature)
-    → HavePositionsInOrder (matched place signatures (occurrences_of grammar reading))
+    → Spec.HavePositionsInOrder (matched place signatures (occurrences_of grammar reading))
 HavePositionsInOrder-matched grammar reading place [] = tt
 HavePositionsInOrder-matched grammar reading place (signature ∷ signatures) = (
   NeverDecrease-reading grammar reading place,

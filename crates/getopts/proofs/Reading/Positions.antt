@@ -15,8 +15,7 @@ use Rattle.getopts.specs.Reading.{Item, free, long, cluster, item_words, spelled
 use Rattle.getopts.specs.Reading.{tail_words, Reading, IsReading, Mention, mentions, Occurrence}
 use Rattle.getopts.specs.Reading.{at_position, word_count, occurrences_after, occurrences_of}
 use Rattle.getopts.specs.Matches.{GroupOccurrence, matched, occurrences_mentioning}
-use Rattle.getopts.specs.ReadingLaws.{mentions_of, positions_in, one_higher_after, BelongsToItem}
-use Rattle.getopts.specs.ReadingLaws.{PositionsAreWords, HavePositionsBelow}
+use Rattle.getopts.specs.ReadingLaws as Spec
 use Rattle.getopts.proofs.Lists.{AllByRecursion-append, slice_get-append}
 use Rattle.getopts.proofs.Reading.Reader.{spelled}
 use Rattle.getopts.proofs.Reading.Readings.{spelled_all-append, spelled_all-joined}
@@ -56,22 +55,22 @@ mention-occurrences_after before grammar (item ∷ items) =
 
 -- a reading's mentions are those of its items, in order
 pub mentions_of-items : (grammar : Grammar) (reading : Reading)
-    → mentions_of grammar reading ≡ flat_map (mentions grammar) reading.items
+    → Spec.mentions_of grammar reading ≡ flat_map (mentions grammar) reading.items
 mentions_of-items grammar reading = mention-occurrences_after 0 grammar reading.items
 
 -- an occurrence, one position higher if it comes after this one
 abbrev raised_after : ℕ → Occurrence → Occurrence
 raised_after position o = record {
   mention = o.mention;
-  position = one_higher_after position o.position;
+  position = Spec.one_higher_after position o.position;
 }
 
 position-raised_after : (position : ℕ) (os : List Occurrence)
     → map (λ (o : Occurrence). o.position) (map (raised_after position) os)
-    ≡ map (one_higher_after position) (map (λ (o : Occurrence). o.position) os)
+    ≡ map (Spec.one_higher_after position) (map (λ (o : Occurrence). o.position) os)
 position-raised_after position [] = refl
 position-raised_after position (o ∷ os) =
-    ap (λ (ps : List ℕ). one_higher_after position o.position ∷ ps)
+    ap (λ (ps : List ℕ). Spec.one_higher_after position o.position ∷ ps)
     (position-raised_after position os)
 
 -- mentions up to this position stay where they are
@@ -148,9 +147,9 @@ module _ (grammar : Grammar) (item other : Item) (back : List Item)
 
   -- in a whole line
   pub positions_in-one_higher : (front : List Item) (tail : Tail)
-      → positions_in grammar (record { items = front ++ other ∷ back; tail = tail })
-      ≡ map (one_higher_after (word_count front))
-      (positions_in grammar (record { items = front ++ item ∷ back; tail = tail }))
+      → Spec.positions_in grammar (record { items = front ++ other ∷ back; tail = tail })
+      ≡ map (Spec.one_higher_after (word_count front))
+      (Spec.positions_in grammar (record { items = front ++ item ∷ back; tail = tail }))
   positions_in-one_higher front tail =
       let whole = rw zero-add at (occurrences_after-one_higher front 0) in
       rw (← whole) (position-raised_after (word_count front)
@@ -221,11 +220,11 @@ first_word-spelled (long dashes name argument) more = refl
 first_word-spelled (cluster names end) more = refl
 
 -- positions are indexes of words
-pub PositionsAreWords_lem : (grammar : Grammar) → PositionsAreWords grammar
+pub PositionsAreWords_lem : (grammar : Grammar) → Spec.PositionsAreWords grammar
 PositionsAreWords_lem grammar = record { of_occurrence = stands } where
   stands : (reading : Reading) (words : List Text) (occurrence : Occurrence)
       → IsReading grammar reading words → Contains (occurrences_of grammar reading) occurrence
-      → BelongsToItem grammar reading words occurrence
+      → Spec.BelongsToItem grammar reading words occurrence
   stands reading words occurrence reads held =
       let found = IsOfItem-from_contains grammar 0 reading.items occurrence held in
       let mentioned : Contains (map (at_position (word_count found.before))
@@ -305,7 +304,7 @@ below-occurrences_of grammar reading words reads =
 -- so are those of the groups in a reading's matches
 pub HavePositionsBelow-matched : (grammar : Grammar) (reading : Reading) (words : List Text)
     → IsReading grammar reading words → (place : ℕ) (signatures : List Signature)
-    → HavePositionsBelow (length words) (matched place signatures (occurrences_of grammar reading))
+    → Spec.HavePositionsBelow (length words) (matched place signatures (occurrences_of grammar reading))
 HavePositionsBelow-matched grammar reading words reads place [] = tt
 HavePositionsBelow-matched grammar reading words reads place (signature ∷ signatures) = (
   below-occurrences_mentioning (length words) place (occurrences_of grammar reading)

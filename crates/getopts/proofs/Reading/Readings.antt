@@ -17,8 +17,7 @@ use Rattle.getopts.specs.Results.{made_of}
 use Rattle.getopts.specs.Step.{Step, ends, takes, faults}
 use Rattle.getopts.proofs.Reading.Reader.{IsNamed, step, spelled, free_step, with_items, after_step}
 use Rattle.getopts.proofs.Reading.Reader.{read_both, read}
-use Rattle.getopts.proofs.Reading.Steps.{BeginsWith, spelled_step, fault_dashed, IsSoundStep}
-use Rattle.getopts.proofs.Reading.Steps.{TakesItem, fault_step, step_free, step_stop, step_sound}
+use Rattle.getopts.proofs.Reading.Steps as Steps
 
 -- the outcome of a line without its first word
 read_second : (grammar : Grammar) (words : List Text)
@@ -61,7 +60,7 @@ read_nil grammar = refl
 
 -- an item goes in front of the outcome of the words after it
 pub taken_read : (grammar : Grammar) (words : List Text) (item : Item) (others : List Text)
-    → TakesItem grammar words item others
+    → Steps.TakesItem grammar words item others
     → read grammar words ≡ with_items (item ∷ []) (read grammar others)
 taken_read grammar [] item others taken = absurd taken
 taken_read grammar (word ∷ more) item others taken =
@@ -88,7 +87,7 @@ pub items_read : (grammar : Grammar) → IsNamed grammar → (items : List Item)
 items_read grammar named [] more lawful followed = with_items-none (read grammar more)
 items_read grammar named (item ∷ items) more lawful followed =
     taken_read grammar (spelled item (spelled_all items more)) item (spelled_all items more)
-    (spelled_step grammar named item (spelled_all items more) lawful.0 followed.0)
+    (Steps.spelled_step grammar named item (spelled_all items more) lawful.0 followed.0)
     ∙ ap (with_items (item ∷ [])) (items_read grammar named items more lawful.1 followed.1)
     ∙ sym (with_items-append (item ∷ []) items (read grammar more))
 
@@ -97,11 +96,11 @@ tail_read : (grammar : Grammar) (tail : Tail) → IsLawfulTail grammar tail
     → read grammar (tail_words tail) ≡ Ok (record { items = []; tail = tail })
 tail_read grammar line_end lawful = read_nil grammar
 tail_read grammar (stop words) lawful =
-    read_tail grammar stop_word words (stop words) (step_stop grammar words)
+    read_tail grammar stop_word words (stop words) (Steps.step_stop grammar words)
 tail_read grammar (rest []) lawful = absurd lawful
 tail_read grammar (rest (word ∷ words)) lawful =
     read_tail grammar word words (rest (word ∷ words))
-    (step_free grammar word words lawful.0
+    (Steps.step_free grammar word words lawful.0
     ∙ ap (λ (style : ParsingStyle). free_step style word words) lawful.1)
 
 -- if a line has a reading, `read` returns it
@@ -168,11 +167,11 @@ fault_read grammar named words fault texts is =
     ∙ sym (spelled_all-append is.items [] (is.word ∷ is.after)) in
     let followed : AreWellFollowed is.items (is.word ∷ is.after) =
     followed-append is.items (is.word ∷ is.after) is.reads.followed
-    (fault_dashed grammar is.word is.after fault is.fault_at) in
+    (Steps.fault_dashed grammar is.word is.after fault is.fault_at) in
     ap (read grammar) line
     ∙ items_read grammar named is.items (is.word ∷ is.after) is.reads.items followed
     ∙ ap (with_items is.items) (read_error grammar is.word is.after fault
-    (fault_step grammar named is.word is.after fault utf8.0 is.fault_at))
+    (Steps.fault_step grammar named is.word is.after fault utf8.0 is.fault_at))
 
 -- a value made of an outcome is made of a reading
 pub made_of-ok : {X : Type 0} (make : Reading → X) (outcome : Result Reading Fault) (x : X)
@@ -219,7 +218,7 @@ IsSoundOutcome grammar words (Err fault) = IsScanFault grammar words fault
 
 -- a reading of the words after an item, with the item
 reading_after_item : (grammar : Grammar) (words : List Text) (item : Item) (others : List Text)
-    (reading : Reading) → BeginsWith grammar words item others → IsReading grammar reading others
+    (reading : Reading) → Steps.BeginsWith grammar words item others → IsReading grammar reading others
     → IsReading grammar (record { items = item ∷ reading.items; tail = reading.tail }) words
 reading_after_item grammar words item others reading begins is = record {
   spells = ap (spelled item) is.spells ∙ sym begins.spells;
@@ -230,7 +229,7 @@ reading_after_item grammar words item others reading begins is = record {
 
 -- an error of the words after an item is an error of the line
 fault_after_item : (grammar : Grammar) (words : List Text) (item : Item) (others : List Text)
-    (fault : Fault) → BeginsWith grammar words item others → IsScanFault grammar others fault
+    (fault : Fault) → Steps.BeginsWith grammar words item others → IsScanFault grammar others fault
     → IsScanFault grammar words fault
 fault_after_item grammar words item others fault begins is = record {
   before = spelled item is.before;
@@ -255,7 +254,7 @@ fault_after_item grammar words item others fault begins is = record {
 
 -- an item before an outcome
 item_sound : (grammar : Grammar) (words : List Text) (item : Item) (others : List Text)
-    (outcome : Result Reading Fault) → BeginsWith grammar words item others
+    (outcome : Result Reading Fault) → Steps.BeginsWith grammar words item others
     → IsSoundOutcome grammar others outcome
     → IsSoundOutcome grammar words (with_items (item ∷ []) outcome)
 item_sound grammar words item others (Ok reading) begins sound =
@@ -284,7 +283,7 @@ fault_here grammar word more fault at = record {
 
 -- the outcome of a line, by the step of its first word
 after_step_sound : (grammar : Grammar) (word : Text) (more : List Text) (said : Step)
-    (after_one after_two : Result Reading Fault) → IsUtf8 word → IsSoundStep grammar word more said
+    (after_one after_two : Result Reading Fault) → IsUtf8 word → Steps.IsSoundStep grammar word more said
     → IsSoundOutcome grammar more after_one → IsSoundOutcome grammar (drop 1 more) after_two
     → IsSoundOutcome grammar (word ∷ more) (after_step said after_one after_two)
 after_step_sound grammar word more (ends tail) after_one after_two utf8 sound one_sound two_sound =
@@ -314,7 +313,7 @@ both_sound grammar named (word ∷ more) texts =
     (read_both grammar more).1 = both_sound grammar named more texts.1 in (
       after_step_sound grammar word more (step grammar word more) (read_both grammar more).0
           (read_both grammar more).1
-          texts.0 (step_sound grammar named word more) after.0 after.1,
+          texts.0 (Steps.step_sound grammar named word more) after.0 after.1,
       after.0,
     )
 

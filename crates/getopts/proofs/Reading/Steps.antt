@@ -28,11 +28,7 @@ use Rattle.getopts.specs.declared.kinds.ParsingStyle.{ParsingStyle}
 use Rattle.getopts.specs.declared.kinds.ParsingStyle.TheVariants.{FloatingFrees, StopAtFirstFree}
 use Rattle.getopts.proofs.Lists.{AllByRecursion-append, filled-append}
 use Rattle.getopts.proofs.Reading.Reader.{spelled, IsNamed, free_step, step}
-use Rattle.getopts.proofs.Reading.Texts.{cut_at_equals-joined, holds_equals-name}
-use Rattle.getopts.proofs.Reading.Texts.{cut_at_equals-append, begins_with_dash-append}
-use Rattle.getopts.proofs.Reading.Texts.{begins_with_dash-front, is_dashed-text, IsUtf8-past_ascii}
-use Rattle.getopts.proofs.Reading.Texts.{IsUtf8-past_asciis, begins_with_char, encode-ascii_byte}
-use Rattle.getopts.proofs.Reading.Texts.{length-encode-wide, first_char-append}
+use Rattle.getopts.proofs.Reading.Texts as Texts
 
 -- ---- sound steps: words in long form
 
@@ -54,7 +50,7 @@ IsSoundStep grammar word more (faults fault) = IsUtf8 word → IsFaultAt grammar
 -- dashes that may precede a text may precede a name at its front
 before_front : (long_only : Bool) (dashes : Dashes) (name more : Text)
     → MayPrecede long_only dashes (name ++ more) → MayPrecede long_only dashes name
-before_front long_only one name more before = (before.0, begins_with_dash-front name more before.1)
+before_front long_only one name more before = (before.0, Texts.begins_with_dash-front name more before.1)
 before_front long_only two name more before = tt
 
 -- Words in long form with this name.
@@ -117,8 +113,8 @@ long_sound : (grammar : Grammar) (dashes : Dashes) (word text : Text) (more : Li
     → IsSoundStep grammar word more (long_step grammar dashes text more)
 long_sound grammar dashes word text more form =
     let cut = cut_at_equals text in
-    named_sound grammar dashes word cut.0 (holds_equals-name text) (grammar.kind cut.0) cut.1 more
-    (subst (IsInLongForm grammar dashes word) (sym (cut_at_equals-joined text)) form) refl
+    named_sound grammar dashes word cut.0 (Texts.holds_equals-name text) (grammar.kind cut.0) cut.1 more
+    (subst (IsInLongForm grammar dashes word) (sym (Texts.cut_at_equals-joined text)) form) refl
 
 -- ---- sound steps: words in short form
 
@@ -136,8 +132,8 @@ IsUtf8-after_flags : (grammar : Grammar) → IsNamed grammar → (word : Text) (
     → IsShortForm grammar word (bytes ++ text) → AllByRecursion (IsFlag grammar) bytes
     → IsUtf8 word → IsUtf8 text
 IsUtf8-after_flags grammar named word bytes text form each utf8 =
-    IsUtf8-past_asciis bytes text (flags_ascii grammar named bytes each)
-    (IsUtf8-past_ascii dash (bytes ++ text) (omega arith) (subst IsUtf8 form.word_is utf8))
+    Texts.IsUtf8-past_asciis bytes text (flags_ascii grammar named bytes each)
+    (Texts.IsUtf8-past_ascii dash (bytes ++ text) (omega arith) (subst IsUtf8 form.word_is utf8))
 
 -- Words in short form that begin with these flags.
 module _ (grammar : Grammar) (word : Text) (bytes : List ℕ)
@@ -176,15 +172,15 @@ module _ (grammar : Grammar) (word : Text) (bytes : List ℕ)
       → IsShortForm grammar word (bytes ++ byte ∷ text) → grammar.kind (byte ∷ []) ≡ None
       → IsUtf8 word → IsFaultAt grammar word more (unrecognized_option (first_char (byte ∷ text)))
   unknown_flag named byte text more form resolved utf8 =
-      let begins = begins_with_char byte text
+      let begins = Texts.begins_with_char byte text
       (IsUtf8-after_flags grammar named word bytes (byte ∷ text) form each utf8) in
       rw begins.1.first (elim (cases_lt byte 128) [
         | inl ascii ↦
-            rw (encode-ascii_byte begins.0 byte text begins.1.rest begins.1.text_is ascii)
+            rw (Texts.encode-ascii_byte begins.0 byte text begins.1.rest begins.1.text_is ascii)
             (unknown_byte byte text ascii (after_flags (byte ∷ text) form) resolved)
         | inr wide ↦
             wide_character begins.0 begins.1.rest begins.1.scalar
-            (length-encode-wide begins.0 byte text begins.1.rest begins.1.text_is wide)
+            (Texts.length-encode-wide begins.0 byte text begins.1.rest begins.1.text_is wide)
             (after_flags (encode_utf8 begins.0 ++ begins.1.rest)
             (subst (λ (t : Text). IsShortForm grammar word (bytes ++ t)) begins.1.text_is form))
       ])
@@ -287,7 +283,7 @@ step_short grammar word (c ∷ text) more form = rw (form.word_is, form.second, 
 -- a word in short form is dashed
 pub short_dashed : (grammar : Grammar) (word text : Text) → IsShortForm grammar word text
     → is_dashed word ≡ true
-short_dashed grammar word text form = rw form.word_is (is_dashed-text text form.filled)
+short_dashed grammar word text form = rw form.word_is (Texts.is_dashed-text text form.filled)
 
 -- a word that isn't dashed
 free_sound : (grammar : Grammar) (word : Text) (more : List Text) → is_dashed word ≡ false
@@ -355,14 +351,14 @@ pub long_step_cut : (grammar : Grammar) (dashes : Dashes) (name : Text) (argumen
     → long_step grammar dashes (name ++ with_equals argument) more
     ≡ named_step kind dashes name argument more
 long_step_cut grammar dashes name argument more kind plain resolved =
-    rw (cut_at_equals-append name argument plain, resolved) refl
+    rw (Texts.cut_at_equals-append name argument plain, resolved) refl
 
 -- dashes that may precede a name may precede it and its argument
 before_more : (long_only : Bool) (dashes : Dashes) (name : Text) (argument : Option Text)
     → MayPrecede long_only dashes name
     → MayPrecede long_only dashes (name ++ with_equals argument)
 before_more long_only one name argument before =
-    (before.0, begins_with_dash-append name argument before.1)
+    (before.0, Texts.begins_with_dash-append name argument before.1)
 before_more long_only two name argument before = tt
 
 -- the step of a word in long form, by its name, its kind and its attached argument
@@ -534,7 +530,7 @@ wide_unknown : (grammar : Grammar) → IsNamed grammar → (c byte : ℕ) (other
 wide_unknown grammar named c byte others text e wide = elim (named.ascii byte) [
   | inr unresolved ↦ unresolved
   | inl ascii ↦
-      let alone : encode_utf8 c ≡ byte ∷ [] = encode-ascii_byte c byte others text e ascii in
+      let alone : encode_utf8 c ≡ byte ∷ [] = Texts.encode-ascii_byte c byte others text e ascii in
       absurd (omega (arith, rw alone at wide))
 ]
 
@@ -557,7 +553,7 @@ wide_step grammar named word names c text (byte ∷ others) more e utf8 form eac
     short_step_byte grammar word names byte others more None form each
     (wide_unknown grammar named c byte others text e wide)
     ∙ ap (λ (t : Text). faults (unrecognized_option t))
-    (rw e (first_char-append c text (rw e at utf8)))
+    (rw e (Texts.first_char-append c text (rw e at utf8)))
 
 -- a text that begins with a character isn't empty
 filled-character : (bytes : List ℕ) (c : ℕ) (text : Text) → bytes ++ (encode_utf8 c ++ text) ≢ []
@@ -589,7 +585,7 @@ first_byte : (byte : ℕ) (text : Text) → byte < 128 → IsUtf8 (byte ∷ text
 first_byte byte text ascii utf8 =
     let encoded = encode_ascii byte ascii in
     let whole : encode_utf8 byte ++ text ≡ byte ∷ text = ap (λ (t : Text). t ++ text) encoded in
-    ap first_char (sym whole) ∙ first_char-append byte text (subst IsUtf8 (sym whole) utf8) ∙ encoded
+    ap first_char (sym whole) ∙ Texts.first_char-append byte text (subst IsUtf8 (sym whole) utf8) ∙ encoded
 
 -- a word with an error
 pub fault_step : (grammar : Grammar) → IsNamed grammar

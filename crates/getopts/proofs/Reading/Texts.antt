@@ -9,8 +9,7 @@ use Rattle.getopts.specs.Step.{with_equals, cut_at_equals, first_char}
 use Rattle.std.specs.List.{AllByRecursion}
 use Rattle.std.specs.Char.{IsScalar}
 use Rattle.std.specs.Str.{IsUtf8, chars}
-use Rattle.std.proofs.lemmas.Str.{IsUtf8-past_char, encode_ascii, chars_past_char, chars-encodes}
-use Rattle.std.proofs.lemmas.Str.{char_from_byte, byte_from_char, length-encode}
+use Rattle.std.proofs.lemmas.Str as Strings
 use Rattle.std.proofs.lemmas.Bool.Decides.{nat_tests}
 use lib.Utf8.{scalars, encodes, scalar as scalar_test}
 
@@ -61,7 +60,7 @@ is_dashed-text (c ∷ text) filled = refl
 -- a text after an ASCII byte
 pub IsUtf8-past_ascii : (byte : ℕ) (text : Text) → byte < 128 → IsUtf8 (byte ∷ text) → IsUtf8 text
 IsUtf8-past_ascii byte text ascii utf8 =
-    IsUtf8-past_char (byte ∷ text) text byte utf8 (rw (encode_ascii byte ascii) refl)
+    Strings.IsUtf8-past_char (byte ∷ text) text byte utf8 (rw (Strings.encode_ascii byte ascii) refl)
 
 -- a text after ASCII bytes
 pub IsUtf8-past_asciis : (bytes text : Text) → AllByRecursion (λ byte. byte < 128) bytes
@@ -95,7 +94,7 @@ begins_with_char byte text (cs, spelled) = from_chars cs spelled.0 spelled.1 whe
       rest = encodes cs;
       scalar = (and_parts (scalar_test c) (scalars cs) scalar).0;
       first = first_char-chars (byte ∷ text) c cs
-          (subst (λ (t : Text). chars t ≡ c ∷ cs) e (chars-encodes (c ∷ cs) scalar));
+          (subst (λ (t : Text). chars t ≡ c ∷ cs) e (Strings.chars-encodes (c ∷ cs) scalar));
       text_is = sym e;
     },
   )
@@ -105,21 +104,21 @@ pub first_char-append : (c : ℕ) (rest : Text) → IsUtf8 (encode_utf8 c ++ res
     → first_char (encode_utf8 c ++ rest) ≡ encode_utf8 c
 first_char-append c rest utf8 =
     first_char-chars (encode_utf8 c ++ rest) c (chars rest)
-    (chars_past_char (encode_utf8 c ++ rest) rest c utf8 refl)
+    (Strings.chars_past_char (encode_utf8 c ++ rest) rest c utf8 refl)
 
 -- a character whose first byte is ASCII is that byte alone
 pub encode-ascii_byte : (c byte : ℕ) (more rest : Text) → byte ∷ more ≡ encode_utf8 c ++ rest
     → byte < 128 → encode_utf8 c ≡ byte ∷ []
 encode-ascii_byte c byte more rest e ascii =
-    let same : c ≡ byte = char_from_byte (byte ∷ more) rest c e ascii (omega arith) in
-    rw same (encode_ascii byte ascii)
+    let same : c ≡ byte = Strings.char_from_byte (byte ∷ more) rest c e ascii (omega arith) in
+    rw same (Strings.encode_ascii byte ascii)
 
 -- a character whose first byte isn't ASCII has more than one byte
 pub length-encode-wide : (c byte : ℕ) (more rest : Text) → byte ∷ more ≡ encode_utf8 c ++ rest
     → 128 ≤ byte → 1 < length (encode_utf8 c)
 length-encode-wide c byte more rest e wide = elim (cases_lt c 128) [
   | inl ascii ↦
-      let same : byte ≡ c = byte_from_char (byte ∷ more) rest c e ascii in
+      let same : byte ≡ c = Strings.byte_from_char (byte ∷ more) rest c e ascii in
       absurd (omega arith)
-  | inr above ↦ rw (length-encode c) (grind (arith, nat_tests))
+  | inr above ↦ rw (Strings.length-encode c) (grind (arith, nat_tests))
 ]

@@ -21,9 +21,8 @@ use Rattle.getopts.specs.Reading.{Occurrence}
 use Rattle.getopts.specs.Matches.{GroupOccurrence, MatchedGroup, occurrences_mentioning, matched}
 use Rattle.getopts.specs.Matches.{without_group}
 use Rattle.getopts.specs.Accessors.{HaveLawfulNames, occurrences_of_group, place_of, values_of}
-use Rattle.getopts.specs.Accessors.{pairs_of}
+use Rattle.getopts.specs.Accessors.{pairs_of, pair_view}
 use Rattle.getopts.specs.Same.{same_signature, same_group_occurrence, same_matched_group}
-use Rattle.getopts.specs.Accessors.{pair_view}
 use Rattle.getopts.proofs.counts.Groups.{length-matched}
 use Rattle.getopts.proofs.Stored.Index.{filter_map-places_of, places_of-within}
 use Rattle.getopts.proofs.Stored.Index.{slice_get-places_by_group, length-places_by_group}

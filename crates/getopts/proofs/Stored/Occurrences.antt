@@ -19,8 +19,7 @@ use Rattle.getopts.specs.Same.{same_group_occurrence}
 use Rattle.getopts.specs.Stored.Occurrences.{text_at, IsSpanOf, IsTextAt, occurrence_in}
 use Rattle.getopts.specs.declared.occurrences.Span.{Span}
 use Rattle.getopts.specs.declared.occurrences.OccurrenceRecord.{OccurrenceRecord}
-use Rattle.getopts.proofs.Lists.{element, take_more_at, pointwise-differ, pointwise-take_more}
-use Rattle.getopts.proofs.Lists.{AllByRecursion-append, each_kept}
+use Rattle.getopts.proofs.Lists as Lists
 use Rattle.getopts.proofs.Stored.Texts.{IsCharBoundary-append, between-append, between-added}
 
 -- a text is still there with more after it
@@ -63,7 +62,7 @@ pub occurrences-push : (values more : Text) → IsUtf8 more → (records : List 
     × (map (occurrence_in (values ++ more)) (records ++ added ∷ [])
     ≡ map (occurrence_in values) records ++ occurrence_in (values ++ more) added ∷ [])
 occurrences-push values more utf8 records held added last =
-    let kept = each_kept (λ (r : OccurrenceRecord). IsSpanOf values r.value)
+    let kept = Lists.each_kept (λ (r : OccurrenceRecord). IsSpanOf values r.value)
     (λ (r : OccurrenceRecord). IsSpanOf (values ++ more) r.value) (occurrence_in values)
     (occurrence_in (values ++ more)) (λ r of.
     let value = span-append values more utf8 r.value of in (
@@ -73,7 +72,7 @@ occurrences-push values more utf8 records held added last =
         position = r.position;
       },
     )) records held in (
-      AllByRecursion-append (λ (r : OccurrenceRecord). IsSpanOf (values ++ more) r.value) records
+      Lists.AllByRecursion-append (λ (r : OccurrenceRecord). IsSpanOf (values ++ more) r.value) records
           (added ∷ []) kept.0 (last, tt),
       map-append (occurrence_in (values ++ more)) records (added ∷ [])
           ∙ ap (λ (os : List Occurrence). os ++ occurrence_in (values ++ more) added ∷ []) kept.1,
@@ -94,7 +93,7 @@ length-at_places : {X : Type 0} (xs : List X) (places : List ℕ)
 length-at_places xs [] all = refl
 length-at_places {X} xs (p ∷ places) all =
     ap (λ (o : Option X). length (cons_option o (filter_map (λ place. slice_get xs place) places)))
-    ((element xs p all.0).1)
+    ((Lists.element xs p all.0).1)
     ∙ ap suc (length-at_places xs places all.1)
 
 -- the element at one of the places
@@ -106,12 +105,12 @@ slice_get-at_places {X} xs (p ∷ places) zero place all at =
     let same : p ≡ place = cc in
     ap (λ (o : Option X). slice_get
     (cons_option o (filter_map (λ place. slice_get xs place) places))
-    0) ((element xs p all.0).1)
-    ∙ sym ((element xs p all.0).1) ∙ ap (λ (n : ℕ). slice_get xs n) same
+    0) ((Lists.element xs p all.0).1)
+    ∙ sym ((Lists.element xs p all.0).1) ∙ ap (λ (n : ℕ). slice_get xs n) same
 slice_get-at_places {X} xs (p ∷ places) (suc i) place all at =
     ap (λ (o : Option X). slice_get
     (cons_option o (filter_map (λ place. slice_get xs place) places))
-    (suc i)) ((element xs p all.0).1)
+    (suc i)) ((Lists.element xs p all.0).1)
     ∙ slice_get-at_places xs places i place all.1 at
 
 module _ (occurrences : List Occurrence) (places : List ℕ)
@@ -144,12 +143,12 @@ module _ (founds : List GroupOccurrence) (i : ℕ) (found : GroupOccurrence)
     (at : slice_get founds i ≡ Some found) where
   pub values-more : values_of (take (i + 1) founds)
       ≡ values_of (take i founds) ++ values_of (found ∷ [])
-  values-more = ap values_of (take_more_at founds i found at)
+  values-more = ap values_of (Lists.take_more_at founds i found at)
       ∙ filter_map-append (λ (found : GroupOccurrence). found.value) (take i founds) (found ∷ [])
 
   pub pairs-more : pairs_of (take (i + 1) founds)
       ≡ pairs_of (take i founds) ++ pairs_of (found ∷ [])
-  pairs-more = ap pairs_of (take_more_at founds i found at)
+  pairs-more = ap pairs_of (Lists.take_more_at founds i found at)
       ∙ filter_map-append pair_of (take i founds) (found ∷ [])
 
 -- two occurrences as they are read, compared like in the code
@@ -182,10 +181,11 @@ module _ (founds others : List GroupOccurrence) (i : ℕ) (a b : Option (ℕ × 
 
   -- occurrences that read as different
   pub founds-differ : same_read a b ≡ false → pointwise same_group_occurrence founds others ≡ false
-  founds-differ differ = pointwise-differ same_group_occurrence founds others i (here ∙ differ)
+  founds-differ differ = Lists.pointwise-differ same_group_occurrence founds others i (here ∙ differ)
 
   -- one more occurrence that reads as equal
   pub founds-same : same_read a b ≡ true
       → pointwise same_group_occurrence (take i founds) (take i others) ≡ true
       → pointwise same_group_occurrence (take (i + 1) founds) (take (i + 1) others) ≡ true
-  founds-same same before = pointwise-take_more same_group_occurrence founds others i before (here ∙ same)
+  founds-same same before =
+      Lists.pointwise-take_more same_group_occurrence founds others i before (here ∙ same)

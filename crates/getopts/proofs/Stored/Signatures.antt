@@ -14,9 +14,8 @@ use Rattle.getopts.specs.Options.{Signature, Group, MayBeDeclared, signatures_of
 use Rattle.getopts.specs.Canon.{main_at}
 use Rattle.getopts.specs.Stored.Names.{names_at, HaveNamesOfBytes}
 use Rattle.getopts.specs.Stored.Signatures.{signature_with, names_in, pair_at, AreEndsOf, IsPairAt}
-use Rattle.getopts.specs.Stored.Signatures.{ends_of}
-use Rattle.getopts.specs.Stored.Signatures.{signature_in, AreLawfulSignatures, HasKeys, IsStored}
-use Rattle.getopts.specs.Stored.Signatures.{kinds_of}
+use Rattle.getopts.specs.Stored.Signatures.{ends_of, signature_in, AreLawfulSignatures, HasKeys}
+use Rattle.getopts.specs.Stored.Signatures.{IsStored, kinds_of}
 use Rattle.getopts.specs.Stored.Groups.{groups_with, groups_view, HoldGroups}
 use Rattle.getopts.specs.declared.groups.Groups.TheInside.{Inside}
 use Rattle.getopts.specs.declared.signatures.PairEnds.{PairEnds}

@@ -8,8 +8,7 @@ use Rattle.getopts.specs.Names.{Text}
 use Rattle.getopts.specs.Options.{Declared, MayBeDeclared, grammar_of}
 use Rattle.getopts.specs.Fail.{Fault}
 use Rattle.getopts.specs.Reading.{equals_sign, holds_equals, Reading, IsScanFault, Mention}
-use Rattle.getopts.specs.Matches.{Matched, matches_of}
-use Rattle.getopts.specs.Matches.{KeepsCounts}
+use Rattle.getopts.specs.Matches.{Matched, matches_of, KeepsCounts}
 use Rattle.std.specs.Prelude.{MatchOption, MatchResult}
 use Rattle.getopts.specs.Parse.{Reads, IsAccepted, HasReading, HasNoReading, IsRefused}
 use Rattle.getopts.specs.Returns.{IsReadAnswer}
@@ -17,8 +16,7 @@ use Rattle.getopts.specs.Canon.{Content, IsCountKeeping, content_of, IsPlain}
 use Rattle.getopts.specs.Canon.{canonical_line, IsAcceptedWith}
 use Rattle.getopts.specs.CanonAnswers.{IsWritten, IsUnwritable, IsParseAnswer}
 use Rattle.getopts.specs.CanonAnswers.{IsCanonicalAnswer, IsOrderAnswer, IsOrder, KeepsLineLaws}
-use Rattle.getopts.proofs.canon.Lines.{HasCanonicalLine-says}
-use Rattle.getopts.proofs.canon.Lines.{Says-accepted}
+use Rattle.getopts.proofs.canon.Lines.{HasCanonicalLine-says, Says-accepted}
 use Rattle.getopts.specs.Results.{first_count_fault}
 use Rattle.getopts.proofs.counts.FirstFault.{first_count_fault-kept, first_count_fault-broken}
 use Rattle.getopts.proofs.Only.{meets}

@@ -12,8 +12,7 @@ use Rattle.getopts.specs.Options.{grammar_of, Declares, kind_of, occur_of}
 use Rattle.getopts.specs.Reading.{Occurrence, spelled_all, tail_words, occurrences_of, Tail, stop}
 use Rattle.getopts.specs.Reading.{FitsKind, stop_word, free_words, IsReading}
 use Rattle.getopts.specs.Matches.{GroupOccurrence, Matched, MatchedGroup, occurrences_mentioning}
-use Rattle.getopts.specs.Matches.{matched, FitsCount}
-use Rattle.getopts.specs.Matches.{KeepsCounts}
+use Rattle.getopts.specs.Matches.{matched, FitsCount, KeepsCounts}
 use Rattle.getopts.specs.Accessors.{IsDefined, place_of, occurrences_of_name, occurrences_of_group}
 use Rattle.getopts.specs.Accessors.{first_value}
 use Rattle.getopts.specs.Parse.{IsAccepted, HasReading}

@@ -12,10 +12,7 @@ use Rattle.getopts.specs.Canon.{IsCountKeeping}
 use Rattle.getopts.specs.Parse.{Reads, HasReading, HasNoReading, IsAccepted, KeepsReadingLaws}
 use Rattle.getopts.proofs.table.Names.{named_grammar}
 use Rattle.getopts.proofs.Only.{IsTheOnly-from, meets}
-use Rattle.getopts.proofs.Reading.Laws.{LongAttachedOrSeparate_lem, ShortAttachedOrSeparate_lem}
-use Rattle.getopts.proofs.Reading.Laws.{ClusterSplits_lem, OneDashOrTwo_lem, LinesCompose_lem}
-use Rattle.getopts.proofs.Reading.Laws.{TrailingStartIsAfterStop_lem, FreeWordsAreSubsequence_lem}
-use Rattle.getopts.proofs.Reading.Laws.{HavePositionsInOrder-matched}
+use Rattle.getopts.proofs.Reading.Laws as Laws
 use Rattle.getopts.proofs.Reading.Positions.{PositionsAreWords_lem, HavePositionsBelow-matched}
 use Rattle.getopts.proofs.Reading.Reader.{IsNamed}
 use Rattle.getopts.proofs.Reading.Readings.{only_reading, only_fault, no_reading}
@@ -59,16 +56,16 @@ module _ (options : Declared) (declared : MayBeDeclared options.groups) where
   -- readings obey the laws
   pub keeps_laws : KeepsReadingLaws (grammar_of options)
   keeps_laws = record {
-    long_argument = LongAttachedOrSeparate_lem (grammar_of options);
-    short_argument = ShortAttachedOrSeparate_lem (grammar_of options);
-    cluster = ClusterSplits_lem (grammar_of options);
-    dashes = OneDashOrTwo_lem (grammar_of options);
-    lines = LinesCompose_lem (grammar_of options)
+    long_argument = Laws.LongAttachedOrSeparate_lem (grammar_of options);
+    short_argument = Laws.ShortAttachedOrSeparate_lem (grammar_of options);
+    cluster = Laws.ClusterSplits_lem (grammar_of options);
+    dashes = Laws.OneDashOrTwo_lem (grammar_of options);
+    lines = Laws.LinesCompose_lem (grammar_of options)
         (λ reading other words reads other_reads. only_reading
         (grammar_of options) named_here words reading other
         reads other_reads);
-    trailing = TrailingStartIsAfterStop_lem (grammar_of options);
-    frees = FreeWordsAreSubsequence_lem (grammar_of options);
+    trailing = Laws.TrailingStartIsAfterStop_lem (grammar_of options);
+    frees = Laws.FreeWordsAreSubsequence_lem (grammar_of options);
     positions = PositionsAreWords_lem (grammar_of options);
   }
 
@@ -77,7 +74,7 @@ pub HavePositionsInOrder-read : (options : Declared) (words : List Text) (matche
     → HasReading options words matches → HavePositionsInOrder matches.groups
 HavePositionsInOrder-read options words matches has =
     subst HavePositionsInOrder (ap (λ (m : Matched). m.groups) (sym has.matches_are))
-    (HavePositionsInOrder-matched (grammar_of options) has.reading 0 (signatures_of options.groups))
+    (Laws.HavePositionsInOrder-matched (grammar_of options) has.reading 0 (signatures_of options.groups))
 
 -- positions are below the number of words
 pub positions_below-read : (options : Declared) (words : List Text) (matches : Matched)

@@ -10,10 +10,7 @@ use Rattle.std.proofs.lemmas.Bool.Decides.{nat_tests}
 use Rattle.getopts.specs.Names.{Text}
 use Rattle.getopts.specs.Options.{Grammar}
 use Rattle.getopts.specs.Fail.{Fault}
-use Rattle.getopts.specs.Reading.{is_dashed, stop_word, Argument, none, Item, free, Reading}
-use Rattle.getopts.specs.Reading.{argument_words, Occurrence, at_position, word_count}
-use Rattle.getopts.specs.Reading.{occurrences_after, mentions, free_items, Tail, stop, rest}
-use Rattle.getopts.specs.Reading.{tail_frees, trailing_after}
+use Rattle.getopts.specs.Reading as Spec
 use Rattle.getopts.specs.Results.{made_of}
 use Rattle.getopts.specs.Step.{Step, takes, faults, AddsItem}
 use Rattle.getopts.specs.Stored.Scan.{GivesLine}
@@ -28,44 +25,44 @@ use Rattle.getopts.proofs.Reading.Steps.{step_free, step_stop}
 
 -- what a line has: its occurrences, its free words, and where those after a stop begin
 record Parts : Type 0 where
-  pub found : List Occurrence
+  pub found : List Spec.Occurrence
   pub free : List Text
   pub trailing_start : Option ℕ
 
 -- what a line has that ends in a tail, after these occurrences and free words
-abbrev with_tail : List Occurrence → List Text → Tail → Parts
+abbrev with_tail : List Spec.Occurrence → List Text → Spec.Tail → Parts
 with_tail found frees tail = record {
   found = found;
-  free = frees ++ tail_frees tail;
-  trailing_start = trailing_after (length frees) tail;
+  free = frees ++ Spec.tail_frees tail;
+  trailing_start = Spec.trailing_after (length frees) tail;
 }
 
 -- what a line has, by a reading of the words after this place
-abbrev with_reading : Grammar → ℕ → List Occurrence → List Text → Reading → Parts
+abbrev with_reading : Grammar → ℕ → List Spec.Occurrence → List Text → Spec.Reading → Parts
 with_reading grammar at found frees reading =
-    with_tail (found ++ occurrences_after at grammar reading.items)
-    (frees ++ free_items reading.items) reading.tail
+    with_tail (found ++ Spec.occurrences_after at grammar reading.items)
+    (frees ++ Spec.free_items reading.items) reading.tail
 
 -- Reading the words gives these occurrences and free words, and then what reading the words from
 -- this place on gives.
-pub record ReadSoFar (grammar : Grammar) (words : List Text) (at : ℕ) (found : List Occurrence)
+pub record ReadSoFar (grammar : Grammar) (words : List Text) (at : ℕ) (found : List Spec.Occurrence)
     (frees : List Text) : Type 0 where
   pub left : made_of (with_reading grammar 0 [] []) (read grammar words)
       ≡ made_of (with_reading grammar at found frees) (read grammar (drop at words))
 
 -- an item in front of an outcome
-with_reading-item : (grammar : Grammar) (at : ℕ) (found : List Occurrence) (frees : List Text)
-    (item : Item) (outcome : Result Reading Fault)
+with_reading-item : (grammar : Grammar) (at : ℕ) (found : List Spec.Occurrence) (frees : List Text)
+    (item : Spec.Item) (outcome : Result Spec.Reading Fault)
     → made_of (with_reading grammar at found frees) (with_items (item ∷ []) outcome)
-    ≡ made_of (with_reading grammar (at + word_count (item ∷ []))
-    (found ++ map (at_position at) (mentions grammar item)) (frees ++ free_items (item ∷ [])))
+    ≡ made_of (with_reading grammar (at + Spec.word_count (item ∷ []))
+    (found ++ map (Spec.at_position at) (Spec.mentions grammar item)) (frees ++ Spec.free_items (item ∷ [])))
     outcome
 with_reading-item grammar at found frees item (Err fault) = refl
 with_reading-item grammar at found frees item (Ok reading) =
-    let founds = sym (append_assoc found (map (at_position at) (mentions grammar item))
-    (occurrences_after (at + word_count (item ∷ [])) grammar reading.items)) in
+    let founds = sym (append_assoc found (map (Spec.at_position at) (Spec.mentions grammar item))
+    (Spec.occurrences_after (at + Spec.word_count (item ∷ [])) grammar reading.items)) in
     let freed = ap (λ (fs : List Text). frees ++ fs) (free_items-append (item ∷ []) reading.items)
-    ∙ sym (append_assoc frees (free_items (item ∷ [])) (free_items reading.items)) in
+    ∙ sym (append_assoc frees (Spec.free_items (item ∷ [])) (Spec.free_items reading.items)) in
     λ i. Ok (with_tail (founds i) (freed i) reading.tail)
 
 -- the rest of borrowed words from a place on is the word there, and the slice of the others
@@ -79,20 +76,20 @@ texts_from text words at here word within there is = rw (is, take_rest words (at
 
 -- the start of the words after a stop
 pub trailing_after-stop : {X : Type 0} (text : X → Text) (start : ℕ) (words : List X)
-    → then_some (not (eqb (length words) 0)) start ≡ trailing_after start (stop (map text words))
+    → then_some (not (eqb (length words) 0)) start ≡ Spec.trailing_after start (Spec.stop (map text words))
 trailing_after-stop text start [] = refl
 trailing_after-stop text start (word ∷ words) =
     let some : eqb (suc (length words)) 0 ≡ false = grind (arith, nat_tests) in
     rw some refl
 
 -- A line that was read up to a place.
-module _ {grammar : Grammar} {words : List Text} {at : ℕ} {found : List Occurrence}
+module _ {grammar : Grammar} {words : List Text} {at : ℕ} {found : List Spec.Occurrence}
     {frees : List Text} (before : ReadSoFar grammar words at found frees) where
   -- the rest is a tail
-  pub GivesLine-tail : (line : Line) (tail : Tail)
+  pub GivesLine-tail : (line : Line) (tail : Spec.Tail)
       → read grammar (drop at words) ≡ Ok (record { items = []; tail = tail })
-      → line.found ≡ found → map string_bytes line.free.items ≡ frees ++ tail_frees tail
-      → line.trailing_start ≡ trailing_after (length frees) tail
+      → line.found ≡ found → map string_bytes line.free.items ≡ frees ++ Spec.tail_frees tail
+      → line.trailing_start ≡ Spec.trailing_after (length frees) tail
       → GivesLine grammar (read grammar words) line
   GivesLine-tail line tail left founds freed trailing =
       let made = made_of-ok (with_reading grammar 0 [] []) (read grammar words)
@@ -110,32 +107,32 @@ module _ {grammar : Grammar} {words : List Text} {at : ℕ} {found : List Occurr
   -- There is a word.
   module _ (word : Text) (after : List Text) (left : drop at words ≡ word ∷ after) where
     -- an item that it begins
-    ReadSoFar-item : (item : Item) (argument : Argument) (used : ℕ) (newer : List Occurrence)
+    ReadSoFar-item : (item : Spec.Item) (argument : Spec.Argument) (used : ℕ) (newer : List Spec.Occurrence)
         (new_frees : List Text) → step grammar word after ≡ takes item argument
-        → used ≡ length (argument_words argument) → word_count (item ∷ []) ≡ 1 + used
-        → newer ≡ found ++ map (at_position at) (mentions grammar item)
-        → new_frees ≡ frees ++ free_items (item ∷ [])
+        → used ≡ length (Spec.argument_words argument) → Spec.word_count (item ∷ []) ≡ 1 + used
+        → newer ≡ found ++ map (Spec.at_position at) (Spec.mentions grammar item)
+        → new_frees ≡ frees ++ Spec.free_items (item ∷ [])
         → ReadSoFar grammar words (at + 1 + used) newer new_frees
     ReadSoFar-item item argument used newer new_frees said used_is counted added freed = record {
       left = before.left
           ∙ ap (made_of (with_reading grammar at found frees))
           (ap (read grammar) left ∙ read_item grammar word after item argument said)
           ∙ with_reading-item grammar at found frees item _
-          ∙ (let place : at + word_count (item ∷ []) ≡ at + 1 + used = omega (arith, counted) in
+          ∙ (let place : at + Spec.word_count (item ∷ []) ≡ at + 1 + used = omega (arith, counted) in
           rw (place, ← used_is, ← added, ← freed, drop_past words after word at used left) refl);
     }
 
     -- a free word
-    pub ReadSoFar-free : (new_frees : List Text) → is_dashed word ≡ false
+    pub ReadSoFar-free : (new_frees : List Text) → Spec.is_dashed word ≡ false
         → grammar.style ≡ FloatingFrees → new_frees ≡ frees ++ word ∷ []
         → ReadSoFar grammar words (at + 1) found new_frees
     ReadSoFar-free new_frees plain floating pushed = rw add-zero at
-        (ReadSoFar-item (free word) none 0 found new_frees
+        (ReadSoFar-item (Spec.free word) Spec.none 0 found new_frees
         (step_free grammar word after plain ∙ rw floating refl) refl refl (sym (append-nil found))
         pushed)
 
     -- an item that a dashed word begins
-    pub ReadSoFar-added : (said : Step) (used : ℕ) (newer : List Occurrence)
+    pub ReadSoFar-added : (said : Step) (used : ℕ) (newer : List Spec.Occurrence)
         → step grammar word after ≡ said → AddsItem grammar said at used found newer
         → ReadSoFar grammar words (at + 1 + used) newer frees
     ReadSoFar-added said used newer is adds =
@@ -144,14 +141,14 @@ module _ {grammar : Grammar} {words : List Text} {at : ℕ} {found : List Occurr
         (sym (append-nil frees) ∙ ap (λ (ws : List Text). frees ++ ws) (sym adds.no_free))
 
     -- the rest, from a free word on
-    pub read-rest : is_dashed word ≡ false → grammar.style ≡ StopAtFirstFree
-        → read grammar (drop at words) ≡ Ok (record { items = []; tail = rest (drop at words) })
-    read-rest plain stops = rw left (read_tail grammar word after (rest (word ∷ after))
+    pub read-rest : Spec.is_dashed word ≡ false → grammar.style ≡ StopAtFirstFree
+        → read grammar (drop at words) ≡ Ok (record { items = []; tail = Spec.rest (drop at words) })
+    read-rest plain stops = rw left (read_tail grammar word after (Spec.rest (word ∷ after))
         (step_free grammar word after plain ∙ rw stops refl))
 
     -- the stop, and the words after it
-    pub read-stop : word ≡ stop_word
-        → read grammar (drop at words) ≡ Ok (record { items = []; tail = stop after })
+    pub read-stop : word ≡ Spec.stop_word
+        → read grammar (drop at words) ≡ Ok (record { items = []; tail = Spec.stop after })
     read-stop stops = ap (read grammar) left ∙ read_tail grammar word after _
         (ap (λ (w : Text). step grammar w after) stops ∙ step_stop grammar after)
 

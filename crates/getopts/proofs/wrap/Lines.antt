@@ -9,8 +9,7 @@ use Rattle.getopts.specs.Names.{Text}
 use Rattle.getopts.specs.Wrap.{Run, text_of, IsTightBreaking, IsFewestBreaking, words_of}
 use Rattle.getopts.specs.Wrap.{BreaksInto, IsDescriptionRows, lines_of}
 use Rattle.getopts.proofs.Lists.{all_zip_weaker}
-use Rattle.getopts.proofs.wrap.Breakings.{runs_of, runs_of-tight, runs_of-only}
-use Rattle.getopts.proofs.wrap.Breakings.{runs_of-is_fewest}
+use Rattle.getopts.proofs.wrap.Breakings.{runs_of, runs_of-tight, runs_of-only, runs_of-is_fewest}
 use Rattle.getopts.proofs.wrap.Rows.{AddsLine}
 
 -- the rows of lines, each broken by filling

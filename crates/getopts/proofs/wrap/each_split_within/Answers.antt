@@ -5,8 +5,7 @@ use Rattle.std.proofs.lemmas.Iterator.Consumers.{YieldsList-end}
 use Rattle.std.proofs.lemmas.Iterator.Splits.{YieldsList-from_str_split}
 use Rattle.std.proofs.lemmas.List.{map-append}
 use Rattle.getopts.specs.Wrap.{IsDescriptionRows}
-use Rattle.getopts.proofs.wrap.Lines.{rows_of, rows_of-push, rows_of-are, rows_exactly}
-use Rattle.getopts.proofs.wrap.Lines.{rows_fewest}
+use Rattle.getopts.proofs.wrap.Lines.{rows_of, rows_of-push, rows_of-are, rows_exactly, rows_fewest}
 use Rattle.getopts.proofs.wrap.each_split_within.Goals as goal
 
 -- one more line, with its rows

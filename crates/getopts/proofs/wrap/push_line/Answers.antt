@@ -1,6 +1,5 @@
 -- A line's words fill rows, which are added to the rows before.
-use Rattle.std.proofs.Common.{◌+◌, ◌<◌, [], ◌∷◌, string_bytes, lit<, arith, ap}
-use Rattle.std.proofs.Common.{◌∙◌, sym, subst}
+use Rattle.std.proofs.Common.{◌+◌, ◌<◌, [], ◌∷◌, string_bytes, lit<, arith, ap, ◌∙◌, sym, subst}
 use Rattle.std.specs.Str.{IsUtf8}
 use Rattle.std.specs.Str.Iter.{split_whitespace_rest}
 use Rattle.std.proofs.lemmas.List.{map-append}
@@ -8,10 +7,6 @@ use Rattle.getopts.specs.Wrap.{width_of, words_of}
 use Rattle.getopts.proofs.wrap.Words.{words_of-none, words_of-step}
 use Rattle.getopts.proofs.wrap.Rows.{adds_none, rows_begin, rows_take, rows_end, rows_finish}
 use Rattle.getopts.proofs.wrap.push_line.Goals as goal
-use Rattle.getopts.proofs.wrap.push_line.Goals.{then-columns-lim+then-width-lim+in_ok-push}
-use Rattle.getopts.proofs.wrap.push_line.Goals.{else-columns-lim+in_ok-push-2}
-use Rattle.getopts.proofs.wrap.push_line.Goals.{else-columns-lim-via-then-columns-lim+else-width-lim}
-use Rattle.getopts.proofs.wrap.push_line.Goals.{else-columns-lim-via-else-columns-lim}
 
 -- the line has no word
 pub returns-in-None : goal.returns-in-None
@@ -44,14 +39,14 @@ loop-word-preserved c =
     c.in-Some-word.word so_far.utf8 c.in-Some-word.ensures.steps in
     let width_is = c.width-width.ensures.value in
     rw c.in_ok-push_str.ensures.bytes (elim c.if-columns-lim.branch [
-      | then-columns-lim+then-width-lim+in_ok-push w ↦
+      | goal.then-columns-lim+then-width-lim+in_ok-push w ↦
           rw (w.rows-is, w.columns-is, w.row-is, w.in_ok-push.ensures.bytes, w.push.ensures.ascii (lit< tt), width_is)
           (rows_take so_far word _ next (omega (arith, width_is)))
-      | else-columns-lim+in_ok-push-2 w ↦
+      | goal.else-columns-lim+in_ok-push-2 w ↦
           let long : c.args.lim < c.loop-word.columns + (1 + c.width-width.result) =
           elim w.else-columns-lim.branch [
-            | else-columns-lim-via-then-columns-lim+else-width-lim narrow ↦ omega arith
-            | else-columns-lim-via-else-columns-lim full ↦ omega arith
+            | goal.else-columns-lim-via-then-columns-lim+else-width-lim narrow ↦ omega arith
+            | goal.else-columns-lim-via-else-columns-lim full ↦ omega arith
           ] in
           rw (
             w.rows-is,

@@ -15,16 +15,14 @@ use Rattle.getopts.specs.declared.signatures.PairEnds.{PairEnds}
 use Rattle.getopts.proofs.Lists.{AllByRecursion-append}
 use Rattle.getopts.proofs.Stored.Signatures.{groups_with-push, twos-push}
 use Rattle.getopts.proofs.groups.Groups.push.Goals as goal
-use Rattle.getopts.proofs.groups.Groups.push.Goals.{then-is_empty+in_ok-reserve+in_ok-reserve-2}
-use Rattle.getopts.proofs.groups.Groups.push.Goals.{else-is_empty+in_ok-reserve-3+in_ok-reserve-4}
 
 items : (c : goal.After-push_reserved)
     → c.push_reserved.new.self.items ≡ c.self.inside.ends.items ++ c.push_pair-pair.result ∷ []
 items c = c.push_reserved.ensures.items
     ∙ ap (λ (ends : List PairEnds). ends ++ c.push_pair-pair.result ∷ []) (elim c.if-is_empty.branch [
-      | then-is_empty+in_ok-reserve+in_ok-reserve-2 w ↦
+      | goal.then-is_empty+in_ok-reserve+in_ok-reserve-2 w ↦
           rw w.self-inside-is w.in_ok-reserve.ensures.items
-      | else-is_empty+in_ok-reserve-3+in_ok-reserve-4 w ↦
+      | goal.else-is_empty+in_ok-reserve-3+in_ok-reserve-4 w ↦
           rw w.self-inside-is w.in_ok-reserve-3.ensures.items
     ])
 
@@ -40,8 +38,8 @@ signatures c = c.in_ok-push.ensures.ok
     ∙ ap (λ (ss : List Signature). ss
     ++ signature_with c.args.kinds c.args.short.now c.args.long.now ∷ [])
     (elim c.if-is_empty.branch [
-      | then-is_empty+in_ok-reserve+in_ok-reserve-2 w ↦ rw w.self-inside-is refl
-      | else-is_empty+in_ok-reserve-3+in_ok-reserve-4 w ↦ rw w.self-inside-is refl
+      | goal.then-is_empty+in_ok-reserve+in_ok-reserve-2 w ↦ rw w.self-inside-is refl
+      | goal.else-is_empty+in_ok-reserve-3+in_ok-reserve-4 w ↦ rw w.self-inside-is refl
     ])
 
 pushed : (c : goal.After-push_reserved)

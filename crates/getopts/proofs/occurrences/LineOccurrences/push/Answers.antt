@@ -10,10 +10,6 @@ use Rattle.getopts.specs.declared.occurrences.Span.{Span}
 use Rattle.getopts.specs.declared.occurrences.OccurrenceRecord.{OccurrenceRecord}
 use Rattle.getopts.proofs.Stored.Occurrences.{occurrences-push}
 use Rattle.getopts.proofs.occurrences.LineOccurrences.push.Goals as goal
-use Rattle.getopts.proofs.occurrences.LineOccurrences.push.Goals.{
-  in-Some+in_ok-value-in-Some,
-  in-None,
-}
 
 pushed : (c : goal.After-push_reserved)
     → let values = string_bytes c.match-value.self-inside.values in
@@ -33,7 +29,7 @@ pushed c =
     } in
     let old = string_bytes c.self.inside.values in
     elim c.match-value.branch [
-      | in-Some+in_ok-value-in-Some w ↦
+      | goal.in-Some+in_ok-value-in-Some w ↦
           let ok = w.in_ok-value-in-Some.ensures.ok in
           let both = occurrences-push old w.in-Some.text.now w.push_value.ensures.utf8
           c.self.inside.records.items c.self.invariant (added c.match-value.value)
@@ -51,7 +47,7 @@ pushed c =
                 ∙ (λ i. map (occurrence_in old) c.self.inside.records.items ++ at_position
                 c.args.position (record { group = c.args.group; value = value i }) ∷ []),
           ))
-      | in-None w ↦
+      | goal.in-None w ↦
           rw (
             c.push_reserved.ensures.items,
             w.self-inside-is,

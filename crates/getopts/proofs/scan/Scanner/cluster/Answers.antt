@@ -8,24 +8,22 @@ use Rattle.getopts.specs.declared.kinds.HasArg.{HasArg}
 use Rattle.getopts.specs.Reading.{cluster, ends_in}
 use Rattle.getopts.specs.Step.{faults, first_char, chosen_step}
 use Rattle.getopts.proofs.Weaker.{IsOutOfMemoryOr-one, IsOutOfMemoryOr-exit}
-use Rattle.getopts.proofs.scan.Clusters.{FlagsRead-none, FlagsRead-more, AddsItem-flags}
-use Rattle.getopts.proofs.scan.Clusters.{AddsItem-ends, cluster_step-byte, cluster_step-ends}
-use Rattle.getopts.proofs.scan.Clusters.{text_from}
+use Rattle.getopts.proofs.scan.Clusters as Clusters
 use Rattle.getopts.proofs.scan.Words.{slice_range-one}
 use Rattle.getopts.proofs.scan.Scanner.cluster.Goals as goal
 use Rattle.getopts.proofs.scan.Scanner.cluster.Goals.{In-Some}
 use Rattle.getopts.proofs.scan.Scanner.cluster.Given.{Over}
 
 pub names-init : goal.names-init
-names-init g c = FlagsRead-none c.args.found.now c.utf8.text
+names-init g c = Clusters.FlagsRead-none c.args.found.now c.utf8.text
 
 pub returns-in-None-clause-err : goal.returns-in-None-clause-err
 returns-in-None-clause-err g c =
     let first = c.first_character-name.ensures
     ∙ ap first_char (c.range_from.ensures.value
-    ∙ text_from c.args.text.now c.names.at (omega arith)) in
+    ∙ Clusters.text_from c.args.text.now c.names.at (omega arith)) in
     IsOutOfMemoryOr-one c.unrecognized_option.result _ _ c.unrecognized_option.ensures
-    (cluster_step-byte (omega arith) c.names.invariant None
+    (Clusters.cluster_step-byte (omega arith) c.names.invariant None
     (rw c.as_bytes.ensures.value at c.in-None.ensures.option)
     ∙ ap (λ name. faults (unrecognized_option name)) (sym first))
 
@@ -48,7 +46,7 @@ returns-in-Some-clause-ok g c =
     let option = rw c.as_bytes.ensures.value at c.in-Some.ensures.option in
     let name = c.range-name.ensures.value
     ∙ slice_range-one c.args.text.now c.names.at (omega arith) in
-    AddsItem-ends (omega arith) c.names.invariant c.in-Some.field-0.place c.in-Some.field-0.kind
+    Clusters.AddsItem-ends (omega arith) c.names.invariant c.in-Some.field-0.place c.in-Some.field-0.kind
     (option_copied c.in_ok-argument-in-Some.argument.value) c.in_ok-argument-in-Some.argument.used _ option.place
     (search rules) option.kind
     (rw (name, c.range_from-in-Some.ensures.value) at c.in_ok-argument-in-Some.ensures.ok)
@@ -64,18 +62,18 @@ returns-in_err-argument-in-Some-clause-err g c =
     IsOutOfMemoryOr-exit _ c.in_err-argument-in-Some.field-0.0 _ _
     c.from_residual-in_err-argument-in-Some.ensures.1
     (rw (name, c.range_from-in-Some.ensures.value) at c.in_err-argument-in-Some.ensures.err)
-    (λ fault told. cluster_step-ends (omega arith) c.names.invariant
+    (λ fault told. Clusters.cluster_step-ends (omega arith) c.names.invariant
     c.in-Some.field-0.kind (search rules) option.kind
     ∙ ap (chosen_step (λ a. cluster bytes (ends_in byte a))) told)
 
 pub names-preserved : goal.names-preserved
 names-preserved g c =
     let option = rw c.as_bytes.ensures.value at c.in-Some-No.ensures.option in
-    FlagsRead-more (omega arith) c.names.invariant
+    Clusters.FlagsRead-more (omega arith) c.names.invariant
     c.in-Some-No.field-0.place _ c.utf8.text
     (rw c.as_bytes.ensures.value at c.in-Some-No.ensures.ascii)
     option.place (option.kind ∙ ap (λ (kind : HasArg). Some kind) (search rules))
     c.in_ok-push-in-Some-No.ensures
 
 pub returns-clause-ok : goal.returns-clause-ok
-returns-clause-ok g c = AddsItem-flags (omega arith) c.names.invariant
+returns-clause-ok g c = Clusters.AddsItem-flags (omega arith) c.names.invariant

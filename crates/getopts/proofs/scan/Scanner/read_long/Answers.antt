@@ -6,12 +6,8 @@ use Rattle.getopts.specs.Reading.{none, attached, separate}
 use Rattle.getopts.specs.Step.{chosen_long, Chooses}
 use Rattle.getopts.specs.Stored.Scan.{scanner_grammar}
 use Rattle.getopts.specs.declared.kinds.HasArg.TheVariants.{Yes, No}
-use Rattle.getopts.proofs.scan.Items.{Chooses-ok, Chooses-maybe, IsOutOfMemoryOr-long}
-use Rattle.getopts.proofs.scan.Items.{AddsItem-long}
-use Rattle.getopts.proofs.scan.Items.{texts-first, texts-none}
+use Rattle.getopts.proofs.scan.Items as Items
 use Rattle.getopts.proofs.scan.Scanner.read_long.Goals as goal
-use Rattle.getopts.proofs.scan.Scanner.read_long.Goals.{in-No-None, in-Yes-None+in-Some-first}
-use Rattle.getopts.proofs.scan.Scanner.read_long.Goals.{in-Yes-Some, in-Maybe-default}
 
 pub returns-clause-ok : goal.returns-clause-ok
 returns-clause-ok g c = λ dashes.
@@ -22,23 +18,23 @@ returns-clause-ok g c = λ dashes.
     let named = c.in-Some.ensures in
     let chooses : Chooses (chosen_long c.in-Some.option.kind name argument after)
     (option_copied c.match-option-2.used.0) c.match-option-2.used.1 = elim c.match-option-2.branch [
-      | in-No-None w ↦ rw (w.used-is, w.in-No-None.is-0, w.in-No-None.is-1) (Chooses-ok none)
-      | in-Yes-None+in-Some-first w ↦
+      | goal.in-No-None w ↦ rw (w.used-is, w.in-No-None.is-0, w.in-No-None.is-1) (Items.Chooses-ok none)
+      | goal.in-Yes-None+in-Some-first w ↦
           rw (
             w.used-is,
             w.in-Yes-None.is-0,
             w.in-Yes-None.is-1,
-            texts-first g.S.AsStr.text c.args.after.now w.in-Some-first.word.now (search rules),
+            Items.texts-first g.S.AsStr.text c.args.after.now w.in-Some-first.word.now (search rules),
             w.as_str.ensures,
           )
-          (Chooses-ok (separate (g.S.AsStr.text w.in-Some-first.word.now)))
-      | in-Yes-Some w ↦
+          (Items.Chooses-ok (separate (g.S.AsStr.text w.in-Some-first.word.now)))
+      | goal.in-Yes-Some w ↦
           rw (w.used-is, w.in-Yes-Some.is-0, w.in-Yes-Some.is-1)
-          (Chooses-ok (attached w.in-Yes-Some.value.now))
-      | in-Maybe-default w ↦ rw (w.used-is, w.in-Maybe-default.is-0)
-          (Chooses-maybe name argument after)
+          (Items.Chooses-ok (attached w.in-Yes-Some.value.now))
+      | goal.in-Maybe-default w ↦ rw (w.used-is, w.in-Maybe-default.is-0)
+          (Items.Chooses-maybe name argument after)
     ] in
-    AddsItem-long (scanner_grammar c.args.self.now) dashes c.args.text.now name argument after
+    Items.AddsItem-long (scanner_grammar c.args.self.now) dashes c.args.text.now name argument after
     cut.text cut.name
     c.in-Some.option.kind c.in-Some.option.place c.args.position _ _ _ _ named.kind named.place chooses
     c.in_ok-push.ensures
@@ -47,7 +43,7 @@ pub returns-in-None-clause-err : goal.returns-in-None-clause-err
 returns-in-None-clause-err g c = λ dashes.
     let name = c.name_and_argument.result.0.now in
     let cut = c.name_and_argument.ensures in
-    IsOutOfMemoryOr-long (scanner_grammar c.args.self.now) dashes c.args.text.now name
+    Items.IsOutOfMemoryOr-long (scanner_grammar c.args.self.now) dashes c.args.text.now name
     (option_copied c.name_and_argument.result.1) (map g.S.AsStr.text c.args.after.now) cut.text cut.name None
     c.in-None.ensures c.unrecognized_option.result
     (unrecognized_option name) refl c.unrecognized_option.ensures
@@ -56,7 +52,7 @@ pub returns-in-No-Some-clause-err : goal.returns-in-No-Some-clause-err
 returns-in-No-Some-clause-err g c = λ dashes.
     let name = c.name_and_argument.result.0.now in
     let cut = c.name_and_argument.ensures in
-    IsOutOfMemoryOr-long (scanner_grammar c.args.self.now) dashes c.args.text.now name
+    Items.IsOutOfMemoryOr-long (scanner_grammar c.args.self.now) dashes c.args.text.now name
     (Some c.in-No-Some.field-0-1.now) (map g.S.AsStr.text c.args.after.now)
     (rw c.in-No-Some.is-1 at cut.text) cut.name
     (Some No) (rw c.in-No-Some.is-0 at c.in-Some.ensures.kind) c.unexpected_argument.result
@@ -66,7 +62,7 @@ pub returns-in-None-first-clause-err : goal.returns-in-None-first-clause-err
 returns-in-None-first-clause-err g c = λ dashes.
     let name = c.name_and_argument.result.0.now in
     let cut = c.name_and_argument.ensures in
-    IsOutOfMemoryOr-long (scanner_grammar c.args.self.now) dashes c.args.text.now name None
+    Items.IsOutOfMemoryOr-long (scanner_grammar c.args.self.now) dashes c.args.text.now name None
     (map g.S.AsStr.text c.args.after.now) (rw c.in-Yes-None.is-1 at cut.text) cut.name (Some Yes)
     (rw c.in-Yes-None.is-0 at c.in-Some.ensures.kind) c.argument_missing.result (argument_missing name)
-    (rw (texts-none g.S.AsStr.text c.args.after.now (search rules)) refl) c.argument_missing.ensures
+    (rw (Items.texts-none g.S.AsStr.text c.args.after.now (search rules)) refl) c.argument_missing.ensures

@@ -19,11 +19,6 @@ use Rattle.getopts.proofs.Lists.{AllByRecursion-append}
 use Rattle.getopts.proofs.Stored.Signatures.{signatures-push}
 use Rattle.getopts.proofs.Stored.Texts.{IsOfBytes-utf8}
 use Rattle.getopts.proofs.signatures.Signatures.push.Goals as goal
-use Rattle.getopts.proofs.signatures.Signatures.push.Goals.{then-is_empty+in_ok-reserve+in_ok-reserve-2}
-use Rattle.getopts.proofs.signatures.Signatures.push.Goals.{then-has_long, else-has_long}
-use Rattle.getopts.proofs.signatures.Signatures.push.Goals.{
-  else-is_empty+in_ok-reserve-3+in_ok-reserve-4,
-}
 
 -- the added record
 abbrev added : goal.After-push_reserved → SignatureRecord
@@ -44,9 +39,9 @@ items : (c : goal.After-push_reserved)
     → c.push_reserved.new.self.items ≡ c.self.inside.records.items ++ added c ∷ []
 items c = c.push_reserved.ensures.items
     ∙ ap (λ (records : List SignatureRecord). records ++ added c ∷ []) (elim c.if-is_empty.branch [
-      | then-is_empty+in_ok-reserve+in_ok-reserve-2 w ↦
+      | goal.then-is_empty+in_ok-reserve+in_ok-reserve-2 w ↦
           rw w.self-inside-is w.in_ok-reserve.ensures.items
-      | else-is_empty+in_ok-reserve-3+in_ok-reserve-4 w ↦
+      | goal.else-is_empty+in_ok-reserve-3+in_ok-reserve-4 w ↦
           rw w.self-inside-is w.in_ok-reserve-3.ensures.items
     ])
 
@@ -58,9 +53,9 @@ text : (c : goal.After-push_reserved) → string_bytes c.push_pair-names.new.tex
     ≡ string_bytes c.self.inside.text ++ more c
 text c = c.push_pair-names.ensures.bytes
     ∙ ap (λ (t : Text). t ++ more c) (elim c.if-is_empty.branch [
-      | then-is_empty+in_ok-reserve+in_ok-reserve-2 w ↦
+      | goal.then-is_empty+in_ok-reserve+in_ok-reserve-2 w ↦
           rw w.self-inside-is (grind (arith, common_steps))
-      | else-is_empty+in_ok-reserve-3+in_ok-reserve-4 w ↦
+      | goal.else-is_empty+in_ok-reserve-3+in_ok-reserve-4 w ↦
           rw w.self-inside-is (grind (arith, common_steps))
     ])
 
@@ -93,8 +88,8 @@ signature_is c = ap (λ (names : Text × Text). signature_with c.args.kinds name
 main_is : (c : goal.After-push_reserved)
     → c.if-has_long.main.now ≡ main_name (signature c).names
 main_is c = elim c.if-has_long.branch [
-  | then-has_long w ↦ rw (w.main-is, ← c.is_empty-has_long.ensures) (search rules)
-  | else-has_long w ↦ rw (w.main-is, ← c.is_empty-has_long.ensures) (search rules)
+  | goal.then-has_long w ↦ rw (w.main-is, ← c.is_empty-has_long.ensures) (search rules)
+  | goal.else-has_long w ↦ rw (w.main-is, ← c.is_empty-has_long.ensures) (search rules)
 ]
 
 has_keys : (c : goal.After-push_reserved) → HasKeys (added c) (signature c).names
