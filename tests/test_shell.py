@@ -197,7 +197,8 @@ def test_closed_streams(program):
     """The proved program reports failed writes; in the one by cargo, Rust's library has opened /dev/null instead."""
     by_rust = program.parent.name == "bin-by_cargo"
     for words, status, closed in (["--version"], 0, 1), (["n", "[-a]", "-b"], 2, 2), (["n"], 5, 2):
-        assert answer("sh", "-c", f'exec getopts_shell "$@" {closed}>&-', "sh", *words) == (b"", status if by_rust else 4)
+        said = b"getopts_shell: writing the output failed\n" if closed == 1 and not by_rust else b""
+        assert answer("sh", "-c", f'exec getopts_shell "$@" {closed}>&-', "sh", *words) == (said, status if by_rust else 4)
 
 
 def read_by_getopt(options, words):

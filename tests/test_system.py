@@ -31,6 +31,9 @@ LARGE = 100_000_000
 LONGEST = 131_071
 LONG_WORDS = ["x" * 100_000] * 15
 ERROR = b"getopts_show: Unrecognized option: 'nope'\n"
+# What each program writes to standard error if its output fails.
+FAILED = {SHOW: b"", SHELL: b"getopts_shell: writing the output failed\n"}
+FAILED[BUILT] = FAILED[SHELL]
 
 
 @pytest.fixture(autouse=True)
@@ -116,16 +119,16 @@ def each(*calls):
 
 @each((SHOW, ["-v", "x"]), (SHOW, ["--help"]), (SHOW, ["--nope"]), (SHELL, [*GIVEN, "x"]))
 def test_output_that_accepts_nothing(program, words):
-    check("a closed output", run(words, program, closed=[1], stdout=None), NOT_WRITTEN, b"")
+    check("a closed output", run(words, program, closed=[1], stdout=None), NOT_WRITTEN, FAILED[program])
     check("all files closed", run(words, program, closed=[0, 1, 2], stdout=None, stderr=None), NOT_WRITTEN, b"")
     with open("/dev/null", "rb") as only_read, open("/dev/full", "wb") as full:
-        check("a read-only output", run(words, program, stdout=only_read), NOT_WRITTEN, b"")
-        check("a full output", run(words, program, stdout=full), NOT_WRITTEN, b"")
+        check("a read-only output", run(words, program, stdout=only_read), NOT_WRITTEN, FAILED[program])
+        check("a full output", run(words, program, stdout=full), NOT_WRITTEN, FAILED[program])
     for restore in (True, False):
         reader, writer = os.pipe()
         os.close(reader)
         check(f"a closed pipe, with the signal {'' if restore else 'not '}restored",
-              run(words, program, stdout=writer, restore_signals=restore), NOT_WRITTEN, b"")
+              run(words, program, stdout=writer, restore_signals=restore), NOT_WRITTEN, FAILED[program])
         os.close(writer)
 
 
@@ -158,7 +161,8 @@ def test_limited_file_size(program, words, ignored, tmp_path):
             status, said = run(words, program, {resource.RLIMIT_FSIZE: most}, stdout=file, restore_signals=not ignored)
         wanted = SHOWN if most == len(text) else NOT_WRITTEN if ignored else -signal.SIGXFSZ
         # If the signal isn't ignored, the first write is cut short, and the next one raises it.
-        check(f"at most {most} bytes", (status, said + (tmp_path / "file").read_bytes()), wanted, text[:most])
+        check(f"at most {most} bytes", (status, said + (tmp_path / "file").read_bytes()), wanted,
+              (FAILED[program] if wanted == NOT_WRITTEN else b"") + text[:most])
 
 
 def test_full_pipe():
@@ -183,7 +187,7 @@ def test_short_and_failing_writes(program, words, status, text, preload):
             ended = run(words, program, environment={**fails, "WRITE_AT": str(at)})
             # An interrupted write may be retried.
             again = error == errno.EINTR and ended == (status, text)
-            assert again or ended == (NOT_WRITTEN, text[:at - 1]), f"write {at} fails with error {error}"
+            assert again or ended == (NOT_WRITTEN, text[:at - 1] + FAILED[program]), f"write {at} fails with error {error}"
 
 
 def test_large_words(preload):

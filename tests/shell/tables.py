@@ -34,6 +34,8 @@ def reason_of(item):
         (re.match("[A-Z]", names), OPERAND_FORM),
         ("=" in names, "write the argument after a space, as in '--long ARG'"),
         ("," in names[2:], APART),
+        (re.match("-[^-]*--", short), APART),
+        (short.endswith(".."), BRACKETS),
         ("[" in names, BRACKETS),
         (names[:1] != "-" or short == "-", DASHES),
         ("|" in names and not long.startswith("--"), "write two dashes after '|', as in -s|--long"),

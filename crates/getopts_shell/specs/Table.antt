@@ -374,6 +374,8 @@ reasons item =
     ∷ (begins_capital names, OPERAND_FORMS.now)
     ∷ (holds 61 names, ARGUMENT_AFTER_SPACE.now)
     ∷ (holds 44 (drop 1 (drop 1 names)), NAMES_TOGETHER.now)
+    ∷ (begins_with_dash (after 45 (drop 1 short)), NAMES_TOGETHER.now)
+    ∷ (ends_with ◌==◌ short (codes ".."), BRACKETS_AROUND_WHOLE.now)
     ∷ (holds 91 names, BRACKETS_AROUND_WHOLE.now)
     ∷ (not (begins_with_dash names) || length short == 1, NAME_FORMS.now)
     ∷ (holds 124 names && not (starts_with ◌==◌ long (codes "--")), TWO_DASHES_AFTER_BAR.now)

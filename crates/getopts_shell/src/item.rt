@@ -248,7 +248,7 @@ fn is_hint_byte(byte: u8) -> bool
 
 /// Why an item is invalid: this is the reason if it contains `[` but no `]`.
 const MISSING_BRACKET: &str = "missing ']'";
-/// The reason if a dash, `|` or `]` follows the first space, or the names contain a comma.
+/// The reason if a dash, `|` or `]` follows the first space, or a comma or `--` a short name.
 const NAMES_TOGETHER: &str = "write names as -s|--long, without spaces or commas";
 /// The reason if a space follows the first `]`, or an operand.
 const DESCRIPTION_AFTER_GAP: &str = "write each option or operand on its own line, \
@@ -311,6 +311,8 @@ pub(crate) fn reason_of(item: &str) -> &'static str
             without_first(without_first(names)).contains(&b','),
             NAMES_TOGETHER,
         ),
+        (has_second_dashes(short), NAMES_TOGETHER),
+        (short.ends_with(b".."), BRACKETS_AROUND_WHOLE),
         (names.contains(&b'['), BRACKETS_AROUND_WHOLE),
         (lack_dash(names, short), NAME_FORMS),
         (lack_two_dashes(names, long), TWO_DASHES_AFTER_BAR),
@@ -390,6 +392,13 @@ fn lack_dash(names: &[u8], short: &[u8]) -> bool
     ensures { result ≡ (not (begins_with_dash names.now) || length short.now == 1) }
 {
     !names.starts_with(b"-") || short.len() == 1
+}
+
+/// Whether a short name contains a second dash, and a third directly after it.
+fn has_second_dashes(short: &[u8]) -> bool
+    ensures { result ≡ begins_with_dash (after 45 (drop 1 short.now)) }
+{
+    cut_at(without_first(short), b'-').1.starts_with(b"-")
 }
 
 /// Whether a short name, after its dash, begins with a byte that isn't ASCII.

@@ -26,7 +26,7 @@ const REFUSED: u8 = 2;
 /// The status if an allocation failed.
 pub(crate) const NO_MEMORY: u8 = 3;
 /// The status if writing or flushing failed.
-const NOT_WRITTEN: u8 = 4;
+pub(crate) const NOT_WRITTEN: u8 = 4;
 /// The status if the script called the program incorrectly and the error was written.
 const MISUSED: u8 = 5;
 
@@ -35,7 +35,7 @@ const BRIEF: &str = "Usage: getopts_shell [options] NAME TABLE [WORD]..\n\n\
     Parses each WORD as TABLE describes, and prints shell code to be run by eval.";
 
 /// What `--version` writes.
-const VERSION: &str = "getopts_shell 0.3.0\n";
+const VERSION: &str = "getopts_shell 0.4.0\n";
 
 /// What is written if the name or the table is missing.
 const NEEDED: &str = "getopts_shell: NAME and TABLE are required (see --help)\n";
@@ -103,7 +103,7 @@ fn write_output<W: Write, E: Write>(output: &Output, out: &mut W, err: &mut E) -
 }
 
 /// Writes bytes, and flushes them. If that fails, a prefix of them was written.
-fn print<W: Write>(out: &mut W, bytes: &[u8]) -> io::Result<()> {
+pub(crate) fn print<W: Write>(out: &mut W, bytes: &[u8]) -> io::Result<()> {
     let mut rest = bytes;
     // Bounded, so that the loop is proved to end.
     for _ in 0..u64::MAX {
