@@ -11,6 +11,8 @@ HINT = r"(?![-|])[^ \t\[\]]+(?<!\.\.)"
 # The inside of an item's brackets: its names, and perhaps an argument.
 ITEM = re.compile(rf"(?:-({SHORT})|(?:-({SHORT})\|)?--(?!-)({LONG_BYTE}{{2,}}(?<![:.])))(?: {HINT}| \[{HINT}\])?")
 OPERAND = re.compile(r"(?:[A-Z][A-Z0-9_-]*|(\[)[A-Z][A-Z0-9_-]*\])(\.{2,3})?")
+# A tab, two spaces, or one space between the end of an item and what doesn't begin like another.
+GAP_AT = re.compile(rf"\t|  |(?:(?<=[\]!])|(?<=\.\.)) (?![\[-]|{OPERAND.pattern}(?:[ \t]|$))")
 OPERAND_FORM = "write an operand as FILE, [FILE], FILE.. or [FILE].."
 DASHES = "write a short name as -s, a long name as --long, and an operand in capital letters"
 APART = "write names as -s|--long, without spaces or commas"
@@ -61,7 +63,7 @@ def table_error(table):
         line = line.strip(" \t\r")
         if not line or line.startswith("#"):
             continue
-        item = re.split("\t|  ", line)[0].strip(" \t\r")
+        item = GAP_AT.split(line, maxsplit=1)[0].strip(" \t\r")
         if operand := OPERAND.fullmatch(item):
             optional, again = operand.groups()
             for earlier, opened, dots in before:

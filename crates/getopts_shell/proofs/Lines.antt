@@ -6,7 +6,7 @@ use Rattle.std.specs.Prelude.{◌&&◌, if◌then◌else◌, not, OnOk, Result, 
 use Rattle.std.specs.Prelude.{Option, Some, None, slice_index, min, ◌-◌, ◌^◌}
 use Rattle.std.specs.List.{list_any}
 use Rattle.std.specs.Option.{option_to_list}
-use Rattle.std.proofs.lemmas.List.{take-append-drop, at_drop_more}
+use Rattle.std.proofs.lemmas.List.{take-append-drop, at_drop_more, take_more}
 use Rattle.std.proofs.lemmas.List.Concat.{flat_map-append}
 use Rattle.getopts.specs.Names.{Names, Text, is_empty}
 use Rattle.getopts.specs.declared.kinds.HasArg.{HasArg}
@@ -20,6 +20,7 @@ use Rattle.getopts_shell.specs.Table.{after_blanks, trimmed, before_gap, from_ga
 use Rattle.getopts_shell.specs.Table.{IsItem, DeclaresEntry, Declares, Operand, is_operand}
 use Rattle.getopts_shell.specs.Table.{is_skipped, item_of, operand_at, operands_among}
 use Rattle.getopts_shell.specs.Table.{DeclareEntries, DeclareOptions, EachAfter, IsLineFault}
+use Rattle.getopts_shell.specs.Table.{front_after, gap_after, is_gap}
 use Rattle.getopts_shell.specs.Table.{IsTableFault, TableFault, conflicting_operand, line_number, name_again}
 use Rattle.getopts_shell.specs.Table.{no_option, none}
 use Rattle.getopts_shell.specs.declared.row.Frequency.{Frequency}
@@ -33,6 +34,32 @@ list_any_map p f (x ∷ xs) = ap (λ (b : Bool). p (f x) || b) (list_any_map p f
 -- what the trimming of std gives
 pub trimmed_is : (text other : Text) → IsTrimAscii text other → other ≡ trimmed text
 trimmed_is text other is = trim_ascii_is text other (after_blanks text) refl is
+
+-- ---- gaps
+
+past : (before : Text) (byte : ℕ) (more : Text) → is_gap before (byte ∷ more) ≡ false
+    → (front_after before (byte ∷ more) ≡ byte ∷ front_after (before ++ byte ∷ []) more)
+    × (gap_after before (byte ∷ more) ≡ gap_after (before ++ byte ∷ []) more)
+past before byte more is = (
+  ap (λ (b : Bool). if b then [] else byte ∷ front_after (before ++ byte ∷ []) more) is,
+  ap (λ (b : Bool). if b then byte ∷ more else gap_after (before ++ byte ∷ []) more) is,
+)
+
+-- without a gap at a place, the first gap is the first after it
+pub no_gap : (text : Text) (at : ℕ) → at < length text → is_gap (take at text) (drop at text) ≡ false
+    → (take at text ++ front_after (take at text) (drop at text)
+    ≡ take (at + 1) text ++ front_after (take (at + 1) text) (drop (at + 1) text))
+    × (gap_after (take at text) (drop at text) ≡ gap_after (take (at + 1) text) (drop (at + 1) text))
+no_gap text at below is =
+    let more = at_drop_more (λ (t : Text). t) text at 0 below in
+    let front = take_more text at 0 below in
+    let step = past (take at text) (get_or text at 0) (drop (at + 1) text)
+    (sym (ap (is_gap (take at text)) more) ∙ is) in (
+      ap (λ (t : Text). take at text ++ front_after (take at text) t) more
+          ∙ ap (λ (t : Text). take at text ++ t) step.0 ∙ rw front (simp append_assoc),
+      ap (gap_after (take at text)) more ∙ step.1
+          ∙ ap (λ (t : Text). gap_after t (drop (at + 1) text)) (sym front),
+    )
 
 -- ---- what a line declares
 

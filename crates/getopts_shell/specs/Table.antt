@@ -242,16 +242,44 @@ abbrev pub begins_gap : Text → Bool
 begins_gap text =
     slice_index text 0 == 9 || (slice_index text 0 == 32 && slice_index text 1 == 32)
 
--- what precedes the first tab or two spaces, or everything if there are none
-abbrev pub before_gap : Text → Text
-before_gap [] = []
-before_gap (byte ∷ more) =
-    if begins_gap (byte ∷ more) then [] else byte ∷ before_gap more
+-- whether a text begins like an item: with `[`, a dash, or an operand before a space or a tab
+abbrev pub begins_item : Text → Bool
+begins_item text = slice_index text 0 == 91 || (slice_index text 0 == 45
+    || is_operand (before 9 (before 32 text)))
 
--- a text from the first tab or two spaces on
+-- whether a text ends like an item whose description needs one space: in `]`, `..` or `!`
+abbrev pub ends_item : Text → Bool
+ends_item text = ends_with ◌==◌ text (codes "]")
+    || (ends_with ◌==◌ text (codes "..") || ends_with ◌==◌ text (codes "!"))
+
+-- whether a text begins with a space, and what follows it doesn't begin like an item
+abbrev pub begins_description : Text → Bool
+begins_description text = slice_index text 0 == 32 && not (begins_item (drop 1 text))
+
+-- whether there is a gap between these bytes of a line and a text: a tab or two spaces; or one
+-- space after the end of an item and before a description
+abbrev pub is_gap : Text → Text → Bool
+is_gap before text = begins_gap text || (ends_item before && begins_description text)
+
+-- what is between these bytes of a line and its first gap, or everything if it has no gap
+abbrev pub front_after : Text → Text → Text
+front_after before [] = []
+front_after before (byte ∷ more) =
+    if is_gap before (byte ∷ more) then [] else byte ∷ front_after (before ++ byte ∷ []) more
+
+-- a line from its first gap on, after these bytes of it
+abbrev pub gap_after : Text → Text → Text
+gap_after before [] = []
+gap_after before (byte ∷ more) =
+    if is_gap before (byte ∷ more) then byte ∷ more else gap_after (before ++ byte ∷ []) more
+
+-- what precedes the first gap of a line, or everything if it has none
+abbrev pub before_gap : Text → Text
+before_gap line = front_after [] line
+
+-- a line from its first gap on
 abbrev pub from_gap : Text → Text
-from_gap [] = []
-from_gap (byte ∷ more) = if begins_gap (byte ∷ more) then byte ∷ more else from_gap more
+from_gap line = gap_after [] line
 
 -- the item of a line
 abbrev pub item_of : Text → Text

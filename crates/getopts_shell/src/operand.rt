@@ -37,7 +37,13 @@ pub enum OperandError<'t> {
 pub(crate) fn is_operand(item: &str) -> bool
     ensures { result ≡ is_operand item.now }
 {
-    let item = item.as_bytes();
+    are_operand(item.as_bytes())
+}
+
+/// Whether bytes are an operand.
+pub(crate) fn are_operand(item: &[u8]) -> bool
+    ensures { result ≡ is_operand item.now }
+{
     if !begins_capital(unopened(item)) {
         return false;
     }

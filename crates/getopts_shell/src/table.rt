@@ -1,7 +1,7 @@
 //! Tables of options: their lines, and the options that these declare.
 
 ghost use Rattle.std.specs.Prelude.{◌≡◌, ◌++◌, Option, ◌||◌, ◌==◌, slice_index, ◌∷◌, []};
-ghost use Rattle.std.specs.Prelude.{MatchResult, IfErr, IfSome, OnOk, Some, None};
+ghost use Rattle.std.specs.Prelude.{◌<◌, true, MatchResult, IfErr, IfSome, OnOk, Some, None};
 ghost use Rattle.std.specs.List.{list_any};
 ghost use Rattle.std.specs.Option.{option_copied, option_to_list};
 ghost use Rattle.std.specs.Str.{bytes_eq};
@@ -9,13 +9,14 @@ ghost use Rattle.getopts.specs.Names.{Text, is_empty};
 ghost use Rattle.getopts_shell.specs.Stored.{entry_of_row, entries_of, operand_of, operands_of};
 ghost use Rattle.getopts_shell.specs.Stored.{IsOutOfMemoryOrFault};
 ghost use Rattle.getopts_shell.specs.Table.{trimmed, begins_gap, before_gap, from_gap};
+ghost use Rattle.getopts_shell.specs.Table.{begins_description, begins_item, ends_item, is_gap};
 ghost use Rattle.getopts_shell.specs.Table.{any_has_name, name_again, Entry, OneTableOneList};
 ghost use Rattle.getopts_shell.specs.Table.{Declares, DeclaresOptions, IsLineFault, IsTableFault};
 ghost use Rattle.getopts_shell.specs.Table.{conflicting_operand, late_operand, name_twice};
 ghost use Rattle.getopts_shell.specs.Table.{operand_at, operands_in, Operand as OperandOfTable};
 
-use crate::item::row_of;
-use crate::operand::{Operand, conflicting_operand, is_operand};
+use crate::item::{cut_at, row_of};
+use crate::operand::{Operand, are_operand, conflicting_operand, is_operand};
 use crate::row::Row;
 use std::alloc::{AllocError, Global};
 
@@ -180,18 +181,50 @@ fn trimmed(text: &str) -> &str
     text.trim_ascii()
 }
 
-/// A text split before its first tab or two spaces.
+/// A line split before its first gap.
 fn cut_at_gap(text: &str) -> (&str, &str)
     ensures before { result.0.now ≡ before_gap text.now }
     ensures after { result.1.now ≡ from_gap text.now }
 {
     let bytes = text.as_bytes();
     for at in 0..bytes.len() {
-        if begins_gap(&bytes[at..]) {
+        if is_gap(&bytes[..at], &bytes[at..]) {
             return (&text[..at], &text[at..]);
         }
     }
     (text, "")
+}
+
+/// Whether a gap is between these bytes of a line.
+fn is_gap(before: &[u8], bytes: &[u8]) -> bool
+    ensures is { result ≡ is_gap before.now bytes.now }
+    ensures ascii { result ≡ true → slice_index bytes.now 0 < 128 }
+{
+    begins_gap(bytes) || (ends_item(before) && begins_description(bytes))
+}
+
+/// Whether bytes begin with a space, and what follows it doesn't begin like an item.
+fn begins_description(bytes: &[u8]) -> bool
+    ensures { result ≡ begins_description bytes.now }
+{
+    match bytes {
+        [b' ', rest @ ..] => !begins_item(rest),
+        _ => false,
+    }
+}
+
+/// Whether bytes end like an item whose description needs one space.
+fn ends_item(bytes: &[u8]) -> bool
+    ensures { result ≡ ends_item bytes.now }
+{
+    bytes.ends_with(b"]") || bytes.ends_with(b"..") || bytes.ends_with(b"!")
+}
+
+/// Whether bytes begin like an item.
+fn begins_item(bytes: &[u8]) -> bool
+    ensures { result ≡ begins_item bytes.now }
+{
+    matches!(bytes, [b'[' | b'-', ..]) || are_operand(cut_at(cut_at(bytes, b' ').0, b'\t').0)
 }
 
 /// Whether bytes begin with a tab or two spaces.

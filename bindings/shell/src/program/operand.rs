@@ -26,7 +26,11 @@ pub enum OperandError<'t> {
 
 /// Whether an item is an operand.
 pub(crate) fn is_operand(item: &str) -> bool {
-    let item = item.as_bytes();
+    are_operand(item.as_bytes())
+}
+
+/// Whether bytes are an operand.
+pub(crate) fn are_operand(item: &[u8]) -> bool {
     if !begins_capital(unopened(item)) {
         return false;
     }

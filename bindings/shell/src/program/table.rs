@@ -3,8 +3,8 @@
 
 use crate::host::*;
 
-use super::item::row_of;
-use super::operand::{Operand, conflicting_operand, is_operand};
+use super::item::{cut_at, row_of};
+use super::operand::{Operand, are_operand, conflicting_operand, is_operand};
 use super::row::Row;
 use crate::host::alloc::{AllocError, Global};
 
@@ -123,15 +123,38 @@ fn trimmed(text: &str) -> &str {
     text.trimmed_ascii()
 }
 
-/// A text split before its first tab or two spaces.
+/// A line split before its first gap.
 fn cut_at_gap(text: &str) -> (&str, &str) {
     let bytes = text.as_bytes();
     for at in 0..bytes.len() {
-        if begins_gap(&bytes[at..]) {
+        if is_gap(&bytes[..at], &bytes[at..]) {
             return (&text[..at], &text[at..]);
         }
     }
     (text, "")
+}
+
+/// Whether a gap is between these bytes of a line.
+fn is_gap(before: &[u8], bytes: &[u8]) -> bool {
+    begins_gap(bytes) || (ends_item(before) && begins_description(bytes))
+}
+
+/// Whether bytes begin with a space, and what follows it doesn't begin like an item.
+fn begins_description(bytes: &[u8]) -> bool {
+    match bytes {
+        [b' ', rest @ ..] => !begins_item(rest),
+        _ => false,
+    }
+}
+
+/// Whether bytes end like an item whose description needs one space.
+fn ends_item(bytes: &[u8]) -> bool {
+    bytes.ends_with(b"]") || bytes.ends_with(b"..") || bytes.ends_with(b"!")
+}
+
+/// Whether bytes begin like an item.
+fn begins_item(bytes: &[u8]) -> bool {
+    matches!(bytes, [b'[' | b'-', ..]) || are_operand(cut_at(cut_at(bytes, b' ').0, b'\t').0)
 }
 
 /// Whether bytes begin with a tab or two spaces.
