@@ -171,11 +171,11 @@ fault_from prefix rows place row below row_is =
     rw (elements_from rows place row row below row_is, more) refl
 
 -- an entry without an error makes a variable
-no_fault : (made : Bool) (twice : Option VariableFault) (one : VariableFault)
-    (rest : Option VariableFault) → option_or (cond made twice (Some one)) rest ≡ None
+no_fault : (made : Bool) (more : Option VariableFault) (one : VariableFault)
+    (rest : Option VariableFault) → option_or (cond made more (Some one)) rest ≡ None
     → (made ≡ true) × (rest ≡ None)
-no_fault false twice one rest is = absurd cc
-no_fault true (Some two) one rest is = absurd cc
+no_fault false more one rest is = absurd cc
+no_fault true (Some other) one rest is = absurd cc
 no_fault true None one rest is = (refl, is)
 
 -- if no error is found, each entry makes a variable

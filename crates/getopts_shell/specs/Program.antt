@@ -31,7 +31,7 @@ use Rattle.getopts_shell.specs.Table.{name_twice, no_option, operands_in, reason
 use Rattle.getopts_shell.specs.Variables.{HoldTexts, SetsVariables, SetsWords, Given, given_from}
 use Rattle.getopts_shell.specs.Variables.{given_alone, line_code, variables_code, VariableFault}
 use Rattle.getopts_shell.specs.Variables.{arrays_only, no_prefix, no_variable, prefix_fault}
-use Rattle.getopts_shell.specs.Variables.{variable_twice}
+use Rattle.getopts_shell.specs.Variables.{shell_variable, variable_twice}
 use Rattle.getopts_shell.specs.declared.row.Frequency.{Frequency}
 use Rattle.getopts_shell.specs.declared.row.Frequency.TheVariants.{Alone}
 
@@ -303,6 +303,8 @@ variable_fault_line (no_prefix prefix) = codes "getopts_shell: the prefix '" ++ 
     ++ codes "' can't begin a variable name (ASCII letters, digits and '_', no digit first)\n")
 variable_fault_line (no_variable number name) = of_line number (codes "the option '" ++ (name
     ++ codes "' doesn't make a valid variable name (ASCII letters, digits and '_', no digit first)\n"))
+variable_fault_line (shell_variable number name) = of_line number (codes "without a prefix, the option '"
+    ++ (name ++ codes "' may set a variable of the shell: choose a prefix, such as opt_\n"))
 variable_fault_line (variable_twice number earlier name) = of_line number
     (codes "the options '" ++ (earlier ++ (codes "' and '" ++ (name
     ++ codes "' would have the same variable\n"))))

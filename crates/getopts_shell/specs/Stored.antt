@@ -9,6 +9,7 @@ use Rattle.getopts.specs.Reading.{Occurrence}
 use Rattle.getopts_shell.specs.Program.{Answer, Asked, OperandFault, missing, own_groups}
 use Rattle.getopts_shell.specs.Program.{unexpected}
 use Rattle.getopts_shell.specs.Variables.{VariableFault, arrays_only, no_prefix, no_variable}
+use Rattle.getopts_shell.specs.Variables.{shell_variable}
 use Rattle.getopts_shell.specs.Variables.{variable_twice}
 use Rattle.getopts_shell.specs.Table.{Entry, Operand, TableFault, groups_as, late_operand}
 use Rattle.getopts_shell.specs.Table.{name_twice, no_option}
@@ -96,6 +97,7 @@ abbrev pub variable_fault_told : VariableError → VariableFault
 variable_fault_told variable.ArraysOnly = arrays_only
 variable_fault_told (variable.NoPrefix prefix) = no_prefix prefix.now
 variable_fault_told (variable.NoVariable number name) = no_variable number name.now
+variable_fault_told (variable.ShellVariable number name) = shell_variable number name.now
 variable_fault_told (variable.VariableTwice number earlier name) =
     variable_twice number earlier.now name.now
 

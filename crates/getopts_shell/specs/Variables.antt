@@ -1,9 +1,9 @@
 -- Options as variables: what a shell does with a text of commands, and the text that is written.
 use Rattle.std.specs.Prelude.{◌≡◌, ◌==◌, ◌||◌, ◌&&◌, not, ⊤, ℕ, ◌+◌, Bool, true, false, List, []}
 use Rattle.std.specs.Prelude.{◌∷◌, ◌++◌, Option, Some, None, codes, decimal, fold, if◌then◌else◌}
-use Rattle.std.specs.Prelude.{length, map, MatchOption}
-use Rattle.std.specs.Char.{is_ascii_alphanumeric, is_ascii_digit}
-use Rattle.std.specs.List.{AllByRecursion, find, flat_map, last_or, list_all}
+use Rattle.std.specs.Prelude.{length, map, MatchOption, nat_lt}
+use Rattle.std.specs.Char.{is_ascii_alphanumeric, is_ascii_digit, is_ascii_lowercase}
+use Rattle.std.specs.List.{AllByRecursion, find, flat_map, last_or, list_all, list_any}
 use Rattle.std.specs.Option.{option_map, option_or, unwrap_or}
 use Rattle.std.specs.Str.{IsUtf8, bytes_eq}
 use Rattle.getopts.specs.Accessors.{each_value, occurrences_of_group}
@@ -106,22 +106,31 @@ abbrev pub with_same_variable : Text → List Entry → Entry → Option Entry
 with_same_variable prefix before entry =
     find (λ other. bytes_eq (variable_of prefix other) (variable_of prefix entry)) before
 
+-- whether a variable may be one that shells or other programs use, such as `IFS`: it has no prefix,
+-- and its name has more than one byte, but no small letter
+abbrev pub is_shell_variable : Text → Text → Bool
+is_shell_variable prefix name =
+    is_empty prefix && (nat_lt 1 (length name) && not (list_any is_ascii_lowercase name))
+
 -- an error about variables: arrays without variables; a prefix that can't begin a variable; or, in
--- the line with this number, a name that makes no variable, or makes that of an earlier name, which
--- comes first
+-- the line with this number, a name that makes no variable, makes that of a shell, or makes that of
+-- an earlier name, which comes first
 pub data VariableFault : Type 0 where
   arrays_only : VariableFault
   no_prefix : Text → VariableFault
   no_variable : ℕ → Text → VariableFault
+  shell_variable : ℕ → Text → VariableFault
   variable_twice : ℕ → Text → Text → VariableFault
 
 -- the error of an entry after others, if it has one
 abbrev pub variable_fault : Text → List Entry → Entry → Option VariableFault
 variable_fault prefix before entry =
     if is_variable (variable_of prefix entry)
-    then option_map
+    then (if is_shell_variable prefix (main_name entry.names)
+    then Some (shell_variable entry.line (main_name entry.names))
+    else option_map
     (λ other. variable_twice entry.line (main_name other.names) (main_name entry.names))
-    (with_same_variable prefix before entry)
+    (with_same_variable prefix before entry))
     else Some (no_variable entry.line (main_name entry.names))
 
 -- the first error of entries after others

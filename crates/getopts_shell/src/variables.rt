@@ -3,9 +3,9 @@
 
 ghost use Rattle.std.specs.Prelude.{◌≡◌, ◌++◌, [], length, map, IfOk, OnOk, false, not, slice_get};
 ghost use Rattle.std.specs.Prelude.{get_or, None, Some, MatchOption, codes, true, ⊤};
-ghost use Rattle.std.specs.Char.{is_ascii_digit};
+ghost use Rattle.std.specs.Char.{is_ascii_digit, is_ascii_lowercase};
 ghost use Rattle.std.specs.Option.{option_map, option_map_or};
-ghost use Rattle.std.specs.List.{find, last_or, list_all};
+ghost use Rattle.std.specs.List.{find, last_or, list_all, list_any};
 ghost use Rattle.std.specs.String.{string_bytes};
 ghost use Rattle.std.specs.Str.{IsUtf8, bytes_eq};
 ghost use Rattle.getopts.specs.Names.{AreTexts, main_name};
@@ -16,7 +16,7 @@ ghost use Rattle.getopts_shell.specs.Table.{Entry};
 ghost use Rattle.getopts_shell.specs.Variables.{AreTextValues, CodeSetsVariables, HoldTexts};
 ghost use Rattle.getopts_shell.specs.Variables.{all_values, count_text, found_alone, founds_of};
 ghost use Rattle.getopts_shell.specs.Variables.{given_alone, given_from, is_prefix, is_variable};
-ghost use Rattle.getopts_shell.specs.Variables.{is_variable_byte, option_code, own_value};
+ghost use Rattle.getopts_shell.specs.Variables.{is_shell_variable, is_variable_byte, option_code, own_value};
 ghost use Rattle.getopts_shell.specs.Variables.{prefix_fault, texts_found, value_line, variable};
 ghost use Rattle.getopts_shell.specs.Variables.{variable_byte, variable_fault, variable_of};
 ghost use Rattle.getopts_shell.specs.Variables.{variables_code, many, one};
@@ -53,6 +53,9 @@ pub(crate) enum VariableError<'t> {
     NoPrefix(&'t str),
     /// The option in the line with this number doesn't make a variable. Holds its main name.
     NoVariable(usize, &'t str),
+    /// Without a prefix, the option in the line with this number may make a variable of the shell.
+    /// Holds its main name.
+    ShellVariable(usize, &'t str),
     /// The option in the line with this number makes the same variable as an earlier one. Holds the
     /// main names of the earlier one and of this one.
     VariableTwice(usize, &'t str, &'t str),
@@ -345,10 +348,27 @@ fn row_error<'t>(prefix: &str, before: &[Row<'t>], row: Row<'t>) -> Option<Varia
     if !makes_variable(prefix, name) {
         return Some(VariableError::NoVariable(row.line, name));
     }
+    if is_shell_variable(prefix, name) {
+        return Some(VariableError::ShellVariable(row.line, name));
+    }
     match row_with_variable(before, name) {
         Some(earlier) => Some(VariableError::VariableTwice(row.line, main_name(earlier), name)),
         None => None,
     }
+}
+
+/// Whether a variable may be one that shells or other programs use.
+fn is_shell_variable(prefix: &str, name: &str) -> bool
+    ensures { result ≡ is_shell_variable prefix.now name.now }
+{
+    prefix.is_empty() && name.len() > 1 && !holds_lowercase(name)
+}
+
+/// Whether a text contains a small letter.
+fn holds_lowercase(text: &str) -> bool
+    ensures { result ≡ list_any is_ascii_lowercase text.now }
+{
+    text.bytes().any(|byte| matches!(byte, b'a'..=b'z'))
 }
 
 /// Whether a variable's name may begin with a text.

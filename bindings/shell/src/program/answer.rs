@@ -343,6 +343,11 @@ fn variable_refusal(alloc: Global, error: VariableError<'_>) -> Result<String, A
              the option '{name}' doesn't make a valid variable name \
              (ASCII letters, digits and '_', no digit first)\n"
         ),
+        VariableError::ShellVariable(number, name) => text!(in alloc;
+            "getopts_shell: line {number} of the table: \
+             without a prefix, the option '{name}' may set a variable of the shell: \
+             choose a prefix, such as opt_\n"
+        ),
         VariableError::VariableTwice(number, earlier, name) => text!(in alloc;
             "getopts_shell: line {number} of the table: \
              the options '{earlier}' and '{name}' would have the same variable\n"

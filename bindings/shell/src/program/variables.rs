@@ -36,6 +36,9 @@ pub(crate) enum VariableError<'t> {
     NoPrefix(&'t str),
     /// The option in the line with this number doesn't make a variable. Holds its main name.
     NoVariable(usize, &'t str),
+    /// Without a prefix, the option in the line with this number may make a variable of the shell.
+    /// Holds its main name.
+    ShellVariable(usize, &'t str),
     /// The option in the line with this number makes the same variable as an earlier one. Holds the
     /// main names of the earlier one and of this one.
     VariableTwice(usize, &'t str, &'t str),
@@ -258,6 +261,9 @@ fn row_error<'t>(prefix: &str, before: &[Row<'t>], row: Row<'t>) -> Option<Varia
     if !makes_variable(prefix, name) {
         return Some(VariableError::NoVariable(row.line, name));
     }
+    if is_shell_variable(prefix, name) {
+        return Some(VariableError::ShellVariable(row.line, name));
+    }
     match row_with_variable(before, name) {
         Some(earlier) => Some(VariableError::VariableTwice(
             row.line,
@@ -266,6 +272,16 @@ fn row_error<'t>(prefix: &str, before: &[Row<'t>], row: Row<'t>) -> Option<Varia
         )),
         None => None,
     }
+}
+
+/// Whether a variable may be one that shells or other programs use.
+fn is_shell_variable(prefix: &str, name: &str) -> bool {
+    prefix.is_empty() && name.len() > 1 && !holds_lowercase(name)
+}
+
+/// Whether a text contains a small letter.
+fn holds_lowercase(text: &str) -> bool {
+    text.bytes().any(|byte| matches!(byte, b'a'..=b'z'))
 }
 
 /// Whether a variable's name may begin with a text.

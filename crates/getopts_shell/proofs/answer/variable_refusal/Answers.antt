@@ -11,6 +11,13 @@ returns-in-NoVariable c =
     c.in-NoVariable.is))
     c.format-in-NoVariable.ensures.ok
 
+pub returns-in-ShellVariable : goal.returns-in-ShellVariable
+returns-in-ShellVariable c =
+    IfOk-weaker c.format-in-ShellVariable.result _ _
+    (λ text is. is ∙ sym (ap (λ error. variable_fault_line (variable_fault_told error))
+    c.in-ShellVariable.is))
+    c.format-in-ShellVariable.ensures.ok
+
 pub returns-in-VariableTwice : goal.returns-in-VariableTwice
 returns-in-VariableTwice c =
     IfOk-weaker c.format-in-VariableTwice.result _ _

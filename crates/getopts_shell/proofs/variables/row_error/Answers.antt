@@ -17,7 +17,9 @@ returns-in-Some c =
     let again = found_variable c.args.prefix.now c.args.before.now (entry_of_row c.args.row)
     ∙ rw c.main_name-name.ensures at (sym c.row_with_variable.ensures)
     ∙ ap (option_map entry_of_row) c.in-Some.is in
-    rw (c.main_name-name.ensures, c.main_name.ensures, made, again) refl
+    let own = rw c.main_name-name.ensures
+    at (sym c.is_shell_variable.ensures ∙ c.if-is_shell_variable.false) in
+    rw (c.main_name-name.ensures, c.main_name.ensures, made, own, again) refl
 
 pub returns-in-None : goal.returns-in-None
 returns-in-None c =
@@ -26,4 +28,6 @@ returns-in-None c =
     let again = found_variable c.args.prefix.now c.args.before.now (entry_of_row c.args.row)
     ∙ rw c.main_name-name.ensures at (sym c.row_with_variable.ensures)
     ∙ ap (option_map entry_of_row) c.in-None.is in
-    rw (made, again) refl
+    let own = rw c.main_name-name.ensures
+    at (sym c.is_shell_variable.ensures ∙ c.if-is_shell_variable.false) in
+    rw (made, own, again) refl
