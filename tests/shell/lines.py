@@ -53,7 +53,8 @@ def written(options):
     for short, long, kind, often in options:
         names = "|".join(f"-{name}" for name in (short, long and f"-{long}") if name)
         lines.append(COUNTS[often][0].format(names + {"no": "", "yes": " X", "maybe": " [X]"}[kind]))
-    return "\n".join(lines)
+    # The newline tells a table of a single option from a word.
+    return "\n".join(lines) + "\n"
 
 
 def spelled(rng, option):
@@ -117,7 +118,7 @@ def random_scripts(program, way, count):
         options, words, given, free = case_of(rng)
         prefix = rng.choice(["opt_", "x", "_", "Opt9"])
         own = {"words": [], "variables": ["-V", prefix], "arrays": ["-A", "-V", prefix]}[way]
-        table = "\n".join([written(options), *operands_of(rng, len(free))])
+        table = written(options) + "\n".join(operands_of(rng, len(free)))
         code, errors = run(program, *own, "try", table, *words)
         assert not errors, f"random line {number}: {table!r} {words!r}: {errors}"
         codes.append(code)

@@ -20,7 +20,7 @@ use Rattle.getopts_shell.specs.Program.{help_front, shown_options, help_code, is
 use Rattle.getopts_shell.specs.Program.{misused, no_completion, own_options, read_options}
 use Rattle.getopts_shell.specs.Program.{table_fault_line}
 use Rattle.getopts.specs.Usage.{IsUsageText}
-use Rattle.getopts_shell.specs.Table.{Entry, TableFault, operands_in}
+use Rattle.getopts_shell.specs.Table.{Entry, TableFault, is_word, operands_in}
 use Rattle.getopts_shell.proofs.Only.{one_table, one_fault, no_fault}
 
 -- ---- statuses
@@ -214,7 +214,8 @@ one_of_table asked name table words = record { only = only; by = by }
 one_free : (asked : Asked) (words : List Text) → IsOne (AnswersFree asked words)
 one_free asked [] = one_equal _ is_misused
 one_free asked (name ∷ []) = one_equal _ is_misused
-one_free asked (name ∷ table ∷ words) = one_of_table asked name table words
+one_free asked (name ∷ table ∷ words) =
+    one_bool (is_word table) (one_equal _ is_misused) (one_of_table asked name table words)
 
 one_own : (own : Matched) → IsOne (AnswersOwn own)
 one_own own = one_bool (is_given own (codes "help")) (one_equal _ is_done)

@@ -26,7 +26,7 @@ use Rattle.getopts_bytes.specs.Marks.{bytes_of}
 use Rattle.getopts_shell.specs.Completion.{functions, offer, stub, takes_argument}
 use Rattle.getopts_shell.specs.Quote.{quoted, shell_words}
 use Rattle.getopts_shell.specs.Table.{Entry, DeclaresOptions, IsTableFault, Operand, TableFault}
-use Rattle.getopts_shell.specs.Table.{before, groups_as, is_needed, late_operand, may_repeat}
+use Rattle.getopts_shell.specs.Table.{before, groups_as, is_needed, is_word, late_operand, may_repeat}
 use Rattle.getopts_shell.specs.Table.{name_twice, no_option, operands_in, reason_of}
 use Rattle.getopts_shell.specs.Variables.{HoldTexts, SetsVariables, SetsWords, Given, given_from}
 use Rattle.getopts_shell.specs.Variables.{given_alone, line_code, variables_code, VariableFault}
@@ -438,9 +438,16 @@ pub data AnswersTable (asked : Asked) (name table : Text) (words : List Text) (a
       }) table words answer
       → AnswersTable asked name table words answer
 
+-- the error for a word in place of the table: an option that follows the name, a word of the script
+-- because its table was left out, or the front of a table without quotes
+abbrev pub no_table : Text → Answer
+no_table word = misused (codes "getopts_shell: '" ++ (word
+    ++ codes "' isn't a table: write options of getopts_shell before NAME, and the table after it, in quotes (a table of one option needs a line break)\n"))
+
 -- This is the answer to the free words among the program's own.
 abbrev pub AnswersFree : Asked → List Text → Answer → Type 0
-AnswersFree asked (name ∷ table ∷ words) answer = AnswersTable asked name table words answer
+AnswersFree asked (name ∷ table ∷ words) answer = MatchBool (is_word table)
+    (answer ≡ no_table table) (AnswersTable asked name table words answer)
 AnswersFree asked words answer =
     answer ≡ misused (codes "getopts_shell: NAME and TABLE are required (see --help)\n")
 

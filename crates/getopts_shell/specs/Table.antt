@@ -41,6 +41,11 @@ after byte text = after_first (λ other. other == byte) text
 abbrev pub unopened : Text → Text
 unopened text = if slice_index text 0 == 91 then drop 1 text else text
 
+-- whether a text is a word instead of a table: it begins with a dash, and contains no space, tab or
+-- line end
+abbrev pub is_word : Text → Bool
+is_word text = begins_with_dash text && not (holds 32 text || (holds 9 text || holds 10 text))
+
 -- ---- names, hints and items
 
 -- whether a byte may be a short name: a letter, a digit, or one of `?@#%+_^,./:`

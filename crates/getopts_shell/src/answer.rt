@@ -22,7 +22,7 @@ ghost use Rattle.getopts_shell.specs.Program.{IsOutput, IsStatus, ShowsAnswer, S
 ghost use Rattle.getopts_shell.specs.Program.{IsVariablesCode, alone_line, asked_by, asked_fault};
 ghost use Rattle.getopts_shell.specs.Program.{asks_help, brief_text, completion_answer, done};
 ghost use Rattle.getopts_shell.specs.Program.{fault_line, help_code, help_front, is_alone};
-ghost use Rattle.getopts_shell.specs.Program.{last_word, misused, no_completion, options_in};
+ghost use Rattle.getopts_shell.specs.Program.{last_word, misused, no_completion, no_table, options_in};
 ghost use Rattle.getopts_shell.specs.Program.{own_groups, own_options, read_options, refused};
 ghost use Rattle.getopts_shell.specs.Program.{shown_options, stands_alone, table_fault_line};
 ghost use Rattle.getopts_shell.specs.Program.{variable_fault_line};
@@ -40,7 +40,7 @@ use crate::operand::{Operand, OperandError, free_error, may_repeat, push_operand
 use crate::quote::{push_joined, push_line, push_quoted};
 use crate::row::{Frequency, Row};
 use crate::script::{Asked, Script};
-use crate::table::{Table, TableError, declared_in};
+use crate::table::{Table, TableError, declared_in, is_word};
 use crate::variables::{
     VariableError, Variables, alone_code, main_name, variable_error, variables_code,
 };
@@ -319,11 +319,24 @@ fn free_answer(alloc: Global, asked: &Asked, words: &[String]) -> Result<Outcome
         (answer_of outcome)) }
 {
     match words {
+        [_, table, ..] if is_word(table.as_str()) => no_table(alloc, table.as_str()),
         [name, table, words @ ..] => {
             table_answer(alloc, asked, name.as_str(), table.as_str(), words)
         }
         _ => Ok(Outcome::misused(String::from_str(alloc, NEEDED)?)),
     }
+}
+
+/// The error for a word in place of the table.
+fn no_table(alloc: Global, word: &str) -> Result<Outcome, AllocError>
+    ensures { IfOk result (λ outcome. answer_of outcome ≡ no_table word.now) }
+{
+    let text = format!(in alloc;
+        "getopts_shell: '{word}' isn't a table: \
+         write options of getopts_shell before NAME, and the table after it, in quotes \
+         (a table of one option needs a line break)\n"
+    )?;
+    Ok(Outcome::misused(text))
 }
 
 /// The answer to a script's name, its table and its words.

@@ -8,7 +8,7 @@ ghost use Rattle.std.specs.Str.{bytes_eq};
 ghost use Rattle.getopts.specs.Names.{Text, is_empty};
 ghost use Rattle.getopts_shell.specs.Stored.{entry_of_row, entries_of, operand_of, operands_of};
 ghost use Rattle.getopts_shell.specs.Stored.{IsOutOfMemoryOrFault};
-ghost use Rattle.getopts_shell.specs.Table.{trimmed, begins_gap, before_gap, from_gap};
+ghost use Rattle.getopts_shell.specs.Table.{trimmed, begins_gap, before_gap, from_gap, is_word};
 ghost use Rattle.getopts_shell.specs.Table.{begins_description, begins_item, ends_item, is_gap};
 ghost use Rattle.getopts_shell.specs.Table.{any_has_name, name_again, Entry, OneTableOneList};
 ghost use Rattle.getopts_shell.specs.Table.{Declares, DeclaresOptions, IsLineFault, IsTableFault};
@@ -44,6 +44,15 @@ pub(crate) enum TableError<'t> {
 pub fn one_table_one_list()
     ensures one_list { OneTableOneList }
 {}
+
+/// Whether a text is a word instead of a table: it begins with a dash, and contains no blank.
+pub(crate) fn is_word(text: &str) -> bool
+    ensures { result ≡ is_word text.now }
+{
+    let bytes = text.as_bytes();
+    bytes.starts_with(b"-")
+        && !(bytes.contains(&b' ') || bytes.contains(&b'\t') || bytes.contains(&b'\n'))
+}
 
 /// The options and operands that a table declares.
 pub(crate) fn declared_in<'t>(alloc: Global, text: &'t str) -> Result<Table<'t>, TableError<'t>>

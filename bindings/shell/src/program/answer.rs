@@ -9,7 +9,7 @@ use super::operand::{Operand, OperandError, free_error, may_repeat, push_operand
 use super::quote::{push_joined, push_line, push_quoted};
 use super::row::{Frequency, Row};
 use super::script::{Asked, Script};
-use super::table::{Table, TableError, declared_in};
+use super::table::{Table, TableError, declared_in, is_word};
 use super::variables::{
     VariableError, Variables, alone_code, main_name, variable_error, variables_code,
 };
@@ -232,11 +232,22 @@ fn asked_by(alloc: Global, own: &Matches) -> Result<Asked, AllocError> {
 /// words.
 fn free_answer(alloc: Global, asked: &Asked, words: &[String]) -> Result<Outcome, AllocError> {
     match words {
+        [_, table, ..] if is_word(table.as_str()) => no_table(alloc, table.as_str()),
         [name, table, words @ ..] => {
             table_answer(alloc, asked, name.as_str(), table.as_str(), words)
         }
         _ => Ok(Outcome::misused(String::copy_of(alloc, NEEDED)?)),
     }
+}
+
+/// The error for a word in place of the table.
+fn no_table(alloc: Global, word: &str) -> Result<Outcome, AllocError> {
+    let text = text!(in alloc;
+        "getopts_shell: '{word}' isn't a table: \
+         write options of getopts_shell before NAME, and the table after it, in quotes \
+         (a table of one option needs a line break)\n"
+    )?;
+    Ok(Outcome::misused(text))
 }
 
 /// The answer to a script's name, its table and its words.

@@ -29,6 +29,13 @@ pub(crate) enum TableError<'t> {
 /// A table declares at most one list of options. This is a lemma for proofs, which does nothing.
 pub fn one_table_one_list() {}
 
+/// Whether a text is a word instead of a table: it begins with a dash, and contains no blank.
+pub(crate) fn is_word(text: &str) -> bool {
+    let bytes = text.as_bytes();
+    bytes.starts_with(b"-")
+        && !(bytes.contains(&b' ') || bytes.contains(&b'\t') || bytes.contains(&b'\n'))
+}
+
 /// The options and operands that a table declares.
 pub(crate) fn declared_in<'t>(alloc: Global, text: &'t str) -> Result<Table<'t>, TableError<'t>> {
     let mut table = Table {
