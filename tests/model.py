@@ -179,7 +179,8 @@ def is_dashed(word):
 
 
 def first_character(text):
-    return text.decode()[0].encode()
+    """The first character, or the first byte if the text doesn't begin with one."""
+    return text.decode(errors="surrogateescape")[0].encode(errors="surrogateescape")
 
 
 def field(text):

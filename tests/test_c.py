@@ -2,6 +2,7 @@
 
 import functools
 import os
+import random
 import re
 import shlex
 import shutil
@@ -10,8 +11,9 @@ import subprocess
 import textwrap
 import time
 
+import model
 import pytest
-from conftest import LINES, MARGIN, ROOT, answer, check_page, need, need_compiler, run, script
+from conftest import MARGIN, ROOT, answer, check_page, need, need_compiler, run, script
 from targets import OLD, cargo, cargo_for, copy_folders, need_cargo, need_target, runner
 
 C = ROOT / "bindings/c"
@@ -84,23 +86,133 @@ def test_results_and_errors_of_calls(build):
     assert run(*build(C / "tests/layer.c"))[0].strip() == "all tests passed"
 
 
-# What tests/random.c prints if no check failed.
-RANDOM = r"{} tables, \d+ wrong; \d+ lines accepted\s+"
+# ---- answers on random tables and words, compared with tests/model.py
+
+STOP, LONG_ONLY, KEEP_ORDER = 16, 32, 64
+KINDS, OCCURS, BAD = ["no", "yes", "maybe"], ["optional", "req", "multi"], 7
+STATUSES = ["", "ArgumentMissing", "UnrecognizedOption", "OptionMissing", "OptionDuplicated", "UnexpectedArgument"]
+SHORTS, LONGS = ["", "", "", *"abcv7="], ["ab", "verbose", "verbatim", "a=b", "=a", "é", "日本", "no-v", "a" * 50]
+HINTS, DESCRIPTIONS = [None, "", "N", "FILE", "é"], [None, "", "say more", "many words " * 9]
+# Mistakes in a row: a field and its text.
+MISTAKES = [(0, "ab"), (0, "\udcff"), (1, "x"), (1, "a\udcff"), (2, "\U0010ffff"), (3, "\udcc3"), (4, 3), (4, 16)]
+PARTS = ["-", "--", "", *"abv7=x-é", "ab", "verbose", "\udcff", "\udcf4", "\U0010ffff", "\U0010ff7f", "\udce6\udc97",
+         "\udcc0\udc80", "\udced\udca0\udc80", "\udcf4\udc90\udc80\udc80", "-a", "-vb", "--ab=",
+         "--verbose", "-7", "9" * 20, "0123456789" * 50]
+
+
+def random_case(rng):
+    """Modes, columns, rows (whose last field is the kind), the row with a mistake (None: no row), and words."""
+    count = rng.randrange(1, 7)
+    rows = [[short, long if not short or rng.random() < 0.7 else rng.choice([None, ""]), None, rng.choice(DESCRIPTIONS),
+             rng.choice([0, 1, 2]) + rng.choice([0, 8] * 9 + [4])]
+            for short, long in zip(rng.sample(SHORTS, count), rng.sample(LONGS, count))]
+    for row in rows:
+        row[2] = rng.choice(HINTS if row[4] % 4 else HINTS[:2])
+    wrong = rng.randrange(count) if rng.random() < 0.1 else None
+    if wrong is not None:
+        field, text = rng.choice(MISTAKES)
+        rows[wrong][field] = text
+    parts = PARTS + 4 * [f"{dashes}{name}" for row in rows for dashes, name in zip(("-", "--"), row[:2]) if name]
+    words = ["".join(rng.choices(parts, k=rng.choice([0, 1, 1, 1, 2, 3]))) for _ in range(rng.choice([2, 4, 8, 24]))]
+    return 16 * rng.randrange(8), rng.choice([0, 30, 60, 2**32 - 1]), rows, wrong, words
+
+
+def in_bytes(text):
+    return (text or "").encode(errors="surrogateescape")
+
+
+def said(field):
+    """A field as answers.c reads and prints it."""
+    field = in_bytes(field) if isinstance(field, str) else b"%d" % field if isinstance(field, int) else field
+    return b"-" if field is None else b"=" + field
+
+
+def first_byte(text, character=model.first_character):
+    """The name of an unknown character in a cluster: its first byte, from U+10FF80 up."""
+    name = character(text)
+    return name[:1] if name >= "\U0010ff80".encode() else name
+
+
+def said_of_option(given):
+    """The answers about an option's occurrences, which are None if it isn't defined."""
+    values = [value for _, value in given or []]
+    yield from [int(given is not None), len(values), *values, None]
+    for nth in [*range(len(values) + 1), -1]:
+        at, value = given[nth] if given and nth < len(values) else (-1, None)
+        number = re.fullmatch(rb"[+-]?\d{1,9}", value or b"")
+        yield from [at, value, int(value is None or bool(number)), int(number[0]) if number else 42]
+
+
+def short_usage(groups):
+    for group in groups:
+        text = b"-" + group.short if group.short else b"--" + group.long
+        text += {"no": b"", "yes": b" " + group.hint, "maybe": b" [%s]" % group.hint}[group.kind]
+        yield text if group.occur == "req" else b"[%s]%s" % (text, b".." if group.occur == "multi" else b"")
+
+
+def answers(modes, columns, rows, names, words):
+    """The answers for a valid table; `...` for help texts that the rules don't determine."""
+    groups = [model.Group(in_bytes(short), in_bytes(long), KINDS[kind % 4], OCCURS[kind // 4], in_bytes(description), in_bytes(hint))
+              for short, long, hint, description, kind in rows]
+    options = model.Options(groups, modes & STOP, modes & LONG_ONLY)
+    read = options.parse(words)
+    fault, name = read if len(read) == 2 else ("", b"")
+    line = [] if fault else options.canonical(read) or []
+    read = options.parse(words, with_counts=False) if fault.startswith("Option") else read
+    occurrences, free, start = read if len(read) == 3 else ([], [], None)
+    yield from [b"", STATUSES.index(fault), model.TEXTS[fault] % name if fault else b""]
+    for name in names:
+        place = options.resolve(name) if len(read) == 3 else None
+        given = [(at, value) for mine, at, value in occurrences if mine == place]
+        yield from said_of_option(None if place is None else given)
+    for place, _, value in occurrences if modes & KEEP_ORDER and not fault else []:
+        yield from [place, value]
+    yield from [-1, None, len(free), *free, None, -1 if start is None else start, STATUSES.index(fault), *line, None]
+    measured = all(model.is_measured(group.short, group.long, group.hint, group.desc) for group in groups)
+    yield from [options.usage(b"brief"), options.usage(b"brief", columns)] if measured else [..., ...]
+    yield b"Usage: brief " + b" ".join(short_usage(groups))
+
+
+def answers_if_wrong(place, names):
+    """The answers if a row is wrong. The message begins with its place."""
+    wrong = b"table[%d]: " % place
+    nothing = [one for _ in names for one in said_of_option(None)]
+    return [wrong, BAD, wrong, *nothing, -1, None, 0, None, -1, BAD, None, None, None, None]
+
+
+@functools.cache
+def random_cases(count):
+    """The input for answers.c, and for each case the arguments of `answers` and the answers."""
+    rng, fields, wanted = random.Random(count), [], []
+    with pytest.MonkeyPatch.context() as patch:
+        patch.setattr(model, "first_character", first_byte)
+        for _ in range(count):
+            modes, columns, rows, wrong, words = random_case(rng)
+            names = [name for row in rows for name in row[:2] if name] + ["nope", "\udcff"]
+            fields += [modes, columns, len(rows), *(field for row in rows for field in row), *names, None, *words, None]
+            case = modes, columns, rows, [*map(in_bytes, names)], [*map(in_bytes, words)]
+            wanted.append((case, [*(answers(*case) if wrong is None else answers_if_wrong(wrong, names))]))
+    return b"".join(said(field) + b"\0" for field in fields), wanted
 
 
 # The linkers for wasm and Windows can't wrap malloc, and valgrind takes too long.
 @pytest.mark.parametrize("build", builds("gcc", "clang", "gcc-san", "clang-san", "short-enums", "musl", "old", "aarch64", "i686"),
                          indirect=True)
-def test_calls_when_allocations_fail(build):
-    said, _ = run(*build(C / "tests/random.c", "-DREFUSES", WRAPS), 4_000)
-    assert re.fullmatch(RANDOM.format(4_000) + r"\d+ allocations failed\s+", said), said
+def test_calls_when_allocations_fail(build, cases):
+    printed, _ = run(*build(C / "tests/answers.c", "-DREFUSES", WRAPS), input=random_cases(cases(400))[0])
+    assert re.fullmatch(r"\d+ allocations failed\s+", printed), printed
 
 
-def test_random_tables_and_words(build, cases):
-    # With fewer cases, some statuses would never occur.
-    count = max(4_000, cases(40_000 if build.name in ("gcc", "clang-san") else 4_000))
-    said, _ = run(*build(C / "tests/random.c"), count)
-    assert re.fullmatch(RANDOM.format(count), said), said
+def test_answers_match_model(build, cases):
+    fields, wanted = random_cases(cases(20_000 if build.name in ("gcc", "clang-san") else 2_000))
+    printed = subprocess.run([*build(C / "tests/answers.c")], input=fields, stdout=subprocess.PIPE, check=True).stdout
+    printed = iter(printed.replace(b"\r\n", b"\n").split(b"\0"))
+    for case, answers in wanted:
+        for nth, answer in enumerate(answers):
+            got = next(printed)
+            fits = got.startswith if str(answer).startswith("b'table[") else got.__eq__
+            assert answer is ... or fits(said(answer)), (case, nth, answer, got)
+    assert [*printed] == [b""]
 
 
 @pytest.mark.parametrize("build", builds("gcc", "clang", "musl"), indirect=True)
@@ -115,26 +227,6 @@ def test_no_warnings_and_one_unsafe_file(tmp_path):
     unsafe = [path.name for path in (C / "src").glob("*.rs") if re.search(r"\bunsafe\b(?!_code)", path.read_text())]
     assert [name for name in unsafe if name != "lib.rs"] == ["c.rs"]
     assert "#![deny(unsafe_code)]" in (C / "src/lib.rs").read_text()
-
-
-@pytest.fixture(scope="module")
-def show_c(tmp_path_factory, library):
-    need_compiler("cc")
-    program = tmp_path_factory.mktemp("show") / "show"
-    run("cc", "-O2", *WARNINGS, C / "show.c", library(None), "-o", program)
-    return program
-
-
-@pytest.mark.parametrize("line", LINES)
-def test_show_matches_getopts_show(show, show_c, line):
-    assert answer(show_c, *line.split()) == answer(show, *line.split())
-
-
-@pytest.mark.parametrize("build", builds("clang-san"), indirect=True)
-def test_show_frees_everything(build, show_c):
-    program = build(C / "show.c")
-    for line in LINES:
-        assert answer(*program, *line.split()) == answer(show_c, *line.split()), line
 
 
 @pytest.mark.parametrize("compiler", ["gcc", "clang", "g++", "clang++"])
@@ -311,14 +403,14 @@ def installed(request, tmp_path_factory):
 
 
 @pytest.mark.parametrize("link", ["-static {0}/lib/libgetopts.a", "-L{0}/lib -Wl,-rpath,{0}/lib -lgetopts"])
-def test_install_with_compiler(link, installed, show_c, tmp_path):
+def test_install_with_compiler(link, installed, tmp_path):
     compiler, to = installed
-    run(compiler, "-isystem", to / "include", C / "show.c", *link.format(to).split(), "-o", tmp_path / "linked")
-    assert answer(tmp_path / "linked", "-vv", "x") == answer(show_c, "-vv", "x")
+    run(compiler, "-isystem", to / "include", C / "order.c", *link.format(to).split(), "-o", tmp_path / "linked")
+    assert run(tmp_path / "linked", "-qv")[0] == "verbose\n"
 
 
 @pytest.mark.full
-def test_install_for_other_target(show_c, tmp_path):
+def test_install_for_other_target(tmp_path):
     """Installs with Debian's cargo and rustc, with the flags that these old versions need."""
     target, compiler = "aarch64-unknown-linux-gnu", "aarch64-linux-gnu-gcc"
     by = runner(target, tmp_path)
@@ -330,8 +422,8 @@ def test_install_for_other_target(show_c, tmp_path):
     run("sh", C / "install.sh", tmp_path / "to", env={**env, "CC": compiler})
     to, program = tmp_path / "to", tmp_path / "linked"
     library = ["-isystem", to / "include", f"-L{to}/lib", f"-Wl,-rpath,{to}/lib", "-lgetopts"]
-    run(compiler, C / "show.c", *library, "-o", program)
-    assert answer(*by, program, "-vv", "x") == answer(show_c, "-vv", "x")
+    run(compiler, C / "order.c", *library, "-o", program)
+    assert run(*by, program, "-qv")[0] == "verbose\n"
 
 
 def test_missing_tools(tmp_path):
