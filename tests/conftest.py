@@ -50,9 +50,9 @@ def pytest_collection_modifyitems(config, items):
         marks = {"built": built or PROGRAMS & names, "rt": built or BY_RT & names}
         for mark in (mark for mark, has in marks.items() if has):
             item.add_marker(mark)
-        # These wait for proofs.
+        # These wait for proofs, until `rt ci` ends.
         if "CI_LOG" in os.environ and item.get_closest_marker("built"):
-            item.add_marker(pytest.mark.timeout(7200))
+            item.add_marker(pytest.mark.timeout(24 * 3600))
     quick = config.getoption("--quick")
     absent = {"full": quick, "quick": not quick, "rt": not shutil.which("rt")}
     out = {item for item in items if any(absent.get(mark.name) for mark in item.iter_markers())}

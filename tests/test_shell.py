@@ -91,7 +91,7 @@ exit $status
     # starts processes that would otherwise keep a later run's pipes open.
     (room / "wine").mkdir(exist_ok=True)
     server = shutil.which("wineserver") or next(map(str, Path("/usr/lib/wine").glob("wineserver*")), None)
-    alone = {"stdin": subprocess.DEVNULL, "stdout": subprocess.DEVNULL, "stderr": subprocess.DEVNULL, "timeout": 300}
+    alone = {"stdin": subprocess.DEVNULL, "stdout": subprocess.DEVNULL, "stderr": subprocess.DEVNULL, "timeout": 1800}
     if server:
         subprocess.run([server, "-p"], **alone)
     subprocess.run([by, "--help"], **alone)
@@ -302,15 +302,15 @@ def open_room():
         yield Path(room)
 
 
-def run_limited(program, room, *words, **env):
+def run_limited(seconds, program, room, *words, **env):
     """Runs a command with this program as getopts_shell: its output, and how many processes it started. It runs as a
-    user of its own with at most thirty processes at a time, and is killed after five seconds."""
+    user of its own with at most thirty processes at a time, and is killed after these seconds."""
     need("unshare", "setpriv", "prlimit")
     if os.getuid() != 0:
         pytest.skip("needs root, to limit another user's processes")
     shutil.copy2(program, room / "getopts_shell")
     user = 100_000 + os.getpid()
-    counted = """timeout -s KILL 5 "$@"; printf '\\0'; sh -c 'echo $$'; :"""
+    counted = f"""timeout -s KILL {seconds} "$@"; printf '\\0'; sh -c 'echo $$'; :"""
     wrote, _ = run("unshare", "--pid", "--fork", "--kill-child=KILL", "setpriv", f"--reuid={user}", f"--regid={user}",
                    "--clear-groups", "prlimit", "--nproc=30", "sh", "-c", counted, "sh", *words,
                    cwd=room, env={"PATH": f"{room}:{os.environ['PATH']}", **env})
@@ -335,7 +335,7 @@ code=$(getopts_shell --variables o_ n "[-v]  say more
 eval "$code"
 printf '%s|' "$o_v" "$o_L" "$1"
 """)
-    wrote, count = run_limited(program, open_room, *one_shell, "script")
+    wrote, count = run_limited(300, program, open_room, *one_shell, "script")
     assert wrote == "1|'1' '2 3'|a b|" and count < 25
 
 
@@ -353,7 +353,8 @@ code=$(getopts_shell backup '[-v]  say more' "$@") || exit
     script(open_room / "backup", text)
     (open_room / ".zshenv").write_text(f'eval "$(backup --completion {shell})"\n')
     env = {} if where == "its name" else {"BASH_ENV": f"{open_room}/.zshenv", "ZDOTDIR": str(open_room)}
-    _, count = run_limited(program if env else open_room / "backup", open_room, "backup", **env)
+    # Ten seconds are enough for 25 processes, even on a busy machine.
+    _, count = run_limited(10, program if env else open_room / "backup", open_room, "backup", **env)
     assert count > 25
 
 

@@ -15,7 +15,7 @@ pytestmark = [pytest.mark.quick, pytest.mark.rt]
 
 def rt_try(crate, *words, status=0, root=ROOT):
     """The output of `rt try` in a crate. On a busy machine, the default limit of 60 seconds is too short."""
-    command = ["nice", "rt", "try", "--seconds", "300", *words]
+    command = ["nice", "rt", "try", "--seconds", "3000", *words]
     return run(*command, status=status, cwd=root / "crates" / crate, stdin=subprocess.DEVNULL)
 
 
