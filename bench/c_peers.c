@@ -28,7 +28,7 @@ static struct getopts *shared; /* the options of all iterations, if they share t
 static void declare(int takes, const char *short_name, const char *long_name) {
     int key = *short_name ? *short_name : FIRST_KEY + options;
     enum getopts_kind kind = GETOPTS_MULTI + (takes ? GETOPTS_YES : GETOPTS_NO);
-    table[options] = (struct getopts_option){ short_name, long_name, "H", "d", kind };
+    table[options] = (struct getopts_option){ short_name, long_name, takes ? "H" : NULL, "d", kind };
     /* A name that no word has, for options without a long name. */
     long_options[options] = (struct option){ *long_name ? long_name : "\1", takes, NULL, key };
     argp_options[options++] = (struct argp_option){ *long_name ? long_name : NULL, key, takes ? "H" : NULL, 0, "d", 0 };

@@ -94,7 +94,7 @@ STATUSES = ["", "ArgumentMissing", "UnrecognizedOption", "OptionMissing", "Optio
 SHORTS, LONGS = ["", "", "", *"abcv7="], ["ab", "verbose", "verbatim", "a=b", "=a", "é", "日本", "no-v", "a" * 50]
 HINTS, DESCRIPTIONS = [None, "", "N", "FILE", "é"], [None, "", "say more", "many words " * 9]
 # Mistakes in a row: a field and its text.
-MISTAKES = [(0, "ab"), (0, "\udcff"), (1, "x"), (1, "a\udcff"), (2, "\U0010ffff"), (3, "\udcc3"), (4, 3), (4, 16)]
+MISTAKES = [(0, "ab"), (0, "-"), (0, "\udcff"), (1, "x"), (1, "--x"), (1, "a\udcff"), (2, "\U0010ffff"), (3, "\udcc3"), (4, 3), (4, 16)]
 PARTS = ["-", "--", "", *"abv7=x-é", "ab", "verbose", "\udcff", "\udcf4", "\U0010ffff", "\U0010ff7f", "\udce6\udc97",
          "\udcc0\udc80", "\udced\udca0\udc80", "\udcf4\udc90\udc80\udc80", "-a", "-vb", "--ab=",
          "--verbose", "-7", "9" * 20, "0123456789" * 50]
@@ -391,7 +391,7 @@ def test_program_size(prefix, tmp_path):
 
     for source in ("head.c", "order.c"):
         grown = [size(C / source, *library, *more) - size(tmp_path / "empty.c") for more in ([], ["-Wl,--gc-sections"])]
-        assert abs(grown[0] - about) < 5 and least < grown[1] < most, (source, grown)
+        assert abs(grown[0] - about) < 8 and least < grown[1] < most, (source, grown)
 
 
 @pytest.fixture(scope="module", params=["clang", pytest.param("musl-gcc", marks=pytest.mark.full)])

@@ -101,7 +101,10 @@ struct getopts;
  *
  * If the table is NULL, or a row or the modes are invalid, getopts_message says what is wrong,
  * such as "table[2]: short name 'ab' isn't one ASCII character". Then getopts_read and
- * getopts_canonical return GETOPTS_BAD, and the usage functions return NULL. */
+ * getopts_canonical return GETOPTS_BAD, and the usage functions return NULL.
+ *
+ * No two rows may share a name, no name begins with a dash, and only options that take an argument
+ * have a hint. */
 struct getopts *getopts_new(const struct getopts_option *table, enum getopts_modes modes);
 
 /* Reads `count` words, such as argc - 1 and argv + 1. Returns GETOPTS_OK or an error:
@@ -117,7 +120,8 @@ int getopts_read(struct getopts *options, int count, char *const *words);
 
 /* Why the last getopts_read failed, such as "Unrecognized option: 'x'". Returns "" if it
  * succeeded, or if nothing was read and the table is valid. The string is valid until the next
- * getopts_read. */
+ * getopts_read. Of an unknown character from U+10FF80 up in a cluster such as -vx, it shows only
+ * the first byte. */
 const char *getopts_message(const struct getopts *options);
 
 /* In the next functions, `name` is the short or long name of an option, and nth counts from 0. If

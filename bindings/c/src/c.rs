@@ -4,7 +4,7 @@
 #![deny(unsafe_op_in_unsafe_fn)]
 
 use crate::options::{Getopts, OUT_OF_MEMORY};
-use crate::reading::Reading;
+use crate::reading::{Given, Reading, none};
 use crate::{AllocResult, Error, NO_MEMORY, OK, Status};
 use core::alloc::{GlobalAlloc, Layout};
 use core::ffi::{c_int, c_long, c_uint};
@@ -76,8 +76,15 @@ pub fn text(bytes: &[u8]) -> Option<&str> {
         // SAFETY: ASCII is UTF-8.
         Some(unsafe { core::str::from_utf8_unchecked(bytes) })
     } else {
-        plain_text(bytes)
+        other_text(bytes)
     }
+}
+
+// Inlined, it would fill `getopts_new`.
+#[cold]
+#[inline(never)]
+fn other_text(bytes: &[u8]) -> Option<&str> {
+    plain_text(bytes)
 }
 
 /// The bytes of a C string, if it isn't NULL.
@@ -103,19 +110,21 @@ pub struct Row<'c> {
 }
 
 /// The rows of a table, up to the one with two names that are NULL.
+#[derive(Clone)]
 struct Rows(*const RowOfC);
 
 impl Iterator for Rows {
     type Item = Row<'static>;
     #[inline]
     fn next(&mut self) -> Option<Row<'static>> {
-        // SAFETY: rows are read up to the last one, whose names are NULL. Nothing outlives the
-        // call, although the lifetime is `'static`: `Getopts::new` copies the strings.
+        // SAFETY: rows are read up to the last one, whose names are NULL; the rest of that one may
+        // be uninitialized. Nothing outlives the call, although the lifetime is `'static`:
+        // `Getopts::new` copies the strings.
         unsafe {
-            let RowOfC { texts, kind } = *self.0;
-            if texts[0].is_null() && texts[1].is_null() {
+            if (*self.0).texts[0].is_null() && (*self.0).texts[1].is_null() {
                 return None;
             }
+            let RowOfC { texts, kind } = *self.0;
             self.0 = self.0.add(1);
             let texts = texts.map(|text| bytes(text).unwrap_or(&[]));
             Some(Row { texts, kind })
@@ -181,6 +190,17 @@ fn line_of(texts: &[u8], count: usize) -> *mut *mut u8 {
     }
 }
 
+/// Stores a result where C asks for it, unless that is NULL. What was there may be uninitialized.
+///
+/// # Safety
+/// C may write there.
+unsafe fn store<T>(to: *mut T, result: T) {
+    if !to.is_null() {
+        // SAFETY: as required.
+        unsafe { to.write(result) }
+    }
+}
+
 #[no_mangle]
 unsafe extern "C" fn getopts_new(table: *const RowOfC, modes: c_uint) -> *mut Getopts {
     let rows = (!table.is_null()).then_some(Rows(table));
@@ -227,7 +247,7 @@ unsafe extern "C" fn getopts_read(
     // replaced.
     unsafe {
         let read = (*options).read(Words::of(count, words));
-        if (*options).keeps_order {
+        if (*options).keeps_order() {
             return (*options).keep_in_order(read, Words::of(count, words));
         }
         (*options).keep(read)
@@ -239,17 +259,20 @@ unsafe extern "C" fn getopts_canonical(
     options: Option<&Getopts>,
     count: c_int,
     words: *const Text,
-    line: &mut *mut *mut u8,
+    line: *mut *mut *mut u8,
 ) -> Status {
-    *line = ptr::null_mut();
-    let Some(options) = options else { return NO_MEMORY };
     // SAFETY: as above.
-    match options.canonical(unsafe { Words::of(count, words) }) {
-        Ok(Some((texts, count))) => *line = line_of(&texts, count),
-        Ok(None) => return OK,
-        Err(error) => return error.status(),
+    unsafe {
+        store(line, ptr::null_mut());
+        let Some(options) = options else { return NO_MEMORY };
+        let (texts, count) = match options.canonical(Words::of(count, words)) {
+            Ok(Some(made)) if !line.is_null() => made,
+            Ok(_) => return OK,
+            Err(error) => return error.status(),
+        };
+        line.write(line_of(&texts, count));
+        if (*line).is_null() { NO_MEMORY } else { OK }
     }
-    if line.is_null() { NO_MEMORY } else { OK }
 }
 
 #[no_mangle]
@@ -270,40 +293,40 @@ fn reading(options: Option<&Getopts>) -> &Reading {
 #[no_mangle]
 unsafe extern "C" fn getopts_defined(options: Option<&Getopts>, name: Text) -> bool {
     // SAFETY: as above, also in the functions below.
-    reading(options).is_defined(unsafe { bytes(name) })
+    reading(options).given(unsafe { bytes(name) }).is_some()
+}
+
+/// What was given of an option.
+#[inline(always)]
+unsafe fn given(options: Option<&Getopts>, name: Text) -> Option<Given<'_>> {
+    reading(options).given(unsafe { bytes(name) })
 }
 
 #[no_mangle]
 unsafe extern "C" fn getopts_count(options: Option<&Getopts>, name: Text) -> usize {
-    reading(options).count(unsafe { bytes(name) })
+    unsafe { given(options, name) }.map_or(0, |given| given.count)
 }
 
 #[no_mangle]
 unsafe extern "C" fn getopts_position(options: Option<&Getopts>, name: Text, nth: usize) -> c_int {
-    let position = reading(options).position(unsafe { bytes(name) }, nth);
+    let position = unsafe { given(options, name) }.and_then(|given| given.position(nth));
     position.map_or(-1, |position| position as c_int)
 }
 
 #[no_mangle]
 unsafe extern "C" fn getopts_value(options: Option<&Getopts>, name: Text, nth: usize) -> Text {
-    reading(options).value(unsafe { bytes(name) }, nth)
+    unsafe { given(options, name) }.and_then(|given| given.value(nth)).unwrap_or(ptr::null())
 }
 
 #[no_mangle]
 unsafe extern "C" fn getopts_values(options: Option<&Getopts>, name: Text) -> *const Text {
-    reading(options).values(unsafe { bytes(name) })
+    unsafe { given(options, name) }.map_or(none(), |given| given.values())
 }
 
 #[no_mangle]
-extern "C" fn getopts_nth(
-    options: Option<&Getopts>,
-    nth: usize,
-    value: Option<&mut Text>,
-) -> c_int {
+unsafe extern "C" fn getopts_nth(options: Option<&Getopts>, nth: usize, value: *mut Text) -> c_int {
     let given = options.and_then(|options| options.nth(nth));
-    if let Some(value) = value {
-        *value = given.map_or(ptr::null(), |(_, text)| text);
-    }
+    unsafe { store(value, given.map_or(ptr::null(), |(_, text)| text)) };
     given.map_or(-1, |(row, _)| row as c_int)
 }
 
@@ -319,7 +342,7 @@ unsafe extern "C" fn getopts_long_value(
         let Some(text) = bytes(getopts_value(options, name, nth)) else { return true };
         let number = core::str::from_utf8(text).map(str::parse);
         if let Ok(Ok(number)) = number {
-            *value = number;
+            store(value, number);
         }
         matches!(number, Ok(Ok(_)))
     }

@@ -2,8 +2,9 @@
 
 use crate::c::{Row, Text, Words, text};
 use crate::reading::{Reading, nth_of};
+use crate::table::{self, KEEP_ORDER, Table};
 use crate::words::Texts;
-use crate::{AllocResult, Error, OK, Status, table};
+use crate::{AllocResult, Error, OK, Status};
 use library::alloc::Global;
 use library::bytes::push_bytes;
 use library::fallible::{String, TryList, TryText, Vec};
@@ -12,15 +13,11 @@ use library::proved::{Fail, Options};
 /// A `struct getopts`.
 pub struct Getopts {
     options: Options,
-    /// How many options there are.
-    groups: usize,
-    /// Whether a reading keeps the order of options.
-    pub keeps_order: bool,
+    table: Table,
+    modes: u32,
     /// The options that were given, in order: the row of each, and the index of its value in the
     /// lists of the reading. Empty if the order isn't kept.
     order: Vec<(usize, usize)>,
-    /// What is wrong with the table, if anything.
-    wrong: Option<Vec<u8>>,
     /// What `getopts_message` returns: a constant below, what is wrong with the table, or the
     /// reading's message.
     pub message: Text,
@@ -34,21 +31,26 @@ pub const OUT_OF_MEMORY: &str = "Out of memory\0";
 impl Getopts {
     #[inline]
     pub fn new<'c>(
-        rows: Option<impl Iterator<Item = Row<'c>>>,
+        rows: Option<impl Iterator<Item = Row<'c>> + Clone>,
         modes: u32,
     ) -> AllocResult<Getopts> {
         let mut options = Options::new(Global);
-        let (groups, wrong) = table::declare(&mut options, rows, modes)?;
-        let message = wrong.as_ref().map_or(NOTHING.as_ptr(), |wrong| wrong.as_ptr());
-        let (reading, keeps_order) = (Reading::nothing(), modes & table::KEEP_ORDER != 0);
-        let order = Vec::new();
-        Ok(Getopts { options, groups, keeps_order, order, wrong, message, reading })
+        let table = table::declare(&mut options, rows, modes)?;
+        let message = table.wrong.as_ref().map_or(NOTHING.as_ptr(), |wrong| wrong.as_ptr());
+        let (order, reading) = (Vec::new(), Reading::nothing());
+        Ok(Getopts { options, table, modes, order, message, reading })
+    }
+
+    /// Whether a reading keeps the order of options.
+    #[inline]
+    pub fn keeps_order(&self) -> bool {
+        self.modes & KEEP_ORDER != 0
     }
 
     /// The words as texts, if the table is valid.
     #[inline]
     fn texts<'c>(&self, words: Result<Words<'c>, Error>) -> Result<Texts<'c>, Error> {
-        match self.wrong {
+        match self.table.wrong {
             Some(_) => Err(Error::Table),
             None => Ok(Texts::of(words?)),
         }
@@ -64,7 +66,7 @@ impl Getopts {
             }
             Err(error) => error,
         };
-        self.message = match (&error, &self.wrong) {
+        self.message = match (&error, &self.table.wrong) {
             (Error::Table, Some(wrong)) => wrong.as_ptr(),
             (Error::Fail(_), _) => OUT_OF_MEMORY.as_ptr(),
             _ => NULL_WORD.as_ptr(),
@@ -79,7 +81,7 @@ impl Getopts {
         let (mut texts, options) = (self.texts(words)?, &self.options);
         let error = match texts.ask(|words| options.parse_words(Global, words)) {
             Ok(matches) => {
-                return Ok((Reading::of(Some(matches), None, self.groups, &texts)?, OK));
+                return Ok((Reading::of(Some(matches), None, self.table.rows, &texts)?, OK));
             }
             Err(error) => error,
         };
@@ -94,7 +96,7 @@ impl Getopts {
             }
             _ => None,
         };
-        let reading = Reading::of(matches, Some(&fail), self.groups, &texts)?;
+        let reading = Reading::of(matches, Some(&fail), self.table.rows, &texts)?;
         Ok((reading, status))
     }
 
@@ -158,7 +160,7 @@ impl Getopts {
         start: Option<&[u8]>,
         make: impl FnOnce(&Options, &str) -> AllocResult<String>,
     ) -> Option<String> {
-        let start = text(start.filter(|_| self.wrong.is_none())?)?;
+        let start = text(start.filter(|_| self.table.wrong.is_none())?)?;
         let mut text = make(&self.options, start).ok()?;
         text.try_push('\0').ok()?;
         Some(text)

@@ -8,7 +8,7 @@ use core::ptr::null;
 use library::alloc::Global;
 use library::bytes::push_bytes;
 use library::fallible::{TryCopies, TryList, Vec};
-use library::proved::{Fail, Matches, Occurrences};
+use library::proved::{Fail, Matches};
 
 /// The result of reading words: empty if they couldn't be read.
 pub struct Reading {
@@ -23,7 +23,38 @@ pub struct Reading {
 }
 
 /// An empty list of C strings: just NULL.
-static NONE: usize = 0;
+pub fn none() -> *const Text {
+    static NONE: usize = 0;
+    (&NONE as *const usize).cast()
+}
+
+/// The occurrences of an option.
+pub struct Given<'r> {
+    reading: &'r Reading,
+    /// The index of the option.
+    place: usize,
+    /// The index in the lists of the first value.
+    start: usize,
+    pub count: usize,
+}
+
+impl Given<'_> {
+    /// The values, and NULL after them.
+    pub fn values(&self) -> *const Text {
+        self.reading.lists[self.start..].as_ptr()
+    }
+
+    #[inline]
+    pub fn value(&self, nth: usize) -> Option<Text> {
+        self.reading.lists.get(self.start + nth_of(nth, self.count)?).copied()
+    }
+
+    pub fn position(&self, nth: usize) -> Option<usize> {
+        let all = self.reading.matches.as_ref()?.occurrences_at(self.place);
+        let (position, _) = all.get(nth_of(nth, self.count)?)?;
+        Some(position)
+    }
+}
 
 impl Reading {
     pub const fn nothing() -> Reading {
@@ -47,14 +78,25 @@ impl Reading {
         }
         if let Some(mut matches) = matches {
             let free = take(&mut matches.free);
-            let given = (0..groups).map(|place| matches.occurrences_at(place).len() + 1);
-            reading.lists.try_grow_exact(given.sum::<usize>() + free.len() + 1)?;
-            reading.starts.try_grow_exact(groups + 1)?;
+            let (mut starts, mut len) = (Vec::of_capacity(Global, groups + 1)?, 0);
             for place in 0..groups {
-                let values = matches.occurrences_at(place).into_iter();
-                reading.push_list(values.map(|(_, value)| value), of.marked)?;
+                starts.push(len);
+                len += matches.occurrences_at(place).len() + 1;
             }
-            reading.push_list(free.iter().map(|word| Some(&**word)), of.marked)?;
+            starts.push(len);
+            let mut lists = Vec::filled(Global, null(), len + free.len() + 1)?;
+            for place in 0..groups {
+                for (nth, (_, value)) in matches.occurrences_at(place).into_iter().enumerate() {
+                    if let Some(value) = value {
+                        lists[starts[place] + nth] = reading.push_text(value, of.marked)?;
+                    }
+                }
+            }
+            for (to, word) in lists[len..].iter_mut().zip(&free) {
+                *to = reading.push_text(word, of.marked)?;
+            }
+            reading.lists = lists;
+            reading.starts = starts;
             reading.matches = Some(matches);
         }
         Ok(reading)
@@ -76,29 +118,17 @@ impl Reading {
         self.lists[place]
     }
 
-    /// Adds a list of texts. The space was reserved: each word gives at most one text, which is no
-    /// longer than the word.
+    /// Stores a text. The space was reserved: each word gives at most one text, which is no longer
+    /// than the word.
     #[inline]
-    fn push_list<'m>(
-        &mut self,
-        texts: impl Iterator<Item = Option<&'m str>>,
-        marked: bool,
-    ) -> AllocResult<()> {
-        self.starts.push(self.lists.len());
-        for text in texts {
-            let mut pointer = null();
-            if let Some(text) = text {
-                pointer = self.texts.as_ptr().wrapping_add(self.texts.len());
-                match marked {
-                    true => push_bytes(&mut self.texts, text)?,
-                    false => self.texts.extend_from_slice(text.as_bytes()),
-                }
-                self.texts.push(0);
-            }
-            self.lists.push(pointer);
+    fn push_text(&mut self, text: &str, marked: bool) -> AllocResult<Text> {
+        let start = self.texts.as_ptr().wrapping_add(self.texts.len());
+        match marked {
+            true => push_bytes(&mut self.texts, text)?,
+            false => self.texts.extend_from_slice(text.as_bytes()),
         }
-        self.lists.push(null());
-        Ok(())
+        self.texts.push(0);
+        Ok(start)
     }
 
     /// The message, if the words were rejected.
@@ -106,51 +136,18 @@ impl Reading {
         self.texts.as_ptr()
     }
 
-    /// The index of an option, and its occurrences.
+    /// What was given of an option, if words were read and it is declared.
     #[inline(always)]
-    fn find(&self, name: Option<&[u8]>) -> Option<(usize, Occurrences<'_>)> {
-        let matches = self.matches.as_ref()?;
-        let place = matches.opt_place(text(name?)?)?;
-        Some((place, matches.occurrences_at(place)))
+    pub fn given(&self, name: Option<&[u8]>) -> Option<Given<'_>> {
+        let place = self.matches.as_ref()?.opt_place(text(name?)?)?;
+        // NULL ends the list of an option, and then the next one begins.
+        let (start, next) = (*self.starts.get(place)?, *self.starts.get(place + 1)?);
+        Some(Given { reading: self, place, start, count: next - 1 - start })
     }
 
-    pub fn is_defined(&self, name: Option<&[u8]>) -> bool {
-        self.find(name).is_some()
-    }
-
-    pub fn count(&self, name: Option<&[u8]>) -> usize {
-        self.find(name).map_or(0, |(_, given)| given.len())
-    }
-
-    pub fn position(&self, name: Option<&[u8]>, nth: usize) -> Option<usize> {
-        let (_, given) = self.find(name)?;
-        let (position, _) = given.get(nth_of(nth, given.len())?)?;
-        Some(position)
-    }
-
-    #[inline]
-    pub fn value(&self, name: Option<&[u8]>, nth: usize) -> Text {
-        let found = self.find(name).and_then(|(place, given)| {
-            let nth = nth_of(nth, given.len())?;
-            self.lists.get(self.starts[place] + nth)
-        });
-        found.copied().unwrap_or(null())
-    }
-
-    /// The list at an index: an option's values or, after all options, the free words.
-    fn list(&self, place: Option<usize>) -> *const Text {
-        match place.and_then(|place| self.starts.get(place)) {
-            Some(start) => self.lists[*start..].as_ptr(),
-            None => (&NONE as *const usize).cast(),
-        }
-    }
-
-    pub fn values(&self, name: Option<&[u8]>) -> *const Text {
-        self.list(self.find(name).map(|(place, _)| place))
-    }
-
+    /// The free words, and NULL after them.
     pub fn free_words(&self) -> *const Text {
-        self.list(self.starts.len().checked_sub(1))
+        self.starts.last().map_or(none(), |start| self.lists[*start..].as_ptr())
     }
 
     pub fn free_count(&self) -> usize {

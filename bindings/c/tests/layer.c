@@ -11,6 +11,7 @@
 #define LEN_38 LEN_37 "8"
 #define KINDS ": combine one of GETOPTS_NO, YES and MAYBE with one of GETOPTS_OPTIONAL, REQ and MULTI"
 #define MODES ": combine GETOPTS_STOP, LONG_ONLY and KEEP_ORDER, or write GETOPTS_ORDINARY"
+#define NO_ARGUMENT "' on an option without argument: remove it, or use GETOPTS_YES or MAYBE"
 #define NOT_SHORT "' isn't one ASCII character"
 #define NO_TEXT " must be UTF-8 with all characters below U+10FF80"
 
@@ -57,6 +58,15 @@ static void wrong_rows_are_reported(void) {
         { { "a", "ab", NULL, "\xc3", GETOPTS_NO }, "table[1]: the description" NO_TEXT },
         { { "a", "\xf4\x8f\xbe\x80", NULL, NULL, GETOPTS_NO }, "table[1]: the long name" NO_TEXT },
         { { "a", "ab", NULL, "\xf4\x8f\xbf\xbf", GETOPTS_NO }, "table[1]: the description" NO_TEXT },
+        { { "-", NULL, NULL, NULL, GETOPTS_NO }, "table[1]: short name '-' can't be given: choose another" },
+        { { "a", "--ab", "x", NULL, GETOPTS_NO }, "table[1]: long name '--ab' begins with '-': remove it" },
+        { { "a", "-" LEN_38 "\u00e9x", NULL, NULL, GETOPTS_NO }, "table[1]: long name '-" LEN_38 "' begins with '-': remove it" },
+        { { "a", "ab", "x", NULL, GETOPTS_MULTI }, "table[1]: hint 'x" NO_ARGUMENT },
+        { { "a", "ab", LEN_38 "xxyy", NULL, GETOPTS_NO }, "table[1]: hint '" LEN_38 "xx" NO_ARGUMENT },
+        { { "x", "ab", NULL, NULL, GETOPTS_NO }, "table[1]: short name 'x' is also in table[0]: rename one" },
+        { { "", "xx", NULL, NULL, GETOPTS_NO }, "table[1]: long name 'xx' is also in table[0]: rename one" },
+        { { "y", "ab", NULL, NULL, GETOPTS_NO }, "table[2]: short name 'y' is also in table[1]: rename one" },
+        { { "a", "a-", "", NULL, GETOPTS_NO }, "" }, { { "X", "x-", "-", NULL, GETOPTS_MAYBE }, "" },
         { { "a", "\xf4\x8f\xbd\xbf", "\u00e9", NULL, GETOPTS_YES }, "" },
         { { "a", "\u00e9", "\u00e9", "\u00e9", GETOPTS_MAYBE + GETOPTS_MULTI }, "" },
         { { "a", NULL, NULL, NULL, (enum getopts_kind)0 }, "" },
@@ -64,7 +74,7 @@ static void wrong_rows_are_reported(void) {
     };
     for (size_t nth = 0; nth < sizeof rows / sizeof *rows; nth++) {
         const struct getopts_option table[] = {
-            { "x", NULL, NULL, NULL, GETOPTS_NO }, rows[nth].row, { "y", NULL, NULL, NULL, GETOPTS_NO },
+            { "x", "xx", NULL, NULL, GETOPTS_NO }, rows[nth].row, { "y", NULL, NULL, NULL, GETOPTS_NO },
             { NULL, NULL, NULL, NULL, GETOPTS_NO },
         };
         char *words[] = { "-xy", NULL }, **line, *usage;
@@ -77,6 +87,27 @@ static void wrong_rows_are_reported(void) {
         expect((usage = getopts_usage(options, "brief")) == NULL || wanted == GETOPTS_OK, "usage of a wrong table");
         free(usage);
         free(line);
+        getopts_delete(options);
+    }
+}
+
+/* Among 200 similar names, only equal ones are reported. */
+static void repeated_names_are_found(void) {
+    enum { ROWS = 200 };
+    static char names[ROWS][16];
+    static struct getopts_option table[ROWS + 1];
+    for (int nth = 0; nth < ROWS; nth++) {
+        snprintf(names[nth], sizeof names[nth], "name%03d", nth);
+        table[nth].long_name = names[nth];
+    }
+    for (int nth = 0; nth < ROWS; nth++) {
+        char wanted[80] = "";
+        if (nth > 0)
+            snprintf(wanted, sizeof wanted, "table[%d]: long name 'name%03d' is also in table[%d]: rename one", nth, nth / 2, nth / 2);
+        table[nth].long_name = names[nth / 2];
+        struct getopts *options = getopts_new(table, GETOPTS_ORDINARY);
+        expect(strcmp(getopts_message(options), wanted) == 0, wanted);
+        table[nth].long_name = names[nth];
         getopts_delete(options);
     }
 }
@@ -184,8 +215,20 @@ static void numbers_are_checked(void) {
     getopts_delete(options);
 }
 
+/* Results of getopts_nth, getopts_long_value and getopts_canonical needn't be stored. */
+static void results_need_no_place(void) {
+    char *words[] = { "-o7", NULL };
+    struct getopts *options = getopts_new(required, GETOPTS_KEEP_ORDER);
+    expect(getopts_read(options, 1, words) == GETOPTS_OK && getopts_nth(options, 0, NULL) == 0, "a row");
+    expect(getopts_long_value(options, "o", 0, NULL), "whether it is a number");
+    expect(getopts_canonical(options, 1, words, NULL) == GETOPTS_OK, "a status");
+    getopts_delete(options);
+}
+
 int main(void) {
+    results_need_no_place();
     wrong_rows_are_reported();
+    repeated_names_are_found();
     modes_are_checked();
     null_is_rejected();
     null_options_mean_no_memory();
