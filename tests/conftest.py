@@ -34,6 +34,7 @@ MARGIN = " " * 7
 def pytest_addoption(parser):
     parser.addoption("--quick", action="store_true", help="fewer random cases, no other targets, no proofs")
     parser.addoption("--many", action="store_true", help="ten times as many random cases")
+    parser.addoption("--release", action="store_true", help="also try the mutants that rt ci leaves out")
     parser.addoption("--fix", action="store_true", help="update figures, tables and contracts on the pages")
     parser.addoption("--getopts", help="a folder with the Rust crate getopts 0.2.24")
 
@@ -54,7 +55,7 @@ def pytest_collection_modifyitems(config, items):
         if "CI_LOG" in os.environ and item.get_closest_marker("built"):
             item.add_marker(pytest.mark.timeout(24 * 3600))
     quick = config.getoption("--quick")
-    absent = {"full": quick, "quick": not quick, "rt": not shutil.which("rt")}
+    absent = {"full": quick, "quick": not quick, "release": not config.getoption("--release"), "rt": not shutil.which("rt")}
     out = {item for item in items if any(absent.get(mark.name) for mark in item.iter_markers())}
     config.hook.pytest_deselected(items=list(out))
     items[:] = [item for item in items if item not in out]

@@ -1,10 +1,14 @@
-"""Mutants: each applies to the sources, and the body of each public function of getopts has one. `rt ci` tries them."""
+"""Mutants: each applies to the sources, and the body of each public function of getopts has one. `rt ci` tries those in
+a folder `must-fail`. Those in a folder `mutants` are tried here, before a release."""
 
 import re
+import shutil
 
-from conftest import ROOT, tracked
+import pytest
+from conftest import ROOT, copy_tree, run, tracked
 
-MUTANTS = [ROOT / name for name in tracked() if re.match(r"crates/\w+/must-fail/.*\.edit$", name)]
+MUTANTS = [ROOT / name for name in tracked() if re.match(r"crates/\w+/(must-fail|mutants)/.*\.edit$", name)]
+FOR_RELEASE = sorted({mutant.parts[-3] for mutant in MUTANTS if mutant.parent.name == "mutants"})
 # Public functions that can't return anything else.
 ONLY_RESULT = {"Fail::from"}
 
@@ -61,3 +65,19 @@ def test_public_functions_have_mutants():
             if not mutated and name not in ONLY_RESULT:
                 without.append(name)
     assert len(names) > 50 and not without, f"no mutant of their own: {without}"
+
+
+@pytest.mark.release
+@pytest.mark.rt
+@pytest.mark.timeout(6 * 3600)
+@pytest.mark.parametrize("crate", FOR_RELEASE)
+def test_mutants_are_rejected(crate, tmp_path):
+    """In a copy, where `rt` finds these mutants, too. Libraries that are already proved aren't proved again."""
+    copy = copy_tree(tmp_path / "copy")
+    for library in ROOT.glob("crates/*/out/rlib"):
+        shutil.copytree(library, copy / library.relative_to(ROOT))
+    shutil.copytree(copy / f"crates/{crate}/mutants", copy / f"crates/{crate}/must-fail", dirs_exist_ok=True)
+    said = "".join(run("nice", "rt", "must-fail", crate, cwd=copy))
+    # A mutant that only takes a name away says nothing about contracts: for these, `rt` adds words before the colon.
+    rejected = re.findall(": refused, as it must be(?::|$)", said, re.M)
+    assert len(rejected) == len(list(copy.glob(f"crates/{crate}/must-fail/*.edit"))), said

@@ -26,7 +26,7 @@ pages = {name: read(name) for name in tracked if name.endswith(".md")}
 sources = {name: read(name) for name in tracked if re.match(r"crates/\w*/src/.*\.rt$", name)}
 modules = sources | {name: read(name) for name in tracked if re.match(r"bindings/.*\.rs$", name)}
 CALLING = "crates/getopts/CALLING.md"
-mutants = [name for name in tracked if re.match(r"crates/\w*/must-fail/.*\.edit$", name)]
+mutants = [name for name in tracked if re.match(r"crates/\w*/(must-fail|mutants)/.*\.edit$", name)]
 
 
 def assert_none(failures):
