@@ -86,9 +86,20 @@ def test_results_and_errors_of_calls(build):
     assert run(*build(C / "tests/layer.c"))[0].strip() == "all tests passed"
 
 
+@pytest.mark.parametrize("build", builds("gcc", "clang-san", "musl"), indirect=True)
+def test_misspelt_names(build):
+    """In strict mode, each function with a name ends the program: after words are read, rejected, or neither."""
+    program = build(C / "tests/layer.c")
+    for words in ("-h -ox", "--nope", "", "-h"):
+        assert run(*program, "none", *words.split()) == ("", "")
+        for function, name in [*((one, "hepl") for one in "cpvVl"), ("N", "NULL")]:
+            said = run(*program, function, *words.split(), status=-6)
+            assert said == ("", f"getopts.h: no option has the name '{name}'\n"), function
+
+
 # ---- answers on random tables and words, compared with tests/model.py
 
-STOP, LONG_ONLY, KEEP_ORDER = 16, 32, 64
+STOP, LONG_ONLY, KEEP_ORDER, STRICT = 16, 32, 64, 256
 KINDS, OCCURS, BAD = ["no", "yes", "maybe"], ["optional", "req", "multi"], 7
 STATUSES = ["", "ArgumentMissing", "UnrecognizedOption", "OptionMissing", "OptionDuplicated", "UnexpectedArgument"]
 SHORTS, LONGS = ["", "", "", *"abcv7="], ["ab", "verbose", "verbatim", "a=b", "=a", "é", "日本", "no-v", "a" * 50]
@@ -114,7 +125,7 @@ def random_case(rng):
         rows[wrong][field] = text
     parts = PARTS + 4 * [f"{dashes}{name}" for row in rows for dashes, name in zip(("-", "--"), row[:2]) if name]
     words = ["".join(rng.choices(parts, k=rng.choice([0, 1, 1, 1, 2, 3]))) for _ in range(rng.choice([2, 4, 8, 24]))]
-    return 16 * rng.randrange(8), rng.choice([0, 30, 60, 2**32 - 1]), rows, wrong, words
+    return 16 * rng.randrange(8) + rng.choice([0, STRICT]), rng.choice([0, 30, 60, 2**32 - 1]), rows, wrong, words
 
 
 def in_bytes(text):
@@ -188,7 +199,7 @@ def random_cases(count):
         patch.setattr(model, "first_character", first_byte)
         for _ in range(count):
             modes, columns, rows, wrong, words = random_case(rng)
-            names = [name for row in rows for name in row[:2] if name] + ["nope", "\udcff"]
+            names = [name for row in rows for name in row[:2] if name] + ([] if modes & STRICT else ["nope", "\udcff"])
             fields += [modes, columns, len(rows), *(field for row in rows for field in row), *names, None, *words, None]
             case = modes, columns, rows, [*map(in_bytes, names)], [*map(in_bytes, words)]
             wanted.append((case, [*(answers(*case) if wrong is None else answers_if_wrong(wrong, names))]))
@@ -348,7 +359,7 @@ def test_exports(prefix):
         listed = run("nm", "--defined-only", *words)[0].splitlines()
         assert {line.split()[-1] for line in listed if re.match(r"[0-9a-f]{8}", line)} == declared
     asked = {line.split()[-1] for line in run("nm", "-u", archive)[0].splitlines() if " U " in line}
-    assert asked <= set("abort bcmp free malloc memcmp memcpy memmove memset realloc strlen".split())
+    assert asked <= set("abort bcmp free malloc memcmp memcpy memmove memset realloc strlen write".split())
     assert re.search(r"SONAME.*\[libgetopts.so.2\]", run("readelf", "-d", shared)[0])
 
 

@@ -8,7 +8,7 @@
  *         { NULL, NULL, NULL, NULL, GETOPTS_NO },
  *     };
  *
- *     struct getopts *options = getopts_new(table, GETOPTS_ORDINARY);
+ *     struct getopts *options = getopts_new(table, GETOPTS_STRICT);
  *     int status = getopts_read(options, argc - 1, argv + 1);
  *     if (getopts_count(options, "help") > 0) ..
  *     if (status != GETOPTS_OK) .. getopts_message(options) ..
@@ -82,12 +82,16 @@ struct getopts_option {
 /* How words are read. Modes can be added. A mode used as a kind, or a kind used as a mode, is an
  * error: see getopts_new. With GETOPTS_LONG_ONLY, short options can't be combined, and take
  * arguments as long options do: write `-I dir` or `-I=dir`, and `-v -v`. `-Idir` and `-vv`, which
- * getopt_long_only accepts, are rejected. */
+ * getopt_long_only accepts, are rejected.
+ *
+ * With GETOPTS_STRICT, a function that is passed the name of no option prints the name to stderr
+ * and calls abort(), as assert() does. Only getopts_defined accepts such names. */
 enum getopts_modes {
     GETOPTS_ORDINARY = 0,    /* no mode */
     GETOPTS_STOP = 16,       /* the first free word ends the options */
     GETOPTS_LONG_ONLY = 32,  /* long options begin with one dash or two */
     GETOPTS_KEEP_ORDER = 64, /* getopts_nth returns options in the order given */
+    GETOPTS_STRICT = 256,    /* calls with the name of no option end the program */
     GETOPTS_MODES_MAX = 0x7fffffff /* not a mode: makes the enum four bytes wide */
 };
 
@@ -125,13 +129,14 @@ int getopts_read(struct getopts *options, int count, char *const *words);
 const char *getopts_message(const struct getopts *options);
 
 /* In the next functions, `name` is the short or long name of an option, and nth counts from 0. If
- * nothing was read, if the name is unknown or NULL, or if nth is out of range, getopts_values
- * returns an empty list, getopts_long_value true, and the others false, 0, -1 or NULL. */
+ * nothing was read, if the name is unknown (see GETOPTS_STRICT) or NULL, or if nth is out of range,
+ * getopts_values returns an empty list, getopts_long_value true, and the others false, 0, -1 or
+ * NULL. */
 
 /* Pass this as nth for the last occurrence. */
 #define GETOPTS_LAST ((size_t)-1)
 
-/* Whether an option has this name. */
+/* Whether an option has this name. False if nothing was read. */
 bool getopts_defined(const struct getopts *options, const char *name);
 
 /* How often the option was given. */

@@ -49,7 +49,7 @@ static int run(struct getopts *options, int count, char **words) {
 }
 
 int main(int argc, char **argv) {
-    struct getopts *options = getopts_new(table, GETOPTS_ORDINARY);
+    struct getopts *options = getopts_new(table, GETOPTS_STRICT);
     int status = run(options, argc - 1, argv + 1);
     getopts_delete(options);
     return status;

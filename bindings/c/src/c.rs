@@ -23,6 +23,7 @@ extern "C" {
     fn realloc(block: *mut u8, bytes: usize) -> *mut u8;
     fn free(block: *mut u8);
     fn strlen(text: Text) -> usize;
+    fn write(file: c_int, bytes: *const u8, count: usize) -> isize;
     fn abort() -> !;
 }
 
@@ -296,10 +297,28 @@ unsafe extern "C" fn getopts_defined(options: Option<&Getopts>, name: Text) -> b
     reading(options).given(unsafe { bytes(name) }).is_some()
 }
 
+/// Ends the program if strict options have no option of this name.
+#[cold]
+fn check_name(options: Option<&Getopts>, name: Option<&[u8]>) {
+    if options.map_or(false, |options| options.misses(name)) {
+        for part in [b"getopts.h: no option has the name '", name.unwrap_or(b"NULL"), b"'\n"] {
+            // SAFETY: there are as many bytes.
+            unsafe { write(2, part.as_ptr(), part.len()) };
+        }
+        // SAFETY: `abort` has no requirements.
+        unsafe { abort() }
+    }
+}
+
 /// What was given of an option.
 #[inline(always)]
 unsafe fn given(options: Option<&Getopts>, name: Text) -> Option<Given<'_>> {
-    reading(options).given(unsafe { bytes(name) })
+    let name = unsafe { bytes(name) };
+    let given = reading(options).given(name);
+    if given.is_none() {
+        check_name(options, name);
+    }
+    given
 }
 
 #[no_mangle]

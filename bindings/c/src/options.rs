@@ -2,7 +2,7 @@
 
 use crate::c::{Row, Text, Words, text};
 use crate::reading::{Reading, nth_of};
-use crate::table::{self, KEEP_ORDER, Table};
+use crate::table::{self, KEEP_ORDER, STRICT, Table};
 use crate::words::Texts;
 use crate::{AllocResult, Error, OK, Status};
 use library::alloc::Global;
@@ -45,6 +45,18 @@ impl Getopts {
     #[inline]
     pub fn keeps_order(&self) -> bool {
         self.modes & KEEP_ORDER != 0
+    }
+
+    /// Whether names have to be declared, and this one isn't.
+    #[cold]
+    pub fn misses(&self, name: Option<&[u8]>) -> bool {
+        if self.modes & STRICT == 0 || self.table.wrong.is_some() {
+            return false;
+        }
+        let none = self.options.parse_ignoring_counts(Global, &[""; 0]);
+        none.map_or(false, |none| {
+            name.and_then(text).and_then(|name| none.opt_place(name)).is_none()
+        })
     }
 
     /// The words as texts, if the table is valid.

@@ -10,6 +10,7 @@ use library::proved::{HasArg, Occur, Options, ParsingStyle};
 const STOP: u32 = 16;
 const LONG_ONLY: u32 = 32;
 pub const KEEP_ORDER: u32 = 64;
+pub const STRICT: u32 = 256;
 
 /// The kind of a required option.
 const REQ: u32 = 4;
@@ -45,7 +46,7 @@ pub fn declare<'c>(
         }
         place += 1;
     }
-    if modes & !(STOP | LONG_ONLY | KEEP_ORDER) != 0 {
+    if modes & !(STOP | LONG_ONLY | KEEP_ORDER | STRICT) != 0 {
         return Ok(wrong_table(message_of(&[b"invalid modes ", &digits(modes as usize)?, MODES])?));
     }
     if modes & STOP != 0 {
@@ -115,7 +116,8 @@ fn declare_row<'c>(
 }
 
 /// What to write instead of invalid modes.
-const MODES: &[u8] = b": combine GETOPTS_STOP, LONG_ONLY and KEEP_ORDER, or write GETOPTS_ORDINARY";
+const MODES: &[u8] =
+    b": combine GETOPTS_STOP, LONG_ONLY, KEEP_ORDER and STRICT, or write GETOPTS_ORDINARY";
 
 /// What to write instead of an invalid kind.
 const KINDS: &[u8] =

@@ -1,4 +1,4 @@
-/* Tests what answers.c doesn't: messages about invalid tables and modes, NULL, and numbers. */
+/* Tests what answers.c doesn't: messages about invalid tables and modes, NULL, numbers, and misspelt names. */
 #include "../getopts.h"
 
 #include <errno.h>
@@ -10,7 +10,7 @@
 #define LEN_37 "1234567890123456789012345678901234567"
 #define LEN_38 LEN_37 "8"
 #define KINDS ": combine one of GETOPTS_NO, YES and MAYBE with one of GETOPTS_OPTIONAL, REQ and MULTI"
-#define MODES ": combine GETOPTS_STOP, LONG_ONLY and KEEP_ORDER, or write GETOPTS_ORDINARY"
+#define MODES ": combine GETOPTS_STOP, LONG_ONLY, KEEP_ORDER and STRICT, or write GETOPTS_ORDINARY"
 #define NO_ARGUMENT "' on an option without argument: remove it, or use GETOPTS_YES or MAYBE"
 #define NOT_SHORT "' isn't one ASCII character"
 #define NO_TEXT " must be UTF-8 with all characters below U+10FF80"
@@ -120,7 +120,7 @@ static void modes_are_checked(void) {
     } rows[] = {
         { 4, "invalid modes 4" MODES }, { GETOPTS_STOP + GETOPTS_YES, "invalid modes 17" MODES },
         { GETOPTS_LONG_ONLY + GETOPTS_MULTI, "invalid modes 40" MODES }, { 128, "invalid modes 128" MODES },
-        { GETOPTS_ORDINARY, "" }, { GETOPTS_STOP + GETOPTS_LONG_ONLY + GETOPTS_KEEP_ORDER, "" },
+        { GETOPTS_ORDINARY, "" }, { GETOPTS_STOP + GETOPTS_LONG_ONLY + GETOPTS_KEEP_ORDER + GETOPTS_STRICT, "" },
     };
     for (size_t nth = 0; nth < sizeof rows / sizeof *rows; nth++) {
         struct getopts *options = getopts_new(table, (enum getopts_modes)rows[nth].modes);
@@ -225,7 +225,26 @@ static void results_need_no_place(void) {
     getopts_delete(options);
 }
 
-int main(void) {
+/* With GETOPTS_STRICT, passes a misspelt name to the function whose name begins with a letter. Returns if none does. */
+static int misspell(char function, int count, char **words) {
+    struct getopts *options = getopts_new(required, GETOPTS_STRICT);
+    getopts_read(options, count, words);
+    bool fine = getopts_count(options, "help") == getopts_count(options, "h") && !getopts_defined(options, "hepl");
+    switch (function) {
+    case 'c': return (int)getopts_count(options, "hepl");
+    case 'p': return getopts_position(options, "hepl", 0);
+    case 'v': return getopts_value(options, "hepl", 0) != NULL;
+    case 'V': return getopts_values(options, "hepl")[0] != NULL;
+    case 'l': return getopts_long_value(options, "hepl", 0, NULL);
+    case 'N': return (int)getopts_count(options, NULL);
+    }
+    getopts_delete(options);
+    return fine ? 0 : 4;
+}
+
+int main(int argc, char **argv) {
+    if (argc > 1)
+        return misspell(argv[1][0], argc - 2, argv + 2);
     results_need_no_place();
     wrong_rows_are_reported();
     repeated_names_are_found();
