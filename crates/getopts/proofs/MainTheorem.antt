@@ -7,4 +7,3 @@ pub mod Accepted
 pub mod BeforeFree
 pub mod SameContent
 pub mod Callers
-pub mod HelpText

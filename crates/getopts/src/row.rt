@@ -2,11 +2,10 @@
 
 ghost use Rattle.std.specs.Prelude.{◌≡◌, ◌++◌, string_bytes, IfOk, OnOk};
 ghost use Rattle.getopts.specs.Wrap.{width_of};
-ghost use Rattle.getopts.specs.Usage.{IsUsageRowIn, argument_part, has_columns, head};
-ghost use Rattle.getopts.specs.Usage.{long_part, padding, short_part};
+ghost use Rattle.getopts.specs.Usage.{argument_part, has_columns, head, long_part, padding};
+ghost use Rattle.getopts.specs.Usage.{short_part, usage_row_in};
 ghost use Rattle.getopts.specs.Stored.Signatures.{names_view};
 ghost use Rattle.getopts.specs.Stored.Groups.{group_view};
-ghost use Rattle.getopts.specs.Only.{IsTheOnly};
 
 use crate::groups::GroupView;
 use crate::kinds::HasArg;
@@ -40,9 +39,8 @@ pub(crate) fn row_of(
     layout: Layout,
     group: GroupView<'_>,
 ) -> Result<String, AllocError>
-    ensures { IfOk result (λ row. IsTheOnly
-        (IsUsageRowIn layout.columns layout.long_only layout.any_short (group_view group.entry))
-        (string_bytes row)) }
+    ensures { IfOk result (λ row. string_bytes row
+        ≡ usage_row_in layout.columns layout.long_only layout.any_short (group_view group.entry)) }
 {
     let mut row = String::with_capacity(alloc, ROW_ROOM)?;
     push_head(&mut row, layout, group)?;

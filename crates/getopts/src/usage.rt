@@ -7,8 +7,9 @@ ghost use Rattle.getopts.specs.Stored.Groups.{group_view};
 ghost use Rattle.getopts.specs.Names.{Text};
 ghost use Rattle.getopts.specs.Only.{IsTheOnly};
 ghost use Rattle.getopts.specs.Usage.{AreUsageRows, AreUsageRowsIn, IsUsageText, IsUsageTextIn};
-ghost use Rattle.getopts.specs.Usage.{any_short};
-ghost use Rattle.getopts.specs.Usage.{option_name, option_text, short_usage_text};
+ghost use Rattle.getopts.specs.Usage.{any_short, option_name, option_text, short_usage_text};
+ghost use Rattle.getopts.specs.Usage.{usage_in_result, usage_result, usage_rows_in_result};
+ghost use Rattle.getopts.specs.Usage.{usage_rows_result};
 ghost use Rattle.getopts.specs.Wrap.{joined};
 
 use crate::groups::GroupView;
@@ -113,6 +114,9 @@ impl Options {
         // This is the only usage text, byte for byte.
         ensures text { IfOk result (λ text.
             IsTheOnly (IsUsageText self.now brief.now) (string_bytes text)) }
+
+        // This text as a function.
+        ensures result { IfOk result (λ text. string_bytes text ≡ usage_result self.now brief.now) }
     {
         self.usage_in(alloc, brief, USUAL_COLUMNS)
     }
@@ -138,6 +142,10 @@ impl Options {
         // This is the only usage text within these columns, byte for byte.
         ensures text { IfOk result (λ text.
             IsTheOnly (IsUsageTextIn columns self.now brief.now) (string_bytes text)) }
+
+        // This text as a function.
+        ensures result { IfOk result (λ text.
+            string_bytes text ≡ usage_in_result columns self.now brief.now) }
     {
         let rows = self.usage_rows_in(alloc, columns)?;
         let mut text = String::from_str(alloc, brief)?;
@@ -177,6 +185,9 @@ impl Options {
         // texts is the usage rows.
         ensures called { OnOk result ((rows : List Text) ×
             IsTheOnly (AreUsageRows self.now) rows × F.post formatter rows result) }
+
+        // The same with these rows as a function.
+        ensures result { OnOk result (F.post formatter (usage_rows_result self.now) result) }
     {
         let rows = self.usage_rows(alloc)?.into_iter();
         formatter(UsageRows { rows })
@@ -187,6 +198,10 @@ impl Options {
     pub fn usage_rows(&self, alloc: Global) -> Result<Vec<String>, AllocError>
         ensures rows { IfOk result (λ rows.
             IsTheOnly (AreUsageRows self.now) (map string_bytes rows.items)) }
+
+        // These rows as a function.
+        ensures result { IfOk result (λ rows.
+            map string_bytes rows.items ≡ usage_rows_result self.now) }
     {
         self.usage_rows_in(alloc, USUAL_COLUMNS)
     }
@@ -195,6 +210,8 @@ impl Options {
     fn usage_rows_in(&self, alloc: Global, columns: usize) -> Result<Vec<String>, AllocError>
         ensures rows { IfOk result (λ rows.
             IsTheOnly (AreUsageRowsIn columns self.now) (map string_bytes rows.items)) }
+        ensures result { IfOk result (λ rows.
+            map string_bytes rows.items ≡ usage_rows_in_result columns self.now) }
     {
         let layout = self.layout(columns);
         let groups = self.groups();

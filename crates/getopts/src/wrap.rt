@@ -2,7 +2,8 @@
 
 ghost use Rattle.std.specs.Prelude.{◌≡◌, ◌++◌, List, map, string_bytes, IfOk, OnOk};
 ghost use Rattle.getopts.specs.Wrap.{BreaksInto, IsDescriptionRows, IsFewestBreaking};
-ghost use Rattle.getopts.specs.Wrap.{IsTightBreaking, Run, joined, parting, text_of, words_of};
+ghost use Rattle.getopts.specs.Wrap.{IsTightBreaking, Run, description_rows, joined, parting};
+ghost use Rattle.getopts.specs.Wrap.{text_of, words_of};
 ghost use Rattle.getopts.specs.Only.{IsTheOnly};
 
 use std::alloc::{AllocError, Global};
@@ -35,6 +36,10 @@ pub fn each_split_within(alloc: Global, desc: &str, lim: usize) -> Result<Vec<St
     // fits or is one word, and none has room for the next word of the line.
     ensures rows { IfOk result (λ rows.
         IsTheOnly (IsDescriptionRows lim desc.now) (map string_bytes rows.items)) }
+
+    // These rows as a function.
+    ensures result { IfOk result (λ rows.
+        map string_bytes rows.items ≡ description_rows lim desc.now) }
 
     // No fitting way to break the words of a line has fewer rows.
     ensures fewest { IfOk result (λ rows.

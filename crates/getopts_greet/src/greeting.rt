@@ -5,6 +5,7 @@ ghost use Rattle.std.specs.Str.Parse.{ParsesUnsigned};
 ghost use Rattle.std.specs.String.{string_bytes};
 ghost use Rattle.getopts.specs.Prelude.{FitOptionsAndCounts, IsDefined, IsParsedAs, Matched};
 ghost use Rattle.getopts.specs.Prelude.{first_value, occurrences_of_name, parse_request_result};
+ghost use Rattle.getopts.specs.Usage.{usage_result};
 ghost use Rattle.getopts.specs.declared.request.Request.TheVariants.{Help, Parsed};
 ghost use Rattle.getopts_greet.specs.Greeting.{IsAskedOrError, IsGreetingOrError, greeter_help};
 ghost use Rattle.getopts_greet.specs.Greeting.{greeter_options, refusal_of};
@@ -74,8 +75,17 @@ pub fn options(alloc: Global) -> Result<Options, AllocError>
 }
 
 /// The greeter's help, which already ends with a line end.
+#[tactic(auto, unfolding(getopts::proofs::OnLiterals::usage_on_literals))]
 pub fn help_text(alloc: Global) -> Result<String, AllocError>
     ensures text { IfOk result (λ text. string_bytes text ≡ greeter_help) }
+{
+    usage(alloc)
+}
+
+/// The usage text of the greeter's options.
+fn usage(alloc: Global) -> Result<String, AllocError>
+    ensures text { IfOk result (λ text. string_bytes text
+        ≡ usage_result greeter_options (codes "Usage: getopts_greet [options]")) }
 {
     let options = options(alloc)?;
     options.usage(alloc, "Usage: getopts_greet [options]")

@@ -2,9 +2,8 @@
 
 ghost use Rattle.std.specs.Prelude.{◌≡◌, codes, map, IfOk};
 ghost use Rattle.std.specs.String.{string_bytes};
-ghost use Rattle.getopts.specs.Only.{IsTheOnly};
 ghost use Rattle.getopts.specs.Prelude.{parse_unless_result};
-ghost use Rattle.getopts.specs.Usage.{IsUsageTextIn};
+ghost use Rattle.getopts.specs.Usage.{usage_in_result};
 ghost use Rattle.getopts_uses.specs.Command.{IsAddOrError, add_help, add_options, narrow_add_help};
 
 use getopts::{Fail, Options};
@@ -30,24 +29,24 @@ fn options(alloc: Global) -> Result<Options, AllocError>
 }
 
 /// The help of `add`.
+#[tactic(auto, unfolding(getopts::proofs::OnLiterals::usage_on_literals))]
 pub fn help_text(alloc: Global) -> Result<String, AllocError>
     ensures text { IfOk result (λ text. string_bytes text ≡ add_help) }
 {
-    let options = options(alloc)?;
-    options.usage(alloc, "Usage: add [options] FILE..")
+    help_text_in(alloc, 78)
 }
 
 /// The help of `add` within this many columns, such as the width of a terminal.
 pub fn help_text_in(alloc: Global, columns: usize) -> Result<String, AllocError>
-    ensures text { IfOk result (λ text. IsTheOnly
-        (IsUsageTextIn columns add_options (codes "Usage: add [options] FILE.."))
-        (string_bytes text)) }
+    ensures text { IfOk result (λ text. string_bytes text
+        ≡ usage_in_result columns add_options (codes "Usage: add [options] FILE..")) }
 {
     let options = options(alloc)?;
     options.usage_in(alloc, "Usage: add [options] FILE..", columns)
 }
 
 /// The help of `add` within 40 columns.
+#[tactic(auto, unfolding(getopts::proofs::OnLiterals::usage_on_literals))]
 pub fn narrow_help_text(alloc: Global) -> Result<String, AllocError>
     ensures text { IfOk result (λ text. string_bytes text ≡ narrow_add_help) }
 {

@@ -3,6 +3,7 @@
 ghost use Rattle.std.specs.Prelude.{◌≡◌, codes, map, IfOk};
 ghost use Rattle.std.specs.String.{string_bytes};
 ghost use Rattle.getopts.specs.Prelude.{FitOptionsAndCounts, parse_unless_result};
+ghost use Rattle.getopts.specs.Usage.{usage_result};
 ghost use Rattle.getopts_uses.specs.Log.{IsLogOf, IsLogOrError, log_help, log_options};
 
 use getopts::{Fail, Matches, Options};
@@ -30,8 +31,17 @@ fn options(alloc: Global) -> Result<Options, AllocError>
 }
 
 /// The help of `log`.
+#[tactic(auto, unfolding(getopts::proofs::OnLiterals::usage_on_literals))]
 pub fn help_text(alloc: Global) -> Result<String, AllocError>
     ensures text { IfOk result (λ text. string_bytes text ≡ log_help) }
+{
+    usage(alloc)
+}
+
+/// The usage text of the options.
+fn usage(alloc: Global) -> Result<String, AllocError>
+    ensures text { IfOk result (λ text. string_bytes text
+        ≡ usage_result log_options (codes "Usage: log -n NUMBER [options] FILE..")) }
 {
     let options = options(alloc)?;
     options.usage(alloc, "Usage: log -n NUMBER [options] FILE..")

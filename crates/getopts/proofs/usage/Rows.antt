@@ -1,31 +1,26 @@
 -- The rows of a usage text.
-use Rattle.std.proofs.Common.{◌≡◌, ℕ, zero, suc, ◌+◌, ◌-◌, ◌<◌, ◌≤◌, Bool, true, not, ◌||◌, List}
-use Rattle.std.proofs.Common.{[], ◌∷◌, ◌++◌, Some, length, take, drop, ap, sym}
-use Rattle.std.proofs.Common.{◌∙◌, subst, arith, append_assoc}
+use Rattle.std.proofs.Common.{◌≡◌, ℕ, zero, suc, ◌+◌, ◌-◌, ◌<◌, Bool, true, not, ◌||◌, List, refl}
+use Rattle.std.proofs.Common.{[], ◌∷◌, Some, map, take, drop, ap, sym, ◌∙◌, arith}
 use Rattle.std.specs.Prelude.{Result, Ok, Err, OnOk, slice_get, nat_lt, if◌then◌else◌}
 use Rattle.std.specs.List.{AllZip}
 use Rattle.std.proofs.Math.Bool.{or-false}
 use Rattle.std.proofs.lemmas.Bool.Decides.{nat_tests}
-use Rattle.std.proofs.lemmas.List.{take_all}
 use Rattle.std.proofs.lemmas.List.Folds.{list_any-append}
-use Rattle.std.proofs.lemmas.Slice.Zip.{all_zipped_more}
-use Rattle.getopts.specs.Stored.Groups.{group_view}
 use Rattle.getopts.specs.Names.{Text, is_empty}
 use Rattle.getopts.specs.Options.{Group, Declared}
 use Rattle.getopts.specs.Only.{IsTheOnly}
-use Rattle.getopts.specs.Usage.{any_short, spaces, head, next_row, padding, row_text}
-use Rattle.getopts.specs.Usage.{IsUsageRowIn, AreUsageRowsIn, description_columns}
-use Rattle.getopts.specs.Wrap.{width_of, IsDescriptionRows, joined}
-use Rattle.getopts.specs.declared.groups.GroupView.{GroupView}
+use Rattle.getopts.specs.Usage.{any_short, spaces, head, next_row, padding, row_text, usage_text}
+use Rattle.getopts.specs.Usage.{IsUsageRowIn, AreUsageRowsIn, IsUsageTextIn, description_columns}
+use Rattle.getopts.specs.Usage.{usage_row_in, usage_rows_in_result, usage_in_result}
+use Rattle.getopts.specs.Wrap.{width_of, IsDescriptionRows, description_rows}
 use Rattle.getopts.proofs.Lists.{take_more_at}
 use Rattle.getopts.proofs.Only.{made_of_the_only, each_is_the_only}
+use Rattle.getopts.proofs.wrap.Lines.{description_rows-are, rows_exactly}
 
 -- a property that always holds, holds if the result is `Ok`
 pub on_ok : {T E P : Type 0} (r : Result T E) → P → OnOk r P
 on_ok (Ok x) holds = holds
 on_ok (Err e) holds = tt
-
--- ---- the only value
 
 -- whether a group has a short name
 abbrev pub has_short : Group → Bool
@@ -60,51 +55,35 @@ padding_narrow own columns is narrow =
     ∙ drop-spaces columns (24 - width_of own) 24 (omega arith)
     ∙ ap (λ answer. if answer then spaces (24 - width_of own) else next_row) (sym test)
 
--- ---- rows
+-- ---- the computed rows and text
 
--- a row made of the only description rows is the only row
-pub row_is_the_only : (columns : ℕ) (long_only among_shorts : Bool) (group : Group)
-    (rows : List Text) (headed row : Text)
-    → headed ≡ head long_only among_shorts group
-    → IsTheOnly (IsDescriptionRows (description_columns columns) group.description) rows
-    → row ≡ (headed ++ padding headed) ++ joined next_row rows
-    → IsTheOnly (IsUsageRowIn columns long_only among_shorts group) row
-row_is_the_only columns long_only among_shorts group rows headed row headed_is only row_is =
-    made_of_the_only (IsDescriptionRows (description_columns columns) group.description)
-    (row_text (head long_only among_shorts group)) rows row only
-    (row_is ∙ append_assoc headed (padding headed) (joined next_row rows)
-    ∙ ap (λ (headed : Text). row_text headed rows) headed_is)
+each_computed : (columns : ℕ) (long_only among : Bool) (groups : List Group)
+    → AllZip (λ group row. IsTheOnly (IsUsageRowIn columns long_only among group) row) groups
+    (map (usage_row_in columns long_only among) groups)
+each_computed columns long_only among [] = tt
+each_computed columns long_only among (group ∷ groups) =
+    let limit = description_columns columns in
+    let rows = description_rows limit group.description in (
+      made_of_the_only (IsDescriptionRows limit group.description)
+          (row_text (head long_only among group)) rows (usage_row_in columns long_only among group)
+          (λ other. rows_exactly limit group.description rows other
+          (description_rows-are limit group.description))
+          refl,
+      each_computed columns long_only among groups,
+    )
 
--- the only rows of the groups before a place, in order
-abbrev pub AreRowsBefore : ℕ → Declared → ℕ → List Text → Type 0
-AreRowsBefore columns options place rows =
-    AllZip (λ group row.
-    IsTheOnly (IsUsageRowIn columns options.long_only (any_short options.groups) group) row)
-    (take place options.groups) rows
+-- the computed rows are the only usage rows
+pub usage_rows_in_computed : (columns : ℕ) (options : Declared)
+    → IsTheOnly (AreUsageRowsIn columns options) (usage_rows_in_result columns options)
+usage_rows_in_computed columns options =
+    let among = any_short options.groups in
+    each_is_the_only (IsUsageRowIn columns options.long_only among) options.groups
+    (usage_rows_in_result columns options) (each_computed columns options.long_only among options.groups)
 
--- one more row
-pub rows_more : (columns : ℕ) (options : Declared) (place : ℕ) (group : GroupView)
-    → Some (group_view group) ≡ slice_get options.groups place
-    → (own : ℕ) (long_only among_shorts : Bool) → own ≡ columns → long_only ≡ options.long_only
-    → among_shorts ≡ any_short options.groups → (rows : List Text) (row : Text)
-    → AreRowsBefore columns options place rows
-    → IsTheOnly (IsUsageRowIn own long_only among_shorts (group_view group)) row
-    → AreRowsBefore columns options (place + 1) (rows ++ row ∷ [])
-rows_more columns options place group is own long_only among_shorts own_is long_only_is
-    among_shorts_is rows row each only =
-    let Only : Group → Text → Type 0 = λ group row.
-    IsTheOnly (IsUsageRowIn columns options.long_only (any_short options.groups) group) row in
-    rw (take_more_at options.groups place (group_view group) (sym is))
-    (all_zipped_more Only (take place options.groups) rows (group_view group) row each
-    (rw (own_is, long_only_is, among_shorts_is) at only))
-
--- with the last one, these are the only usage rows
-pub rows_all : (columns : ℕ) (options : Declared) (place : ℕ) (rows : List Text)
-    → length options.groups ≤ place → AreRowsBefore columns options place rows
-    → IsTheOnly (AreUsageRowsIn columns options) rows
-rows_all columns options place rows all each =
-    let Row : Group → Text → Type 0 =
-    IsUsageRowIn columns options.long_only (any_short options.groups) in
-    each_is_the_only Row options.groups rows
-    (subst (λ (groups : List Group). AllZip (λ group row. IsTheOnly (Row group) row) groups rows)
-    (take_all place options.groups all) each)
+-- the computed text is the only usage text
+pub usage_in_computed : (columns : ℕ) (options : Declared) (brief : Text)
+    → IsTheOnly (IsUsageTextIn columns options brief) (usage_in_result columns options brief)
+usage_in_computed columns options brief =
+    made_of_the_only (AreUsageRowsIn columns options) (usage_text brief)
+    (usage_rows_in_result columns options) (usage_in_result columns options brief)
+    (usage_rows_in_computed columns options) refl

@@ -1,35 +1,18 @@
 -- Breakings of a line's words: filling rows from the left gives the one tight breaking, and no
 -- fitting breaking has fewer runs.
-use Rattle.std.proofs.Common.{◌≡◌, ◌≢◌, ℕ, ◌<◌, ◌≤◌, Bool, true, false, cond, List, [], ◌∷◌, ◌++◌}
+use Rattle.std.proofs.Common.{◌≡◌, ◌≢◌, ℕ, ◌<◌, ◌≤◌, Bool, true, false, List, [], ◌∷◌, ◌++◌}
 use Rattle.std.proofs.Common.{length, sym, refl, ap, ◌∙◌, subst, inl, inr, ⊎_elim, append_assoc}
 use Rattle.std.proofs.Common.{append-nil, arith, length-append}
-use Rattle.std.specs.Prelude.{nat_le}
 use Rattle.std.specs.List.{flat_map}
 use Rattle.std.proofs.lemmas.Bool.{cases_Bool, cond-true, cond-false, leb-true, le-leb}
 use Rattle.std.proofs.lemmas.List.Elements.{All-nil, All-cons, All-head, All-tail}
 use Rattle.std.proofs.lemmas.List.Sums.{sum_by-append}
 use Rattle.getopts.specs.Names.{Text}
 use Rattle.getopts.specs.Wrap.{Run, width_of, columns_of, FitsIn, IsFittingBreaking, NoneTakesMore}
-use Rattle.getopts.specs.Wrap.{IsTightBreaking, IsFewestBreaking}
+use Rattle.getopts.specs.Wrap.{IsTightBreaking, IsFewestBreaking, has_room, runs_from, runs_of}
 use Rattle.getopts.proofs.Lists.{Within, cuts}
 
 -- ---- filling row after row
-
--- whether the word still fits in the row after the run
-abbrev pub has_room : ℕ → Run → Text → Bool
-has_room limit run word = nat_le (columns_of (run ++ word ∷ [])) limit
-
--- the runs from filling a row that begins with the run, and the words after it
-abbrev pub runs_from : ℕ → Run → List Text → List Run
-runs_from limit run [] = run ∷ []
-runs_from limit run (word ∷ words) =
-    cond (has_room limit run word) (runs_from limit (run ++ word ∷ []) words)
-    (run ∷ runs_from limit (word ∷ []) words)
-
--- the words, broken by filling row after row
-abbrev pub runs_of : ℕ → List Text → List Run
-runs_of limit [] = []
-runs_of limit (word ∷ words) = runs_from limit (word ∷ []) words
 
 -- one more word: it is taken, or begins a row
 pub runs_from-taken : (limit : ℕ) (run : Run) (word : Text) (words : List Text)

@@ -7,15 +7,11 @@ use Rattle.std.proofs.lemmas.List.Concat.{flat_map-append}
 use Rattle.std.proofs.lemmas.Slice.Zip.{AllZip-map}
 use Rattle.getopts.specs.Names.{Text}
 use Rattle.getopts.specs.Wrap.{Run, text_of, IsTightBreaking, IsFewestBreaking, words_of}
-use Rattle.getopts.specs.Wrap.{BreaksInto, IsDescriptionRows, lines_of}
+use Rattle.getopts.specs.Wrap.{BreaksInto, IsDescriptionRows, lines_of, runs_of, rows_of}
+use Rattle.getopts.specs.Wrap.{description_rows}
 use Rattle.getopts.proofs.Lists.{all_zip_weaker}
-use Rattle.getopts.proofs.wrap.Breakings.{runs_of, runs_of-tight, runs_of-only, runs_of-is_fewest}
+use Rattle.getopts.proofs.wrap.Breakings.{runs_of-tight, runs_of-only, runs_of-is_fewest}
 use Rattle.getopts.proofs.wrap.Rows.{AddsLine}
-
--- the rows of lines, each broken by filling
-abbrev pub rows_of : ℕ → List Text → List Text
-rows_of limit lines =
-    map text_of (flat_map (λ runs. runs) (map (runs_of limit) (map words_of lines)))
 
 -- one more line adds its rows
 pub rows_of-push : (limit : ℕ) (lines : List Text) (line : Text) (rows new_rows : List Text)
@@ -31,10 +27,10 @@ each_tight : (limit : ℕ) (lines : List (List Text))
 each_tight limit [] = tt
 each_tight limit (words ∷ lines) = (runs_of-tight limit words, each_tight limit lines)
 
--- the rows of a description's lines are its rows
-pub rows_of-are : (limit : ℕ) (desc : Text)
-    → IsDescriptionRows limit desc (rows_of limit (lines_of desc))
-rows_of-are limit desc = record {
+-- the computed rows are the description's
+pub description_rows-are : (limit : ℕ) (desc : Text)
+    → IsDescriptionRows limit desc (description_rows limit desc)
+description_rows-are limit desc = record {
   breakings = map (runs_of limit) (map words_of (lines_of desc));
   each_line = each_tight limit (map words_of (lines_of desc));
   rows_are = refl;
@@ -42,7 +38,7 @@ rows_of-are limit desc = record {
 
 -- a description has one list of rows for a limit
 pub rows_only : (limit : ℕ) (desc : Text) (rows : List Text) → IsDescriptionRows limit desc rows
-    → rows ≡ rows_of limit (lines_of desc)
+    → rows ≡ description_rows limit desc
 rows_only limit desc rows are =
     let only : (words : List Text) (runs : List Run) → IsTightBreaking limit words runs
     → runs ≡ runs_of limit words = runs_of-only limit in

@@ -6,8 +6,8 @@ use Rattle.std.proofs.lemmas.Bool.{le-leb, lt-leb}
 use Rattle.std.proofs.lemmas.List.Sums.{sum_by-append, sum_by-cons}
 use Rattle.getopts.specs.Names.{Text}
 use Rattle.getopts.specs.Wrap.{Run, width_of, columns_of, text_of, IsTightBreaking, words_of}
-use Rattle.getopts.proofs.wrap.Breakings.{has_room, runs_from, runs_of, runs_from-taken}
-use Rattle.getopts.proofs.wrap.Breakings.{runs_from-refused, runs_of-tight}
+use Rattle.getopts.specs.Wrap.{has_room, runs_from, runs_of}
+use Rattle.getopts.proofs.wrap.Breakings.{runs_from-taken, runs_from-refused, runs_of-tight}
 
 -- one more word at the end of a run: columns and text
 columns_of-push : (run : Run) (word : Text) → 0 < length run

@@ -1,11 +1,11 @@
 -- The rows are those of all lines.
-use Rattle.std.proofs.Common.{[], ◌∷◌, map, string_bytes, lit<, ap, ◌∙◌, subst, sym}
+use Rattle.std.proofs.Common.{◌≡◌, [], ◌∷◌, map, string_bytes, lit<, ap, ◌∙◌, subst, sym}
 use Rattle.std.specs.Str.Iter.{split_text, split_has_more, split_pattern}
 use Rattle.std.proofs.lemmas.Iterator.Consumers.{YieldsList-end}
 use Rattle.std.proofs.lemmas.Iterator.Splits.{YieldsList-from_str_split}
 use Rattle.std.proofs.lemmas.List.{map-append}
-use Rattle.getopts.specs.Wrap.{IsDescriptionRows}
-use Rattle.getopts.proofs.wrap.Lines.{rows_of, rows_of-push, rows_of-are, rows_exactly, rows_fewest}
+use Rattle.getopts.specs.Wrap.{IsDescriptionRows, rows_of, description_rows}
+use Rattle.getopts.proofs.wrap.Lines.{rows_of-push, description_rows-are, rows_exactly, rows_fewest}
 use Rattle.getopts.proofs.wrap.each_split_within.Goals as goal
 
 -- one more line, with its rows
@@ -16,9 +16,9 @@ loop-line-preserved c =
     c.loop-line.invariant c.in_ok-push_line.ensures)
 
 -- the lines from `split` are all the lines
-are_rows : (c : goal.In-None)
-    → IsDescriptionRows c.args.lim c.args.desc.now (map string_bytes c.loop-line.rows.items)
-are_rows c =
+computed : (c : goal.In-None)
+    → map string_bytes c.loop-line.rows.items ≡ description_rows c.args.lim c.args.desc.now
+computed c =
     let start = c.into_iter-line-iterator.ensures.into_iter_gives in
     let split = c.split-line-items.ensures in
     let all = YieldsList-from_str_split 10 c.args.desc.now (lit< tt) (ap split_text start
@@ -26,9 +26,15 @@ are_rows c =
     (ap split_has_more start ∙ split.has_more) (ap split_pattern start ∙ split.pattern) in
     let each = YieldsList-end all c.loop-line.yielded _ c.loop-line.yielded_by _ _ c.in-None.is
     c.next.ensures.steps in
-    subst (IsDescriptionRows c.args.lim c.args.desc.now)
-    (sym (c.loop-line.invariant ∙ ap (rows_of c.args.lim) each.0))
-    (rows_of-are c.args.lim c.args.desc.now)
+    c.loop-line.invariant ∙ ap (rows_of c.args.lim) each.0
+
+are_rows : (c : goal.In-None)
+    → IsDescriptionRows c.args.lim c.args.desc.now (map string_bytes c.loop-line.rows.items)
+are_rows c = subst (IsDescriptionRows c.args.lim c.args.desc.now) (sym (computed c))
+    (description_rows-are c.args.lim c.args.desc.now)
+
+pub returns-clause-result : goal.returns-clause-result
+returns-clause-result c = computed c
 
 pub returns-clause-rows : goal.returns-clause-rows
 returns-clause-rows c = λ others. rows_exactly c.args.lim c.args.desc.now _ others (are_rows c)

@@ -1,9 +1,9 @@
 -- The options are the tool's, the brief is their short usage, and the checker computes the text.
 use Rattle.std.proofs.Common.{◌≡◌, ◌∙◌, ap, codes, refl}
-use Rattle.getopts.proofs.MainTheorem.HelpText.{help_is, usage_result}
+use Rattle.std.proofs.lemmas.Result.{IfOk-weaker}
 use Rattle.getopts.proofs.OnLiterals.{usage_on_literals}
 use Rattle.getopts.specs.Options.{Declared}
-use Rattle.getopts.specs.Usage.{short_usage_text}
+use Rattle.getopts.specs.Usage.{short_usage_text, usage_result}
 use Rattle.getopts_uses.specs.Peek.{peek_help, peek_options}
 use Rattle.getopts_uses.proofs.peek.help_text.Goals as goal
 
@@ -13,9 +13,11 @@ the_text = refl
 
 pub returns : goal.returns
 returns c =
+    let options = c.in_ok-options.ensures.options in
     let brief = c.as_str.ensures.value ∙ c.in_ok-brief.ensures.text
-    ∙ ap (λ (o : Declared). short_usage_text o (codes "peek")) c.in_ok-options.ensures.options in
+    ∙ ap (λ (o : Declared). short_usage_text o (codes "peek")) options in
     record {
-      text = help_is c.usage.result _ peek_options _ peek_help c.in_ok-options.ensures.options
-          (ap (usage_result peek_options) brief ∙ the_text) c.usage.ensures.text;
+      text = IfOk-weaker c.usage.result _ _
+          (λ text is. is ∙ (λ i. usage_result (options i) (brief i)) ∙ the_text)
+          c.usage.ensures.result;
     }
