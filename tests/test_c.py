@@ -454,15 +454,17 @@ def test_missing_tools(tmp_path):
 def test_interrupted_install(shell, tmp_path):
     """An install that is interrupted leaves no temporary folder."""
     need(shell.split()[0])
-    cargo = script(tmp_path / "cargo", f"#!/bin/sh\ntouch '{tmp_path}/started'\nexec sleep 60\n")
+    cargo = script(tmp_path / "cargo", f"#!/bin/sh\ntouch '{tmp_path}/started'\nexec sleep 600\n")
     (tmp_path / "tmp").mkdir()
     env = {**os.environ, "CARGO": str(cargo), "CC": "true", "TMPDIR": str(tmp_path / "tmp")}
     for number in (signal.SIGHUP, signal.SIGINT, signal.SIGTERM):
-        done = subprocess.Popen([*shell.split(), C / "install.sh", tmp_path / "to"], env=env, start_new_session=True)
+        # Under nohup, or in the background of a script, this signal would be ignored.
+        done = subprocess.Popen([*shell.split(), C / "install.sh", tmp_path / "to"], env=env, start_new_session=True,
+                                preexec_fn=lambda: signal.signal(number, signal.SIG_DFL))
         while not (tmp_path / "started").exists():
             time.sleep(0.01)
         os.killpg(done.pid, number)
-        assert done.wait(20) == 1 and not list((tmp_path / "tmp").iterdir())
+        assert done.wait(300) == 1 and not list((tmp_path / "tmp").iterdir())
         (tmp_path / "started").unlink()
 
 
