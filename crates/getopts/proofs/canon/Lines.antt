@@ -38,6 +38,8 @@ use Rattle.getopts.proofs.Reading.Reader.{IsNamed}
 use Rattle.getopts.proofs.Reading.Readings.{only_reading}
 use Rattle.getopts.proofs.Reading.Texts.{begins_with_dash-append, cut_at_equals-append}
 
+-- ---- the content of a reading
+
 -- the main name of the group at this place contains no `=`
 abbrev HasPlainMain : List Group → ℕ → Type 0
 HasPlainMain groups place = holds_equals (main_at groups place) ≡ false
@@ -191,6 +193,8 @@ IsFitting-reading options reading words reads =
     AllByRecursion-follows (IsGood options.groups) (FitsGroup options.groups)
     (λ m good. good.fits) _ (IsGood-reading options reading reads.items)
 
+-- ---- the canonical reading
+
 -- a value as an attached argument
 attached_argument-attached_value : (value : Option Text)
     → attached_argument (attached_value value) ≡ value
@@ -300,6 +304,8 @@ content_of-canonical options content good =
       free_items-canonical options.groups content.mentions,
     ) refl
 
+-- ---- counts
+
 -- the number of mentions of the group at a place
 abbrev count_at : ℕ → List Mention → ℕ
 count_at place ms = length (filter (λ m. m.group == place) ms)
@@ -345,6 +351,8 @@ Says-accepted options style long_only words content accepted = record {
   reads = record { reads = (accepted.only accepted.reading).1 refl; keeps = accepted.counts };
   content_is = accepted.content_is;
 }
+
+-- ---- the canonical line is read
 
 -- the content of a line is sound
 pub IsSound-says : (options : Declared) (words : List Text) (content : Content)
@@ -400,6 +408,8 @@ says_nothing_else-reads_back options content named back other says =
     (canonical_line options.groups content) says.reading _
     says.reads.reads there.reads.reads in
     says.content_is ∙ ap (content_of set) same ∙ there.same
+
+-- ---- the line determines the content
 
 -- a text without `=` can be split off in only one way
 cut_once-with_equals : (a b : Text) (v w : Option Text) → holds_equals a ≡ false
@@ -507,6 +517,8 @@ OneLineOneContent-lawful options lawful words others content other
     canonical_line-same options.groups content other lawful
     (IsSound-says options words content says) plain
     (IsSound-says options others other says_other) plain_other
+
+-- ---- contents that can't be written
 
 -- a text whose front contains `=` contains it
 holds_equals-append : (a b : Text) → holds_equals a ≡ true → holds_equals (a ++ b) ≡ true
