@@ -84,6 +84,10 @@ struct getopts_option {
  * arguments as long options do: write `-I dir` or `-I=dir`, and `-v -v`. `-Idir` and `-vv`, which
  * getopt_long_only accepts, are rejected.
  *
+ * With GETOPTS_REPEAT, an option whose kind includes neither GETOPTS_REQ nor GETOPTS_MULTI may be
+ * given again. Its last occurrence then replaces the others, except for getopts_nth and
+ * getopts_canonical.
+ *
  * With GETOPTS_STRICT, a function that is passed the name of no option prints the name to stderr
  * and calls abort(), as assert() does. Only getopts_defined accepts such names. */
 enum getopts_modes {
@@ -91,6 +95,7 @@ enum getopts_modes {
     GETOPTS_STOP = 16,       /* the first free word ends the options */
     GETOPTS_LONG_ONLY = 32,  /* long options begin with one dash or two */
     GETOPTS_KEEP_ORDER = 64, /* getopts_nth returns options in the order given */
+    GETOPTS_REPEAT = 128,    /* options may be repeated: the last occurrence counts */
     GETOPTS_STRICT = 256,    /* calls with the name of no option end the program */
     GETOPTS_MODES_MAX = 0x7fffffff /* not a mode: makes the enum four bytes wide */
 };
@@ -108,7 +113,7 @@ struct getopts;
  * getopts_canonical return GETOPTS_BAD, and the usage functions return NULL.
  *
  * No two rows may share a name, no name begins with a dash, and only options that take an argument
- * have a hint. */
+ * have a hint. To give an option another name, add a row, as order.c does. */
 struct getopts *getopts_new(const struct getopts_option *table, enum getopts_modes modes);
 
 /* Reads `count` words, such as argc - 1 and argv + 1. Returns GETOPTS_OK or an error:

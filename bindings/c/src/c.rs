@@ -314,7 +314,7 @@ fn check_name(options: Option<&Getopts>, name: Option<&[u8]>) {
 #[inline(always)]
 unsafe fn given(options: Option<&Getopts>, name: Text) -> Option<Given<'_>> {
     let name = unsafe { bytes(name) };
-    let given = reading(options).given(name);
+    let given = options.and_then(|options| options.given(name));
     if given.is_none() {
         check_name(options, name);
     }

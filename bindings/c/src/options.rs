@@ -1,7 +1,7 @@
 //! Options, and what was read last.
 
 use crate::c::{Row, Text, Words, text};
-use crate::reading::{Reading, nth_of};
+use crate::reading::{Given, Reading, nth_of};
 use crate::table::{self, KEEP_ORDER, STRICT, Table};
 use crate::words::Texts;
 use crate::{AllocResult, Error, OK, Status};
@@ -45,6 +45,16 @@ impl Getopts {
     #[inline]
     pub fn keeps_order(&self) -> bool {
         self.modes & KEEP_ORDER != 0
+    }
+
+    /// What was given of an option, if words were read and it is declared.
+    #[inline(always)]
+    pub fn given(&self, name: Option<&[u8]>) -> Option<Given<'_>> {
+        let mut given = self.reading.given(name)?;
+        if self.table.last_counts.get(given.place) == Some(&true) {
+            given.keep_last();
+        }
+        Some(given)
     }
 
     /// Whether names have to be declared, and this one isn't.

@@ -28,17 +28,23 @@ pub fn none() -> *const Text {
     (&NONE as *const usize).cast()
 }
 
-/// The occurrences of an option.
+/// The occurrences of an option that count: all, or the last one.
 pub struct Given<'r> {
     reading: &'r Reading,
     /// The index of the option.
-    place: usize,
+    pub place: usize,
     /// The index in the lists of the first value.
     start: usize,
     pub count: usize,
 }
 
 impl Given<'_> {
+    #[inline]
+    pub fn keep_last(&mut self) {
+        self.start += self.count.saturating_sub(1);
+        self.count = self.count.min(1);
+    }
+
     /// The values, and NULL after them.
     pub fn values(&self) -> *const Text {
         self.reading.lists[self.start..].as_ptr()
@@ -51,7 +57,7 @@ impl Given<'_> {
 
     pub fn position(&self, nth: usize) -> Option<usize> {
         let all = self.reading.matches.as_ref()?.occurrences_at(self.place);
-        let (position, _) = all.get(nth_of(nth, self.count)?)?;
+        let (position, _) = all.get(all.len() - self.count + nth_of(nth, self.count)?)?;
         Some(position)
     }
 }

@@ -10,9 +10,10 @@ use library::proved::{HasArg, Occur, Options, ParsingStyle};
 const STOP: u32 = 16;
 const LONG_ONLY: u32 = 32;
 pub const KEEP_ORDER: u32 = 64;
+const REPEAT: u32 = 128;
 pub const STRICT: u32 = 256;
 
-/// The kind of a required option.
+/// The kind of a required option. Smaller kinds may be given once.
 const REQ: u32 = 4;
 
 /// The most bytes that a message shows of a name that is too long.
@@ -27,6 +28,9 @@ type Wrong = Option<Vec<u8>>;
 pub struct Table {
     /// How many rows were declared.
     pub rows: usize,
+    /// For each row, whether only the last occurrence counts. Empty if no mode lets options be
+    /// repeated.
+    pub last_counts: Vec<bool>,
     pub wrong: Wrong,
 }
 
@@ -36,24 +40,29 @@ pub fn declare<'c>(
     rows: Option<impl Iterator<Item = Row<'c>> + Clone>,
     modes: u32,
 ) -> AllocResult<Table> {
-    let wrong_table = |wrong| Table { rows: 0, wrong };
+    let wrong_table = |wrong| Table { rows: 0, last_counts: Vec::new(), wrong };
     let Some(rows) = rows else { return Ok(wrong_table(message_of(&[b"the table is NULL"])?)) };
-    let (mut names, mut place) = (Names { shorts: 0, longs: [0; 16] }, 0);
+    let (mut names, mut last_counts, mut place) =
+        (Names { shorts: 0, longs: [0; 16] }, Vec::new(), 0);
+    let repeats = modes & REPEAT != 0;
     for row in rows.clone() {
         let earlier = rows.clone().take(place);
-        if let wrong @ Some(_) = declare_row(options, &mut names, earlier, place, &row)? {
+        if let wrong @ Some(_) = declare_row(options, &mut names, earlier, place, &row, repeats)? {
             return Ok(wrong_table(wrong));
+        }
+        if repeats {
+            last_counts.try_push(row.kind < REQ)?;
         }
         place += 1;
     }
-    if modes & !(STOP | LONG_ONLY | KEEP_ORDER | STRICT) != 0 {
+    if modes & !(STOP | LONG_ONLY | KEEP_ORDER | REPEAT | STRICT) != 0 {
         return Ok(wrong_table(message_of(&[b"invalid modes ", &digits(modes as usize)?, MODES])?));
     }
     if modes & STOP != 0 {
         options.parsing_style(ParsingStyle::StopAtFirstFree);
     }
     options.long_only(modes & LONG_ONLY != 0);
-    Ok(Table { rows: place, wrong: None })
+    Ok(Table { rows: place, last_counts, wrong: None })
 }
 
 /// The names of rows: a bit for each, at a hash of the name.
@@ -94,6 +103,7 @@ fn declare_row<'c>(
     earlier: impl Iterator<Item = Row<'c>> + Clone,
     place: usize,
     row: &Row<'_>,
+    repeats: bool,
 ) -> AllocResult<Wrong> {
     let [short, long, hint, desc] = row.texts;
     let valid = short.len() <= 1
@@ -112,12 +122,13 @@ fn declare_row<'c>(
             return Ok(wrong);
         }
     }
+    let occur = if repeats && row.kind < REQ { Occur::Multi } else { occur };
     options.add_group(short, long, desc, hint, hasarg, occur).map(|()| None)
 }
 
 /// What to write instead of invalid modes.
 const MODES: &[u8] =
-    b": combine GETOPTS_STOP, LONG_ONLY, KEEP_ORDER and STRICT, or write GETOPTS_ORDINARY";
+    b": combine GETOPTS_STOP, LONG_ONLY, KEEP_ORDER, REPEAT and STRICT, or write GETOPTS_ORDINARY";
 
 /// What to write instead of an invalid kind.
 const KINDS: &[u8] =

@@ -10,7 +10,7 @@
 #define LEN_37 "1234567890123456789012345678901234567"
 #define LEN_38 LEN_37 "8"
 #define KINDS ": combine one of GETOPTS_NO, YES and MAYBE with one of GETOPTS_OPTIONAL, REQ and MULTI"
-#define MODES ": combine GETOPTS_STOP, LONG_ONLY, KEEP_ORDER and STRICT, or write GETOPTS_ORDINARY"
+#define MODES ": combine GETOPTS_STOP, LONG_ONLY, KEEP_ORDER, REPEAT and STRICT, or write GETOPTS_ORDINARY"
 #define NO_ARGUMENT "' on an option without argument: remove it, or use GETOPTS_YES or MAYBE"
 #define NOT_SHORT "' isn't one ASCII character"
 #define NO_TEXT " must be UTF-8 with all characters below U+10FF80"
@@ -119,8 +119,8 @@ static void modes_are_checked(void) {
         const char *message;
     } rows[] = {
         { 4, "invalid modes 4" MODES }, { GETOPTS_STOP + GETOPTS_YES, "invalid modes 17" MODES },
-        { GETOPTS_LONG_ONLY + GETOPTS_MULTI, "invalid modes 40" MODES }, { 128, "invalid modes 128" MODES },
-        { GETOPTS_ORDINARY, "" }, { GETOPTS_STOP + GETOPTS_LONG_ONLY + GETOPTS_KEEP_ORDER + GETOPTS_STRICT, "" },
+        { GETOPTS_LONG_ONLY + GETOPTS_MULTI, "invalid modes 40" MODES }, { 512, "invalid modes 512" MODES },
+        { GETOPTS_ORDINARY, "" }, { GETOPTS_STOP + GETOPTS_LONG_ONLY + GETOPTS_KEEP_ORDER + GETOPTS_REPEAT + GETOPTS_STRICT, "" },
     };
     for (size_t nth = 0; nth < sizeof rows / sizeof *rows; nth++) {
         struct getopts *options = getopts_new(table, (enum getopts_modes)rows[nth].modes);
@@ -149,6 +149,7 @@ static void null_is_rejected(void) {
     expect(getopts_position(options, NULL, 0) == -1 && getopts_value(options, NULL, 0) == NULL, "what it was given");
     expect(getopts_usage(options, NULL) == NULL && getopts_short_usage(options, NULL) == NULL, "a NULL brief");
     expect(getopts_usage_in(options, NULL, 40) == NULL && getopts_usage_in(none, "brief", 40) == NULL, "within 40 columns");
+    expect(getopts_canonical(options, 1, words, NULL) == GETOPTS_OK, "no place for a line");
     expect(getopts_read(options, 1, NULL) == GETOPTS_BAD, "NULL words");
     expect(getopts_read(options, 1, words + 1) == GETOPTS_BAD, "a NULL first word");
     expect(getopts_read(options, 0, NULL) == GETOPTS_OK && getopts_read(options, -1, NULL) == GETOPTS_OK, "no words");
@@ -212,16 +213,8 @@ static void numbers_are_checked(void) {
     long value = 42;
     expect(getopts_long_value(options, "output", 1, &value) && value == 42, "a missing number");
     expect(getopts_long_value(options, "nope", 0, &value) && value == 42, "a number of an unknown option");
-    getopts_delete(options);
-}
-
-/* Results of getopts_nth, getopts_long_value and getopts_canonical needn't be stored. */
-static void results_need_no_place(void) {
-    char *words[] = { "-o7", NULL };
-    struct getopts *options = getopts_new(required, GETOPTS_KEEP_ORDER);
-    expect(getopts_read(options, 1, words) == GETOPTS_OK && getopts_nth(options, 0, NULL) == 0, "a row");
-    expect(getopts_long_value(options, "o", 0, NULL), "whether it is a number");
-    expect(getopts_canonical(options, 1, words, NULL) == GETOPTS_OK, "a status");
+    char *seven[] = { "-o7", NULL };
+    expect(getopts_read(options, 1, seven) == GETOPTS_OK && getopts_long_value(options, "o", 0, NULL), "no place for a number");
     getopts_delete(options);
 }
 
@@ -245,7 +238,6 @@ static int misspell(char function, int count, char **words) {
 int main(int argc, char **argv) {
     if (argc > 1)
         return misspell(argv[1][0], argc - 2, argv + 2);
-    results_need_no_place();
     wrong_rows_are_reported();
     repeated_names_are_found();
     modes_are_checked();
