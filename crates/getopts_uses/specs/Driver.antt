@@ -1,4 +1,4 @@
--- A compiler driver with forty options: the options, and the job that a command line describes.
+-- A compiler driver with twenty options: the options, and the job that a command line describes.
 use Rattle.std.specs.Prelude.{◌≡◌, ◌==◌, ⊤, Bool, List, [], ◌∷◌, ◌++◌, true, false, map, codes}
 use Rattle.std.specs.Prelude.{length, Result, Ok, Err}
 use Rattle.std.specs.Option.{option_map}
@@ -9,14 +9,12 @@ use Rattle.getopts.specs.Prelude.{values_of}
 use Rattle.getopts.specs.declared.kinds.HasArg.TheVariants.{No, Yes, Maybe}
 use Rattle.getopts.specs.declared.kinds.Occur.TheVariants.{Optional, Multi}
 use Rattle.getopts.specs.declared.kinds.ParsingStyle.TheVariants.{FloatingFrees}
-use Rattle.getopts_uses.specs.declared.driver.Extras.{Extras}
 use Rattle.getopts_uses.specs.declared.driver.Job.{Job}
 use Rattle.getopts_uses.specs.declared.driver.Refusal.{Refusal}
 use Rattle.getopts_uses.specs.declared.driver.Refusal.TheVariants.{Line, NoInput, OutOfMemory}
 use Rattle.getopts_uses.specs.declared.driver.Search.{Search}
 use Rattle.getopts_uses.specs.declared.driver.Sources.{Sources}
 use Rattle.getopts_uses.specs.declared.driver.Stages.{Stages}
-use Rattle.getopts_uses.specs.declared.driver.Targets.{Targets}
 
 -- what it writes and searches
 abbrev pub search_groups : List Group
@@ -48,40 +46,10 @@ stages_groups =
     ∷ group_of [] (codes "shared") (codes "make a shared library") [] No Optional
     ∷ []
 
--- what it compiles for
-abbrev pub targets_groups : List Group
-targets_groups =
-    group_of [] (codes "pie") (codes "make code that can be moved") [] No Optional
-    ∷ group_of [] (codes "no-pie") (codes "make code that can't") [] No Optional
-    ∷ group_of [] (codes "pthread") (codes "with threads") [] No Optional
-    ∷ group_of [] (codes "pipe") (codes "use pipes") [] No Optional
-    ∷ group_of [] (codes "save-temps") (codes "keep what lies between") (codes "WHERE") Maybe Optional
-    ∷ group_of [] (codes "emit") (codes "write KIND too") (codes "KIND") Yes Multi
-    ∷ group_of [] (codes "march") (codes "for this processor") (codes "NAME") Yes Optional
-    ∷ group_of (codes "T") (codes "script") (codes "link by FILE") (codes "FILE") Yes Optional
-    ∷ group_of (codes "h") (codes "help") (codes "print this help") [] No Optional
-    ∷ group_of (codes "V") (codes "version") (codes "print the version") [] No Optional
-    ∷ []
-
--- what else it does
-abbrev pub extras_groups : List Group
-extras_groups =
-    group_of (codes "M") (codes "depend") (codes "write what the inputs depend on") [] No Optional
-    ∷ group_of (codes "F") (codes "framework") (codes "link with a framework") (codes "NAME") Yes Multi
-    ∷ group_of (codes "s") (codes "strip") (codes "strip names") [] No Optional
-    ∷ group_of (codes "q") (codes "quiet") (codes "say nothing") [] No Optional
-    ∷ group_of (codes "j") (codes "jobs") (codes "run NUMBER jobs at once") (codes "NUMBER") Yes Optional
-    ∷ group_of [] (codes "color") (codes "colour what is said") (codes "WHEN") Maybe Optional
-    ∷ group_of (codes "k") (codes "keep-going") (codes "go on after an error") [] No Optional
-    ∷ group_of (codes "P") (codes "no-lines") (codes "write no line marks") [] No Optional
-    ∷ group_of (codes "Z") (codes "unstable") (codes "turn on a feature") (codes "NAME") Yes Multi
-    ∷ group_of [] (codes "prefix-map") (codes "write NEW in the place of OLD") (codes "OLD=NEW") Yes Multi
-    ∷ []
-
 -- the driver's options
 abbrev pub driver_options : Declared
 driver_options = record {
-  groups = search_groups ++ (stages_groups ++ (targets_groups ++ extras_groups));
+  groups = search_groups ++ stages_groups;
   style = FloatingFrees;
   long_only = true;
 }
@@ -127,48 +95,11 @@ pub record AreStagesOf (matches : Matched) (it : Stages) : Type 0 where
   pub fixed : it.fixed ≡ is_present matches.groups (codes "static")
   pub shared : it.shared ≡ is_present matches.groups (codes "shared")
 
--- What the driver compiles for is exactly what the matches say.
-pub record AreTargetsOf (matches : Matched) (it : Targets) : Type 0 where
-  pub pie : it.pie ≡ is_present matches.groups (codes "pie")
-  pub no_pie : it.no_pie ≡ is_present matches.groups (codes "no-pie")
-  pub threads : it.threads ≡ is_present matches.groups (codes "pthread")
-  pub pipes : it.pipes ≡ is_present matches.groups (codes "pipe")
-  pub kept : option_map string_bytes it.kept
-      ≡ first_value_or (occurrences_of_name matches.groups (codes "save-temps")) (codes "1")
-  pub emits : map string_bytes it.emits.items
-      ≡ values_of (occurrences_of_name matches.groups (codes "emit"))
-  pub processor : option_map string_bytes it.processor
-      ≡ first_value (occurrences_of_name matches.groups (codes "march"))
-  pub script : option_map string_bytes it.script
-      ≡ first_value (occurrences_of_name matches.groups (codes "script"))
-  pub help : it.help ≡ is_present matches.groups (codes "help")
-  pub version : it.version ≡ is_present matches.groups (codes "version")
-
--- What else the driver does is exactly what the matches say.
-pub record AreExtrasOf (matches : Matched) (it : Extras) : Type 0 where
-  pub depends : it.depends ≡ is_present matches.groups (codes "depend")
-  pub frameworks : map string_bytes it.frameworks.items
-      ≡ values_of (occurrences_of_name matches.groups (codes "framework"))
-  pub strip : it.strip ≡ is_present matches.groups (codes "strip")
-  pub quiet : it.quiet ≡ is_present matches.groups (codes "quiet")
-  pub jobs : option_map string_bytes it.jobs
-      ≡ first_value (occurrences_of_name matches.groups (codes "jobs"))
-  pub color : option_map string_bytes it.color
-      ≡ first_value_or (occurrences_of_name matches.groups (codes "color")) (codes "1")
-  pub keep_going : it.keep_going ≡ is_present matches.groups (codes "keep-going")
-  pub no_lines : it.no_lines ≡ is_present matches.groups (codes "no-lines")
-  pub unstable : map string_bytes it.unstable.items
-      ≡ values_of (occurrences_of_name matches.groups (codes "unstable"))
-  pub renamed : map string_bytes it.renamed.items
-      ≡ values_of (occurrences_of_name matches.groups (codes "prefix-map"))
-
 -- The job is exactly what the matches say.
 pub record IsJobOf (matches : Matched) (job : Job) : Type 0 where
   pub search : IsSearchOf matches job.search
   pub sources : AreSourcesOf matches job.sources
   pub stages : AreStagesOf matches job.stages
-  pub targets : AreTargetsOf matches job.targets
-  pub extras : AreExtrasOf matches job.extras
   pub inputs : map string_bytes job.inputs.items ≡ matches.free
 
 -- whether matches name no input

@@ -5,5 +5,4 @@ pub mod Log
 pub mod Logged
 pub mod Loudness
 pub mod Output
-pub mod Peek
 pub mod Wrapper

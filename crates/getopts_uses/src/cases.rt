@@ -9,7 +9,6 @@ use crate::lists::{any_given, count_of, place_named};
 use crate::logged::{read_and_log, read_build};
 use crate::loudness::loudness_of;
 use crate::output::output_of;
-use crate::peek::{help_text, read_request};
 use crate::plugin::add_flag;
 use crate::subcommand::read_run;
 use crate::wrapper::handed_on;
@@ -50,8 +49,6 @@ fn push_caller(
     words: &[&str],
 ) -> Result<(), AllocError> {
     match caller {
-        "peek" => push(text, read_request(alloc, words)),
-        "peek_help" => push(text, help_text(alloc)),
         "logged" => push(text, read_and_log(alloc, words)),
         "replayed" => push_replayed(alloc, text, words),
         "checked" => push(text, read_settings(alloc, words)),

@@ -1,11 +1,11 @@
-//! A compiler driver with forty options, whose long names may follow a single dash, and a job with
+//! A compiler driver with twenty options, whose long names may follow a single dash, and a job with
 //! all their values.
 
 ghost use Rattle.std.specs.Prelude.{◌≡◌, map, IfOk, OnOk};
 ghost use Rattle.getopts.specs.Prelude.{FitOptionsAndCounts, parse_result, with_groups};
 ghost use Rattle.getopts_uses.specs.Driver.{IsJobOf, IsJobOrError, driver_options, names_none};
-ghost use Rattle.getopts_uses.specs.Driver.{IsSearchOf, AreSourcesOf, AreStagesOf, AreTargetsOf, AreExtrasOf};
-ghost use Rattle.getopts_uses.specs.Driver.{search_groups, stages_groups, targets_groups, extras_groups};
+ghost use Rattle.getopts_uses.specs.Driver.{IsSearchOf, AreSourcesOf, AreStagesOf};
+ghost use Rattle.getopts_uses.specs.Driver.{search_groups, stages_groups};
 ghost use Rattle.getopts_uses.specs.declared.driver.Refusal.TheVariants.{Line, NoInput, OutOfMemory};
 
 use getopts::{Fail, Matches, Options};
@@ -19,8 +19,6 @@ pub struct Job {
     pub search: Search,
     pub sources: Sources,
     pub stages: Stages,
-    pub targets: Targets,
-    pub extras: Extras,
     pub inputs: Vec<String>,
 }
 
@@ -59,36 +57,6 @@ pub struct Stages {
     pub shared: bool,
 }
 
-/// What the driver compiles for.
-#[derive(Debug, Drop)]
-pub struct Targets {
-    pub pie: bool,
-    pub no_pie: bool,
-    pub threads: bool,
-    pub pipes: bool,
-    pub kept: Option<String>,
-    pub emits: Vec<String>,
-    pub processor: Option<String>,
-    pub script: Option<String>,
-    pub help: bool,
-    pub version: bool,
-}
-
-/// What else the driver does.
-#[derive(Debug, Drop)]
-pub struct Extras {
-    pub depends: bool,
-    pub frameworks: Vec<String>,
-    pub strip: bool,
-    pub quiet: bool,
-    pub jobs: Option<String>,
-    pub color: Option<String>,
-    pub keep_going: bool,
-    pub no_lines: bool,
-    pub unstable: Vec<String>,
-    pub renamed: Vec<String>,
-}
-
 /// Why it does nothing.
 #[derive(Debug, Drop)]
 pub enum Refusal {
@@ -121,8 +89,6 @@ pub fn options(alloc: Global) -> Result<Options, AllocError>
     options.long_only(true);
     add_search(&mut options)?;
     add_stages(&mut options)?;
-    add_targets(&mut options)?;
-    add_extras(&mut options)?;
     Ok(options)
 }
 
@@ -163,42 +129,6 @@ fn add_stages(options: &mut Options) -> Result<(), AllocError>
     Ok(())
 }
 
-/// Adds options for what the driver compiles for.
-fn add_targets(options: &mut Options) -> Result<(), AllocError>
-    ensures { OnOk result (options.new ≡ with_groups options.old targets_groups) }
-{
-    options
-        .optflag("", "pie", "make code that can be moved")?
-        .optflag("", "no-pie", "make code that can't")?
-        .optflag("", "pthread", "with threads")?
-        .optflag("", "pipe", "use pipes")?
-        .optflagopt("", "save-temps", "keep what lies between", "WHERE")?
-        .optmulti("", "emit", "write KIND too", "KIND")?
-        .optopt("", "march", "for this processor", "NAME")?
-        .optopt("T", "script", "link by FILE", "FILE")?
-        .optflag("h", "help", "print this help")?
-        .optflag("V", "version", "print the version")?;
-    Ok(())
-}
-
-/// Adds options for what else the driver does.
-fn add_extras(options: &mut Options) -> Result<(), AllocError>
-    ensures { OnOk result (options.new ≡ with_groups options.old extras_groups) }
-{
-    options
-        .optflag("M", "depend", "write what the inputs depend on")?
-        .optmulti("F", "framework", "link with a framework", "NAME")?
-        .optflag("s", "strip", "strip names")?
-        .optflag("q", "quiet", "say nothing")?
-        .optopt("j", "jobs", "run NUMBER jobs at once", "NUMBER")?
-        .optflagopt("", "color", "colour what is said", "WHEN")?
-        .optflag("k", "keep-going", "go on after an error")?
-        .optflag("P", "no-lines", "write no line marks")?
-        .optmulti("Z", "unstable", "turn on a feature", "NAME")?
-        .optmulti("", "prefix-map", "write NEW in the place of OLD", "OLD=NEW")?;
-    Ok(())
-}
-
 /// The job that a command line describes.
 pub fn read_job<S: AsStr>(alloc: Global, words: &[S]) -> Result<Job, Refusal>
     ensures result { IsJobOrError (parse_result driver_options (map S.text words.now)) result }
@@ -226,8 +156,6 @@ fn job_of(alloc: Global, matches: Matches) -> Result<Job, AllocError>
         search: search_of(alloc, &matches)?,
         sources: sources_of(alloc, &matches)?,
         stages: stages_of(alloc, &matches)?,
-        targets: targets_of(alloc, &matches)?,
-        extras: extras_of(alloc, &matches)?,
         inputs: matches.free,
     })
 }
@@ -276,43 +204,5 @@ fn stages_of(alloc: Global, matches: &Matches) -> Result<Stages, AllocError>
         root: matches.opt_str(alloc, "sysroot")?,
         fixed: matches.opt_present("static"),
         shared: matches.opt_present("shared"),
-    })
-}
-
-/// What the driver compiles for.
-fn targets_of(alloc: Global, matches: &Matches) -> Result<Targets, AllocError>
-    requires { FitOptionsAndCounts driver_options matches.now.groups }
-    ensures { IfOk result (AreTargetsOf matches.now) }
-{
-    Ok(Targets {
-        pie: matches.opt_present("pie"),
-        no_pie: matches.opt_present("no-pie"),
-        threads: matches.opt_present("pthread"),
-        pipes: matches.opt_present("pipe"),
-        kept: matches.opt_default(alloc, "save-temps", "1")?,
-        emits: matches.opt_strs(alloc, "emit")?,
-        processor: matches.opt_str(alloc, "march")?,
-        script: matches.opt_str(alloc, "script")?,
-        help: matches.opt_present("help"),
-        version: matches.opt_present("version"),
-    })
-}
-
-/// What else the driver does.
-fn extras_of(alloc: Global, matches: &Matches) -> Result<Extras, AllocError>
-    requires { FitOptionsAndCounts driver_options matches.now.groups }
-    ensures { IfOk result (AreExtrasOf matches.now) }
-{
-    Ok(Extras {
-        depends: matches.opt_present("depend"),
-        frameworks: matches.opt_strs(alloc, "framework")?,
-        strip: matches.opt_present("strip"),
-        quiet: matches.opt_present("quiet"),
-        jobs: matches.opt_str(alloc, "jobs")?,
-        color: matches.opt_default(alloc, "color", "1")?,
-        keep_going: matches.opt_present("keep-going"),
-        no_lines: matches.opt_present("no-lines"),
-        unstable: matches.opt_strs(alloc, "unstable")?,
-        renamed: matches.opt_strs(alloc, "prefix-map")?,
     })
 }

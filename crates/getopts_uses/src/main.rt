@@ -15,7 +15,6 @@ mod log;
 mod logged;
 mod loudness;
 mod output;
-mod peek;
 mod plugin;
 mod subcommand;
 mod wrapper;
