@@ -32,7 +32,7 @@ mod Shell
 mod Written
 -- the code that sets variables, and the errors of their names
 mod Assignments
--- the variables that are asked for, and counts
+-- the variables that are asked for, and matches if counts are ignored
 mod Asked
 -- the first element that passes a test
 mod First

@@ -14,7 +14,7 @@ use Rattle.getopts.specs.Results.{reading_or_error}
 use Rattle.getopts.specs.declared.kinds.HasArg.{HasArg}
 use Rattle.getopts.specs.declared.kinds.HasArg.TheVariants.{No}
 use Rattle.getopts_shell.specs.declared.complete.TheConstants.{BASH, ZSH, FISH}
-use Rattle.getopts_shell.specs.Quote.{quoted_byte}
+use Rattle.getopts_shell.specs.Quote.{backslash, quoted_byte}
 use Rattle.getopts_shell.specs.Table.{Entry, is_long_name}
 use Rattle.getopts_shell.specs.declared.row.Frequency.{Frequency}
 use Rattle.getopts_shell.specs.declared.row.Frequency.TheVariants.{All}
@@ -93,7 +93,7 @@ offer options entries before word =
 -- Quotes and backslashes are written outside the quotes, after a backslash.
 -- a byte of a word in quotes, as bash, zsh and fish read it
 abbrev pub stub_byte : ℕ → Text
-stub_byte byte = if byte == 92 then codes "'\\\\'" else quoted_byte byte
+stub_byte byte = if byte == backslash then codes "'\\\\'" else quoted_byte byte
 
 -- a word in quotes, as each of the three shells reads it
 abbrev pub stub_quoted : Text → Text

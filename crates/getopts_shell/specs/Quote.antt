@@ -7,6 +7,13 @@ use Rattle.getopts.specs.Names.{Text}
 
 -- ---- what a shell makes of a text
 
+-- the bytes `'` and `\`
+abbrev pub apostrophe : ℕ
+apostrophe = 39
+
+abbrev pub backslash : ℕ
+backslash = 92
+
 -- Outside quotes, the shell is within a word or between words; in quotes, and after a backslash, it
 -- is within a word. `unsaid` means that this model doesn't say how the shell goes on.
 -- what a shell has read of a text: the complete words, and where in the text it is
@@ -25,11 +32,11 @@ done words word = words ++ option_to_list word
 -- the progress after one more byte of a command
 abbrev pub read_byte : Progress → ℕ → Progress
 read_byte (outside words word) byte =
-    if byte == 39 then quoting words (unwrap_or word [])
-    else (if byte == 92 then escaping words (unwrap_or word [])
+    if byte == apostrophe then quoting words (unwrap_or word [])
+    else (if byte == backslash then escaping words (unwrap_or word [])
     else (if byte == 32 || byte == 9 then outside (done words word) None else unsaid))
 read_byte (quoting words word) byte =
-    if byte == 39 then outside words (Some word) else quoting words (word ++ byte ∷ [])
+    if byte == apostrophe then outside words (Some word) else quoting words (word ++ byte ∷ [])
 read_byte (escaping words word) byte =
     if byte == 10 then unsaid else outside words (Some (word ++ byte ∷ []))
 read_byte unsaid byte = unsaid
@@ -51,7 +58,7 @@ replaced one other byte = if byte == one then other else byte ∷ []
 
 -- a byte of a word in quotes: `'` is written outside the quotes, after a backslash
 abbrev pub quoted_byte : ℕ → Text
-quoted_byte = replaced 39 (codes "'\\''")
+quoted_byte = replaced apostrophe (codes "'\\''")
 
 -- a word in quotes
 abbrev pub quoted : Text → Text

@@ -4,7 +4,7 @@ use Rattle.std.specs.Prelude.{MatchOption, length, map}
 use Rattle.std.specs.Option.{option_map, option_map_or}
 use Rattle.std.specs.String.{string_bytes}
 use Rattle.getopts.specs.Matches.{Matched, MatchedGroup, matched}
-use Rattle.getopts.specs.Options.{Declared, Group, Signature, signatures_of, with_group}
+use Rattle.getopts.specs.Options.{Declared, Group, signatures_of, with_group}
 use Rattle.getopts.specs.Reading.{Occurrence}
 use Rattle.getopts_shell.specs.Program.{Answer, Asked, OperandFault, missing, own_groups}
 use Rattle.getopts_shell.specs.Program.{unexpected}
@@ -87,10 +87,6 @@ HasOwnGroups groups = (occurrences : List Occurrence) × (groups
 abbrev pub with_groups : Declared → List Group → Declared
 with_groups options [] = options
 with_groups options (group ∷ groups) = with_groups (with_group options group) groups
-
--- what parsing uses of each group that matches hold
-abbrev pub held_signatures : List MatchedGroup → List Signature
-held_signatures groups = map (λ group. group.signature) groups
 
 -- the error that a `VariableError` reports
 abbrev pub variable_fault_told : VariableError → VariableFault

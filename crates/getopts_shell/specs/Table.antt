@@ -25,6 +25,13 @@ use Rattle.getopts_shell.specs.declared.row.Frequency.TheVariants.{Once, Last, A
 
 -- ---- texts in parts
 
+-- the bytes `[` and `]`
+abbrev pub open_bracket : ℕ
+open_bracket = 91
+
+abbrev pub close_bracket : ℕ
+close_bracket = 93
+
 -- whether a text contains a byte
 abbrev pub holds : ℕ → Text → Bool
 holds byte text = list_any (λ other. other == byte) text
@@ -39,7 +46,7 @@ after byte text = after_first (λ other. other == byte) text
 
 -- a text without a leading `[`
 abbrev pub unopened : Text → Text
-unopened text = if slice_index text 0 == 91 then drop 1 text else text
+unopened text = if slice_index text 0 == open_bracket then drop 1 text else text
 
 -- whether a text is a word instead of a table: it begins with a dash, and contains no space, tab or
 -- line end
@@ -75,7 +82,8 @@ is_long_name text = not (begins_with_dash text)
 
 -- whether a byte may be in a hint: it isn't a space, a tab, `[` or `]`
 abbrev pub is_hint_byte : ℕ → Bool
-is_hint_byte byte = not (byte == 32) && not (byte == 9) && not (byte == 91) && not (byte == 93)
+is_hint_byte byte = not (byte == 32) && not (byte == 9) && not (byte == open_bracket)
+    && not (byte == close_bracket)
 
 -- whether a text begins like names do, with a dash or `|`
 abbrev pub begins_name : Text → Bool
@@ -127,7 +135,7 @@ end_means end =
 -- An option without brackets has to occur once. After `[` and `]`, the end says how often.
 -- The text has this inside, and brackets that mean this occurrence.
 pub data IsBracketed (text inside : Text) : Frequency → Type 0 where
-  bare : text ≡ inside → slice_index text 0 ≢ 91 → IsBracketed text inside Once
+  bare : text ≡ inside → slice_index text 0 ≢ open_bracket → IsBracketed text inside Once
   bracketed : (end : Text) (frequency : Frequency) → text ≡ codes "[" ++ (inside ++ (codes "]" ++ end))
       → end_means end ≡ Some frequency → IsBracketed text inside frequency
 
@@ -163,8 +171,9 @@ begins_capital text = is_ascii_uppercase (slice_index text 0)
 -- whether a text begins with `[` and ends in its only `]`, or contains neither
 abbrev pub has_brackets : Text → Bool
 has_brackets text =
-    if slice_index text 0 == 91 then holds 93 text && is_empty (after 93 text)
-    else not (holds 93 text)
+    if slice_index text 0 == open_bracket
+    then holds close_bracket text && is_empty (after close_bracket text)
+    else not (holds close_bracket text)
 
 -- whether a text contains no dots, or only two or three at its end
 abbrev pub has_dots : Text → Bool
@@ -173,7 +182,7 @@ has_dots text = not (holds 46 text)
 
 -- the name of an operand, as it is in its item
 abbrev pub operand_name : Text → Text
-operand_name item = before 93 (unopened (before 46 item))
+operand_name item = before close_bracket (unopened (before 46 item))
 
 -- whether an item is an operand: a name that begins with a capital letter, in brackets if it is
 -- optional, with two or three dots if it may be repeated
@@ -189,7 +198,7 @@ pub record Operand : Type 0 where
 
 -- whether an operand is required, and whether it may be repeated
 abbrev pub is_needed : Operand → Bool
-is_needed operand = not (slice_index operand.item 0 == 91)
+is_needed operand = not (slice_index operand.item 0 == open_bracket)
 
 abbrev pub may_repeat : Operand → Bool
 may_repeat operand = holds 46 operand.item
@@ -249,7 +258,7 @@ begins_gap text =
 
 -- whether a text begins like an item: with `[`, a dash, or an operand before a space or a tab
 abbrev pub begins_item : Text → Bool
-begins_item text = slice_index text 0 == 91 || (slice_index text 0 == 45
+begins_item text = slice_index text 0 == open_bracket || (slice_index text 0 == 45
     || is_operand (before 9 (before 32 text)))
 
 -- whether a text ends like an item whose description needs one space: in `]`, `..` or `!`
@@ -257,14 +266,14 @@ abbrev pub ends_item : Text → Bool
 ends_item text = ends_with ◌==◌ text (codes "]")
     || (ends_with ◌==◌ text (codes "..") || ends_with ◌==◌ text (codes "!"))
 
--- whether a text begins with a space, and what follows it doesn't begin like an item
-abbrev pub begins_description : Text → Bool
-begins_description text = slice_index text 0 == 32 && not (begins_item (drop 1 text))
+-- whether a text begins with a space after an item, before what doesn't begin like another
+abbrev pub is_single_gap : Text → Text → Bool
+is_single_gap before text =
+    slice_index text 0 == 32 && (ends_item before && not (begins_item (drop 1 text)))
 
--- whether there is a gap between these bytes of a line and a text: a tab or two spaces; or one
--- space after the end of an item and before a description
+-- whether there is a gap between these bytes of a line and a text: a tab, two spaces, or one
 abbrev pub is_gap : Text → Text → Bool
-is_gap before text = begins_gap text || (ends_item before && begins_description text)
+is_gap before text = begins_gap text || is_single_gap before text
 
 -- what is between these bytes of a line and its first gap, or everything if it has no gap
 abbrev pub front_after : Text → Text → Text
@@ -379,7 +388,7 @@ OneTableOneList = (table : Text) (entries others : List Entry) → DeclaresOptio
 
 -- the part of an item for its names: all before the first space or `]`, without a leading `[`
 abbrev pub names_in : Text → Text
-names_in item = before 32 (before 93 (unopened item))
+names_in item = before 32 (before close_bracket (unopened item))
 
 -- the short and the long name in a text, valid or not, each with its dashes
 abbrev pub dashed : Text → Names
@@ -390,7 +399,8 @@ dashed names =
 -- whether a text contains `]`, and ends in something that can't follow it
 abbrev pub ends_behind : Text → Bool
 ends_behind text =
-    holds 93 text && not (ends_with ◌==◌ text (codes "]") || ends_with ◌==◌ text (codes "."))
+    holds close_bracket text
+    && not (ends_with ◌==◌ text (codes "]") || ends_with ◌==◌ text (codes "."))
 
 -- why an item may be invalid: for each reason, whether it applies, and its text
 abbrev pub reasons : Text → List (Bool × Text)
@@ -398,10 +408,10 @@ reasons item =
     let names = names_in item in
     let short = (dashed names).short in
     let long = (dashed names).long in
-    (holds 91 item && not (holds 93 item), MISSING_BRACKET.now)
-    ∷ (starts_with ◌==◌ (after 93 item) (codes " [-"), ONE_OPTION_A_LINE.now)
+    (holds open_bracket item && not (holds close_bracket item), MISSING_BRACKET.now)
+    ∷ (starts_with ◌==◌ (after close_bracket item) (codes " [-"), ONE_OPTION_A_LINE.now)
     ∷ (begins_name (unopened (after 32 item)) || starts_with ◌==◌ (after 32 item) (codes "]"), NAMES_TOGETHER.now)
-    ∷ (holds 32 (after 93 item), DESCRIPTION_AFTER_GAP.now)
+    ∷ (holds 32 (after close_bracket item), DESCRIPTION_AFTER_GAP.now)
     ∷ (holds 32 (after 32 item), NO_SPACE_IN_ARGUMENT.now)
     ∷ (begins_capital names && holds 32 item, DESCRIPTION_AFTER_GAP.now)
     ∷ (begins_capital names, OPERAND_FORMS.now)
@@ -409,7 +419,7 @@ reasons item =
     ∷ (holds 44 (drop 1 (drop 1 names)), NAMES_TOGETHER.now)
     ∷ (begins_with_dash (after 45 (drop 1 short)), NAMES_TOGETHER.now)
     ∷ (ends_with ◌==◌ short (codes ".."), BRACKETS_AROUND_WHOLE.now)
-    ∷ (holds 91 names, BRACKETS_AROUND_WHOLE.now)
+    ∷ (holds open_bracket names, BRACKETS_AROUND_WHOLE.now)
     ∷ (not (begins_with_dash names) || length short == 1, NAME_FORMS.now)
     ∷ (holds 124 names && not (starts_with ◌==◌ long (codes "--")), TWO_DASHES_AFTER_BAR.now)
     ∷ (starts_with ◌==◌ long (codes "---"), NAME_FORMS.now)

@@ -1,18 +1,15 @@
 //! What the program answers to its words.
 
-ghost use Rattle.std.specs.Prelude.{◌≡◌, ◌≢◌, ◌⊎◌, ◌++◌, ◌-◌, ◌&&◌, codes, map, length, not, take};
-ghost use Rattle.std.specs.Prelude.{true, false, Option, IfOk, OnOk, Some, None};
-ghost use Rattle.std.specs.Option.{is_none, option_map};
+ghost use Rattle.std.specs.Prelude.{◌≡◌, ◌≢◌, ◌⊎◌, ◌++◌, ◌-◌, map, length, take, IfOk, MatchOption};
+ghost use Rattle.std.specs.Prelude.{OnOk, Some, Ok, Err};
+ghost use Rattle.std.specs.Option.{option_map};
 ghost use Rattle.std.specs.Io.KnownBytes.{Appends};
-ghost use Rattle.std.specs.List.{find, list_any};
-ghost use Rattle.std.specs.Str.{IsUtf8, bytes_eq};
+ghost use Rattle.std.specs.Str.{IsUtf8};
 ghost use Rattle.std.specs.String.{string_bytes};
-ghost use Rattle.getopts.specs.Fail.{Fault, fault_of};
+ghost use Rattle.getopts.specs.Fail.{Fault, IsOutOfMemoryOr, fault_of};
 ghost use Rattle.getopts.specs.Names.{AreTexts, Text};
-ghost use Rattle.getopts.specs.Options.{signatures_of};
-ghost use Rattle.getopts.specs.Results.{first_count_fault, fits_count};
-ghost use Rattle.getopts.specs.Results.{parse_ignoring_counts_result, parse_result};
-ghost use Rattle.getopts_shell.specs.Completion.{offer, takes_argument};
+ghost use Rattle.getopts.specs.Results.{parse_result};
+ghost use Rattle.getopts_shell.specs.Completion.{offer};
 ghost use Rattle.getopts_shell.specs.Program.{AnswersAccepted, AnswersAlone, AnswersCounted};
 ghost use Rattle.getopts_shell.specs.Program.{AnswersDeclared, operand_fault_line, refused_by};
 ghost use Rattle.getopts_shell.specs.Program.{usage_line, AnswersFree, AnswersLine, AnswersOffer};
@@ -20,30 +17,26 @@ ghost use Rattle.getopts_shell.specs.Program.{AnswersOwn, AnswersRead, AnswersSc
 ghost use Rattle.getopts_shell.specs.Program.{AnswersWords, AppendsFront, IsAnswer, IsHelp};
 ghost use Rattle.getopts_shell.specs.Program.{IsOutput, IsStatus, ShowsAnswer, ShowsFront};
 ghost use Rattle.getopts_shell.specs.Program.{IsVariablesCode, alone_line, asked_by, asked_fault};
-ghost use Rattle.getopts_shell.specs.Program.{asks_help, brief_text, completion_answer, done};
-ghost use Rattle.getopts_shell.specs.Program.{fault_line, help_code, help_front, is_alone};
-ghost use Rattle.getopts_shell.specs.Program.{last_word, misused, no_completion, no_table, options_in};
-ghost use Rattle.getopts_shell.specs.Program.{own_groups, own_options, read_options, refused};
-ghost use Rattle.getopts_shell.specs.Program.{shown_options, stands_alone, table_fault_line};
-ghost use Rattle.getopts_shell.specs.Program.{variable_fault_line};
+ghost use Rattle.getopts_shell.specs.Program.{brief_text, completion_answer, done, help_code};
+ghost use Rattle.getopts_shell.specs.Program.{help_front, last_word, misused, no_completion};
+ghost use Rattle.getopts_shell.specs.Program.{no_table, options_in, own_groups, own_options};
+ghost use Rattle.getopts_shell.specs.Program.{read_options, refused, shown_options};
 ghost use Rattle.getopts_shell.specs.Stored.{HasOwnGroups, answer_of, asked_of, entries_of};
-ghost use Rattle.getopts_shell.specs.Stored.{entry_of_row, fault_told, groups_of, held_signatures};
-ghost use Rattle.getopts_shell.specs.Stored.{operand_fault_told, operand_of, operands_of};
+ghost use Rattle.getopts_shell.specs.Stored.{entry_of_row, operand_fault_told, operands_of};
 ghost use Rattle.getopts_shell.specs.Stored.{variable_fault_told, with_groups};
 ghost use Rattle.getopts_shell.specs.StoredScript.{script_of};
-ghost use Rattle.getopts_shell.specs.Table.{TableFault, groups_as, late_operand, occurrence_of};
+ghost use Rattle.getopts_shell.specs.Table.{groups_as, occurrence_of};
 ghost use Rattle.getopts_shell.specs.Variables.{given_from, line_code};
 
-use crate::complete::{functions, is_given, offers, stub, takes_argument};
-use crate::item::reason_of;
-use crate::operand::{Operand, OperandError, free_error, may_repeat, push_operands, rows_of};
+use crate::complete::{functions, offers, stub};
+use crate::given::{asks_help, first_alone, main_name};
+use crate::message::{fault_line, operand_fault_line, table_refusal, variable_refusal};
+use crate::operand::{OperandError, free_error, push_operands, rows_of};
 use crate::quote::{push_joined, push_line, push_quoted};
 use crate::row::{Frequency, Row};
 use crate::script::{Asked, Script};
-use crate::table::{Table, TableError, declared_in, is_word};
-use crate::variables::{
-    VariableError, Variables, alone_code, main_name, variable_error, variables_code,
-};
+use crate::table::{Table, declared_in, is_word};
+use crate::variables::{VariableError, alone_code, variable_error, variables_code};
 use getopts::{Fail, Matches, Occur, Options, ParsingStyle, names_resolve};
 use getopts_bytes::push_bytes;
 use std::alloc::{AllocError, Global};
@@ -268,17 +261,6 @@ fn add_own_options(options: &mut Options) -> Result<(), AllocError>
     Ok(())
 }
 
-/// The line for an error, after a name.
-fn fault_line(alloc: Global, name: &str, fail: &Fail) -> Result<String, AllocError>
-    ensures { IfOk result (λ text. (fault : Fault) × (fault_of fail.now ≡ Some fault)
-        × (string_bytes text ≡ fault_line name.now fault)) }
-{
-    match fail {
-        Fail::OutOfMemory => Err(AllocError),
-        _ => format!(in alloc; "{name}: {fail}\n"),
-    }
-}
-
 /// The answer to the program's own words, which have these matches.
 fn own_answer(alloc: Global, options: &Options, own: &Matches) -> Result<Outcome, AllocError>
     requires options { options.now ≡ own_options }
@@ -392,52 +374,6 @@ fn declared_answer(
     script_answer(alloc, script, words)
 }
 
-/// The line for an error in a table.
-fn table_refusal(alloc: Global, error: TableError<'_>) -> Result<String, AllocError>
-    ensures { IfOk result (λ text. (fault : TableFault) × (fault_told error.entry ≡ Some fault)
-        × (string_bytes text ≡ table_fault_line fault)) }
-{
-    match error {
-        TableError::NoOption(number, item) => {
-            let reason = reason_of(item);
-            format!(in alloc; "getopts_shell: line {number} of the table: {item}: {reason}\n")
-        }
-        TableError::NameTwice(number, name) => format!(in alloc;
-            "getopts_shell: line {number} of the table: \
-             the name '{name}' is already used on an earlier line\n"
-        ),
-        TableError::LateOperand(number, operand, earlier) => {
-            late_operand_line(alloc, number, operand, earlier)
-        }
-        TableError::OutOfMemory => Err(AllocError),
-    }
-}
-
-/// The line for an operand that can't follow an earlier one.
-fn late_operand_line(
-    alloc: Global,
-    number: usize,
-    operand: Operand<'_>,
-    earlier: Operand<'_>,
-) -> Result<String, AllocError>
-    ensures { IfOk result (λ text. string_bytes text ≡ table_fault_line
-        (late_operand number (operand_of operand.entry) (operand_of earlier.entry))) }
-{
-    let item = operand.item;
-    let other = earlier.item;
-    if may_repeat(earlier) {
-        format!(in alloc;
-            "getopts_shell: line {number} of the table: \
-             {item}: no operand may follow '{other}', which has dots\n"
-        )
-    } else {
-        format!(in alloc;
-            "getopts_shell: line {number} of the table: \
-             {item}: no required operand may follow '{other}', which is optional\n"
-        )
-    }
-}
-
 /// Why variables or arrays can't be used, if they were asked for.
 fn asked_error<'t>(asked: &'t Asked, rows: &[Row<'t>]) -> Option<VariableError<'t>>
     ensures { option_map variable_fault_told result
@@ -447,36 +383,6 @@ fn asked_error<'t>(asked: &'t Asked, rows: &[Row<'t>]) -> Option<VariableError<'
         Some(prefix) => variable_error(prefix.as_str(), rows),
         None if asked.arrays => Some(VariableError::ArraysOnly),
         None => None,
-    }
-}
-
-/// The line for an error about variables.
-fn variable_refusal(alloc: Global, error: VariableError<'_>) -> Result<String, AllocError>
-    ensures { IfOk result (λ text.
-        string_bytes text ≡ variable_fault_line (variable_fault_told error.entry)) }
-{
-    match error {
-        VariableError::ArraysOnly => {
-            format!(in alloc; "getopts_shell: --arrays requires --variables\n")
-        }
-        VariableError::NoPrefix(prefix) => format!(in alloc;
-            "getopts_shell: the prefix '{prefix}' can't begin a variable name \
-             (ASCII letters, digits and '_', no digit first)\n"
-        ),
-        VariableError::NoVariable(number, name) => format!(in alloc;
-            "getopts_shell: line {number} of the table: \
-             the option '{name}' doesn't make a valid variable name \
-             (ASCII letters, digits and '_', no digit first)\n"
-        ),
-        VariableError::ShellVariable(number, name) => format!(in alloc;
-            "getopts_shell: line {number} of the table: \
-             without a prefix, the option '{name}' may set a variable of the shell: \
-             choose a prefix, such as opt_\n"
-        ),
-        VariableError::VariableTwice(number, earlier, name) => format!(in alloc;
-            "getopts_shell: line {number} of the table: \
-             the options '{earlier}' and '{name}' would have the same variable\n"
-        ),
     }
 }
 
@@ -670,80 +576,62 @@ fn last_offers(alloc: Global, script: Script<'_>, words: &[String]) -> Result<St
     )
 }
 
-/// The answer to a script's words. They are parsed once, without checking counts.
+/// The answer to a script's words. Only rejected words are parsed a second time, since help and
+/// options that stand alone are answered even if a count is broken.
 fn words_answer(alloc: Global, script: Script<'_>, words: &[String]) -> Result<Outcome, AllocError>
     ensures { IfOk result (λ outcome. AnswersWords (script_of script.entry) (map string_bytes words.now)
         (answer_of outcome)) }
 {
+    match script.options.parse_words(alloc, words) {
+        Ok(matches) => read_answer(alloc, script, words, &matches, None),
+        Err(Fail::OutOfMemory) => Err(AllocError),
+        Err(fail) => rejected_answer(alloc, script, words, &fail),
+    }
+}
+
+/// The answer to words that are rejected with this error.
+fn rejected_answer(
+    alloc: Global,
+    script: Script<'_>,
+    words: &[String],
+    fail: &Fail,
+) -> Result<Outcome, AllocError>
+    requires { IsOutOfMemoryOr fail.now (λ fault. parse_result (read_options (script_of script))
+        (map string_bytes words.now) ≡ Err fault) }
+    ensures { IfOk result (λ outcome. AnswersWords (script_of script.entry) (map string_bytes words.now)
+        (answer_of outcome)) }
+{
     match script.options.parse_ignoring_counts(alloc, words) {
-        Ok(matches) => read_answer(alloc, script, words, &matches),
+        Ok(matches) => read_answer(alloc, script, words, &matches, Some(fail)),
         Err(fail) => refusal(alloc, script, &fail),
     }
 }
 
-/// The answer to words with these matches: code that prints the help if they ask for it, code for
-/// an option that stands alone if they give one, or else what they mean.
+/// The answer to words with these matches, and perhaps an error of counts: code that prints the
+/// help if they ask for it, code for an option that stands alone if they give one, or else the
+/// error or what they mean.
 fn read_answer(
     alloc: Global,
     script: Script<'_>,
     words: &[String],
     matches: &Matches,
+    fail: Option<&Fail>,
 ) -> Result<Outcome, AllocError>
-    requires { parse_ignoring_counts_result (read_options (script_of script))
-        (map string_bytes words.now) ≡ Ok matches.now }
+    requires { MatchOption fail
+        (parse_result (read_options (script_of script)) (map string_bytes words.now) ≡ Ok matches.now)
+        (λ fail. IsOutOfMemoryOr fail.now (λ fault. parse_result (read_options (script_of script))
+        (map string_bytes words.now) ≡ Err fault)) }
     ensures { IfOk result (λ outcome.
         AnswersRead (script_of script.entry) (map string_bytes words.now) matches.now (answer_of outcome)) }
 {
     if asks_help(&script.table.rows, matches) {
         return Ok(Outcome::done(help_code(alloc, script)?));
     }
-    match first_alone(&script.table.rows, matches) {
-        Some(row) => alone_answer(alloc, script, row),
-        None => counted_answer(alloc, script, words, matches),
+    match (first_alone(&script.table.rows, matches), fail) {
+        (Some(row), _) => alone_answer(alloc, script, row),
+        (None, Some(fail)) => refusal(alloc, script, fail),
+        (None, None) => parsed_answer(alloc, script, words, matches),
     }
-}
-
-/// Whether matches ask for help that one of the rows offers.
-fn asks_help(rows: &[Row<'_>], matches: &Matches) -> bool
-    ensures { result ≡ asks_help (entries_of rows.now) matches.now }
-{
-    offers_help(rows) && is_given(matches, "help")
-}
-
-/// Whether one of the rows is called `help`, and takes no argument.
-fn offers_help(rows: &[Row<'_>]) -> bool
-    ensures { result ≡ list_any (λ row. bytes_eq row.long.now (codes "help")
-        && not (takes_argument row.kind)) rows.now }
-{
-    rows.iter()
-        .any(|row| row.long == "help" && !takes_argument(row.kind))
-}
-
-/// Whether an option with this occurrence stands alone.
-fn stands_alone(frequency: Frequency) -> bool
-    ensures { result ≡ stands_alone frequency }
-{
-    matches!(frequency, Frequency::Alone)
-}
-
-/// The first row that stands alone and that the matches give.
-fn first_alone<'t>(rows: &[Row<'t>], matches: &Matches) -> Option<Row<'t>>
-    ensures { option_map entry_of_row result ≡ find (is_alone matches.now) (entries_of rows.now) }
-{
-    for at in 0..rows.len() {
-        let row = rows[at];
-        if is_alone(row, matches) {
-            return Some(row);
-        }
-    }
-    None
-}
-
-/// Whether a row stands alone and the matches give it.
-fn is_alone(row: Row<'_>, matches: &Matches) -> bool
-    ensures { result ≡ is_alone matches.now (entry_of_row row.entry) }
-{
-    stands_alone(row.frequency) && is_given(matches, main_name(row))
 }
 
 /// The answer to words that give an option that stands alone: its line, or variables as if only it
@@ -787,28 +675,6 @@ fn help_code(alloc: Global, script: Script<'_>) -> Result<String, AllocError>
     Ok(text)
 }
 
-/// The answer to words with these matches, with their counts checked. They are parsed again only if
-/// they break a count.
-fn counted_answer(
-    alloc: Global,
-    script: Script<'_>,
-    words: &[String],
-    matches: &Matches,
-) -> Result<Outcome, AllocError>
-    requires { parse_ignoring_counts_result (read_options (script_of script))
-        (map string_bytes words.now) ≡ Ok matches.now }
-    ensures { IfOk result (λ outcome.
-        AnswersCounted (script_of script.entry) (map string_bytes words.now) (answer_of outcome)) }
-{
-    if keep_counts(&script.table.rows, matches) {
-        return parsed_answer(alloc, script, words, matches);
-    }
-    match script.options.parse_words(alloc, words) {
-        Ok(matches) => parsed_answer(alloc, script, words, &matches),
-        Err(fail) => refusal(alloc, script, &fail),
-    }
-}
-
 /// The answer to words that keep the counts of options: the error of the free words, or what the
 /// words mean.
 fn parsed_answer(
@@ -840,32 +706,6 @@ fn accepted_answer(
     match &script.asked.variables {
         Some(prefix) => variables_answer(alloc, script, prefix.as_str(), matches),
         None => line_answer(alloc, script, words),
-    }
-}
-
-/// Whether matches keep the counts of these rows.
-fn keep_counts(rows: &[Row<'_>], matches: &Matches) -> bool
-    requires { held_signatures matches.now.groups ≡ signatures_of (groups_of rows.now) }
-    ensures { result ≡ is_none (first_count_fault matches.now.groups) }
-{
-    for place in 0..rows.len() {
-        let row = rows[place];
-        let count = matches.occurrences_at(place).len();
-        if !keeps_count(occurrence_of(false, row.frequency), count) {
-            return false;
-        }
-    }
-    true
-}
-
-/// Whether an option may occur this often.
-fn keeps_count(occurrence: Occur, count: usize) -> bool
-    ensures { result ≡ fits_count occurrence count }
-{
-    match occurrence {
-        Occur::Req => count == 1,
-        Occur::Optional => count <= 1,
-        Occur::Multi => true,
     }
 }
 
@@ -928,25 +768,6 @@ fn operand_refusal(
 {
     let line = operand_fault_line(alloc, script.name, error)?;
     refused(alloc, script, line)
-}
-
-/// The line for an error of free words, after a name.
-fn operand_fault_line(
-    alloc: Global,
-    name: &str,
-    error: OperandError<'_>,
-) -> Result<String, AllocError>
-    ensures { IfOk result (λ text.
-        string_bytes text ≡ operand_fault_line name.now (operand_fault_told error.entry)) }
-{
-    match error {
-        OperandError::Missing(operand) => {
-            format!(in alloc; "{name}: Operand '{operand}' missing\n")
-        }
-        OperandError::Unexpected(word) => {
-            format!(in alloc; "{name}: Unexpected operand: '{word}'\n")
-        }
-    }
 }
 
 /// Rejects a script's words with a line, and the text at the top of its help.

@@ -6,22 +6,20 @@ ghost use Rattle.std.specs.Prelude.{OnOk};
 ghost use Rattle.std.specs.List.{starts_with};
 ghost use Rattle.std.specs.Option.{option_map};
 ghost use Rattle.std.specs.String.{string_bytes};
-ghost use Rattle.getopts.specs.Accessors.{is_present};
 ghost use Rattle.getopts.specs.Fail.{Fault, fault_of};
 ghost use Rattle.getopts.specs.Names.{texts};
 ghost use Rattle.getopts.specs.Results.{parse_ignoring_counts_result};
 ghost use Rattle.getopts.specs.Reading.{stop_word};
-ghost use Rattle.getopts_shell.specs.Completion.{groups_before_option, holds_all, may_come, name_line, offer};
-ghost use Rattle.getopts_shell.specs.Completion.{option_lines, options_lines, takes_argument};
-ghost use Rattle.getopts_shell.specs.Completion.{first_line, functions, modes, stub, stub_call};
-ghost use Rattle.getopts_shell.specs.Completion.{stub_quoted};
+ghost use Rattle.getopts_shell.specs.Completion.{groups_before_option, name_line, offer};
+ghost use Rattle.getopts_shell.specs.Completion.{option_lines, options_lines, first_line};
+ghost use Rattle.getopts_shell.specs.Completion.{functions, modes, stub, stub_call, stub_quoted};
 ghost use Rattle.getopts_shell.specs.Stored.{entries_of, entry_of_row, is_last_after_stop};
 
+use crate::given::{may_come, takes_argument};
 use crate::item::is_long_name;
 use crate::quote::{push_parting, push_replaced};
-use crate::row::{Frequency, Row};
-use crate::variables::main_name;
-use getopts::{Fail, HasArg, Matches, Options, names_resolve};
+use crate::row::Row;
+use getopts::{Fail, Matches, Options, names_resolve};
 use std::alloc::{AllocError, Global};
 
 /// Completes words in bash: reads the words up to the cursor, asks the program, and shows
@@ -304,27 +302,6 @@ fn options_lines(
     Ok(text)
 }
 
-/// Whether an option is offered: it wasn't given, or all its values count.
-fn may_come(matches: &Matches, row: &Row<'_>) -> bool
-    ensures { result ≡ may_come matches.now.groups (entry_of_row row.now) }
-{
-    holds_all(row.frequency) || !is_given(matches, main_name(*row))
-}
-
-/// Whether all values of an option count.
-pub(crate) fn holds_all(frequency: Frequency) -> bool
-    ensures { result ≡ holds_all frequency }
-{
-    matches!(frequency, Frequency::All)
-}
-
-/// Whether matches contain an option of this name.
-pub(crate) fn is_given(matches: &Matches, name: &str) -> bool
-    ensures { result ≡ is_present matches.now.groups name.now }
-{
-    matches.opt_defined(name) && matches.opt_present(name)
-}
-
 /// Appends the completions for an option.
 fn push_option(
     text: &mut String,
@@ -347,13 +324,6 @@ fn push_option(
         row.short,
         row.description,
     )
-}
-
-/// Whether a kind takes an argument.
-pub(crate) fn takes_argument(kind: HasArg) -> bool
-    ensures { result ≡ takes_argument kind }
-{
-    !matches!(kind, HasArg::No)
 }
 
 /// Appends the completions for a name after its dashes, if there is such a name.

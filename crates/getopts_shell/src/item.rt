@@ -13,7 +13,7 @@ ghost use Rattle.getopts_shell.specs.Table.{is_long_name, is_long_byte, MayBeNam
 ghost use Rattle.getopts_shell.specs.Table.{HasParts, IsBracketed, IsItem, end_means};
 ghost use Rattle.getopts_shell.specs.Table.{begins_capital, begins_name, ends_as_name, ends_behind};
 ghost use Rattle.getopts_shell.specs.Table.{fits, unopened, after, before, dashed, holds, names_in};
-ghost use Rattle.getopts_shell.specs.Table.{reason_of};
+ghost use Rattle.getopts_shell.specs.Table.{close_bracket, open_bracket, reason_of};
 ghost use Rattle.getopts_shell.specs.declared.row.Frequency.{Frequency as HowOften};
 
 use crate::row::{Frequency, Row};
@@ -75,9 +75,9 @@ fn unbracketed(text: &str) -> Option<(&str, Frequency)>
 
 /// A text split at its last `]`: what precedes it, and what follows it.
 fn cut_at_bracket(text: &str) -> Option<(&str, &str)>
-    ensures { MatchOption result (AllByRecursion (λ byte. byte ≢ 93) text.now) (λ parts.
-        (text.now ≡ parts.0.now ++ (93 ∷ parts.1.now))
-        × AllByRecursion (λ byte. byte ≢ 93) parts.1.now) }
+    ensures { MatchOption result (AllByRecursion (λ byte. byte ≢ close_bracket) text.now) (λ parts.
+        (text.now ≡ parts.0.now ++ (close_bracket ∷ parts.1.now))
+        × AllByRecursion (λ byte. byte ≢ close_bracket) parts.1.now) }
 {
     text.rsplit_once(']')
 }
@@ -346,7 +346,7 @@ fn first_reason(reasons: &[(bool, &'static str)], other: &'static str) -> &'stat
 
 /// Whether bytes contain `[` but no `]`.
 fn is_open(bytes: &[u8]) -> bool
-    ensures { result ≡ (holds 91 bytes.now && not (holds 93 bytes.now)) }
+    ensures { result ≡ (holds open_bracket bytes.now && not (holds close_bracket bytes.now)) }
 {
     bytes.contains(&b'[') && !bytes.contains(&b']')
 }

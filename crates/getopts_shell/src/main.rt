@@ -7,8 +7,10 @@ ghost use Rattle.getopts_shell.specs.Program.{IsStatus};
 
 mod answer;
 mod complete;
+mod given;
 mod item;
 mod laws;
+mod message;
 mod operand;
 mod quote;
 mod row;

@@ -1,15 +1,15 @@
 //! Tables of options: their lines, and the options that these declare.
 
-ghost use Rattle.std.specs.Prelude.{◌≡◌, ◌++◌, Option, ◌||◌, ◌==◌, slice_index, ◌∷◌, []};
-ghost use Rattle.std.specs.Prelude.{◌<◌, true, MatchResult, IfErr, IfSome, OnOk, Some, None};
+ghost use Rattle.std.specs.Prelude.{◌≡◌, ◌++◌, Option, ◌||◌, ◌==◌, slice_index, ◌∷◌, [], ◌<◌, true};
+ghost use Rattle.std.specs.Prelude.{MatchResult, IfErr, IfSome, OnOk, Some, None};
 ghost use Rattle.std.specs.List.{list_any};
 ghost use Rattle.std.specs.Option.{option_copied, option_to_list};
 ghost use Rattle.std.specs.Str.{bytes_eq};
 ghost use Rattle.getopts.specs.Names.{Text, is_empty};
 ghost use Rattle.getopts_shell.specs.Stored.{entry_of_row, entries_of, operand_of, operands_of};
 ghost use Rattle.getopts_shell.specs.Stored.{IsOutOfMemoryOrFault};
-ghost use Rattle.getopts_shell.specs.Table.{trimmed, begins_gap, before_gap, from_gap, is_word};
-ghost use Rattle.getopts_shell.specs.Table.{begins_description, begins_item, ends_item, is_gap};
+ghost use Rattle.getopts_shell.specs.Table.{trimmed, before_gap, from_gap, is_word};
+ghost use Rattle.getopts_shell.specs.Table.{begins_gap, begins_item, ends_item, is_gap, is_single_gap};
 ghost use Rattle.getopts_shell.specs.Table.{any_has_name, name_again, Entry, OneTableOneList};
 ghost use Rattle.getopts_shell.specs.Table.{Declares, DeclaresOptions, IsLineFault, IsTableFault};
 ghost use Rattle.getopts_shell.specs.Table.{conflicting_operand, late_operand, name_twice};
@@ -209,15 +209,22 @@ fn is_gap(before: &[u8], bytes: &[u8]) -> bool
     ensures is { result ≡ is_gap before.now bytes.now }
     ensures ascii { result ≡ true → slice_index bytes.now 0 < 128 }
 {
-    begins_gap(bytes) || (ends_item(before) && begins_description(bytes))
+    begins_gap(bytes) || is_single_gap(before, bytes)
 }
 
-/// Whether bytes begin with a space, and what follows it doesn't begin like an item.
-fn begins_description(bytes: &[u8]) -> bool
-    ensures { result ≡ begins_description bytes.now }
+/// Whether bytes begin with a tab or two spaces.
+fn begins_gap(bytes: &[u8]) -> bool
+    ensures { result ≡ begins_gap bytes.now }
+{
+    matches!(bytes, [b'\t', ..] | [b' ', b' ', ..])
+}
+
+/// Whether bytes begin with a space after an item, before what doesn't begin like another.
+fn is_single_gap(before: &[u8], bytes: &[u8]) -> bool
+    ensures { result ≡ is_single_gap before.now bytes.now }
 {
     match bytes {
-        [b' ', rest @ ..] => !begins_item(rest),
+        [b' ', rest @ ..] => ends_item(before) && !begins_item(rest),
         _ => false,
     }
 }
@@ -234,15 +241,4 @@ fn begins_item(bytes: &[u8]) -> bool
     ensures { result ≡ begins_item bytes.now }
 {
     matches!(bytes, [b'[' | b'-', ..]) || are_operand(cut_at(cut_at(bytes, b' ').0, b'\t').0)
-}
-
-/// Whether bytes begin with a tab or two spaces.
-fn begins_gap(bytes: &[u8]) -> bool
-    ensures { result ≡ begins_gap bytes.now }
-{
-    match bytes {
-        [b'\t', ..] => true,
-        [b' ', b' ', ..] => true,
-        _ => false,
-    }
 }

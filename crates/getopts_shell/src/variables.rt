@@ -2,7 +2,7 @@
 //! variables.
 
 ghost use Rattle.std.specs.Prelude.{◌≡◌, ◌++◌, [], length, map, IfOk, OnOk, false, not, slice_get};
-ghost use Rattle.std.specs.Prelude.{get_or, None, Some, MatchOption, codes, true, ⊤};
+ghost use Rattle.std.specs.Prelude.{get_or, None, Some, MatchOption, codes, ⊤};
 ghost use Rattle.std.specs.Char.{is_ascii_digit, is_ascii_lowercase};
 ghost use Rattle.std.specs.Option.{option_map, option_map_or};
 ghost use Rattle.std.specs.List.{find, last_or, list_all, list_any};
@@ -16,11 +16,12 @@ ghost use Rattle.getopts_shell.specs.Table.{Entry};
 ghost use Rattle.getopts_shell.specs.Variables.{AreTextValues, CodeSetsVariables, HoldTexts};
 ghost use Rattle.getopts_shell.specs.Variables.{all_values, count_text, found_alone, founds_of};
 ghost use Rattle.getopts_shell.specs.Variables.{given_alone, given_from, is_prefix, is_variable};
-ghost use Rattle.getopts_shell.specs.Variables.{is_shell_variable, is_variable_byte, option_code, own_value};
-ghost use Rattle.getopts_shell.specs.Variables.{prefix_fault, texts_found, value_line, variable};
-ghost use Rattle.getopts_shell.specs.Variables.{variable_byte, variable_fault, variable_of};
-ghost use Rattle.getopts_shell.specs.Variables.{variables_code, many, one};
+ghost use Rattle.getopts_shell.specs.Variables.{is_shell_variable, is_variable_byte, option_code};
+ghost use Rattle.getopts_shell.specs.Variables.{own_value, prefix_fault, texts_found, value_line};
+ghost use Rattle.getopts_shell.specs.Variables.{variable, variable_byte, variable_fault};
+ghost use Rattle.getopts_shell.specs.Variables.{variable_of, variables_code, one};
 
+use crate::given::main_name;
 use crate::quote::{push_line, push_parting, push_quoted, push_replaced};
 use crate::row::{Frequency, Row};
 use getopts::{HasArg, Matches, Occurrences};
@@ -181,17 +182,6 @@ fn push_option_value(
         (HasArg::No, _) => push_count(alloc, text, variables.prefix, name, count(given)),
         (_, Frequency::All) => push_all(alloc, text, variables, name, given),
         _ => push_last(text, variables.prefix, name, given),
-    }
-}
-
-/// The main name of an option.
-pub(crate) fn main_name<'t>(row: Row<'t>) -> &'t str
-    ensures { result.now ≡ main_name (entry_of_row row.entry).names }
-{
-    if row.long.is_empty() {
-        row.short
-    } else {
-        row.long
     }
 }
 

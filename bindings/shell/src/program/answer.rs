@@ -3,16 +3,15 @@
 
 use crate::host::*;
 
-use super::complete::{functions, is_given, offers, stub, takes_argument};
-use super::item::reason_of;
-use super::operand::{Operand, OperandError, free_error, may_repeat, push_operands, rows_of};
+use super::complete::{functions, offers, stub};
+use super::given::{asks_help, first_alone, main_name};
+use super::message::{fault_line, operand_fault_line, table_refusal, variable_refusal};
+use super::operand::{OperandError, free_error, push_operands, rows_of};
 use super::quote::{push_joined, push_line, push_quoted};
 use super::row::{Frequency, Row};
 use super::script::{Asked, Script};
-use super::table::{Table, TableError, declared_in, is_word};
-use super::variables::{
-    VariableError, Variables, alone_code, main_name, variable_error, variables_code,
-};
+use super::table::{Table, declared_in, is_word};
+use super::variables::{VariableError, alone_code, variable_error, variables_code};
 use crate::getopts::{Fail, Matches, Occur, Options, ParsingStyle, names_resolve};
 use ::getopts::bytes::push_bytes;
 use crate::host::alloc::{AllocError, Global};
@@ -194,14 +193,6 @@ fn add_own_options(options: &mut Options) -> Result<(), AllocError> {
     Ok(())
 }
 
-/// The line for an error, after a name.
-fn fault_line(alloc: Global, name: &str, fail: &Fail) -> Result<String, AllocError> {
-    match fail {
-        Fail::OutOfMemory => Err(AllocError),
-        _ => text!(in alloc; "{name}: {fail}\n"),
-    }
-}
-
 /// The answer to the program's own words, which have these matches.
 fn own_answer(alloc: Global, options: &Options, own: &Matches) -> Result<Outcome, AllocError> {
     if own.opt_present("help") {
@@ -290,79 +281,12 @@ fn declared_answer(
     script_answer(alloc, script, words)
 }
 
-/// The line for an error in a table.
-fn table_refusal(alloc: Global, error: TableError<'_>) -> Result<String, AllocError> {
-    match error {
-        TableError::NoOption(number, item) => {
-            let reason = reason_of(item);
-            text!(in alloc; "getopts_shell: line {number} of the table: {item}: {reason}\n")
-        }
-        TableError::NameTwice(number, name) => text!(in alloc;
-            "getopts_shell: line {number} of the table: \
-             the name '{name}' is already used on an earlier line\n"
-        ),
-        TableError::LateOperand(number, operand, earlier) => {
-            late_operand_line(alloc, number, operand, earlier)
-        }
-        TableError::OutOfMemory => Err(AllocError),
-    }
-}
-
-/// The line for an operand that can't follow an earlier one.
-fn late_operand_line(
-    alloc: Global,
-    number: usize,
-    operand: Operand<'_>,
-    earlier: Operand<'_>,
-) -> Result<String, AllocError> {
-    let item = operand.item;
-    let other = earlier.item;
-    if may_repeat(earlier) {
-        text!(in alloc;
-            "getopts_shell: line {number} of the table: \
-             {item}: no operand may follow '{other}', which has dots\n"
-        )
-    } else {
-        text!(in alloc;
-            "getopts_shell: line {number} of the table: \
-             {item}: no required operand may follow '{other}', which is optional\n"
-        )
-    }
-}
-
 /// Why variables or arrays can't be used, if they were asked for.
 fn asked_error<'t>(asked: &'t Asked, rows: &[Row<'t>]) -> Option<VariableError<'t>> {
     match &asked.variables {
         Some(prefix) => variable_error(prefix.as_str(), rows),
         None if asked.arrays => Some(VariableError::ArraysOnly),
         None => None,
-    }
-}
-
-/// The line for an error about variables.
-fn variable_refusal(alloc: Global, error: VariableError<'_>) -> Result<String, AllocError> {
-    match error {
-        VariableError::ArraysOnly => {
-            text!(in alloc; "getopts_shell: --arrays requires --variables\n")
-        }
-        VariableError::NoPrefix(prefix) => text!(in alloc;
-            "getopts_shell: the prefix '{prefix}' can't begin a variable name \
-             (ASCII letters, digits and '_', no digit first)\n"
-        ),
-        VariableError::NoVariable(number, name) => text!(in alloc;
-            "getopts_shell: line {number} of the table: \
-             the option '{name}' doesn't make a valid variable name \
-             (ASCII letters, digits and '_', no digit first)\n"
-        ),
-        VariableError::ShellVariable(number, name) => text!(in alloc;
-            "getopts_shell: line {number} of the table: \
-             without a prefix, the option '{name}' may set a variable of the shell: \
-             choose a prefix, such as opt_\n"
-        ),
-        VariableError::VariableTwice(number, earlier, name) => text!(in alloc;
-            "getopts_shell: line {number} of the table: \
-             the options '{earlier}' and '{name}' would have the same variable\n"
-        ),
     }
 }
 
@@ -528,65 +452,51 @@ fn last_offers(alloc: Global, script: Script<'_>, words: &[String]) -> Result<St
     )
 }
 
-/// The answer to a script's words. They are parsed once, without checking counts.
+/// The answer to a script's words. Only rejected words are parsed a second time, since help and
+/// options that stand alone are answered even if a count is broken.
 fn words_answer(
     alloc: Global,
     script: Script<'_>,
     words: &[String],
 ) -> Result<Outcome, AllocError> {
+    match script.options.parse_words(alloc, words) {
+        Ok(matches) => read_answer(alloc, script, words, &matches, None),
+        Err(Fail::OutOfMemory) => Err(AllocError),
+        Err(fail) => rejected_answer(alloc, script, words, &fail),
+    }
+}
+
+/// The answer to words that are rejected with this error.
+fn rejected_answer(
+    alloc: Global,
+    script: Script<'_>,
+    words: &[String],
+    fail: &Fail,
+) -> Result<Outcome, AllocError> {
     match script.options.parse_ignoring_counts(alloc, words) {
-        Ok(matches) => read_answer(alloc, script, words, &matches),
+        Ok(matches) => read_answer(alloc, script, words, &matches, Some(fail)),
         Err(fail) => refusal(alloc, script, &fail),
     }
 }
 
-/// The answer to words with these matches: code that prints the help if they ask for it, code for
-/// an option that stands alone if they give one, or else what they mean.
+/// The answer to words with these matches, and perhaps an error of counts: code that prints the
+/// help if they ask for it, code for an option that stands alone if they give one, or else the
+/// error or what they mean.
 fn read_answer(
     alloc: Global,
     script: Script<'_>,
     words: &[String],
     matches: &Matches,
+    fail: Option<&Fail>,
 ) -> Result<Outcome, AllocError> {
     if asks_help(&script.table.rows, matches) {
         return Ok(Outcome::done(help_code(alloc, script)?));
     }
-    match first_alone(&script.table.rows, matches) {
-        Some(row) => alone_answer(alloc, script, row),
-        None => counted_answer(alloc, script, words, matches),
+    match (first_alone(&script.table.rows, matches), fail) {
+        (Some(row), _) => alone_answer(alloc, script, row),
+        (None, Some(fail)) => refusal(alloc, script, fail),
+        (None, None) => parsed_answer(alloc, script, words, matches),
     }
-}
-
-/// Whether matches ask for help that one of the rows offers.
-fn asks_help(rows: &[Row<'_>], matches: &Matches) -> bool {
-    offers_help(rows) && is_given(matches, "help")
-}
-
-/// Whether one of the rows is called `help`, and takes no argument.
-fn offers_help(rows: &[Row<'_>]) -> bool {
-    rows.iter()
-        .any(|row| row.long == "help" && !takes_argument(row.kind))
-}
-
-/// Whether an option with this occurrence stands alone.
-fn stands_alone(frequency: Frequency) -> bool {
-    matches!(frequency, Frequency::Alone)
-}
-
-/// The first row that stands alone and that the matches give.
-fn first_alone<'t>(rows: &[Row<'t>], matches: &Matches) -> Option<Row<'t>> {
-    for at in 0..rows.len() {
-        let row = rows[at];
-        if is_alone(row, matches) {
-            return Some(row);
-        }
-    }
-    None
-}
-
-/// Whether a row stands alone and the matches give it.
-fn is_alone(row: Row<'_>, matches: &Matches) -> bool {
-    stands_alone(row.frequency) && is_given(matches, main_name(row))
 }
 
 /// The answer to words that give an option that stands alone: its line, or variables as if only it
@@ -619,23 +529,6 @@ fn help_code(alloc: Global, script: Script<'_>) -> Result<String, AllocError> {
     Ok(text)
 }
 
-/// The answer to words with these matches, with their counts checked. They are parsed again only if
-/// they break a count.
-fn counted_answer(
-    alloc: Global,
-    script: Script<'_>,
-    words: &[String],
-    matches: &Matches,
-) -> Result<Outcome, AllocError> {
-    if keep_counts(&script.table.rows, matches) {
-        return parsed_answer(alloc, script, words, matches);
-    }
-    match script.options.parse_words(alloc, words) {
-        Ok(matches) => parsed_answer(alloc, script, words, &matches),
-        Err(fail) => refusal(alloc, script, &fail),
-    }
-}
-
 /// The answer to words that keep the counts of options: the error of the free words, or what the
 /// words mean.
 fn parsed_answer(
@@ -660,27 +553,6 @@ fn accepted_answer(
     match &script.asked.variables {
         Some(prefix) => variables_answer(alloc, script, prefix.as_str(), matches),
         None => line_answer(alloc, script, words),
-    }
-}
-
-/// Whether matches keep the counts of these rows.
-fn keep_counts(rows: &[Row<'_>], matches: &Matches) -> bool {
-    for place in 0..rows.len() {
-        let row = rows[place];
-        let count = matches.occurrences_at(place).len();
-        if !keeps_count(occurrence_of(false, row.frequency), count) {
-            return false;
-        }
-    }
-    true
-}
-
-/// Whether an option may occur this often.
-fn keeps_count(occurrence: Occur, count: usize) -> bool {
-    match occurrence {
-        Occur::Req => count == 1,
-        Occur::Optional => count <= 1,
-        Occur::Multi => true,
     }
 }
 
@@ -727,22 +599,6 @@ fn operand_refusal(
 ) -> Result<Outcome, AllocError> {
     let line = operand_fault_line(alloc, script.name, error)?;
     refused(alloc, script, line)
-}
-
-/// The line for an error of free words, after a name.
-fn operand_fault_line(
-    alloc: Global,
-    name: &str,
-    error: OperandError<'_>,
-) -> Result<String, AllocError> {
-    match error {
-        OperandError::Missing(operand) => {
-            text!(in alloc; "{name}: Operand '{operand}' missing\n")
-        }
-        OperandError::Unexpected(word) => {
-            text!(in alloc; "{name}: Unexpected operand: '{word}'\n")
-        }
-    }
 }
 
 /// Rejects a script's words with a line, and the text at the top of its help.

@@ -4,11 +4,11 @@
 
 use crate::host::*;
 
+use super::given::{may_come, takes_argument};
 use super::item::is_long_name;
 use super::quote::{push_parting, push_replaced};
-use super::row::{Frequency, Row};
-use super::variables::main_name;
-use crate::getopts::{Fail, HasArg, Matches, Options, names_resolve};
+use super::row::Row;
+use crate::getopts::{Fail, Matches, Options, names_resolve};
 use crate::host::alloc::{AllocError, Global};
 
 /// Completes words in bash: reads the words up to the cursor, asks the program, and shows
@@ -254,21 +254,6 @@ fn options_lines(
     Ok(text)
 }
 
-/// Whether an option is offered: it wasn't given, or all its values count.
-fn may_come(matches: &Matches, row: &Row<'_>) -> bool {
-    holds_all(row.frequency) || !is_given(matches, main_name(*row))
-}
-
-/// Whether all values of an option count.
-pub(crate) fn holds_all(frequency: Frequency) -> bool {
-    matches!(frequency, Frequency::All)
-}
-
-/// Whether matches contain an option of this name.
-pub(crate) fn is_given(matches: &Matches, name: &str) -> bool {
-    matches.opt_defined(name) && matches.opt_present(name)
-}
-
 /// Appends the completions for an option.
 fn push_option(
     text: &mut String,
@@ -288,11 +273,6 @@ fn push_option(
         row.short,
         row.description,
     )
-}
-
-/// Whether a kind takes an argument.
-pub(crate) fn takes_argument(kind: HasArg) -> bool {
-    !matches!(kind, HasArg::No)
 }
 
 /// Appends the completions for a name after its dashes, if there is such a name.

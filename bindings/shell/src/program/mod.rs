@@ -6,7 +6,9 @@ use crate::host::*;
 
 mod answer;
 mod complete;
+mod given;
 mod item;
+mod message;
 mod operand;
 mod quote;
 mod row;

@@ -143,13 +143,18 @@ fn cut_at_gap(text: &str) -> (&str, &str) {
 
 /// Whether a gap is between these bytes of a line.
 fn is_gap(before: &[u8], bytes: &[u8]) -> bool {
-    begins_gap(bytes) || (ends_item(before) && begins_description(bytes))
+    begins_gap(bytes) || is_single_gap(before, bytes)
 }
 
-/// Whether bytes begin with a space, and what follows it doesn't begin like an item.
-fn begins_description(bytes: &[u8]) -> bool {
+/// Whether bytes begin with a tab or two spaces.
+fn begins_gap(bytes: &[u8]) -> bool {
+    matches!(bytes, [b'\t', ..] | [b' ', b' ', ..])
+}
+
+/// Whether bytes begin with a space after an item, before what doesn't begin like another.
+fn is_single_gap(before: &[u8], bytes: &[u8]) -> bool {
     match bytes {
-        [b' ', rest @ ..] => !begins_item(rest),
+        [b' ', rest @ ..] => ends_item(before) && !begins_item(rest),
         _ => false,
     }
 }
@@ -162,13 +167,4 @@ fn ends_item(bytes: &[u8]) -> bool {
 /// Whether bytes begin like an item.
 fn begins_item(bytes: &[u8]) -> bool {
     matches!(bytes, [b'[' | b'-', ..]) || are_operand(cut_at(cut_at(bytes, b' ').0, b'\t').0)
-}
-
-/// Whether bytes begin with a tab or two spaces.
-fn begins_gap(bytes: &[u8]) -> bool {
-    match bytes {
-        [b'\t', ..] => true,
-        [b' ', b' ', ..] => true,
-        _ => false,
-    }
 }

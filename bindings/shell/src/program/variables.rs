@@ -4,6 +4,7 @@
 
 use crate::host::*;
 
+use super::given::main_name;
 use super::quote::{push_line, push_parting, push_quoted, push_replaced};
 use super::row::{Frequency, Row};
 use crate::getopts::{HasArg, Matches, Occurrences};
@@ -132,15 +133,6 @@ fn push_option_value(
         (HasArg::No, _) => push_count(alloc, text, variables.prefix, name, count(given)),
         (_, Frequency::All) => push_all(alloc, text, variables, name, given),
         _ => push_last(text, variables.prefix, name, given),
-    }
-}
-
-/// The main name of an option.
-pub(crate) fn main_name<'t>(row: Row<'t>) -> &'t str {
-    if row.long.is_empty() {
-        row.short
-    } else {
-        row.long
     }
 }
 

@@ -2,7 +2,7 @@ use Rattle.std.proofs.Common.{true, false, sym, ◌∙◌}
 use Rattle.getopts_shell.specs.Program.{is_alone}
 use Rattle.getopts_shell.specs.Stored.{entry_of_row}
 use Rattle.getopts_shell.proofs.First.{found_from}
-use Rattle.getopts_shell.proofs.answer.first_alone.Goals as goal
+use Rattle.getopts_shell.proofs.given.first_alone.Goals as goal
 
 pub loop-at-preserved : goal.loop-at-preserved
 loop-at-preserved c =

@@ -2,7 +2,7 @@ use Rattle.std.proofs.Common.{refl}
 use Rattle.getopts_shell.specs.Program.{is_help}
 use Rattle.getopts_shell.specs.Stored.{entry_of_row}
 use Rattle.getopts_shell.proofs.Lines.{list_any_map}
-use Rattle.getopts_shell.proofs.answer.asks_help.Goals as goal
+use Rattle.getopts_shell.proofs.given.asks_help.Goals as goal
 
 pub returns-then-offers_help : goal.returns-then-offers_help
 returns-then-offers_help c =

@@ -4,7 +4,7 @@ use Rattle.getopts.specs.Names.{Text}
 use Rattle.std.proofs.lemmas.Result.{IfOk-weaker}
 use Rattle.getopts_shell.specs.Stored.{fault_told, operand_of}
 use Rattle.getopts_shell.specs.Table.{late_operand, name_twice, no_option}
-use Rattle.getopts_shell.proofs.answer.table_refusal.Goals as goal
+use Rattle.getopts_shell.proofs.message.table_refusal.Goals as goal
 
 pub returns-in-NoOption : goal.returns-in-NoOption
 returns-in-NoOption c =

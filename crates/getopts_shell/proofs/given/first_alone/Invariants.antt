@@ -2,7 +2,7 @@ use Rattle.std.proofs.Common.{◌≡◌, drop}
 use Rattle.std.specs.List.{find}
 use Rattle.getopts_shell.specs.Program.{is_alone}
 use Rattle.getopts_shell.specs.Stored.{entries_of}
-use Rattle.getopts_shell.proofs.answer.first_alone.Given as goal
+use Rattle.getopts_shell.proofs.given.first_alone.Given as goal
 
 -- what is found in all rows is found from this place on
 abbrev pub invariant-loop-at : goal.invariant-loop-at

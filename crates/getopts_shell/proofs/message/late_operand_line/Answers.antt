@@ -3,7 +3,7 @@ use Rattle.std.specs.Prelude.{codes, if◌then◌else◌}
 use Rattle.std.proofs.lemmas.Result.{IfOk-weaker}
 use Rattle.getopts.specs.Names.{Text}
 use Rattle.getopts_shell.specs.Program.{of_line}
-use Rattle.getopts_shell.proofs.answer.late_operand_line.Goals as goal
+use Rattle.getopts_shell.proofs.message.late_operand_line.Goals as goal
 
 -- the line, by whether the earlier operand has dots
 abbrev line : ℕ → Text → Text → Bool → Text

@@ -2,7 +2,7 @@ use Rattle.std.proofs.Common.{◌∙◌, ap, sym}
 use Rattle.std.proofs.lemmas.Result.{IfOk-weaker}
 use Rattle.getopts_shell.specs.Program.{variable_fault_line}
 use Rattle.getopts_shell.specs.Stored.{variable_fault_told}
-use Rattle.getopts_shell.proofs.answer.variable_refusal.Goals as goal
+use Rattle.getopts_shell.proofs.message.variable_refusal.Goals as goal
 
 pub returns-in-NoVariable : goal.returns-in-NoVariable
 returns-in-NoVariable c =
