@@ -138,6 +138,17 @@ def said(field):
     return b"-" if field is None else b"=" + field
 
 
+def fields_of(modes, columns, rows, names, words):
+    """A case as the programs read it."""
+    fields = [modes, columns, len(rows), *(field for row in rows for field in row), *names, None, *words, None]
+    return b"".join(said(field) + b"\0" for field in fields)
+
+
+def groups_of(rows):
+    return [model.Group(in_bytes(short), in_bytes(long), KINDS[kind % 4], OCCURS[kind // 4], in_bytes(description), in_bytes(hint))
+            for short, long, hint, description, kind in rows]
+
+
 def first_byte(text, character=model.first_character):
     """The name of an unknown character in a cluster: its first byte, from U+10FF80 up."""
     name = character(text)
@@ -163,8 +174,7 @@ def short_usage(groups):
 
 def answers(modes, columns, rows, names, words):
     """The answers for a valid table; `...` for help texts that the rules don't determine."""
-    groups = [model.Group(in_bytes(short), in_bytes(long), KINDS[kind % 4], OCCURS[kind // 4], in_bytes(description), in_bytes(hint))
-              for short, long, hint, description, kind in rows]
+    groups = groups_of(rows)
     last = [modes & REPEAT and group.occur == "optional" for group in groups]
     for group, counts in zip(groups, last):
         group.occur = "multi" if counts else group.occur
@@ -197,16 +207,16 @@ def answers_if_wrong(place, names):
 @functools.cache
 def random_cases(count):
     """The input for answers.c, and for each case the arguments of `answers` and the answers."""
-    rng, fields, wanted = random.Random(count), [], []
+    rng, fields, wanted = random.Random(count), b"", []
     with pytest.MonkeyPatch.context() as patch:
         patch.setattr(model, "first_character", first_byte)
         for _ in range(count):
             modes, columns, rows, wrong, words = random_case(rng)
             names = [name for row in rows for name in row[:2] if name] + ([] if modes & STRICT else ["nope", "\udcff"])
-            fields += [modes, columns, len(rows), *(field for row in rows for field in row), *names, None, *words, None]
             case = modes, columns, rows, [*map(in_bytes, names)], [*map(in_bytes, words)]
+            fields += fields_of(*case)
             wanted.append((case, [*(answers(*case) if wrong is None else answers_if_wrong(wrong, names))]))
-    return b"".join(said(field) + b"\0" for field in fields), wanted
+    return fields, wanted
 
 
 # The linkers for wasm and Windows can't wrap malloc, and valgrind takes too long.

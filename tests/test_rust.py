@@ -3,6 +3,7 @@
 import functools
 import itertools
 import os
+import random
 import re
 import shlex
 import shutil
@@ -10,7 +11,9 @@ import subprocess
 import sys
 from pathlib import Path
 
+import model
 import pytest
+import test_c
 from conftest import LINES, ROOT, ROWS, VECTORS, answer, need_rustfmt, run
 from targets import (REGISTRY, TARGETS, UNWINDS, cargo, cargo_for, commit_repository, copy_folders, need_cargo, offline,
                      passed, runner)
@@ -161,7 +164,7 @@ def folder(tmp_path_factory):
 
 
 @pytest.mark.parametrize("features, tests, programs", [
-    ("std,unicode,proved", [], 8), ("std", ["--tests"], 6), ("proved", [], 4)])
+    ("std,unicode,proved", [], 9), ("std", ["--tests"], 7), ("proved", [], 5)])
 def test_own_tests_of_the_crate(folder, features, tests, programs):
     said, _ = cargo(folder, "test", "--no-default-features", "--features", features, *tests)
     assert len(passed(said)) == programs
@@ -247,6 +250,32 @@ def example(folder):
 @pytest.mark.parametrize("line", LINES)
 def test_example_matches_getopts_show(line, example, show):
     assert answer(example, *line.split()) == answer(show, *line.split())
+
+
+def answers_of_parse_os(modes, _, rows, names, words):
+    options = model.Options(test_c.groups_of(rows), modes & test_c.STOP, modes & test_c.LONG_ONLY)
+    read, kept = options.parse(words), options.parse(words, with_counts=False)
+    yield (model.TEXTS[read[0]] % read[1]).decode(errors="replace") if len(read) == 2 else None
+    occurrences, free, start = kept if len(kept) == 3 else ([], [], None)
+    for name in names:
+        yield from (it for place, at, value in occurrences if place == options.resolve(name) for it in (at, value))
+    yield from (it for place, _, value in occurrences if len(read) == 3 for it in (options.groups[place].main, value))
+    yield from [*free, start] if len(kept) == 3 else []
+
+
+def test_answers_of_parse_os(folder, cases, tmp_path):
+    """On random tables and words of any bytes, `parse_os` and what follows it answer as the model does."""
+    rng, chosen = random.Random(1), []
+    for modes, columns, rows, wrong, words in (test_c.random_case(rng) for _ in range(cases(10_000))):
+        names = ["nope", *(name for row in rows for name in row[:2] if name)]
+        chosen += [(modes, columns, rows, [*map(test_c.in_bytes, names)], [*map(test_c.in_bytes, words)])] if wrong is None else []
+    (tmp_path / "cases").write_bytes(b"".join(test_c.fields_of(*case) for case in chosen))
+    cargo(folder, "test", "--release", "--test", "answers", env={"CASES": str(tmp_path / "cases")})
+    printed = iter((tmp_path / "cases").read_bytes().split(b"\0"))
+    for case in chosen:
+        for nth, wanted in enumerate(answers_of_parse_os(*case)):
+            assert next(printed) == test_c.said(wanted), (case, nth, wanted)
+    assert [*printed] == [b""]
 
 
 # ---- compared with the crate getopts 0.2.24

@@ -1,0 +1,83 @@
+//! Answers the cases of tests/test_c.py, so that tests/test_rust.py can compare the answers with
+//! tests/model.py. A case is a table and words, in strings that end with a zero byte: `-` for NULL,
+//! or `=` and bytes. So are the answers.
+#![cfg(all(feature = "std", unix))]
+
+use getopts::{HasArg, Occur, Options, ParsingStyle};
+use std::ffi::{OsStr, OsString};
+use std::os::unix::ffi::{OsStrExt, OsStringExt};
+
+/// The next string of the input, unless that is NULL or has ended.
+fn next(input: &mut &[u8]) -> Option<OsString> {
+    let end = input.iter().position(|byte| *byte == 0)?;
+    let (field, rest) = (input[..end].strip_prefix(b"="), &input[end + 1..]);
+    *input = rest;
+    Some(OsString::from_vec(field?.to_vec()))
+}
+
+fn text(input: &mut &[u8]) -> String {
+    next(input).unwrap_or_default().into_string().unwrap()
+}
+
+fn number(input: &mut &[u8]) -> usize {
+    text(input).parse().unwrap()
+}
+
+fn say(out: &mut Vec<u8>, answer: Option<&OsStr>) {
+    out.extend(answer.map_or(vec![b'-'], |answer| [b"=", answer.as_bytes()].concat()));
+    out.push(0);
+}
+
+fn answer(input: &mut &[u8], out: &mut Vec<u8>) {
+    let (mut options, modes, _) = (Options::new(), number(input), number(input));
+    options.parsing_style(
+        [ParsingStyle::FloatingFrees, ParsingStyle::StopAtFirstFree][modes / 16 % 2],
+    );
+    options.long_only(modes / 32 % 2 == 1);
+    for _ in 0..number(input) {
+        let [short, long, hint, desc] = [(); 4].map(|()| text(input));
+        let kind = number(input);
+        let hasarg = [HasArg::No, HasArg::Yes, HasArg::Maybe][kind % 4];
+        options.opt(
+            &short,
+            &long,
+            &desc,
+            &hint,
+            hasarg,
+            [Occur::Optional, Occur::Req, Occur::Multi][kind / 4],
+        );
+    }
+    let names: Vec<_> = std::iter::from_fn(|| next(input)).collect();
+    let words: Vec<_> = std::iter::from_fn(|| next(input)).collect();
+    let message = options.parse_os(&words).err().map(|fail| fail.to_string());
+    say(out, message.as_deref().map(OsStr::new));
+    let Ok(matches) = options.parse_os_ignoring_counts(&words) else { return };
+    for name in
+        names.iter().filter_map(|name| name.to_str()).filter(|name| matches.opt_defined(name))
+    {
+        for (at, value) in matches.occurrences(name) {
+            say(out, Some(at.to_string().as_ref()));
+            say(out, value);
+        }
+    }
+    for (name, value) in options.parse_os_in_order(&words).unwrap_or_default() {
+        say(out, Some(name.as_ref()));
+        say(out, value.as_deref());
+    }
+    matches.free.iter().for_each(|word| say(out, Some(word)));
+    say(
+        out,
+        matches.free_trailing_start().map(|start| start.to_string()).as_deref().map(OsStr::new),
+    );
+}
+
+#[test]
+fn answers() {
+    let Some(file) = std::env::var_os("CASES") else { return };
+    let (cases, mut out) = (std::fs::read(&file).unwrap(), Vec::new());
+    let mut input = &cases[..];
+    while !input.is_empty() {
+        answer(&mut input, &mut out);
+    }
+    std::fs::write(file, out).unwrap();
+}
