@@ -228,12 +228,12 @@ def test_calls_when_allocations_fail(build, cases):
 
 
 def test_answers_match_model(build, cases, tmp_path):
-    fields, wanted = random_cases(cases(20_000 if build.name in ("gcc", "clang-san") else 2_000))
-    # From a pipe, node wouldn't read everything.
+    fields, wanted = random_cases(cases(10_000 if build.name == "gcc" else 2_000))
+    # With pipes, node would lose bytes.
     (tmp_path / "cases").write_bytes(fields)
-    with open(tmp_path / "cases", "rb") as file:
-        printed = subprocess.run([*build(C / "tests/answers.c")], stdin=file, stdout=subprocess.PIPE, check=True).stdout
-    printed = iter(printed.replace(b"\r\n", b"\n").split(b"\0"))
+    with open(tmp_path / "cases", "rb") as file, open(tmp_path / "answers", "wb") as to:
+        subprocess.run([*build(C / "tests/answers.c")], stdin=file, stdout=to, check=True)
+    printed = iter((tmp_path / "answers").read_bytes().replace(b"\r\n", b"\n").split(b"\0"))
     for case, answers in wanted:
         for nth, answer in enumerate(answers):
             got = next(printed)
