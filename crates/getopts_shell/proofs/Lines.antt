@@ -45,6 +45,20 @@ past before byte more is = (
   ap (λ (b : Bool). if b then byte ∷ more else gap_after (before ++ byte ∷ []) more) is,
 )
 
+-- no gap begins with a byte that isn't blank
+pub no_blank : (text : Text) (at : ℕ) → at < length text
+    → (get_or text at 0 == 9 || get_or text at 0 == 32) ≡ false
+    → is_gap (take at text) (drop at text) ≡ false
+no_blank text at below is =
+    ap (is_gap (take at text)) (at_drop_more (λ (t : Text). t) text at 0 below)
+    ∙ by_tests (get_or text at 0 == 9) (get_or text at 0 == 32) _ _ is
+  where
+    by_tests : (tab space double single : Bool) → (tab || space) ≡ false
+        → ((tab || (space && double)) || (space && single)) ≡ false
+    by_tests false false double single is = refl
+    by_tests false true double single is = absurd cc
+    by_tests true space double single is = absurd cc
+
 -- without a gap at a place, the first gap is the first after it
 pub no_gap : (text : Text) (at : ℕ) → at < length text → is_gap (take at text) (drop at text) ≡ false
     → (take at text ++ front_after (take at text) (drop at text)

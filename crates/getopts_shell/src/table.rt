@@ -1,6 +1,7 @@
 //! Tables of options: their lines, and the options that these declare.
 
 ghost use Rattle.std.specs.Prelude.{◌≡◌, ◌++◌, Option, ◌||◌, ◌==◌, slice_index, ◌∷◌, [], ◌<◌, true};
+ghost use Rattle.std.specs.Prelude.{drop, length, take};
 ghost use Rattle.std.specs.Prelude.{MatchResult, IfErr, IfSome, OnOk, Some, None};
 ghost use Rattle.std.specs.List.{list_any};
 ghost use Rattle.std.specs.Option.{option_copied, option_to_list};
@@ -197,11 +198,28 @@ fn cut_at_gap(text: &str) -> (&str, &str)
 {
     let bytes = text.as_bytes();
     for at in 0..bytes.len() {
-        if is_gap(&bytes[..at], &bytes[at..]) {
+        if has_gap(bytes, at) {
             return (&text[..at], &text[at..]);
         }
     }
     (text, "")
+}
+
+/// Whether a line has a gap at a place.
+fn has_gap(bytes: &[u8], at: usize) -> bool
+    requires { at < length bytes.now }
+    ensures is { result ≡ is_gap (take at bytes.now) (drop at bytes.now) }
+    ensures ascii { result ≡ true → slice_index bytes.now at < 128 }
+{
+    // Most bytes aren't blank, and need no closer look.
+    is_blank(bytes[at]) && is_gap(&bytes[..at], &bytes[at..])
+}
+
+/// Whether a byte is a tab or a space.
+fn is_blank(byte: u8) -> bool
+    ensures { result ≡ (byte == 9 || byte == 32) }
+{
+    matches!(byte, b'\t' | b' ')
 }
 
 /// Whether a gap is between these bytes of a line.

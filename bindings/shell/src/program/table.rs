@@ -134,11 +134,22 @@ fn trimmed(text: &str) -> &str {
 fn cut_at_gap(text: &str) -> (&str, &str) {
     let bytes = text.as_bytes();
     for at in 0..bytes.len() {
-        if is_gap(&bytes[..at], &bytes[at..]) {
+        if has_gap(bytes, at) {
             return (&text[..at], &text[at..]);
         }
     }
     (text, "")
+}
+
+/// Whether a line has a gap at a place.
+fn has_gap(bytes: &[u8], at: usize) -> bool {
+    // Most bytes aren't blank, and need no closer look.
+    is_blank(bytes[at]) && is_gap(&bytes[..at], &bytes[at..])
+}
+
+/// Whether a byte is a tab or a space.
+fn is_blank(byte: u8) -> bool {
+    matches!(byte, b'\t' | b' ')
 }
 
 /// Whether a gap is between these bytes of a line.
