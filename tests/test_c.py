@@ -207,16 +207,16 @@ def answers_if_wrong(place, names):
 @functools.cache
 def random_cases(count):
     """The input for answers.c, and for each case the arguments of `answers` and the answers."""
-    rng, fields, wanted = random.Random(count), b"", []
+    rng, fields, wanted = random.Random(count), [], []
     with pytest.MonkeyPatch.context() as patch:
         patch.setattr(model, "first_character", first_byte)
         for _ in range(count):
             modes, columns, rows, wrong, words = random_case(rng)
             names = [name for row in rows for name in row[:2] if name] + ([] if modes & STRICT else ["nope", "\udcff"])
             case = modes, columns, rows, [*map(in_bytes, names)], [*map(in_bytes, words)]
-            fields += fields_of(*case)
+            fields.append(fields_of(*case))
             wanted.append((case, [*(answers(*case) if wrong is None else answers_if_wrong(wrong, names))]))
-    return fields, wanted
+    return b"".join(fields), wanted
 
 
 # The linkers for wasm and Windows can't wrap malloc, and valgrind takes too long.
