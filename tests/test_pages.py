@@ -280,8 +280,8 @@ def test_offered_lemmas_are_cited():
     assert offered
     for module, names in offered:
         here = re.findall(r"[\w-]+", read(f"crates/getopts/proofs/{module.replace('.', '/')}.antt"))
-        assert_none(f"nothing cites {name} of {module}" for name in re.findall(r"`([\w-]+)`", names)
-                    if name not in here or name not in used)
+        assert_none(f"CALLING.md offers {name} of {module}, but no proof imports it, or it isn't there"
+                    for name in re.findall(r"`([\w-]+)`", names) if name not in here or name not in used)
 
 
 # ---- promises
