@@ -72,9 +72,10 @@ LIBRARY = {f"std::{name}": f"crate::{name}" for name in ("alloc", "convert", "er
     # `names.rs` has a function of the old name, which checks the precondition.
     "pub fn add_group": "pub(crate) fn add_valid_group",
 }
-# An invalid name panics at the caller of these.
-ADDING = "opt optflag optflagmulti optflagopt optmulti optopt reqopt".split()
-LIBRARY |= {f"pub fn {name}": f"#[track_caller] pub fn {name}" for name in ADDING}
+# An invalid name panics at the caller of the calls that add an option.
+ADDING = r"pub fn \w+(?=\([^()]*\) -> Result<&mut Options, AllocError>)"
+for path in TOP.glob("crates/getopts/src/options.rt"):
+    LIBRARY |= {found: f"#[track_caller] {found}" for found in re.findall(ADDING, path.read_text(encoding="utf-8"))}
 # Functions and paths in the shell program, and their replacements, which its `host.rs` defines.
 HOST = {f"std::{name}": f"crate::host::{name}" for name in ("alloc", "env", "io")} | {
     "resize": "try_resize", "trim_ascii": "trimmed_ascii", "str::from_utf8": "std::str::from_utf8",

@@ -28,8 +28,6 @@ PATHS = {"mod matches": "pub ( crate ) mod matches", "crate ::": "super ::", "st
 PATHS |= {"unicode_width": "crate :: width", "pub fn add_group": "pub ( crate ) fn add_valid_group"}
 PATHS |= {"std :: convert": "crate :: convert", "std :: error": "crate :: error", "std :: vec": "crate :: heap :: vec"}
 PATHS |= {"std ::": "core ::", "str :: from_utf8": "core :: str :: from_utf8"}
-for name in "opt optflag optflagmulti optflagopt optmulti optopt reqopt".split():
-    PATHS["pub fn " + name] = "# [ track_caller ] pub fn " + name
 # In crates that aren't part of the library.
 HOST = {"resize": "try_resize", "trim_ascii": "trimmed_ascii", "str :: from_utf8": "std :: str :: from_utf8"}
 HOST |= {"format !": "text !", "write !": "add !", "writeln !": "add_line !", "fn main": "pub fn main"}
@@ -81,6 +79,11 @@ def differs(source, rust, names, imports):
 def main(source, folder):
     library = Path(source).resolve().parent.name in ("getopts", "getopts_bytes")
     names = {**RENAMED, **(PATHS if library else HOST)}
+    # The calls that add an option panic at their caller.
+    options = Path(source) / "options.rt"
+    adding = r"pub fn \w+(?= \( [^()]* \) - > Result < & mut Options , AllocError >)"
+    for found in re.findall(adding, " ".join(tokens(options))) if options.exists() else []:
+        names[found] = "# [ track_caller ] " + found
     imports = f"use crate :: {'fallible' if library else 'host'} :: * ;".split()
     paths = sorted(Path(folder).glob("*.rs"))
     there = {path.stem for path in Path(source).glob("*.rt")} - {"lib", "main", "laws"} | {"mod"}
