@@ -1,5 +1,5 @@
 -- What usage texts say: all options in one line, and rows of options with their descriptions.
-use Rattle.std.specs.Prelude.{◌≡◌, ℕ, ◌-◌, Bool, not, nat_lt, List, [], ◌++◌, map}
+use Rattle.std.specs.Prelude.{◌≡◌, ℕ, ◌+◌, ◌-◌, Bool, not, nat_lt, List, [], ◌++◌, map}
 use Rattle.std.specs.Prelude.{codes, if◌then◌else◌}
 use Rattle.std.specs.List.{AllZip, list_any, repeat}
 use Rattle.getopts.specs.Names.{Text, Names, is_empty}
@@ -87,13 +87,17 @@ head long_only among_shorts group =
     ++ (short_part among_shorts group.signature.names
     ++ (long_part long_only group.signature.names.long ++ argument_part group.signature.kind group.hint))
 
+-- the columns before a description
+abbrev pub margin : ℕ
+margin = 24
+
 -- a line end, and the spaces below a head
 abbrev pub next_row : Text
-next_row = codes "\n" ++ spaces 24
+next_row = codes "\n" ++ spaces margin
 
--- what separates a head from its description: spaces up to 24 columns, or else the next row
+-- what separates a head from its description: spaces up to the margin, or else the next row
 abbrev pub padding : Text → Text
-padding head = if nat_lt (width_of head) 24 then spaces (24 - width_of head) else next_row
+padding head = if nat_lt (width_of head) margin then spaces (margin - width_of head) else next_row
 
 -- a head, followed by the rows of its description
 abbrev pub row_text : Text → List Text → Text
@@ -101,7 +105,7 @@ row_text head description = head ++ (padding head ++ joined next_row description
 
 -- the most columns of a description's row, if rows end within so many columns
 abbrev pub description_columns : ℕ → ℕ
-description_columns columns = columns - 24
+description_columns columns = columns - margin
 
 -- This is the group's row within so many columns: its head, its padding, and the description's
 -- rows, which end within them.
@@ -118,12 +122,7 @@ AreUsageRowsIn columns options rows =
 
 -- the columns of a usage text unless the caller chooses them, which leave 54 for descriptions
 abbrev pub usual_columns : ℕ
-usual_columns = 78
-
--- This is the group's row within the usual columns.
-abbrev pub IsUsageRow : Bool → Bool → Group → Text → Type 0
-IsUsageRow long_only among_shorts group row =
-    IsUsageRowIn usual_columns long_only among_shorts group row
+usual_columns = margin + 54
 
 -- These are the rows of the groups within the usual columns.
 abbrev pub AreUsageRows : Declared → List Text → Type 0

@@ -16,7 +16,7 @@ use std::alloc::{AllocError, Global};
 use unicode_width::UnicodeWidthStr;
 
 /// The number of columns before a description.
-const MARGIN: usize = 24;
+pub(crate) const MARGIN: usize = 24;
 
 /// A line end, and a space for each column before a description.
 const NEXT_ROW: &str = "\n                        ";

@@ -16,7 +16,7 @@ use crate::groups::GroupView;
 use crate::kinds::{HasArg, Occur};
 use crate::names::NamesView;
 use crate::options::Options;
-use crate::row::{Layout, push_argument, row_of};
+use crate::row::{Layout, MARGIN, push_argument, row_of};
 use crate::signatures::SignatureView;
 use crate::wrap::push_joined;
 use std::alloc::{AllocError, Global};
@@ -24,7 +24,7 @@ use std::marker::Model;
 use std::vec;
 
 /// The columns of a usage text unless the caller chooses them, which leave 54 for descriptions.
-const USUAL_COLUMNS: usize = 78;
+const USUAL_COLUMNS: usize = MARGIN + 54;
 
 /// The rows of a usage text, one for each option group, in order of declaration.
 ///

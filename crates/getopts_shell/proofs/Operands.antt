@@ -6,7 +6,7 @@ use Rattle.std.proofs.Math.ListN.{drop_of_length-le}
 use Rattle.std.specs.Prelude.{◌||◌, codes, if◌then◌else◌, nat_lt}
 use Rattle.std.specs.List.{AllZip}
 use Rattle.getopts.specs.Only.{IsTheOnly}
-use Rattle.getopts.specs.Usage.{next_row, spaces}
+use Rattle.getopts.specs.Usage.{description_columns, margin, next_row, spaces, usual_columns}
 use Rattle.getopts.proofs.Only.{made_of_the_only}
 use Rattle.std.proofs.lemmas.List.{at_drop_more}
 use Rattle.std.proofs.lemmas.Grind.{common_steps}
@@ -106,20 +106,20 @@ drop_spaces (suc m) n zero e = absurd (omega arith)
 drop_spaces (suc m) n (suc total) e = drop_spaces m n total (omega arith)
 
 -- the padding of a short item is the end of the next row
-pub padding_short : (columns : ℕ) → columns < 20 → drop (5 + columns) next_row
-    ≡ spaces (20 - columns)
+pub padding_short : (columns : ℕ) → columns < margin - 4 → drop (5 + columns) next_row
+    ≡ spaces (margin - 4 - columns)
 padding_short columns short =
     let past_line_end : 5 + columns ≡ suc (4 + columns) = omega arith in
     ap (λ (skipped : ℕ). drop skipped next_row) past_line_end
-    ∙ drop_spaces (4 + columns) (20 - columns) 24 (omega arith)
+    ∙ drop_spaces (4 + columns) (margin - 4 - columns) margin (omega arith)
 
 -- a row made of the only description rows is the only row
 pub row_made : (operand : Operand) (description : List Text) (row : Text)
-    → IsTheOnly (IsDescriptionRows 54 operand.description) description
+    → IsTheOnly (IsDescriptionRows (description_columns usual_columns) operand.description) description
     → row ≡ operand_head operand.item ++ joined next_row description
     → IsTheOnly (IsOperandRow operand) row
 row_made operand description row only row_is =
-    made_of_the_only (IsDescriptionRows 54 operand.description)
+    made_of_the_only (IsDescriptionRows (description_columns usual_columns) operand.description)
     (λ (rows : List Text). operand_head operand.item ++ joined next_row rows) description row only
     row_is
 

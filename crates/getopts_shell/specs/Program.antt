@@ -17,7 +17,7 @@ use Rattle.getopts.specs.Only.{IsTheOnly}
 use Rattle.getopts.specs.Options.{Group, Declared, group_of}
 use Rattle.getopts.specs.Reading.{stop_word}
 use Rattle.getopts.specs.Results.{canonical_result, parse_ignoring_counts_result, parse_result}
-use Rattle.getopts.specs.Usage.{IsUsageText, next_row, short_usage_text, spaces}
+use Rattle.getopts.specs.Usage.{IsUsageText, description_columns, margin, next_row, short_usage_text, spaces, usual_columns}
 use Rattle.getopts.specs.Wrap.{IsDescriptionRows, joined}
 use Rattle.getopts.specs.declared.kinds.HasArg.TheVariants.{Yes, No}
 use Rattle.getopts.specs.declared.kinds.Occur.TheVariants.{Optional}
@@ -204,17 +204,19 @@ usage_line script = short_usage_text (shown_options script) script.name
 abbrev pub brief_text : Script → Text
 brief_text script = unwrap_or script.asked.brief (usage_line script)
 
--- what precedes an operand's description: its item, and spaces up to 24 columns or the next row
+-- what precedes an operand's description: its item, and spaces up to the margin or the next row
 abbrev pub operand_padding : Text → Text
-operand_padding item = if nat_lt (length item) 20 then spaces (20 - length item) else next_row
+operand_padding item = if nat_lt (length item) (margin - 4)
+    then spaces (margin - 4 - length item) else next_row
 
 abbrev pub operand_head : Text → Text
 operand_head item = spaces 4 ++ (item ++ operand_padding item)
 
--- This is the operand's row: its head, and the rows of its description in 54 columns.
+-- This is the operand's row: its head, and the rows of its description.
 abbrev pub IsOperandRow : Operand → Text → Type 0
 IsOperandRow operand row =
-    (description : List Text) × IsDescriptionRows 54 operand.description description
+    (description : List Text)
+    × IsDescriptionRows (description_columns usual_columns) operand.description description
     × (row ≡ operand_head operand.item ++ joined next_row description)
 
 -- what precedes the options in a help: the text at its top; then, if there are operands, an empty

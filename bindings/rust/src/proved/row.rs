@@ -12,7 +12,7 @@ use crate::alloc::{AllocError, Global};
 use crate::width::UnicodeWidthStr;
 
 /// The number of columns before a description.
-const MARGIN: usize = 24;
+pub(crate) const MARGIN: usize = 24;
 
 /// A line end, and a space for each column before a description.
 const NEXT_ROW: &str = "\n                        ";

@@ -7,14 +7,14 @@ use super::groups::GroupView;
 use super::kinds::{HasArg, Occur};
 use super::names::NamesView;
 use super::options::Options;
-use super::row::{Layout, push_argument, row_of};
+use super::row::{Layout, MARGIN, push_argument, row_of};
 use super::signatures::SignatureView;
 use super::wrap::push_joined;
 use crate::alloc::{AllocError, Global};
 use crate::heap::vec;
 
 /// The columns of a usage text unless the caller chooses them, which leave 54 for descriptions.
-const USUAL_COLUMNS: usize = 78;
+const USUAL_COLUMNS: usize = MARGIN + 54;
 
 /// The rows of a usage text, one for each option group, in order of declaration.
 ///

@@ -1,16 +1,18 @@
 -- The rows of a usage text.
-use Rattle.std.proofs.Common.{◌≡◌, ℕ, zero, suc, ◌+◌, ◌-◌, ◌<◌, Bool, true, not, ◌||◌, List, refl}
-use Rattle.std.proofs.Common.{[], ◌∷◌, Some, map, take, drop, ap, sym, ◌∙◌, arith}
+use Rattle.std.proofs.Common.{◌≡◌, ℕ, zero, suc, ◌+◌, ◌-◌, ◌<◌, ◌≤◌, Bool, true, not, ◌||◌, List, refl}
+use Rattle.std.proofs.Common.{[], ◌∷◌, Some, length, map, take, drop, ap, sym, ◌∙◌, arith}
 use Rattle.std.specs.Prelude.{Result, Ok, Err, OnOk, slice_get, nat_lt, if◌then◌else◌}
-use Rattle.std.specs.List.{AllZip}
+use Rattle.std.specs.List.{AllZip, slice_index}
+use Rattle.std.specs.Str.{IsAscii, IsCharBoundary}
 use Rattle.std.proofs.Math.Bool.{or-false}
 use Rattle.std.proofs.lemmas.Bool.Decides.{nat_tests}
 use Rattle.std.proofs.lemmas.List.Folds.{list_any-append}
+use Rattle.std.proofs.lemmas.Str.{IsCharBoundary-from_ascii}
 use Rattle.getopts.specs.Names.{Text, is_empty}
 use Rattle.getopts.specs.Options.{Group, Declared}
 use Rattle.getopts.specs.Only.{IsTheOnly}
-use Rattle.getopts.specs.Usage.{any_short, spaces, head, next_row, padding, row_text, usage_text}
-use Rattle.getopts.specs.Usage.{IsUsageRowIn, AreUsageRowsIn, IsUsageTextIn, description_columns}
+use Rattle.getopts.specs.Usage.{any_short, spaces, head, margin, next_row, padding, row_text}
+use Rattle.getopts.specs.Usage.{IsUsageRowIn, AreUsageRowsIn, IsUsageTextIn, description_columns, usage_text}
 use Rattle.getopts.specs.Usage.{usage_row_in, usage_rows_in_result, usage_in_result}
 use Rattle.getopts.specs.Wrap.{width_of, IsDescriptionRows, description_rows}
 use Rattle.getopts.proofs.Lists.{take_more_at}
@@ -45,15 +47,30 @@ drop-spaces zero n total e = ap spaces (omega arith)
 drop-spaces (suc m) n zero e = absurd (omega arith)
 drop-spaces (suc m) n (suc total) e = drop-spaces m n total (omega arith)
 
--- the padding of a head within 24 columns is the end of the next row
-pub padding_narrow : (own : Text) (columns : ℕ) → columns ≡ width_of own → columns < 24
+-- the padding of a head within the margin is the end of the next row
+pub padding_narrow : (own : Text) (columns : ℕ) → columns ≡ width_of own → columns < margin
     → drop (1 + columns) next_row ≡ padding own
 padding_narrow own columns is narrow =
-    let test : nat_lt (width_of own) 24 ≡ true = grind (arith, nat_tests) in
+    let test : nat_lt (width_of own) margin ≡ true = grind (arith, nat_tests) in
     let past_line_end : 1 + columns ≡ suc columns = omega arith in
     ap (λ skipped. drop skipped next_row) past_line_end
-    ∙ drop-spaces columns (24 - width_of own) 24 (omega arith)
-    ∙ ap (λ answer. if answer then spaces (24 - width_of own) else next_row) (sym test)
+    ∙ drop-spaces columns (margin - width_of own) margin (omega arith)
+    ∙ ap (λ answer. if answer then spaces (margin - width_of own) else next_row) (sym test)
+
+-- the next row may be cut after its line end, and after each of its spaces
+pub next_row_cut : (columns : ℕ) → columns < margin → IsCharBoundary next_row (1 + columns)
+next_row_cut columns narrow =
+    let long : length next_row ≡ 1 + margin = refl in
+    let within : 1 + columns ≤ length next_row = omega (arith, long) in
+    IsCharBoundary-from_ascii next_row (1 + columns) next_row-ascii within where
+      spaces-ascii : (count i : ℕ) → slice_index (spaces count) i < 128
+      spaces-ascii zero i = omega arith
+      spaces-ascii (suc count) zero = omega arith
+      spaces-ascii (suc count) (suc i) = spaces-ascii count i
+
+      next_row-ascii : IsAscii next_row
+      next_row-ascii zero = omega arith
+      next_row-ascii (suc i) = spaces-ascii margin i
 
 -- ---- the computed rows and text
 
