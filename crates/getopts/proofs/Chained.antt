@@ -72,6 +72,7 @@ pub use Rattle.std.specs.contracts.result.Result as Res
 pub use Rattle.std.specs.contracts.alloc.AllocError as AE
 pub use Rattle.getopts.specs.contracts.kinds.HasArg as has_arg
 pub use Rattle.getopts.specs.contracts.kinds.Occur as occurs
+use Rattle.std.proofs.Common.{Option, Some, None}
 use Rattle.getopts.specs.contracts.options.Options.opt as g
 use Rattle.getopts.specs.contracts.options.Options.optflag as three
 use Rattle.getopts.specs.contracts.options.Options.optopt as four
@@ -173,16 +174,33 @@ module _ {M : Type 1} {𝓤 : Ura M} (𝓛 : Logic 𝓤) (κ₀ κ₁ κ₂ κ�
   lawfuls others = (mut_Lawful 𝓛 (named 0) κ₀ Options, ((text_laws 1 κ₁).lawful 𝓛, ((text_laws 2 κ₂).lawful 𝓛, ((text_laws 3 κ₃).lawful 𝓛, others))))
 
 -- Six calls only call `opt`, with a kind and an occurrence of their own, whose tags their code
--- writes. The proofs read both from the code, so a wrong one contradicts the clause `added`.
-abbrev pub kind_in : Body → HasArg
-kind_in (assign p (aggregate (int w zero ∷ []))) = Yes
-kind_in (assign p (aggregate (int w (suc zero) ∷ []))) = No
-kind_in _ = Maybe
+-- writes. The proofs read both from the code, so a wrong one contradicts the clause `added`. A tag
+-- that isn't named here gives no kind and no occurrence, but a value of another type.
+abbrev Named : {A : Type 0} → Option A → Type 0
+Named {A} (Some value) = A
+Named None = Unit {0}
 
-abbrev pub occur_in : Body → Occur
-occur_in (assign p (aggregate (int w zero ∷ []))) = Req
-occur_in (assign p (aggregate (int w (suc zero) ∷ []))) = Optional
-occur_in _ = Multi
+abbrev by_name : {A : Type 0} (read : Option A) → Named read
+by_name (Some value) = value
+by_name None = tt
+
+abbrev kind_read : Body → Option HasArg
+kind_read (assign p (aggregate (int w zero ∷ []))) = Some Yes
+kind_read (assign p (aggregate (int w (suc zero) ∷ []))) = Some No
+kind_read (assign p (aggregate (int w (suc (suc zero)) ∷ []))) = Some Maybe
+kind_read _ = None
+
+abbrev pub kind_in : (code : Body) → Named (kind_read code)
+kind_in code = by_name (kind_read code)
+
+abbrev occur_read : Body → Option Occur
+occur_read (assign p (aggregate (int w zero ∷ []))) = Some Req
+occur_read (assign p (aggregate (int w (suc zero) ∷ []))) = Some Optional
+occur_read (assign p (aggregate (int w (suc (suc zero)) ∷ []))) = Some Multi
+occur_read _ = None
+
+abbrev pub occur_in : (code : Body) → Named (occur_read code)
+occur_in code = by_name (occur_read code)
 
 abbrev kind_val : HasArg → Val
 kind_val k = live (tag_of has_arg.the_type k) vnil
