@@ -119,6 +119,8 @@ impl Options {
             (λ answer. parse_in_order_result self.now (map S.text words.now) ≡ answer) }
         ensures order { IfOk result (λ places.
             IsOrder self.now (map S.text words.now) places.items) }
+        ensures same_error { IfErr result (λ fail. IsOutOfMemoryOr fail (λ fault.
+            parse_result self.now (map S.text words.now) ≡ Err fault)) }
         ensures refused { IfErr result (λ fail. IsOutOfMemoryOr fail
             (IsRefused self.now (map S.text words.now))) }
     {

@@ -1,9 +1,10 @@
 //! Help and the version, which a command line may request even if a required option is missing.
 
-ghost use Rattle.std.specs.Prelude.{map, IfOk, IfErr, IfSome, OnOk};
+ghost use Rattle.std.specs.Prelude.{◌≡◌, map, Ok, IfOk, IfErr, IfSome, OnOk};
 ghost use Rattle.getopts.specs.Fail.{IsOutOfMemoryOr};
 ghost use Rattle.getopts.specs.Options.{grammar_of};
 ghost use Rattle.getopts.specs.Parse.{IsRefused, KeepsReadingLaws};
+ghost use Rattle.getopts.specs.Results.{parse_result};
 ghost use Rattle.getopts.specs.Returns.{ReturnsResult};
 ghost use Rattle.getopts.specs.Holds.{Accepts, FitOptionsAndCounts};
 ghost use Rattle.getopts.specs.Unless.{parse_unless_result, parse_request_result, IfParsed};
@@ -42,6 +43,8 @@ impl Options {
             (parse_request_result self.now (map S.text words.now)) }
         ensures accepted { IfOk result (λ request. IfParsed request
             (Accepts self.now (map S.text words.now))) }
+        ensures parsed { IfOk result (λ request. IfParsed request (λ matches.
+            parse_result self.now (map S.text words.now) ≡ Ok matches)) }
         ensures refused { IfErr result (λ fail. IsOutOfMemoryOr fail
             (IsRefused self.now (map S.text words.now))) }
 
@@ -78,6 +81,8 @@ impl Options {
             (parse_unless_result self.now flag.now (map S.text words.now)) }
         ensures accepted { IfOk result (λ answer. IfSome answer
             (Accepts self.now (map S.text words.now))) }
+        ensures parsed { IfOk result (λ answer. IfSome answer (λ matches.
+            parse_result self.now (map S.text words.now) ≡ Ok matches)) }
         ensures refused { IfErr result (λ fail. IsOutOfMemoryOr fail
             (IsRefused self.now (map S.text words.now))) }
 

@@ -45,12 +45,16 @@ returns-clause-result g c =
           c.in_ok-check_all.ensures.ok),
     ) refl
 
+pub returns-clause-parsed : goal.returns-clause-parsed
+returns-clause-parsed g c = parse_result-kept _ _ _ c.in_ok-read.ensures.result
+    (subst (λ (m : Matched). first_count_fault m.groups ≡ None) c.read.view_is
+    c.in_ok-check_all.ensures.ok)
+
 pub returns-clause-accepted : goal.returns-clause-accepted
 returns-clause-accepted g c =
     let read = c.in_ok-read.ensures in
-    Accepts-accepted _ read.declared _ _ (is_accepted _ _ _ (parse_result-kept _ _ _ read.result
-    (subst (λ (m : Matched). first_count_fault m.groups ≡ None) c.read.view_is
-    c.in_ok-check_all.ensures.ok)) read.declared read.texts)
+    Accepts-accepted _ read.declared _ _
+    (is_accepted _ _ _ (returns-clause-parsed g c) read.declared read.texts)
 
 pub returns-clause-declared : goal.returns-clause-declared
 returns-clause-declared g c = FitOptionsAndCounts-accepted _ _ _ (returns-clause-accepted g c).accepted
