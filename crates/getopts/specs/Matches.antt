@@ -1,6 +1,6 @@
 -- What is in the matches of a reading, and whether counts are kept.
-use Rattle.std.specs.Prelude.{◌≡◌, ◌==◌, if◌then◌else◌, ℕ, ◌+◌, ◌≤◌, ⊤, List, [], ◌∷◌, ◌++◌, length}
-use Rattle.std.specs.Prelude.{map, Option}
+use Rattle.std.specs.Prelude.{◌≡◌, ◌==◌, if◌then◌else◌, ℕ, ◌+◌, Bool, true, nat_lt, List, [], ◌∷◌}
+use Rattle.std.specs.Prelude.{◌++◌, length, map, Option}
 use Rattle.std.specs.List.{AllByRecursion, filter}
 use Rattle.getopts.specs.Names.{Text, main_name}
 use Rattle.getopts.specs.Options.{Signature, Declared, signatures_of, grammar_of}
@@ -50,15 +50,15 @@ matches_of options reading = record {
   trailing_start = trailing_start reading;
 }
 
--- A group may have this many occurrences: exactly one, at most one, or any number.
-abbrev pub FitsCount : Occur → ℕ → Type 0
-FitsCount Req count = count ≡ 1
-FitsCount Optional count = count ≤ 1
-FitsCount Multi count = ⊤
+-- whether a group may have this many occurrences: exactly one, at most one, or any number
+abbrev pub fits_count : Occur → ℕ → Bool
+fits_count Req count = count == 1
+fits_count Optional count = nat_lt count 2
+fits_count Multi count = true
 
 -- The group keeps its count.
 abbrev pub KeepsCount : MatchedGroup → Type 0
-KeepsCount group = FitsCount group.signature.occur (length group.found)
+KeepsCount group = fits_count group.signature.occur (length group.found) ≡ true
 
 -- Each group keeps its count.
 abbrev pub KeepsCounts : List MatchedGroup → Type 0

@@ -1,7 +1,7 @@
 -- The results as functions. Nobody has to trust these definitions: `HasResults` says that each
 -- function gives what a relation of `Returns` or `CanonAnswers` describes. An *outcome* is a
 -- reading or an error.
-use Rattle.std.specs.Prelude.{◌==◌, if◌then◌else◌, ℕ, Bool, true, nat_lt, not, List, [], ◌∷◌, ◌++◌}
+use Rattle.std.specs.Prelude.{◌==◌, if◌then◌else◌, ℕ, not, List, [], ◌∷◌, ◌++◌}
 use Rattle.std.specs.Prelude.{length, map, Option, Some, None, Result, Ok, Err}
 use Rattle.std.specs.List.{list_all}
 use Rattle.getopts.specs.Names.{Text, main_name}
@@ -9,11 +9,9 @@ use Rattle.getopts.specs.Options.{Group, Grammar, Declared, grammar_of}
 use Rattle.getopts.specs.Fail.{Fault}
 use Rattle.getopts.specs.Reading.{dash, none, separate, one, two, Item, free, line_end}
 use Rattle.getopts.specs.Reading.{stop, rest, Reading, holds_equals}
-use Rattle.getopts.specs.Matches.{MatchedGroup, Matched, matches_of, count_fault}
+use Rattle.getopts.specs.Matches.{MatchedGroup, Matched, matches_of, fits_count, count_fault}
 use Rattle.getopts.specs.Canon.{Content, content_of, main_at, canonical_line}
 use Rattle.getopts.specs.Step.{Step, ends, takes, faults, long_step, cluster_step}
-use Rattle.getopts.specs.declared.kinds.Occur.{Occur}
-use Rattle.getopts.specs.declared.kinds.Occur.TheVariants.{Req, Optional, Multi}
 use Rattle.getopts.specs.declared.kinds.ParsingStyle.{ParsingStyle}
 use Rattle.getopts.specs.declared.kinds.ParsingStyle.TheVariants.{FloatingFrees, StopAtFirstFree}
 
@@ -68,12 +66,6 @@ read_both grammar (word ∷ more) = (
 unfoldable pub read : Grammar → List Text → Result Reading Fault
 unfolding read_both
 read grammar words = (read_both grammar words).0
-
--- whether a group may have this many occurrences
-abbrev pub fits_count : Occur → ℕ → Bool
-fits_count Req count = count == 1
-fits_count Optional count = nat_lt count 2
-fits_count Multi count = true
 
 -- the error of a group that breaks its count
 abbrev pub broken_count : MatchedGroup → Fault

@@ -1,9 +1,8 @@
 //! Descriptions in rows: each line is broken into as few rows as its words allow.
 
-ghost use Rattle.std.specs.Prelude.{◌≡◌, ◌++◌, List, map, string_bytes, IfOk, OnOk};
+ghost use Rattle.std.specs.Prelude.{◌≡◌, ◌++◌, map, string_bytes, IfOk, OnOk};
 ghost use Rattle.getopts.specs.Wrap.{BreaksInto, IsDescriptionRows, IsFewestBreaking};
-ghost use Rattle.getopts.specs.Wrap.{IsTightBreaking, Run, description_rows, joined, parting};
-ghost use Rattle.getopts.specs.Wrap.{text_of, words_of};
+ghost use Rattle.getopts.specs.Wrap.{description_rows, joined, parting, runs_of, text_of, words_of};
 ghost use Rattle.getopts.specs.Only.{IsTheOnly};
 
 use std::alloc::{AllocError, Global};
@@ -59,8 +58,8 @@ fn push_line(
     line: &str,
     lim: usize,
 ) -> Result<(), AllocError>
-    ensures { OnOk result ((runs : List Run) × IsTightBreaking lim (words_of line.now) runs
-        × (map string_bytes rows.new.items ≡ map string_bytes rows.old.items ++ map text_of runs)) }
+    ensures { OnOk result (map string_bytes rows.new.items
+        ≡ map string_bytes rows.old.items ++ map text_of (runs_of lim (words_of line.now))) }
 {
     let mut words = line.split_whitespace();
     let first = match words.next() {

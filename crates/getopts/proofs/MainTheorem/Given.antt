@@ -1,34 +1,31 @@
 -- Which options words give, and the results of `parse_unless` and `parse_request`.
-use Rattle.std.proofs.Common.{◌≡◌, ◌==◌, ◌<◌, ℕ, Bool, true, false, cond, List, [], ◌∷◌, length}
+use Rattle.std.proofs.Common.{◌≡◌, ◌==◌, ℕ, Bool, true, false, cond, List, [], ◌∷◌, length}
 use Rattle.std.proofs.Common.{map, Option, Some, None, Result, Ok, Err, refl, ap, sym, subst, ◌∙◌}
-use Rattle.std.proofs.Common.{arith, inl, zero-add}
+use Rattle.std.proofs.Common.{arith, inl}
 use Rattle.std.specs.Prelude.{codes, if◌then◌else◌, nat_lt, ◌||◌}
 use Rattle.std.specs.List.{Any, filter, list_any}
 use Rattle.std.specs.Option.{option_map_or}
 use Rattle.std.specs.Result.{result_map_both}
 use Rattle.std.proofs.lemmas.Bool.{eq-eqb, eqb-true, lt-ltb, true≢false}
-use Rattle.std.proofs.lemmas.List.{length-map}
 use Rattle.std.proofs.lemmas.List.Folds.{Any-from_list_any, list_any-from_Any}
 use Rattle.getopts.specs.Only.{IsTheOnly}
 use Rattle.getopts.specs.Names.{Text, resolution}
-use Rattle.getopts.specs.Options.{Group, Declared, names_of, signatures_of, grammar_of}
+use Rattle.getopts.specs.Options.{Declared, names_of, grammar_of}
 use Rattle.getopts.specs.Fail.{Fault}
 use Rattle.getopts.specs.Reading.{Reading, Occurrence, occurrences_of}
 use Rattle.getopts.specs.Matches.{GroupOccurrence, MatchedGroup, Matched, matches_of}
 use Rattle.getopts.specs.Matches.{occurrences_mentioning, without_group}
-use Rattle.getopts.specs.Accessors.{is_present, occurrences_of_group}
+use Rattle.getopts.specs.Accessors.{is_present}
 use Rattle.getopts.specs.Parse.{HasReading, HasNoReading}
 use Rattle.getopts.specs.CanonAnswers.{IsParseAnswer}
 use Rattle.getopts.specs.Returns.{IsReadAnswer}
-use Rattle.getopts.specs.Unless.{Gives, IsUnlessAnswer, IsRequestAnswer, RequestsNeither}
+use Rattle.getopts.specs.Unless.{Gives, IsUnlessAnswer, IsRequestAnswer}
 use Rattle.getopts.specs.Unless.{unless_given, request_of}
 use Rattle.getopts.specs.declared.request.Request.{Request}
 use Rattle.getopts.specs.declared.request.Request.TheVariants.{Help, Version, Parsed}
 use Rattle.getopts.proofs.canon.Answered.{reads_of}
-use Rattle.getopts.proofs.table.Names.{resolution_within}
-use Rattle.getopts.proofs.parse.Holds.{place_of-groups}
+use Rattle.getopts.proofs.parse.Holds.{found-named}
 use Rattle.getopts.proofs.Only.{IsTheOnly-from, meets}
-use Rattle.getopts.proofs.Stored.Matches.{found-matched, signatures-matched}
 
 -- a group has an occurrence if one mentions it
 some_mentioning : (place : ℕ) (occurrences : List Occurrence)
@@ -54,30 +51,15 @@ module _ (options : Declared) (reading : Reading) (name : Text) where
   abbrev occurrences : List Occurrence
   occurrences = occurrences_of (grammar_of options) reading
 
-  -- the occurrences of a name, by the place that it resolves to
-  resolved : (at : Option ℕ) → resolution (names_of options.groups) name ≡ at
+  -- a name is present if the group that it resolves to is mentioned
+  present : (at : Option ℕ) → resolution (names_of options.groups) name ≡ at
       → is_present groups name
-      ≡ nat_lt 0 (length (option_map_or (occurrences_of_group groups) at []))
-  resolved at resolves =
-      ap (λ (at : Option ℕ). nat_lt 0 (length (option_map_or (occurrences_of_group groups) at [])))
-      (sym (place_of-groups options groups
-      (signatures-matched 0 (signatures_of options.groups) occurrences) name) ∙ resolves)
-
-  -- a name that resolves is present if its group is mentioned
-  present : (place : ℕ) → resolution (names_of options.groups) name ≡ Some place
-      → is_present groups name ≡ list_any (λ o. o.mention.group == place) occurrences
-  present place resolves =
-      let named : place < length (names_of options.groups) =
-      resolution_within (names_of options.groups) name place resolves in
-      let within : place < length (signatures_of options.groups) =
-      subst (λ n. place < n)
-      (length-map options.groups (λ (g : Group). g.signature.names)
-      ∙ sym (length-map options.groups (λ (g : Group). g.signature))) named in
-      resolved (Some place) resolves
-      ∙ ap (λ (founds : List GroupOccurrence). nat_lt 0 (length founds))
-      (found-matched 0 (signatures_of options.groups) occurrences place within
-      ∙ ap (λ n. occurrences_mentioning n occurrences) (zero-add place))
-      ∙ some_mentioning place occurrences
+      ≡ option_map_or (λ place. list_any (λ o. o.mention.group == place) occurrences) at false
+  present at resolves =
+      found-named (λ (founds : List GroupOccurrence). nat_lt 0 (length founds)) _ options occurrences
+      (λ place. some_mentioning place occurrences) name
+      ∙ ap (λ at. option_map_or
+      (λ place. list_any (λ (o : Occurrence). o.mention.group == place) occurrences) at false) resolves
 
   -- the name's option occurs in the reading
   abbrev Occurs : Type 0
@@ -87,10 +69,10 @@ module _ (options : Declared) (reading : Reading) (name : Text) where
   occurs : is_present groups name ≡ true → Occurs
   occurs is = by_place (resolution (names_of options.groups) name) refl where
     by_place : (at : Option ℕ) → resolution (names_of options.groups) name ≡ at → Occurs
-    by_place None none = absurd (true≢false (sym is ∙ resolved None none))
+    by_place None none = absurd (true≢false (sym is ∙ present None none))
     by_place (Some place) resolves =
         let found = Any-from_list_any (λ (o : Occurrence). o.mention.group == place) occurrences
-        (sym (present place resolves) ∙ is) in (
+        (sym (present (Some place) resolves) ∙ is) in (
           found.0,
           found.1,
           found.2,
@@ -102,9 +84,14 @@ module _ (options : Declared) (reading : Reading) (name : Text) where
   occurring : Occurs → is_present groups name ≡ true
   occurring found =
       let place = found.1.mention.group in
-      present place found.4
+      present (Some place) found.4
       ∙ list_any-from_Any (λ (o : Occurrence). o.mention.group == place) occurrences
       (found.0, found.1, found.2, found.3, eq-eqb place place refl)
+
+-- what a test tells about a fact
+abbrev Told : Bool → Type 0 → Type 0
+Told true Fact = Fact
+Told false Fact = ¬ Fact
 
 module _ (options : Declared) (words : List Text) where
   -- words that have no reading give nothing
@@ -130,109 +117,91 @@ module _ (options : Declared) (words : List Text) where
         ((has.only gives.reading).0 gives.reads)
         ∙ ap (λ (m : Matched). is_present m.groups name) (sym has.matches_are) ∙ isnt)
 
+    -- so a test for the name tells whether they do
+    told : (is : Bool) → is_present matches.groups name ≡ is → Told is (Gives options words name)
+    told true is = given is
+    told false isnt = not_given isnt
+
   module _ (usual : Result Matched Fault) (parse : IsTheOnly (IsParseAnswer options words) usual)
     where
-      -- without the flag, the result of `parse_unless` is that of `parse`
-      unless_parsed : (flag : Text) → ¬ (Gives options words flag)
+      -- with the flag, there are no matches; without it, the result is that of `parse`
+      unless_told : (flag : Text) (is : Bool) → Told is (Gives options words flag)
           → IsTheOnly (IsUnlessAnswer options flag words)
-          (result_map_both Some (λ fault. fault) usual)
-      unless_parsed flag without = IsTheOnly-from (IsUnlessAnswer options flag words) _
-          (is usual (meets (IsParseAnswer options words) usual parse)) only where
-            is : (answer : Result Matched Fault) → IsParseAnswer options words answer
-                → IsUnlessAnswer options flag words (result_map_both Some (λ fault. fault) answer)
-            is (Ok matches) accepted = (without, accepted)
-            is (Err fault) refused = (without, refused)
+          (if is then Ok None else result_map_both Some (λ fault. fault) usual)
+      unless_told flag is told = IsTheOnly-from (IsUnlessAnswer options flag words) _
+          (holds is told usual (meets (IsParseAnswer options words) usual parse)) (only is told) where
+            holds : (is : Bool) → Told is (Gives options words flag) → (answer : Result Matched Fault)
+                → IsParseAnswer options words answer → IsUnlessAnswer options flag words
+                (if is then Ok None else result_map_both Some (λ fault. fault) answer)
+            holds true gives answer parsed = gives
+            holds false without (Ok matches) accepted = (without, accepted)
+            holds false without (Err fault) refused = (without, refused)
 
-            only : (other : Result (Option Matched) Fault) → IsUnlessAnswer options flag words other
-                → other ≡ result_map_both Some (λ fault. fault) usual
-            only (Ok None) gives = absurd (without gives)
-            only (Ok (Some matches)) is =
+            only : (is : Bool) → Told is (Gives options words flag)
+                → (other : Result (Option Matched) Fault) → IsUnlessAnswer options flag words other
+                → other ≡ (if is then Ok None else result_map_both Some (λ fault. fault) usual)
+            only true gives (Ok None) is = refl
+            only true gives (Ok (Some matches)) is = absurd (is.0 gives)
+            only true gives (Err fault) is = absurd (is.0 gives)
+            only false without (Ok None) is = absurd (without is)
+            only false without (Ok (Some matches)) is =
                 ap (result_map_both Some (λ fault. fault)) ((parse (Ok matches)).0 is.1)
-            only (Err fault) is =
+            only false without (Err fault) is =
                 ap (result_map_both Some (λ fault. fault)) ((parse (Err fault)).0 is.1)
-
-      -- with the flag, there are no matches
-      unless_none : (flag : Text) → Gives options words flag
-          → IsTheOnly (IsUnlessAnswer options flag words) (Ok None)
-      unless_none flag gives = IsTheOnly-from (IsUnlessAnswer options flag words) (Ok None) gives only
-        where
-          only : (other : Result (Option Matched) Fault) → IsUnlessAnswer options flag words other
-              → other ≡ Ok None
-          only (Ok None) is = refl
-          only (Ok (Some matches)) is = absurd (is.0 gives)
-          only (Err fault) is = absurd (is.0 gives)
 
       -- the only result of `parse_unless`
       pub only_unless : (flag : Text) (read : Result Matched Fault) → IsReadAnswer options words read
           → IsTheOnly (IsUnlessAnswer options flag words) (unless_given flag read usual)
       only_unless flag (Err fault) none = subst (IsTheOnly (IsUnlessAnswer options flag words))
           (ap (result_map_both Some (λ fault. fault)) (sym ((parse (Err fault)).0 (inl none))))
-          (unless_parsed flag (nothing_given fault none flag))
-      only_unless flag (Ok matches) has = here (is_present matches.groups flag) refl where
-        here : (is : Bool) → is_present matches.groups flag ≡ is
-            → IsTheOnly (IsUnlessAnswer options flag words)
-            (if is then Ok None else result_map_both Some (λ fault. fault) usual)
-        here true is = unless_none flag (given matches has flag is)
-        here false isnt = unless_parsed flag (not_given matches has flag isnt)
+          (unless_told flag false (nothing_given fault none flag))
+      only_unless flag (Ok matches) has =
+          unless_told flag (is_present matches.groups flag) (told matches has flag _ refl)
 
-      -- without `help` and `version`, the result of `parse_request` is that of `parse`
-      request_parsed : RequestsNeither options words → IsTheOnly (IsRequestAnswer options words)
-          (result_map_both Parsed (λ fault. fault) usual)
-      request_parsed neither = IsTheOnly-from (IsRequestAnswer options words) _
-          (is usual (meets (IsParseAnswer options words) usual parse)) only where
-            is : (answer : Result Matched Fault) → IsParseAnswer options words answer
-                → IsRequestAnswer options words (result_map_both Parsed (λ fault. fault) answer)
-            is (Ok matches) accepted = (neither, accepted)
-            is (Err fault) refused = (neither, refused)
+      -- with `help`, it is help; with `version` alone, the version; otherwise the result of `parse`
+      request_told : (help version : Bool) → Told help (Gives options words (codes "help"))
+          → Told version (Gives options words (codes "version"))
+          → IsTheOnly (IsRequestAnswer options words) (if help then Ok Help
+          else (if version then Ok Version else result_map_both Parsed (λ fault. fault) usual))
+      request_told help version helps versions = IsTheOnly-from (IsRequestAnswer options words) _
+          (holds help version helps versions usual (meets (IsParseAnswer options words) usual parse))
+          (only help version helps versions) where
+            holds : (help version : Bool) → Told help (Gives options words (codes "help"))
+                → Told version (Gives options words (codes "version"))
+                → (answer : Result Matched Fault) → IsParseAnswer options words answer
+                → IsRequestAnswer options words (if help then Ok Help
+                else (if version then Ok Version else result_map_both Parsed (λ fault. fault) answer))
+            holds true version helps versions answer parsed = helps
+            holds false true helps versions answer parsed = (helps, versions)
+            holds false false helps versions (Ok matches) accepted = ((helps, versions), accepted)
+            holds false false helps versions (Err fault) refused = ((helps, versions), refused)
 
-            only : (other : Result (Request Matched) Fault) → IsRequestAnswer options words other
-                → other ≡ result_map_both Parsed (λ fault. fault) usual
-            only (Ok Help) gives = absurd (neither.0 gives)
-            only (Ok Version) is = absurd (neither.1 is.1)
-            only (Ok (Parsed matches)) is =
+            only : (help version : Bool) → Told help (Gives options words (codes "help"))
+                → Told version (Gives options words (codes "version"))
+                → (other : Result (Request Matched) Fault) → IsRequestAnswer options words other
+                → other ≡ (if help then Ok Help
+                else (if version then Ok Version else result_map_both Parsed (λ fault. fault) usual))
+            only true version helps versions (Ok Help) is = refl
+            only true version helps versions (Ok Version) is = absurd (is.0 helps)
+            only true version helps versions (Ok (Parsed matches)) is = absurd (is.0.0 helps)
+            only true version helps versions (Err fault) is = absurd (is.0.0 helps)
+            only false true helps versions (Ok Help) is = absurd (helps is)
+            only false true helps versions (Ok Version) is = refl
+            only false true helps versions (Ok (Parsed matches)) is = absurd (is.0.1 versions)
+            only false true helps versions (Err fault) is = absurd (is.0.1 versions)
+            only false false helps versions (Ok Help) is = absurd (helps is)
+            only false false helps versions (Ok Version) is = absurd (versions is.1)
+            only false false helps versions (Ok (Parsed matches)) is =
                 ap (result_map_both Parsed (λ fault. fault)) ((parse (Ok matches)).0 is.1)
-            only (Err fault) is =
+            only false false helps versions (Err fault) is =
                 ap (result_map_both Parsed (λ fault. fault)) ((parse (Err fault)).0 is.1)
-
-      -- with `help`, it is help
-      request_help : Gives options words (codes "help")
-          → IsTheOnly (IsRequestAnswer options words) (Ok Help)
-      request_help gives = IsTheOnly-from (IsRequestAnswer options words) (Ok Help) gives only where
-        only : (other : Result (Request Matched) Fault) → IsRequestAnswer options words other
-            → other ≡ Ok Help
-        only (Ok Help) is = refl
-        only (Ok Version) is = absurd (is.0 gives)
-        only (Ok (Parsed matches)) is = absurd (is.0.0 gives)
-        only (Err fault) is = absurd (is.0.0 gives)
-
-      -- with `version` alone, it is the version
-      request_version : ¬ (Gives options words (codes "help")) → Gives options words (codes "version")
-          → IsTheOnly (IsRequestAnswer options words) (Ok Version)
-      request_version without gives =
-          IsTheOnly-from (IsRequestAnswer options words) (Ok Version) (without, gives) only where
-            only : (other : Result (Request Matched) Fault) → IsRequestAnswer options words other
-                → other ≡ Ok Version
-            only (Ok Help) is = absurd (without is)
-            only (Ok Version) is = refl
-            only (Ok (Parsed matches)) is = absurd (is.0.1 gives)
-            only (Err fault) is = absurd (is.0.1 gives)
 
       -- the only result of `parse_request`
       pub only_request : (read : Result Matched Fault) → IsReadAnswer options words read
           → IsTheOnly (IsRequestAnswer options words) (request_of read usual)
       only_request (Err fault) none = subst (IsTheOnly (IsRequestAnswer options words))
           (ap (result_map_both Parsed (λ fault. fault)) (sym ((parse (Err fault)).0 (inl none))))
-          (request_parsed (nothing_given fault none _, nothing_given fault none _))
-      only_request (Ok matches) has =
-          here (is_present matches.groups (codes "help")) refl
-          (is_present matches.groups (codes "version")) refl where
-            here : (help : Bool) → is_present matches.groups (codes "help") ≡ help
-                → (version : Bool) → is_present matches.groups (codes "version") ≡ version
-                → IsTheOnly (IsRequestAnswer options words)
-                (if help then Ok Help else (if version then Ok Version
-                else result_map_both Parsed (λ fault. fault) usual))
-            here true helps version versions = request_help (given matches has _ helps)
-            here false helps true versions =
-                request_version (not_given matches has _ helps) (given matches has _ versions)
-            here false helps false versions =
-                request_parsed (not_given matches has _ helps, not_given matches has _ versions)
+          (request_told false false (nothing_given fault none _) (nothing_given fault none _))
+      only_request (Ok matches) has = request_told (is_present matches.groups (codes "help"))
+          (is_present matches.groups (codes "version")) (told matches has _ _ refl)
+          (told matches has _ _ refl)

@@ -49,16 +49,14 @@ module _ (options : Declared) (declared : MayBeDeclared options.groups) (words :
     plain = is_plain-true options.groups content.mentions plain;
     line_is = refl;
   }
-  written_answer content accepted false some =
-      let not_plain = is_plain-false options.groups content.mentions some in
-      record {
-        content = content;
-        accepted = accepted;
-        sound = IsSound-says options words content
-            (Says-accepted options options.style options.long_only words content accepted);
-        not_plain = not_plain;
-        unwritable = HasUnwritable-content options content not_plain;
-      }
+  written_answer content accepted false some = record {
+    content = content;
+    accepted = accepted;
+    sound = IsSound-says options words content
+        (Says-accepted options options.style options.long_only words content accepted);
+    not_plain = is_plain-false options.groups content.mentions some;
+    unwritable = HasUnwritable-content options content some;
+  }
 
   -- the reading that keeps the counts, or the first error
   counted : (reading : Reading) → IsReading (grammar_of options) reading words

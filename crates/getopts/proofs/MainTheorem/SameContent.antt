@@ -1,24 +1,26 @@
 -- Lines with the same content: their matches hold the same.
-use Rattle.std.proofs.Common.{◌≡◌, ◌==◌, ℕ, zero, suc, ◌+◌, Bool, true, false, cond, List, [], ◌∷◌}
-use Rattle.std.proofs.Common.{map, Option, Some, None, refl, ap, sym, subst, ◌∙◌}
+use Rattle.std.proofs.Common.{◌≡◌, ◌==◌, ℕ, Bool, List, []}
+use Rattle.std.proofs.Common.{map, Option, refl, ap, sym, subst, ◌∙◌}
 use Rattle.std.specs.List.{filter}
 use Rattle.std.specs.Option.{option_map_or}
+use Rattle.std.proofs.lemmas.Simd.{map-map}
 use Rattle.getopts.specs.Names.{Text, resolution}
-use Rattle.getopts.specs.Options.{Signature, Declared, MayBeDeclared, names_of, signatures_of}
+use Rattle.getopts.specs.Options.{Declared, MayBeDeclared, names_of, signatures_of}
 use Rattle.getopts.specs.Options.{grammar_of}
 use Rattle.getopts.specs.Reading.{Reading, Mention, Occurrence, occurrences_of, free_words}
 use Rattle.getopts.specs.ReadingLaws.{mentions_of}
 use Rattle.getopts.specs.Canon.{Content, content_of, canonical_reading, with_setting}
 use Rattle.getopts.specs.CanonAnswers.{KeepsLineLaws}
-use Rattle.getopts.specs.Matches.{Matched, occurrences_mentioning, matched, matches_of, KeepsCounts}
-use Rattle.getopts.specs.Accessors.{place_of, occurrences_of_group, occurrences_of_name, each_value}
+use Rattle.getopts.specs.Matches.{GroupOccurrence, Matched, occurrences_mentioning, without_group}
+use Rattle.getopts.specs.Matches.{matched, matches_of, KeepsCounts}
+use Rattle.getopts.specs.Accessors.{occurrences_of_name, each_value}
 use Rattle.getopts.specs.Theorem.{AcceptedExactlyWhen, HaveSameValues, OneContentHoldsSame}
 use Rattle.getopts.specs.Theorem.{LinesReadAgain}
 use Rattle.getopts.specs.declared.kinds.ParsingStyle.{ParsingStyle}
+use Rattle.getopts.proofs.Lists.{filter-map}
 use Rattle.getopts.proofs.canon.Lines.{KeepsCounts-mentions}
 use Rattle.getopts.proofs.canon.Answered.{reads_of}
-use Rattle.getopts.proofs.Stored.Matches.{signatures-matched}
-use Rattle.getopts.proofs.parse.Holds.{place_of-groups}
+use Rattle.getopts.proofs.parse.Holds.{found-named}
 use Rattle.getopts.proofs.parse.Parsed.{IsAccepted-reading}
 
 -- the values of a group's occurrences, from the mentions
@@ -28,67 +30,19 @@ values_at place ms = map (λ (m : Mention). m.value) (filter (λ (m : Mention). 
 values-occurrences_mentioning : (place : ℕ) (os : List Occurrence)
     → each_value (occurrences_mentioning place os)
     ≡ values_at place (map (λ (o : Occurrence). o.mention) os)
-values-occurrences_mentioning place [] = refl
-values-occurrences_mentioning place (o ∷ os) = here (o.mention.group == place) (values-occurrences_mentioning place os) where
-  here : (is : Bool)
-      → each_value (occurrences_mentioning place os)
-      ≡ values_at place (map (λ (o : Occurrence). o.mention) os)
-      → each_value
-      (map (λ (o : Occurrence). record { position = o.position; value = o.mention.value })
-      (cond is (o ∷ filter (λ (o : Occurrence). o.mention.group == place) os)
-      (filter (λ (o : Occurrence). o.mention.group == place)
-      os))) ≡ map (λ (m : Mention). m.value) (cond is (o.mention ∷ filter (λ (m : Mention). m.group
-      == place) (map
-      (λ (o : Occurrence). o.mention) os)) (filter (λ (m : Mention). m.group == place) (map
-      (λ (o : Occurrence). o.mention) os)))
-  here true others = ap (λ (more : List (Option Text)). o.mention.value ∷ more) others
-  here false others = others
+values-occurrences_mentioning place os =
+    map-map (λ (found : GroupOccurrence). found.value) without_group _
+    ∙ sym (map-map (λ (m : Mention). m.value) (λ (o : Occurrence). o.mention) _)
+    ∙ ap (map (λ (m : Mention). m.value)) (sym (filter-map (λ (m : Mention). m.group == place)
+    (λ (o : Occurrence). o.mention) os))
 
-values-occurrences_of_group : (signatures : List Signature) (first i : ℕ)
-    (old new : List Occurrence)
-    → map (λ (o : Occurrence). o.mention) new ≡ map (λ (o : Occurrence). o.mention) old
-    → each_value (occurrences_of_group (matched first signatures new) i)
-    ≡ each_value (occurrences_of_group (matched first signatures old) i)
-values-occurrences_of_group [] first i old new same = refl
-values-occurrences_of_group (signature ∷ signatures) first zero old new same =
-    values-occurrences_mentioning first new
-    ∙ ap (values_at first) same ∙ sym (values-occurrences_mentioning first old)
-values-occurrences_of_group (signature ∷ signatures) first (suc i) old new same =
-    values-occurrences_of_group signatures (first + 1) i old new same
-
--- Readings with the same mentions, in any styles and modes, give each name the same values.
-values-occurrences_of_name : (options : Declared) (style : ParsingStyle) (long_only : Bool)
-    → (old new : Reading)
-    → mentions_of (grammar_of (with_setting options style long_only)) new
-    ≡ mentions_of (grammar_of options) old → (name : Text)
-    → each_value
-    (occurrences_of_name (matches_of (with_setting options style long_only) new).groups name)
-    ≡ each_value (occurrences_of_name (matches_of options old).groups name)
-values-occurrences_of_name options style long_only old new same name =
-    let other = with_setting options style long_only in
-    ap (λ (place : Option ℕ). each_value
-    (option_map_or (occurrences_of_group (matches_of other new).groups) place []))
-    (resolves other new)
-    ∙ here (resolution (names_of options.groups) name)
-    ∙ ap (λ (place : Option ℕ). each_value
-    (option_map_or (occurrences_of_group (matches_of options old).groups) place []))
-    (sym (resolves options old)) where
-      resolves : (by : Declared) (reading : Reading)
-          → place_of (matches_of by reading).groups name
-          ≡ resolution (names_of by.groups) name
-      resolves by reading = sym (place_of-groups by (matches_of by reading).groups
-          (signatures-matched 0 (signatures_of by.groups)
-          (occurrences_of (grammar_of by) reading)) name)
-
-      here : (place : Option ℕ)
-          → each_value (option_map_or
-          (occurrences_of_group (matches_of (with_setting options style long_only) new).groups) place [])
-          ≡ each_value
-          (option_map_or (occurrences_of_group (matches_of options old).groups) place [])
-      here None = refl
-      here (Some i) = values-occurrences_of_group (signatures_of options.groups) 0 i
-          (occurrences_of (grammar_of options) old)
-          (occurrences_of (grammar_of (with_setting options style long_only)) new) same
+-- the values of a name, from the mentions
+values-named : (options : Declared) (os : List Occurrence) (name : Text)
+    → each_value (occurrences_of_name (matched 0 (signatures_of options.groups) os) name)
+    ≡ option_map_or (λ place. values_at place (map (λ (o : Occurrence). o.mention) os))
+    (resolution (names_of options.groups) name) []
+values-named options os = found-named each_value _ options os
+    (λ place. values-occurrences_mentioning place os)
 
 -- readings with the same content give matches that hold the same
 HaveSameValues-content : (options : Declared) (style : ParsingStyle) (long_only : Bool)
@@ -98,8 +52,14 @@ HaveSameValues-content : (options : Declared) (style : ParsingStyle) (long_only 
     → free_words new ≡ free_words old
     → HaveSameValues (matches_of options old)
     (matches_of (with_setting options style long_only) new)
-HaveSameValues-content options style long_only old new same free =
-    record { values = values-occurrences_of_name options style long_only old new same; free = free }
+HaveSameValues-content options style long_only old new same free = record {
+  values = λ name.
+      values-named options (occurrences_of (grammar_of (with_setting options style long_only)) new) name
+      ∙ ap (λ ms. option_map_or (λ place. values_at place ms)
+      (resolution (names_of options.groups) name) []) same
+      ∙ sym (values-named options (occurrences_of (grammar_of options) old) name);
+  free = free;
+}
 
 -- words with the content of accepted words are accepted, with matches that hold the same
 pub OneContentHoldsSame_lem : (options : Declared) → AcceptedExactlyWhen options

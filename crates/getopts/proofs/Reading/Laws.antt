@@ -1,14 +1,15 @@
 -- The laws of readings, proved for every grammar.
-use Rattle.std.proofs.Common.{◌≡◌, ◌≢◌, ◌==◌, ℕ, zero, suc, ◌+◌, ◌<◌, ◌≤◌, Bool, true, false, List}
-use Rattle.std.proofs.Common.{[], ◌∷◌, ◌++◌, length, map, get_or, Some, refl, sym, ap, ◌∙◌, subst}
+use Rattle.std.proofs.Common.{◌≡◌, ◌≢◌, ◌==◌, ℕ, zero, suc, ◌+◌, ◌≤◌, Bool, true, false, List}
+use Rattle.std.proofs.Common.{[], ◌∷◌, ◌++◌, length, map, Some, refl, sym, ap, ◌∙◌, subst}
 use Rattle.std.proofs.Common.{arith, inl, inr}
 use Rattle.std.specs.Prelude.{⊤}
 use Rattle.std.proofs.lemmas.Bool.{cases_Bool}
 use Rattle.std.proofs.Math.Seq.{drop-append_seam}
-use Rattle.std.specs.List.{AllByRecursion, flat_map}
+use Rattle.std.specs.List.{AllByRecursion, AllAdjacentBelow, flat_map}
 use Rattle.std.specs.List.Sorted.{IsNonDecreasingBy}
 use Rattle.std.proofs.lemmas.List.{append-nil, append_assoc, length-append}
 use Rattle.std.proofs.lemmas.Grind.{flat_map-append}
+use Rattle.std.proofs.lemmas.List.Sorted.{IsNonDecreasingBy-from_all_adjacent}
 use Rattle.getopts.specs.Names.{Text}
 use Rattle.getopts.specs.Options.{Signature, Grammar}
 use Rattle.getopts.specs.Reading.{dash, item_words, tail_words, Occurrence, at_position, word_count}
@@ -23,10 +24,12 @@ use Rattle.getopts.specs.Matches.{GroupOccurrence, matched, occurrences_mentioni
 use Rattle.getopts.specs.ReadingLaws as Spec
 use Rattle.getopts.specs.declared.kinds.HasArg.TheVariants.{Yes}
 use Rattle.getopts.proofs.Lists.{AllByRecursion-append, AllByRecursion-left, AllByRecursion-right}
+use Rattle.getopts.proofs.counts.Groups.{AllByRecursion-matched}
 use Rattle.getopts.proofs.Reading.Positions.{mentions_of-items, positions_in-one_higher}
 use Rattle.getopts.proofs.Reading.Readings.{EndsOrIsDashed-spelled, spelled_all-append}
 use Rattle.getopts.proofs.Reading.Readings.{spelled_all-joined}
-use Rattle.getopts.proofs.Reading.Steps.{lawful_short, short_dashed}
+use Rattle.getopts.proofs.Reading.Steps.{lawful_short}
+use Rattle.getopts.proofs.Reading.Texts.{is_dashed-text}
 
 -- ---- replacing items
 
@@ -48,7 +51,7 @@ is_dashed-long grammar two name text before ordinary = refl
 is_dashed-cluster : (grammar : Grammar) (names : List ℕ) (end : End)
     → IsLawfulCluster grammar names end → is_dashed (dash ∷ (names ++ end_text end)) ≡ true
 is_dashed-cluster grammar names end lawful =
-    short_dashed grammar _ _ (lawful_short grammar names end lawful)
+    is_dashed-text (names ++ end_text end) (lawful_short grammar names end lawful).filled
 
 -- When new items may replace old ones before these words: they are valid and well
 -- followed if the old ones are, and begin with a dashed word in ordinary mode.
@@ -164,7 +167,7 @@ ReadsAlike-in_place grammar Alike front old new tail words fit same alike same_f
 -- replace the other if it fits, and the longer one moves later positions up by one.
 module _ (grammar : Grammar) (item longer : Item)
     (same : mentions grammar longer ≡ mentions grammar item)
-    (same_free : free_items (longer ∷ []) ≡ free_items (item ∷ []))
+    (same_free : (back : List Item) → free_items (longer ∷ back) ≡ free_items (item ∷ back))
     (one_more : word_count (longer ∷ []) ≡ word_count (item ∷ []) + 1) where
   -- replacing the shorter one
   Respells-longer : ((back : List Item) (more : List Text)
@@ -175,8 +178,7 @@ module _ (grammar : Grammar) (item longer : Item)
       (longer ∷ back) tail words (fit back (tail_words tail))
       (ap (λ (told : List Mention). told ++ flat_map (mentions grammar) back) same)
       (positions_in-one_higher grammar item longer back same one_more front tail)
-      (free_items-append (longer ∷ []) back ∙ ap (λ frees. frees ++ free_items back) same_free
-      ∙ sym (free_items-append (item ∷ []) back)) reads
+      (same_free back) reads
 
   -- replacing the longer one
   Respells-shorter : ((back : List Item) (more : List Text)
@@ -188,8 +190,7 @@ module _ (grammar : Grammar) (item longer : Item)
       (item ∷ back) tail words (fit back (tail_words tail))
       (ap (λ (told : List Mention). told ++ flat_map (mentions grammar) back) (sym same))
       (positions_in-one_higher grammar item longer back same one_more front tail)
-      (free_items-append (item ∷ []) back ∙ ap (λ frees. frees ++ free_items back) (sym same_free)
-      ∙ sym (free_items-append (longer ∷ []) back)) reads
+      (sym (same_free back)) reads
 
 -- ---- long options
 
@@ -220,11 +221,11 @@ pub LongAttachedOrSeparate_lem : (grammar : Grammar) → Spec.LongAttachedOrSepa
 LongAttachedOrSeparate_lem grammar = record {
   either = λ dashes name argument kind. record {
     to_longer = Respells-longer grammar (long dashes name (attached argument))
-        (long dashes name (separate argument)) refl refl refl
+        (long dashes name (separate argument)) refl (λ back. refl) refl
         (λ back more. FitInPlace-long grammar dashes dashes name _ _ back more
         (IsLawfulLong-yes grammar dashes name (attached argument) (separate argument) kind tt));
     to_shorter = Respells-shorter grammar (long dashes name (attached argument))
-        (long dashes name (separate argument)) refl refl refl
+        (long dashes name (separate argument)) refl (λ back. refl) refl
         (λ back more. FitInPlace-long grammar dashes dashes name _ _ back more
         (IsLawfulLong-yes grammar dashes name (separate argument) (attached argument) kind tt));
   };
@@ -290,7 +291,7 @@ ShortAttachedOrSeparate_lem grammar = record {
   either = λ names option argument kind filled. record {
     to_longer = to_separate names option argument kind;
     to_shorter = Respells-shorter grammar (cluster names (ends_in option (attached argument)))
-        (cluster names (ends_in option (separate argument))) refl refl refl
+        (cluster names (ends_in option (separate argument))) refl (λ back. refl) refl
         (λ back more. FitInPlace-cluster grammar names option (separate argument)
         (attached argument) back more kind filled refl);
   };
@@ -302,7 +303,7 @@ ShortAttachedOrSeparate_lem grammar = record {
         (cluster names (ends_in option (separate argument)) ∷ []) Spec.AreHigherAfter
     to_separate names option argument kind =
         Respells-longer grammar (cluster names (ends_in option (attached argument)))
-        (cluster names (ends_in option (separate argument))) refl refl refl
+        (cluster names (ends_in option (separate argument))) refl (λ back. refl) refl
         (λ back more. FitInPlace-cluster grammar names option (attached argument)
         (separate argument) back more kind tt refl)
 
@@ -446,53 +447,46 @@ TrailingStartIsAfterStop_lem grammar = record {
 
 -- ---- free words
 
--- the texts are a subsequence of the words, defined word by word
-pub data IsPart : List Text → List Text → Type 0 where
-  empty : IsPart [] []
-  kept : {texts words : List Text} (word : Text) → IsPart texts words
-      → IsPart (word ∷ texts) (word ∷ words)
-  left_out : {texts words : List Text} (word : Text) → IsPart texts words
-      → IsPart texts (word ∷ words)
+-- a word may be kept or left out
+kept : (word : Text) (texts words : List Text) → Spec.IsSubsequence texts words
+    → Spec.IsSubsequence (word ∷ texts) (word ∷ words)
+kept word texts words part = (true ∷ part.0, ap (λ (texts : List Text). word ∷ texts) part.1)
 
--- so they are a subsequence
-IsSubsequence-part : (texts words : List Text) → IsPart texts words → Spec.IsSubsequence texts words
-IsSubsequence-part _ _ empty = ([], refl)
-IsSubsequence-part _ _ (kept {texts} {words} word part) =
-    let more = IsSubsequence-part texts words part in
-    (true ∷ more.0, ap (λ (texts : List Text). word ∷ texts) more.1)
-IsSubsequence-part _ _ (left_out {texts} {words} word part) =
-    let more = IsSubsequence-part texts words part in (false ∷ more.0, more.1)
+left_out : (word : Text) (texts words : List Text) → Spec.IsSubsequence texts words
+    → Spec.IsSubsequence texts (word ∷ words)
+left_out word texts words part = (false ∷ part.0, part.1)
 
--- each word is among the words
-IsPart-refl : (words : List Text) → IsPart words words
-IsPart-refl [] = empty
-IsPart-refl (word ∷ words) = kept word (IsPart-refl words)
+-- all words may be kept
+all_kept : (words : List Text) → Spec.IsSubsequence words words
+all_kept [] = ([], refl)
+all_kept (word ∷ words) = kept word words words (all_kept words)
 
 -- the free words of a tail are among its words
-IsPart-tail : (tail : Tail) → IsPart (tail_frees tail) (tail_words tail)
-IsPart-tail line_end = empty
-IsPart-tail (stop words) = left_out _ (IsPart-refl words)
-IsPart-tail (rest words) = IsPart-refl words
+IsSubsequence-tail : (tail : Tail) → Spec.IsSubsequence (tail_frees tail) (tail_words tail)
+IsSubsequence-tail line_end = ([], refl)
+IsSubsequence-tail (stop words) = left_out _ words words (all_kept words)
+IsSubsequence-tail (rest words) = all_kept words
 
 -- words in front may be left out
-IsPart-after : (front words others : List Text) → IsPart words others
-    → IsPart words (front ++ others)
-IsPart-after [] words others among = among
-IsPart-after (word ∷ front) words others among =
-    left_out word (IsPart-after front words others among)
+IsSubsequence-after : (front texts words : List Text) → Spec.IsSubsequence texts words
+    → Spec.IsSubsequence texts (front ++ words)
+IsSubsequence-after [] texts words part = part
+IsSubsequence-after (word ∷ front) texts words part =
+    left_out word texts (front ++ words) (IsSubsequence-after front texts words part)
 
 -- the free words of items and a tail are among their words
-IsPart-items : (items : List Item) (tail : Tail)
-    → IsPart (free_items items ++ tail_frees tail) (spelled_all items (tail_words tail))
-IsPart-items [] tail = IsPart-tail tail
-IsPart-items (free word ∷ items) tail = kept word (IsPart-items items tail)
-IsPart-items (item ∷ items) tail = IsPart-after (item_words item) _ _ (IsPart-items items tail)
+IsSubsequence-items : (items : List Item) (tail : Tail) → Spec.IsSubsequence
+    (free_items items ++ tail_frees tail) (spelled_all items (tail_words tail))
+IsSubsequence-items [] tail = IsSubsequence-tail tail
+IsSubsequence-items (free word ∷ items) tail = kept word _ _ (IsSubsequence-items items tail)
+IsSubsequence-items (item ∷ items) tail =
+    IsSubsequence-after (item_words item) _ _ (IsSubsequence-items items tail)
 
 -- free words are a subsequence of the words
 pub FreeWordsAreSubsequence_lem : (grammar : Grammar) → Spec.FreeWordsAreSubsequence grammar
 FreeWordsAreSubsequence_lem grammar = record {
   subsequence = λ reading words reads. subst (Spec.IsSubsequence (free_words reading)) reads.spells
-      (IsSubsequence-part _ _ (IsPart-items reading.items reading.tail));
+      (IsSubsequence-items reading.items reading.tail);
 }
 
 -- ---- positions
@@ -508,32 +502,19 @@ RiseFrom-lower : (low high : ℕ) (founds : List GroupOccurrence) → low ≤ hi
 RiseFrom-lower low high [] below rise = tt
 RiseFrom-lower low high (found ∷ founds) below rise = (omega (arith, rise.0), rise.1)
 
--- each is at least the lowest
-RiseFrom-get_or : (low : ℕ) (founds : List GroupOccurrence) → RiseFrom low founds
-    → (index : ℕ) (default : GroupOccurrence) → index < length founds
-    → low ≤ (get_or founds index default).position
-RiseFrom-get_or low [] rise index default in_range = absurd (omega arith)
-RiseFrom-get_or low (found ∷ founds) rise zero default in_range = rise.0
-RiseFrom-get_or low (found ∷ founds) rise (suc index) default in_range =
-    let step : found.position ≤ (get_or founds index default).position =
-    RiseFrom-get_or found.position founds rise.1 index default (omega arith) in
-    omega (arith, rise.0, step)
+-- each is at least the one before it
+RiseFrom-adjacent : (low : ℕ) (founds : List GroupOccurrence) → RiseFrom low founds
+    → AllAdjacentBelow (λ one next. one.position ≤ next.position) founds (length founds)
+RiseFrom-adjacent low [] rise k default within = absurd (omega arith)
+RiseFrom-adjacent low (found ∷ []) rise k default within = absurd (omega arith)
+RiseFrom-adjacent low (found ∷ next ∷ founds) rise zero default within = rise.1.0
+RiseFrom-adjacent low (found ∷ next ∷ founds) rise (suc k) default within =
+    let later : suc k + 1 ≡ suc (k + 1) = omega arith in
+    rw later (RiseFrom-adjacent found.position (next ∷ founds) rise.1 k default (omega arith))
 
 -- the positions of a group's occurrences never decrease
 abbrev NeverDecrease : List GroupOccurrence → Type 0
 NeverDecrease founds = IsNonDecreasingBy (λ found. found.position) founds
-
--- rising positions never decrease
-NeverDecrease-from_rise : (low : ℕ) (founds : List GroupOccurrence) → RiseFrom low founds
-    → NeverDecrease founds
-NeverDecrease-from_rise low [] rise i j default ordered in_range = absurd (omega arith)
-NeverDecrease-from_rise low (found ∷ founds) rise zero zero default ordered in_range = omega arith
-NeverDecrease-from_rise low (found ∷ founds) rise zero (suc j) default ordered in_range =
-    RiseFrom-get_or found.position founds rise.1 j default (omega arith)
-NeverDecrease-from_rise low (found ∷ founds) rise (suc i) zero default ordered in_range =
-    absurd (omega arith)
-NeverDecrease-from_rise low (found ∷ founds) rise (suc i) (suc j) default ordered in_range =
-    NeverDecrease-from_rise found.position founds rise.1 i j default (omega arith) (omega arith)
 
 -- the occurrences of an item rise from its position, if the later ones do
 RiseFrom-item : (place position : ℕ) (told : List Mention) (later : List Occurrence)
@@ -562,14 +543,14 @@ RiseFrom-items grammar place before (item ∷ items) =
 NeverDecrease-reading : (grammar : Grammar) (reading : Reading) (place : ℕ)
     → NeverDecrease (occurrences_mentioning place (occurrences_of grammar reading))
 NeverDecrease-reading grammar reading place =
-    NeverDecrease-from_rise 0 _ (RiseFrom-items grammar place 0 reading.items)
+    IsNonDecreasingBy-from_all_adjacent (λ (found : GroupOccurrence). found.position) _
+    (RiseFrom-adjacent 0 _ (RiseFrom-items grammar place 0 reading.items))
 
 -- the positions of groups in a reading's matches are in order
 pub HavePositionsInOrder-matched : (grammar : Grammar) (reading : Reading) (place : ℕ)
     (signatures : List Signature)
     → Spec.HavePositionsInOrder (matched place signatures (occurrences_of grammar reading))
-HavePositionsInOrder-matched grammar reading place [] = tt
-HavePositionsInOrder-matched grammar reading place (signature ∷ signatures) = (
-  NeverDecrease-reading grammar reading place,
-  HavePositionsInOrder-matched grammar reading (place + 1) signatures,
-)
+HavePositionsInOrder-matched grammar reading place signatures =
+    AllByRecursion-matched (λ group. NeverDecrease group.found) place signatures
+    (occurrences_of grammar reading)
+    (λ i signature there. NeverDecrease-reading grammar reading (place + i))

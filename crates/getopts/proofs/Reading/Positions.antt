@@ -1,22 +1,26 @@
 -- Positions: how many words items spell, which occurrences move up by one, and what is at a
 -- position.
-use Rattle.std.proofs.Common.{◌≡◌, ◌==◌, ℕ, zero, suc, ◌+◌, ◌<◌, ◌≤◌, true, false, List, [], ◌∷◌}
+use Rattle.std.proofs.Common.{◌≡◌, ◌==◌, ℕ, ◌+◌, ◌<◌, true, false, List, [], ◌∷◌}
 use Rattle.std.proofs.Common.{◌++◌, length, map, refl, ap, ◌∙◌, sym, subst, inl, inr, add-zero}
-use Rattle.std.proofs.Common.{zero-add, arith}
+use Rattle.std.proofs.Common.{zero-add, arith, Some}
 use Rattle.std.specs.Prelude.{nat_le, slice_get, Contains}
 use Rattle.std.specs.List.{AllByRecursion, flat_map}
-use Rattle.std.proofs.lemmas.List.{map-append, length-append}
-use Rattle.std.proofs.lemmas.List.Elements.{Contains-append_cases}
-use Rattle.std.proofs.lemmas.Bool.{cases_Bool}
+use Rattle.std.proofs.lemmas.List.{map-append, length-append, map-id}
+use Rattle.std.proofs.lemmas.List.Elements.{Contains-append_cases, All-contains, All-map}
+use Rattle.std.proofs.lemmas.List.Elements.{All-contains_itself, All-weaker, recursion_from_All}
+use Rattle.std.proofs.lemmas.Simd.{map-map}
 use Rattle.std.proofs.lemmas.Bool.Decides.{nat_tests}
+use Rattle.std.proofs.lemmas.Option.{slice_get_within}
 use Rattle.getopts.specs.Names.{Text}
 use Rattle.getopts.specs.Options.{Signature, Grammar}
 use Rattle.getopts.specs.Reading.{Item, free, long, cluster, item_words, spelled_all, Tail}
 use Rattle.getopts.specs.Reading.{tail_words, Reading, IsReading, Mention, mentions, Occurrence}
 use Rattle.getopts.specs.Reading.{at_position, word_count, occurrences_after, occurrences_of}
-use Rattle.getopts.specs.Matches.{GroupOccurrence, matched, occurrences_mentioning}
+use Rattle.getopts.specs.Matches.{matched, without_group}
 use Rattle.getopts.specs.ReadingLaws as Spec
-use Rattle.getopts.proofs.Lists.{AllByRecursion-append, slice_get-append}
+use Rattle.getopts.proofs.Lists.{AllByRecursion-filter, AllByRecursion-map}
+use Rattle.getopts.proofs.Lists.{slice_get-append}
+use Rattle.getopts.proofs.counts.Groups.{AllByRecursion-matched}
 use Rattle.getopts.proofs.Reading.Reader.{spelled}
 use Rattle.getopts.proofs.Reading.Readings.{spelled_all-append, spelled_all-joined}
 
@@ -37,19 +41,14 @@ spells_word (free word) more = omega arith
 spells_word (long dashes name argument) more = omega arith
 spells_word (cluster names end) more = omega arith
 
--- mentions are occurrences without their positions
-mention-at_position : (before : ℕ) (ms : List Mention)
-    → map (λ (o : Occurrence). o.mention) (map (at_position before) ms) ≡ ms
-mention-at_position before [] = refl
-mention-at_position before (m ∷ ms) =
-    ap (λ (others : List Mention). m ∷ others) (mention-at_position before ms)
-
+-- the mentions of the occurrences of items are those of the items
 mention-occurrences_after : (before : ℕ) (grammar : Grammar) (items : List Item)
     → map (λ (o : Occurrence). o.mention) (occurrences_after before grammar items)
     ≡ flat_map (mentions grammar) items
 mention-occurrences_after before grammar [] = refl
 mention-occurrences_after before grammar (item ∷ items) =
-    let here = mention-at_position before (mentions grammar item) in
+    let here = map-map (λ (o : Occurrence). o.mention) (at_position before) (mentions grammar item)
+    ∙ map-id (mentions grammar item) in
     let after = mention-occurrences_after (before + word_count (item ∷ [])) grammar items in
     simp (map-append, here, after)
 
@@ -68,27 +67,14 @@ raised_after position o = record {
 position-raised_after : (position : ℕ) (os : List Occurrence)
     → map (λ (o : Occurrence). o.position) (map (raised_after position) os)
     ≡ map (Spec.one_higher_after position) (map (λ (o : Occurrence). o.position) os)
-position-raised_after position [] = refl
-position-raised_after position (o ∷ os) =
-    ap (λ (ps : List ℕ). Spec.one_higher_after position o.position ∷ ps)
-    (position-raised_after position os)
+position-raised_after position os = map-map (λ (o : Occurrence). o.position) (raised_after position) os
+    ∙ sym (map-map (Spec.one_higher_after position) (λ (o : Occurrence). o.position) os)
 
--- mentions up to this position stay where they are
-raised_after-stays : (at position : ℕ) (told : List Mention) → position ≤ at
-    → map (raised_after at) (map (at_position position) told) ≡ map (at_position position) told
-raised_after-stays at position [] within = refl
-raised_after-stays at position (first ∷ told) within =
-    let here : nat_le position at ≡ true = grind (arith, nat_tests) in
-    rw (here, raised_after-stays at position told within)
-
--- mentions after this position are one higher
-raised_after-moves : (at position : ℕ) (told : List Mention) → at < position
+-- mentions at a position, one higher if it comes after this one
+raised_after-mentions : (at position : ℕ) (told : List Mention)
     → map (raised_after at) (map (at_position position) told)
-    ≡ map (at_position (position + 1)) told
-raised_after-moves at position [] past = refl
-raised_after-moves at position (first ∷ told) past =
-    let here : nat_le position at ≡ false = grind (arith, nat_tests) in
-    rw (here, raised_after-moves at position told past)
+    ≡ map (at_position (Spec.one_higher_after at position)) told
+raised_after-mentions at position told = map-map (raised_after at) (at_position position) told
 
 -- the occurrences of items after this position are one higher
 occurrences_after-moves : (grammar : Grammar) (at before : ℕ) (items : List Item) → at < before
@@ -98,10 +84,12 @@ occurrences_after-moves grammar at before [] past = refl
 occurrences_after-moves grammar at before (item ∷ items) past =
     let next = before + word_count (item ∷ []) in
     let later : next + 1 ≡ before + 1 + word_count (item ∷ []) = omega arith in
+    let later_one : nat_le before at ≡ false = grind (arith, nat_tests) in
     rw (
       map-append (raised_after at) (map (at_position before) (mentions grammar item))
           (occurrences_after next grammar items),
-      raised_after-moves at before (mentions grammar item) past,
+      raised_after-mentions at before (mentions grammar item),
+      later_one,
       occurrences_after-moves grammar at next items (omega arith),
       later,
     )
@@ -118,10 +106,12 @@ module _ (grammar : Grammar) (item other : Item) (back : List Item)
   occurrences_after-here before =
       let next = before + word_count (item ∷ []) in
       let later : next + 1 ≡ before + word_count (other ∷ []) = omega arith in
+      let here : nat_le before before ≡ true = grind (arith, nat_tests) in
       rw (
         map-append (raised_after before) (map (at_position before) (mentions grammar item))
             (occurrences_after next grammar back),
-        raised_after-stays before before (mentions grammar item) (omega arith),
+        raised_after-mentions before before (mentions grammar item),
+        here,
         occurrences_after-moves grammar before next back (omega (arith, spells_word item [])),
         later,
         same,
@@ -137,10 +127,12 @@ module _ (grammar : Grammar) (item other : Item) (back : List Item)
       let at = before + word_count (first ∷ front) in
       let next = before + word_count (first ∷ []) in
       let same_place : at ≡ next + word_count front = omega (arith, word_count-cons first front) in
+      let earlier : nat_le before at ≡ true = grind (arith, nat_tests) in
       rw (
         map-append (raised_after at) (map (at_position before) (mentions grammar first))
             (occurrences_after next grammar (front ++ item ∷ back)),
-        raised_after-stays at before (mentions grammar first) (omega arith),
+        raised_after-mentions at before (mentions grammar first),
+        earlier,
         same_place,
         occurrences_after-one_higher front next,
       )
@@ -203,15 +195,6 @@ IsOfItem-from_contains grammar first (item ∷ items) occurrence held =
           (IsOfItem-from_contains grammar (first + word_count (item ∷ [])) items occurrence later)
     ]
 
--- a mention at a position has that position
-position-mentioned : (position : ℕ) (told : List Mention) (occurrence : Occurrence)
-    → Contains (map (at_position position) told) occurrence → occurrence.position ≡ position
-position-mentioned position [] occurrence held = absurd (omega (arith, held.1))
-position-mentioned position (first ∷ told) occurrence (zero, below, is) =
-    ap (λ (o : Occurrence). o.position) (sym is)
-position-mentioned position (first ∷ told) occurrence (suc k, below, is) =
-    position-mentioned position told occurrence (k, omega arith, is)
-
 -- the first word of an item is the same whatever follows it
 first_word-spelled : (item : Item) (more : List Text)
     → slice_get (spelled item more) 0 ≡ slice_get (item_words item) 0
@@ -232,8 +215,9 @@ PositionsAreWords_lem grammar = record { of_occurrence = stands } where
       subst (λ n. Contains (map (at_position n) (mentions grammar found.item)) occurrence)
       (zero-add (word_count found.before)) found.mentioned in
       let here : occurrence.position ≡ word_count found.before =
-      position-mentioned (word_count found.before)
-      (mentions grammar found.item) occurrence mentioned in
+      All-contains (λ o. o.position ≡ word_count found.before) _ occurrence
+      (All-map (λ o. o.position ≡ word_count found.before) (at_position (word_count found.before))
+      (mentions grammar found.item) (λ k d within. refl)) mentioned in
       let more = spelled_all found.after (tail_words reading.tail) in
       let words_are : words ≡ spelled_all found.before [] ++ spelled found.item more =
       sym reads.spells ∙ ap (λ (items : List Item). spelled_all items (tail_words reading.tail))
@@ -252,63 +236,32 @@ PositionsAreWords_lem grammar = record { of_occurrence = stands } where
             ∙ first_word-spelled found.item more;
       }
 
--- mentions at a position below a bound are below it
-below-mentioned : (count position : ℕ) (told : List Mention) → position < count
-    → AllByRecursion (λ o. o.position < count) (map (at_position position) told)
-below-mentioned count position [] below = tt
-below-mentioned count position (first ∷ told) below =
-    (below, below-mentioned count position told below)
+-- an item has a first word
+first_word : (item : Item) → (word : Text) × (slice_get (item_words item) 0 ≡ Some word)
+first_word (free word) = (word, refl)
+first_word (long dashes name argument) = (_, refl)
+first_word (cluster names end) = (_, refl)
 
--- the positions of items are below the number of words
-below-occurrences_after : (grammar : Grammar) (count before : ℕ) (items : List Item)
-    → before + word_count items ≤ count
-    → AllByRecursion (λ o. o.position < count) (occurrences_after before grammar items)
-below-occurrences_after grammar count before [] within = tt
-below-occurrences_after grammar count before (item ∷ items) within =
-    let words = word_count-cons item items in
-    AllByRecursion-append (λ o. o.position < count)
-    (map (at_position before) (mentions grammar item))
-    (occurrences_after (before + word_count (item ∷ [])) grammar items)
-    (below-mentioned count before (mentions grammar item)
-    (omega (arith, words, spells_word item [])))
-    (below-occurrences_after grammar count (before + word_count (item ∷ [])) items
-    (omega (arith, words)))
-
--- so are those of one group
-below-occurrences_mentioning : (count place : ℕ) (occurrences : List Occurrence)
-    → AllByRecursion (λ o. o.position < count) occurrences
-    → AllByRecursion (λ (found : GroupOccurrence). found.position < count)
-    (occurrences_mentioning place occurrences)
-below-occurrences_mentioning count place [] all = tt
-below-occurrences_mentioning count place (first ∷ occurrences) all =
-    let later = below-occurrences_mentioning count place occurrences all.1 in
-    elim (cases_Bool (first.mention.group == place)) [
-      | inl here ↦
-          rw here (all.0, later)
-      | inr other ↦ rw other later
-    ]
-
--- so are those of a reading
+-- the positions of a reading are below the number of words
 below-occurrences_of : (grammar : Grammar) (reading : Reading) (words : List Text)
     → IsReading grammar reading words
     → AllByRecursion (λ o. o.position < length words) (occurrences_of grammar reading)
 below-occurrences_of grammar reading words reads =
-    below-occurrences_after grammar (length words) 0 reading.items
-    (omega (
-      arith,
-      ap length reads.spells,
-      length-spelled_all reading.items
-          (tail_words reading.tail),
-    ))
+    let occurrences = occurrences_of grammar reading in
+    recursion_from_All (λ o. o.position < length words) occurrences
+    (All-weaker (Contains occurrences) (λ o. o.position < length words) (λ o held.
+    let there = (PositionsAreWords_lem grammar).of_occurrence reading words o reads held in
+    let first = first_word there.item in
+    slice_get_within words o.position first.0 (there.first_word ∙ first.1))
+    occurrences (All-contains_itself occurrences))
 
 -- so are those of the groups in a reading's matches
 pub HavePositionsBelow-matched : (grammar : Grammar) (reading : Reading) (words : List Text)
     → IsReading grammar reading words → (place : ℕ) (signatures : List Signature)
     → Spec.HavePositionsBelow (length words) (matched place signatures (occurrences_of grammar reading))
-HavePositionsBelow-matched grammar reading words reads place [] = tt
-HavePositionsBelow-matched grammar reading words reads place (signature ∷ signatures) = (
-  below-occurrences_mentioning (length words) place (occurrences_of grammar reading)
-      (below-occurrences_of grammar reading words reads),
-  HavePositionsBelow-matched grammar reading words reads
-      (place + 1) signatures,
-)
+HavePositionsBelow-matched grammar reading words reads place signatures =
+    AllByRecursion-matched (λ group. AllByRecursion (λ found. found.position < length words) group.found)
+    place signatures (occurrences_of grammar reading) (λ i signature there.
+    AllByRecursion-map (λ found. found.position < length words) without_group _
+    (AllByRecursion-filter (λ o. o.mention.group == place + i) _ _ (λ o is below. below)
+    (occurrences_of grammar reading) (below-occurrences_of grammar reading words reads)))

@@ -28,30 +28,22 @@ read_second grammar (word ∷ more) = refl
 
 -- `read` on one word, by its step.
 module _ (grammar : Grammar) (word : Text) (more : List Text) where
+  -- what it says, and the outcomes of the words after it
+  pub read_step : (said : Step) → step grammar word more ≡ said → read grammar (word ∷ more)
+      ≡ after_step said (read_both grammar more).0 (read_both grammar more).1
+  unfolding read
+  read_step said e =
+      ap (λ (t : Step). after_step t (read_both grammar more).0 (read_both grammar more).1) e
+
   -- an item, and the words after its argument's
   pub read_item : (item : Item) (argument : Argument) → step grammar word more ≡ takes item argument
       → read grammar (word ∷ more)
       ≡ with_items (item ∷ []) (read grammar (drop (length (argument_words argument)) more))
   unfolding read
   read_item item (separate next) said =
-      ap (λ (t : Step). after_step t (read_both grammar more).0 (read_both grammar more).1) said
+      read_step (takes item (separate next)) said
       ∙ ap (with_items (item ∷ [])) (read_second grammar more)
-  read_item item argument said =
-      ap (λ (t : Step). after_step t (read_both grammar more).0 (read_both grammar more).1) said
-
-  -- the tail of the line
-  pub read_tail : (tail : Tail) → step grammar word more ≡ ends tail
-      → read grammar (word ∷ more) ≡ Ok (record { items = []; tail = tail })
-  unfolding read
-  read_tail tail e =
-      ap (λ (t : Step). after_step t (read_both grammar more).0 (read_both grammar more).1) e
-
-  -- an error
-  pub read_error : (fault : Fault) → step grammar word more ≡ faults fault
-      → read grammar (word ∷ more) ≡ Err fault
-  unfolding read
-  read_error fault e =
-      ap (λ (t : Step). after_step t (read_both grammar more).0 (read_both grammar more).1) e
+  read_item item argument said = read_step (takes item argument) said
 
 -- the end of the line
 pub read_nil : (grammar : Grammar) → read grammar [] ≡ Ok (record { items = []; tail = line_end })
@@ -96,10 +88,10 @@ tail_read : (grammar : Grammar) (tail : Tail) → IsLawfulTail grammar tail
     → read grammar (tail_words tail) ≡ Ok (record { items = []; tail = tail })
 tail_read grammar line_end lawful = read_nil grammar
 tail_read grammar (stop words) lawful =
-    read_tail grammar stop_word words (stop words) (Steps.step_stop grammar words)
+    read_step grammar stop_word words (ends (stop words)) (Steps.step_stop grammar words)
 tail_read grammar (rest []) lawful = absurd lawful
 tail_read grammar (rest (word ∷ words)) lawful =
-    read_tail grammar word words (rest (word ∷ words))
+    read_step grammar word words (ends (rest (word ∷ words)))
     (Steps.step_free grammar word words lawful.0
     ∙ ap (λ (style : ParsingStyle). free_step style word words) lawful.1)
 
@@ -165,13 +157,13 @@ fault_read grammar named words fault texts is =
     let line : words ≡ spelled_all is.items (is.word ∷ is.after) =
     is.words_are ∙ ap (λ (front : List Text). front ++ is.word ∷ is.after) (sym is.reads.spells)
     ∙ sym (spelled_all-append is.items [] (is.word ∷ is.after)) in
+    let stopped = Steps.fault_step grammar named is.word is.after fault utf8.0 is.fault_at in
     let followed : AreWellFollowed is.items (is.word ∷ is.after) =
     followed-append is.items (is.word ∷ is.after) is.reads.followed
-    (Steps.fault_dashed grammar is.word is.after fault is.fault_at) in
+    (Steps.faults_dashed grammar is.word is.after fault stopped) in
     ap (read grammar) line
     ∙ items_read grammar named is.items (is.word ∷ is.after) is.reads.items followed
-    ∙ ap (with_items is.items) (read_error grammar is.word is.after fault
-    (Steps.fault_step grammar named is.word is.after fault utf8.0 is.fault_at))
+    ∙ ap (with_items is.items) (read_step grammar is.word is.after (faults fault) stopped)
 
 -- a value made of an outcome is made of a reading
 pub made_of-ok : {X : Type 0} (make : Reading → X) (outcome : Result Reading Fault) (x : X)
@@ -238,17 +230,12 @@ fault_after_item grammar words item others fault begins is = record {
   items = item ∷ is.items;
   words_are = begins.spells ∙ ap (spelled item) is.words_are
       ∙ sym (append_assoc (item_words item) is.before (is.word ∷ is.after));
-  reads = record {
-    spells = ap (spelled item) is.reads.spells;
-    items = (begins.lawful, is.reads.items);
-    tail = tt;
-    followed = (
-      λ bare. subst EndsOrIsDashed (sym is.reads.spells)
-          (ends-front is.before (is.word ∷ is.after)
-          (subst EndsOrIsDashed is.words_are (begins.followed bare))),
-      is.reads.followed,
-    );
-  };
+  reads = reading_after_item grammar (spelled item is.before) item is.before _ (record {
+    spells = refl;
+    lawful = begins.lawful;
+    followed = λ bare. ends-front is.before (is.word ∷ is.after)
+        (subst EndsOrIsDashed is.words_are (begins.followed bare));
+  }) is.reads;
   fault_at = is.fault_at;
 }
 

@@ -7,6 +7,7 @@ use Rattle.std.specs.List.{AllByRecursion}
 use Rattle.std.specs.Str.{IsUtf8}
 use Rattle.std.proofs.lemmas.List.{length-append}
 use Rattle.std.proofs.lemmas.Str.{encode_ascii, length-encode, len_utf8_bounds}
+use Rattle.std.proofs.lemmas.Bool.{true_from_ne_false}
 use Rattle.getopts.specs.Names.{Text}
 use Rattle.getopts.specs.Options.{Grammar}
 use Rattle.getopts.specs.Fail.{Fault, unrecognized_option}
@@ -167,6 +168,17 @@ module _ (grammar : Grammar) (word : Text) (bytes : List ℕ)
         (kind, resolved, fits) followed,
   )
 
+  -- a text that follows the flags
+  after_flags : (rest : Text) → IsShortForm grammar word (bytes ++ rest)
+      → HasAfterFlags grammar word rest
+  after_flags rest form = record {
+    bytes = bytes;
+    ordinary = form.ordinary;
+    word_is = form.word_is;
+    second = form.second;
+    each = each;
+  }
+
   -- a name that doesn't resolve
   unknown_flag : IsNamed grammar → (byte : ℕ) (text : Text) (more : List Text)
       → IsShortForm grammar word (bytes ++ byte ∷ text) → grammar.kind (byte ∷ []) ≡ None
@@ -184,16 +196,6 @@ module _ (grammar : Grammar) (word : Text) (bytes : List ℕ)
             (after_flags (encode_utf8 begins.0 ++ begins.1.rest)
             (subst (λ (t : Text). IsShortForm grammar word (bytes ++ t)) begins.1.text_is form))
       ])
-    where
-      after_flags : (rest : Text) → IsShortForm grammar word (bytes ++ rest)
-          → HasAfterFlags grammar word rest
-      after_flags rest form = record {
-        bytes = bytes;
-        ordinary = form.ordinary;
-        word_is = form.word_is;
-        second = form.second;
-        each = each;
-      }
 
   -- one more byte, by its kind, given the result of one more flag
   byte_sound : IsNamed grammar → (byte : ℕ) (kind : Option HasArg) (text : Text) (more : List Text)
@@ -207,13 +209,7 @@ module _ (grammar : Grammar) (word : Text) (bytes : List ℕ)
   byte_sound named byte (Some kind) (c ∷ text) more after form resolved flag =
       takes_end byte kind (attached (c ∷ text)) more form resolved (λ e. cc e) (λ bare. cc bare)
   byte_sound named byte (Some Yes) [] [] after form resolved flag =
-      λ utf8. short_unfinished byte (record {
-        bytes = bytes;
-        ordinary = form.ordinary;
-        word_is = form.word_is;
-        second = form.second;
-        each = each;
-      }) resolved refl
+      λ utf8. short_unfinished byte (after_flags (byte ∷ []) form) resolved refl
   byte_sound named byte (Some Yes) [] (next ∷ others) after form resolved flag =
       takes_end byte Yes (separate next) others form resolved tt (λ bare. cc bare)
   byte_sound named byte (Some Maybe) [] [] after form resolved flag =
@@ -279,11 +275,6 @@ pub step_short : (grammar : Grammar) (word text : Text) (more : List Text)
 unfolding step
 step_short grammar word [] more form = absurd (form.filled refl)
 step_short grammar word (c ∷ text) more form = rw (form.word_is, form.second, form.ordinary) refl
-
--- a word in short form is dashed
-pub short_dashed : (grammar : Grammar) (word text : Text) → IsShortForm grammar word text
-    → is_dashed word ≡ true
-short_dashed grammar word text form = rw form.word_is (Texts.is_dashed-text text form.filled)
 
 -- a word that isn't dashed
 free_sound : (grammar : Grammar) (word : Text) (more : List Text) → is_dashed word ≡ false
@@ -572,13 +563,6 @@ short_of : (grammar : Grammar) (word text : Text) (has : HasAfterFlags grammar w
 short_of grammar word text has filled =
     record { ordinary = has.ordinary; word_is = has.word_is; filled = filled; second = has.second }
 
--- a word in long form is dashed
-long_dashed : (dashes : Dashes) (rest word : Text) → word ≡ dash_text dashes ++ rest
-    → word ≢ dash_text dashes → is_dashed word ≡ true
-long_dashed one [] word is filled = absurd (filled is)
-long_dashed one (c ∷ rest) word is filled = rw is refl
-long_dashed two rest word is filled = rw is refl
-
 -- a text that begins with a byte of ASCII begins with that character
 first_byte : (byte : ℕ) (text : Text) → byte < 128 → IsUtf8 (byte ∷ text)
     → first_char (byte ∷ text) ≡ byte ∷ []
@@ -612,20 +596,10 @@ fault_step grammar named word more fault utf8 (short_unfinished option has kind 
     (short_of grammar word _ has (filled-append has.bytes option [])) has.each kind)
 
 -- a word with an error is dashed
-pub fault_dashed : (grammar : Grammar) (word : Text) (more : List Text) (fault : Fault)
-    → IsFaultAt grammar word more fault → is_dashed word ≡ true
-fault_dashed grammar word more fault (unknown_name name argument form unknown) =
-    long_dashed form.dashes (name ++ with_equals argument) word form.word_is form.filled
-fault_dashed grammar word more fault (unknown_byte byte text ascii has unknown) =
-    short_dashed grammar word (has.bytes ++ byte ∷ text)
-    (short_of grammar word _ has (filled-append has.bytes byte text))
-fault_dashed grammar word more fault (wide_character character text scalar wide has) =
-    short_dashed grammar word (has.bytes ++ (encode_utf8 character ++ text))
-    (short_of grammar word _ has (filled-character has.bytes character text))
-fault_dashed grammar word more fault (unwanted_argument name argument form kind) =
-    long_dashed form.dashes (name ++ with_equals (Some argument)) word form.word_is form.filled
-fault_dashed grammar word more fault (long_unfinished name form kind ended) =
-    long_dashed form.dashes (name ++ with_equals None) word form.word_is form.filled
-fault_dashed grammar word more fault (short_unfinished option has kind ended) =
-    short_dashed grammar word (has.bytes ++ option ∷ [])
-    (short_of grammar word _ has (filled-append has.bytes option []))
+pub faults_dashed : (grammar : Grammar) (word : Text) (more : List Text) (fault : Fault)
+    → step grammar word more ≡ faults fault → is_dashed word ≡ true
+faults_dashed grammar word more fault is = true_from_ne_false (is_dashed word)
+    (λ plain. never grammar.style (sym (step_free grammar word more plain) ∙ is)) where
+      never : (style : ParsingStyle) → free_step style word more ≢ faults fault
+      never FloatingFrees e = cc e
+      never StopAtFirstFree e = cc e

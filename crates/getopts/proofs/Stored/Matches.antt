@@ -1,18 +1,19 @@
 -- What is in matches, in terms of the groups and the list of occurrences that the code stores.
-use Rattle.std.proofs.Common.{◌≡◌, ℕ, suc, zero, ◌+◌, ◌<◌, ◌≤◌, true, false, List, [], ◌∷◌, map}
-use Rattle.std.proofs.Common.{length, Option, Some, None, unwrap_or, slice_get, refl, ap, sym, ◌∙◌}
+use Rattle.std.proofs.Common.{◌≡◌, ℕ, suc, zero, ◌+◌, ◌<◌, true, false, List, [], ◌∷◌, map}
+use Rattle.std.proofs.Common.{length, Option, Some, None, get_or, refl, ap, sym, ◌∙◌}
 use Rattle.std.proofs.Common.{subst, inl, inr, arith, zero-add}
 use Rattle.std.specs.Cmp.Lexicographic.{pointwise}
-use Rattle.std.specs.List.{AllByRecursion, filter_map, cons_option}
+use Rattle.std.specs.List.{AllByRecursion, cons_option}
 use Rattle.std.specs.Option.{option_map, option_map_or}
 use Rattle.std.specs.String.{string_bytes}
 use Rattle.std.specs.declared.string.String.{String}
 use Rattle.std.specs.declared.alloc.Global.{Global}
 use Rattle.std.proofs.lemmas.Bool.{true≢false, cases_lt, and_cases, and_left, and_right, and_parts}
-use Rattle.std.proofs.lemmas.Bool.{and_from}
+use Rattle.std.proofs.lemmas.Bool.{and_from, le-ltb, lt-ltb}
 use Rattle.std.proofs.lemmas.List.{length-map}
 use Rattle.std.proofs.lemmas.List.Elements.{recursion_from_All}
 use Rattle.std.proofs.lemmas.Option.{slice_get_past}
+use Rattle.std.proofs.lemmas.Simd.{map-map}
 use Rattle.getopts.specs.Names.{Text, Names, IsLawfullyNamed, resolution}
 use Rattle.getopts.specs.Options.{Signature}
 use Rattle.getopts.specs.Stored.Signatures.{names_in}
@@ -23,18 +24,10 @@ use Rattle.getopts.specs.Matches.{without_group}
 use Rattle.getopts.specs.Accessors.{HaveLawfulNames, occurrences_of_group, place_of, values_of}
 use Rattle.getopts.specs.Accessors.{pairs_of, pair_view}
 use Rattle.getopts.specs.Same.{same_signature, same_group_occurrence, same_matched_group}
-use Rattle.getopts.proofs.counts.Groups.{length-matched}
-use Rattle.getopts.proofs.Stored.Index.{filter_map-places_of, places_of-within}
-use Rattle.getopts.proofs.Stored.Index.{slice_get-places_by_group, length-places_by_group}
-
--- the names of the groups in the matches
-names-matched : (first : ℕ) (signatures : List Signature) (occurrences : List Occurrence)
-    → map (λ (group : MatchedGroup). group.signature.names) (matched first signatures occurrences)
-    ≡ map (λ (signature : Signature). signature.names) signatures
-names-matched first [] occurrences = refl
-names-matched first (signature ∷ signatures) occurrences =
-    ap (λ (more : List Names). signature.names ∷ more)
-    (names-matched (first + 1) signatures occurrences)
+use Rattle.getopts.proofs.counts.Groups.{AllByRecursion-matched, length-matched}
+use Rattle.getopts.proofs.Lists.{AllByRecursion-at}
+use Rattle.getopts.specs.Stored.Occurrences.{no_occurrence, occurrences_at_places}
+use Rattle.getopts.proofs.Stored.Index.{map-places_of, places_of-within}
 
 -- the signatures of the groups in the matches
 pub signatures-matched : (first : ℕ) (signatures : List Signature) (occurrences : List Occurrence)
@@ -62,70 +55,50 @@ pub HaveLawfulNames-matched : (first : ℕ) (signatures : List Signature)
     (occurrences : List Occurrence)
     → AllByRecursion (λ signature. IsLawfullyNamed signature.names) signatures
     → HaveLawfulNames (matched first signatures occurrences)
-HaveLawfulNames-matched first [] occurrences lawful = tt
-HaveLawfulNames-matched first (signature ∷ signatures) occurrences lawful =
-    (lawful.0, HaveLawfulNames-matched (first + 1) signatures occurrences lawful.1)
+HaveLawfulNames-matched first signatures occurrences lawful =
+    AllByRecursion-matched (λ group. IsLawfullyNamed group.signature.names) first signatures occurrences
+    (λ i s at. AllByRecursion-at (λ s. IsLawfullyNamed s.names) signatures i s lawful at)
 
 -- a name resolves among the groups in the matches as among their names
 pub place_of-matched : (signatures : List Signature) (occurrences : List Occurrence) (name : Text)
     → resolution (names_in signatures) name ≡ place_of (matched 0 signatures occurrences) name
 place_of-matched signatures occurrences name = ap (λ (names : List Names). resolution names name)
-    (sym (names-matched 0 signatures occurrences))
+    (ap names_in (sym (signatures-matched 0 signatures occurrences))
+    ∙ map-map (λ (s : Signature). s.names) (λ (group : MatchedGroup). group.signature) _)
 
 module _ (signatures : List Signature) (occurrences : List Occurrence) (place : ℕ) where
-  -- the places of the occurrences of the group at this place
-  abbrev pub indexed_places : List ℕ
-  indexed_places = unwrap_or (slice_get (index_of (length signatures) occurrences) place) []
-
-  -- for an existing group, those with its number
-  places-there : place < length signatures
-      → indexed_places ≡ places_of place (map (λ (o : Occurrence). o.mention.group) occurrences)
-  places-there there =
-      ap (λ (o : Option (List ℕ)). unwrap_or o [])
-      (slice_get-places_by_group (length signatures) place
-      (map (λ (o : Occurrence). o.mention.group) occurrences) there)
-
-  -- for any other, none
-  places-past : length signatures ≤ place → indexed_places ≡ []
-  places-past past =
-      let mentioned = map (λ (o : Occurrence). o.mention.group) occurrences in
-      ap (λ (o : Option (List ℕ)). unwrap_or o [])
-      (slice_get_past (index_of (length signatures) occurrences) place
-      (omega (arith, length-places_by_group (length signatures) mentioned)))
-
-  -- they are within the occurrences
-  pub indexed_places-within : AllByRecursion (λ p. p < length occurrences) indexed_places
-  indexed_places-within = elim (cases_lt place (length signatures)) [
+  -- the places of the occurrences of the group at this place are within the occurrences
+  pub indexed-within : AllByRecursion (λ p. p < length occurrences)
+      (index_of (length signatures) occurrences place)
+  indexed-within = elim (cases_lt place (length signatures)) [
     | inl there ↦
         let mentioned = map (λ (o : Occurrence). o.mention.group) occurrences in
-        let within = recursion_from_All (λ p. p < length mentioned) (places_of place mentioned)
-        (places_of-within place mentioned) in
-        subst (AllByRecursion (λ p. p < length occurrences)) (sym (places-there there))
+        rw (lt-ltb place (length signatures) there)
         (subst (λ n. AllByRecursion (λ p. p < n) (places_of place mentioned))
-        (length-map occurrences (λ (o : Occurrence). o.mention.group)) within)
-    | inr past ↦ subst (AllByRecursion (λ p. p < length occurrences)) (sym (places-past past)) tt
+        (length-map occurrences (λ (o : Occurrence). o.mention.group))
+        (recursion_from_All (λ p. p < length mentioned) (places_of place mentioned)
+        (places_of-within place mentioned)))
+    | inr past ↦ rw (le-ltb place (length signatures) past) tt
   ]
 
   -- they are the occurrences of that group
-  pub indexed_places-found : map without_group
-      (filter_map (λ p. slice_get occurrences p) indexed_places)
+  pub indexed-found :
+      occurrences_at_places occurrences (index_of (length signatures) occurrences place)
       ≡ occurrences_of_group (matched 0 signatures occurrences) place
-  indexed_places-found = elim (cases_lt place (length signatures)) [
+  indexed-found = elim (cases_lt place (length signatures)) [
     | inl there ↦
-        ap (λ (ps : List ℕ). map without_group (filter_map (λ p. slice_get occurrences p) ps))
-        (places-there there)
-        ∙ ap (map without_group) (filter_map-places_of
-        (λ (o : Occurrence). o.mention.group) place occurrences)
+        rw (lt-ltb place (length signatures) there)
+        (sym (map-map without_group (λ p. get_or occurrences p no_occurrence) _)
+        ∙ ap (map without_group) (map-places_of
+        (λ (o : Occurrence). o.mention.group) place occurrences no_occurrence)
         ∙ ap (λ n. occurrences_mentioning n occurrences) (sym (zero-add place))
-        ∙ sym (found-matched 0 signatures occurrences place
-        there)
+        ∙ sym (found-matched 0 signatures occurrences place there))
     | inr past ↦
-        ap (λ (ps : List ℕ). map without_group (filter_map (λ p. slice_get occurrences p) ps))
-        (places-past past)
-        ∙ sym (ap (λ (o : Option MatchedGroup). option_map_or
+        rw (le-ltb place (length signatures) past)
+        (sym (ap (λ (o : Option MatchedGroup). option_map_or
         (λ (group : MatchedGroup). group.found) o [])
         (slice_get_past (matched 0 signatures occurrences) place
-        (omega (arith, length-matched 0 signatures occurrences))))
+        (omega (arith, length-matched 0 signatures occurrences)))))
   ]
 
 -- values are the texts of the pairs
@@ -145,13 +118,8 @@ texts_of_pairs (found ∷ founds) = of_value found.value (texts_of_pairs founds)
 pub texts_of_held_pairs : (pairs : List (ℕ × String Global)) (founds : List GroupOccurrence)
     → map pair_view pairs ≡ pairs_of founds
     → map (λ (pair : ℕ × String Global). string_bytes pair.1) pairs ≡ values_of founds
-texts_of_held_pairs pairs founds same = views pairs ∙ ap (map (λ (pair : ℕ × Text). pair.1)) same
-    ∙ texts_of_pairs founds where
-      views : (ps : List (ℕ × String Global))
-          → map (λ (pair : ℕ × String Global). string_bytes pair.1) ps
-          ≡ map (λ (pair : ℕ × Text). pair.1) (map pair_view ps)
-      views [] = refl
-      views (pair ∷ ps) = ap (λ (more : List Text). string_bytes pair.1 ∷ more) (views ps)
+texts_of_held_pairs pairs founds same = sym (map-map (λ (pair : ℕ × Text). pair.1) pair_view pairs)
+    ∙ ap (map (λ (pair : ℕ × Text). pair.1)) same ∙ texts_of_pairs founds
 
 -- groups with occurrences differ if their signatures do
 pub differ_signature : (groups others : List MatchedGroup)

@@ -1,13 +1,13 @@
 -- Occurrences: as they are stored, with their values in one text, and those of one group.
-use Rattle.std.proofs.Common.{◌≡◌, ◌<◌, ◌+◌, ℕ, zero, suc, ◌==◌, ◌&&◌, Bool, true, false, List, []}
-use Rattle.std.proofs.Common.{◌∷◌, ◌++◌, map, length, take, slice_get, Option, Bor, Some, None}
+use Rattle.std.proofs.Common.{◌≡◌, ◌<◌, ◌+◌, ℕ, ◌==◌, ◌&&◌, Bool, true, false, List, []}
+use Rattle.std.proofs.Common.{◌∷◌, ◌++◌, map, length, get_or, take, slice_get, Option, Bor, Some, None}
 use Rattle.std.proofs.Common.{refl, ap, sym, ◌∙◌, arith, ◌⊎◌, nat_le, cond, inl, inr, length-append}
-use Rattle.std.specs.List.{AllByRecursion, filter_map, cons_option}
+use Rattle.std.specs.List.{AllByRecursion}
 use Rattle.std.specs.Cmp.Lexicographic.{pointwise}
 use Rattle.std.specs.Option.{option_copied, option_eq, option_map}
-use Rattle.std.proofs.lemmas.List.{length-map, map-append}
+use Rattle.std.proofs.lemmas.List.{length-map}
 use Rattle.std.proofs.lemmas.List.Elements.{filter_map-append}
-use Rattle.std.proofs.lemmas.Option.{slice_get-map}
+use Rattle.std.proofs.lemmas.Option.{slice_get-get_or, slice_get-map}
 use Rattle.std.specs.Str.{IsUtf8}
 use Rattle.std.proofs.lemmas.Bool.{cases_Bool, cond-false, cond-true, le-leb, leb-true}
 use Rattle.std.proofs.lemmas.Str.{IsCharBoundary-end}
@@ -17,6 +17,7 @@ use Rattle.getopts.specs.Accessors.{values_of, pair_of, pairs_of, borrowed_occur
 use Rattle.getopts.specs.Reading.{Occurrence}
 use Rattle.getopts.specs.Same.{same_group_occurrence}
 use Rattle.getopts.specs.Stored.Occurrences.{text_at, IsSpanOf, IsTextAt, occurrence_in}
+use Rattle.getopts.specs.Stored.Occurrences.{no_occurrence, occurrences_at_places}
 use Rattle.getopts.specs.declared.occurrences.Span.{Span}
 use Rattle.getopts.specs.declared.occurrences.OccurrenceRecord.{OccurrenceRecord}
 use Rattle.getopts.proofs.Lists as Lists
@@ -62,7 +63,7 @@ pub occurrences-push : (values more : Text) → IsUtf8 more → (records : List 
     × (map (occurrence_in (values ++ more)) (records ++ added ∷ [])
     ≡ map (occurrence_in values) records ++ occurrence_in (values ++ more) added ∷ [])
 occurrences-push values more utf8 records held added last =
-    let kept = Lists.each_kept (λ (r : OccurrenceRecord). IsSpanOf values r.value)
+    Lists.each_pushed (λ (r : OccurrenceRecord). IsSpanOf values r.value)
     (λ (r : OccurrenceRecord). IsSpanOf (values ++ more) r.value) (occurrence_in values)
     (occurrence_in (values ++ more)) (λ r of.
     let value = span-append values more utf8 r.value of in (
@@ -71,58 +72,17 @@ occurrences-push values more utf8 records held added last =
         mention = record { group = r.group; value = value.1 i };
         position = r.position;
       },
-    )) records held in (
-      Lists.AllByRecursion-append (λ (r : OccurrenceRecord). IsSpanOf (values ++ more) r.value) records
-          (added ∷ []) kept.0 (last, tt),
-      map-append (occurrence_in (values ++ more)) records (added ∷ [])
-          ∙ ap (λ (os : List Occurrence). os ++ occurrence_in (values ++ more) added ∷ []) kept.1,
-    )
-
--- the groups of occurrences, whatever their values
-pub groups-occurrences : (values : Text) (records : List OccurrenceRecord)
-    → map (λ (g : OccurrenceRecord). g.group) records
-    ≡ map (λ (o : Occurrence). o.mention.group) (map (occurrence_in values) records)
-groups-occurrences values [] = refl
-groups-occurrences values (r ∷ records) =
-    ap (λ (more : List ℕ). r.group ∷ more) (groups-occurrences values records)
-
--- as many elements as places
-length-at_places : {X : Type 0} (xs : List X) (places : List ℕ)
-    → AllByRecursion (λ place. place < length xs) places
-    → length (filter_map (λ place. slice_get xs place) places) ≡ length places
-length-at_places xs [] all = refl
-length-at_places {X} xs (p ∷ places) all =
-    ap (λ (o : Option X). length (cons_option o (filter_map (λ place. slice_get xs place) places)))
-    ((Lists.element xs p all.0).1)
-    ∙ ap suc (length-at_places xs places all.1)
-
--- the element at one of the places
-slice_get-at_places : {X : Type 0} (xs : List X) (places : List ℕ) (i place : ℕ)
-    → AllByRecursion (λ place. place < length xs) places → slice_get places i ≡ Some place
-    → slice_get (filter_map (λ place. slice_get xs place) places) i ≡ slice_get xs place
-slice_get-at_places xs [] i place all at = cc at
-slice_get-at_places {X} xs (p ∷ places) zero place all at =
-    let same : p ≡ place = cc in
-    ap (λ (o : Option X). slice_get
-    (cons_option o (filter_map (λ place. slice_get xs place) places))
-    0) ((Lists.element xs p all.0).1)
-    ∙ sym ((Lists.element xs p all.0).1) ∙ ap (λ (n : ℕ). slice_get xs n) same
-slice_get-at_places {X} xs (p ∷ places) (suc i) place all at =
-    ap (λ (o : Option X). slice_get
-    (cons_option o (filter_map (λ place. slice_get xs place) places))
-    (suc i)) ((Lists.element xs p all.0).1)
-    ∙ slice_get-at_places xs places i place all.1 at
+    )) added _ last refl records held
 
 module _ (occurrences : List Occurrence) (places : List ℕ)
     (all : AllByRecursion (λ place. place < length occurrences) places) where
   -- the occurrences at these places
   abbrev founds : List GroupOccurrence
-  founds = map without_group (filter_map (λ place. slice_get occurrences place) places)
+  founds = occurrences_at_places occurrences places
 
   -- as many occurrences as places
   pub length-founds : length founds ≡ length places
-  length-founds = length-map (filter_map (λ place. slice_get occurrences place) places) without_group
-      ∙ length-at_places occurrences places all
+  length-founds = length-map places (λ place. without_group (get_or occurrences place no_occurrence))
 
   -- an existing occurrence has its place
   pub place_within : (seen : List GroupOccurrence) (i : ℕ) → founds ≡ seen → i < length seen
@@ -134,9 +94,10 @@ module _ (occurrences : List Occurrence) (places : List ℕ)
   pub founds-at : (i place : ℕ) → slice_get places i ≡ Some place
       → slice_get founds i ≡ option_map without_group (slice_get occurrences place)
   founds-at i place at =
-      slice_get-map without_group (filter_map (λ place. slice_get occurrences place) places) i
-      ∙ ap (λ (o : Option Occurrence). option_map without_group o)
-      (slice_get-at_places occurrences places i place all at)
+      let found : ℕ → GroupOccurrence = λ place. without_group (get_or occurrences place no_occurrence) in
+      slice_get-map found places i ∙ ap (option_map found) at
+      ∙ ap (option_map without_group) (sym (slice_get-get_or occurrences place no_occurrence
+      (Lists.AllByRecursion-at (λ place. place < length occurrences) places i place all at)))
 
 -- one more occurrence of a prefix: its value, and its position with its value
 module _ (founds : List GroupOccurrence) (i : ℕ) (found : GroupOccurrence)

@@ -21,25 +21,15 @@ use Rattle.getopts.specs.declared.kinds.ParsingStyle.TheVariants.{FloatingFrees,
 
 same_kind : (a b : HasArg) → kind_index a ≡ kind_index b → a ≡ b
 same_kind Yes Yes h = refl
-same_kind Yes No h = cc
-same_kind Yes Maybe h = cc
-same_kind No Yes h = cc
 same_kind No No h = refl
-same_kind No Maybe h = cc
-same_kind Maybe Yes h = cc
-same_kind Maybe No h = cc
 same_kind Maybe Maybe h = refl
+same_kind a b h = cc
 
 same_occurrence : (a b : Occur) → occurrence_index a ≡ occurrence_index b → a ≡ b
 same_occurrence Req Req h = refl
-same_occurrence Req Optional h = cc
-same_occurrence Req Multi h = cc
-same_occurrence Optional Req h = cc
 same_occurrence Optional Optional h = refl
-same_occurrence Optional Multi h = cc
-same_occurrence Multi Req h = cc
-same_occurrence Multi Optional h = cc
 same_occurrence Multi Multi h = refl
+same_occurrence a b h = cc
 
 same_style : (a b : ParsingStyle) → style_index a ≡ style_index b → a ≡ b
 same_style FloatingFrees FloatingFrees h = refl

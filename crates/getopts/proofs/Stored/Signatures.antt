@@ -1,51 +1,45 @@
 -- Signatures and groups as they are stored: which one is at a place, and what appending one
 -- changes.
 use Rattle.std.proofs.Common.{◌≡◌, ℕ, zero, suc, ◌<◌, List, [], ◌∷◌, map, ◌++◌, length, get_or}
-use Rattle.std.proofs.Common.{slice_get, Some, refl, ap, sym, ◌∙◌, subst, arith, Option, None}
+use Rattle.std.proofs.Common.{slice_get, Some, refl, ap, sym, ◌∙◌, subst, arith}
 use Rattle.std.specs.List.{AllByRecursion}
 use Rattle.std.specs.Option.{option_map}
 use Rattle.std.specs.Str.{IsUtf8}
 use Rattle.std.specs.String.{string_bytes}
-use Rattle.std.proofs.lemmas.List.{length-map, map-append}
+use Rattle.std.proofs.lemmas.List.{length-map}
 use Rattle.std.proofs.lemmas.List.Elements.{All-nil}
+use Rattle.std.proofs.lemmas.Simd.{map-map}
 use Rattle.std.proofs.lemmas.Option.{same_Some, slice_get-map, slice_get_read}
-use Rattle.getopts.specs.Names.{Text, Names, IsLawfullyNamed, main_name}
+use Rattle.std.proofs.lemmas.Option.{get_or_from_slice_get}
+use Rattle.getopts.specs.Names.{Text, IsLawfullyNamed, main_name}
 use Rattle.getopts.specs.Options.{Signature, Group, MayBeDeclared, signatures_of, names_of}
 use Rattle.getopts.specs.Canon.{main_at}
 use Rattle.getopts.specs.Stored.Names.{names_at, HaveNamesOfBytes}
 use Rattle.getopts.specs.Stored.Signatures.{signature_with, names_in, pair_at, AreEndsOf, IsPairAt}
 use Rattle.getopts.specs.Stored.Signatures.{ends_of, signature_in, AreLawfulSignatures, HasKeys}
-use Rattle.getopts.specs.Stored.Signatures.{IsStored, kinds_of}
+use Rattle.getopts.specs.Stored.Signatures.{IsLawfulSignature, IsStored, kinds_of}
 use Rattle.getopts.specs.Stored.Groups.{groups_with, groups_view, HoldGroups}
 use Rattle.getopts.specs.declared.groups.Groups.TheInside.{Inside}
 use Rattle.getopts.specs.declared.signatures.PairEnds.{PairEnds}
 use Rattle.getopts.specs.declared.signatures.SignatureRecord.{SignatureRecord}
 use Rattle.getopts.specs.declared.kinds.Kinds.{Kinds}
 use Rattle.getopts.proofs.Lists.{AllByRecursion-map, AllByRecursion-unmap, AllByRecursion-at}
-use Rattle.getopts.proofs.Lists.{AllByRecursion-append, each_kept}
+use Rattle.getopts.proofs.Lists.{AllByRecursion-follows, each_pushed}
 use Rattle.getopts.proofs.Stored.Texts.{IsOfBytes-utf8, two-append}
 
 -- the names of the signatures are those of the groups
 pub names-signatures_of : (groups : List Group)
     → map (λ (signature : Signature). signature.names) (signatures_of groups) ≡ names_of groups
-names-signatures_of [] = refl
-names-signatures_of (group ∷ groups) =
-    ap (λ (more : List Names). group.signature.names ∷ more) (names-signatures_of groups)
+names-signatures_of groups = map-map (λ (s : Signature). s.names) (λ (g : Group). g.signature) groups
 
--- so are the kinds at a place
-pub kinds-signatures_of : (groups : List Group) (place : ℕ)
-    → option_map (λ (group : Group). kinds_of group.signature) (slice_get groups place)
-    ≡ option_map kinds_of (slice_get (signatures_of groups) place)
-kinds-signatures_of [] place = refl
-kinds-signatures_of (group ∷ groups) zero = refl
-kinds-signatures_of (group ∷ groups) (suc place) = kinds-signatures_of groups place
-
--- the kind of argument, from the kinds of the group
-pub kind_of-kinds : (group : Option Group)
-    → option_map (λ (k : Kinds). k.kind) (option_map (λ (g : Group). kinds_of g.signature) group)
-    ≡ option_map (λ (g : Group). g.signature.kind) group
-kind_of-kinds None = refl
-kind_of-kinds (Some group) = refl
+-- a group has the kind of argument that its signature has
+pub kind-signatures_of : (groups : List Group) (place : ℕ) (kinds : Kinds)
+    → Some kinds ≡ option_map kinds_of (slice_get (signatures_of groups) place)
+    → option_map (λ (group : Group). group.signature.kind) (slice_get groups place) ≡ Some kinds.kind
+kind-signatures_of [] place kinds is = cc is
+kind-signatures_of (group ∷ groups) zero kinds is =
+    ap (λ (k : Kinds). Some k.kind) (sym (same_Some kinds (kinds_of group.signature) is))
+kind-signatures_of (group ∷ groups) (suc place) kinds is = kind-signatures_of groups place kinds is
 
 -- the record of an existing signature
 pub record_within : (text : Text) (records : List SignatureRecord) (signatures : List Signature)
@@ -79,39 +73,26 @@ stored_at text records signatures place r held are within is =
 pub names_at-signature : (signatures : List Signature) (place : ℕ) (signature : Signature)
     → slice_get signatures place ≡ Some signature
     → names_at (names_in signatures) place ≡ signature.names
-names_at-signature [] place signature is = cc is
-names_at-signature (first ∷ signatures) zero signature is =
-    ap (λ k. k.names) (same_Some first signature is)
-names_at-signature (first ∷ signatures) (suc place) signature is =
-    names_at-signature signatures place signature is
-
--- if groups have valid names, the names at a place are valid
-pub fits_at : (groups : List Names) → AllByRecursion IsLawfullyNamed groups → (i : ℕ)
-    → i < length groups → IsLawfullyNamed (names_at groups i)
-fits_at [] lawful i within = absurd (omega (arith, within))
-fits_at (first ∷ groups) lawful zero within = lawful.0
-fits_at (first ∷ groups) lawful (suc i) within = fits_at groups lawful.1 i (omega (arith, within))
+names_at-signature signatures place signature is =
+    get_or_from_slice_get (names_in signatures) place signature.names
+    (record { short = []; long = [] })
+    (slice_get-map (λ (s : Signature). s.names) signatures place
+    ∙ ap (option_map (λ (s : Signature). s.names)) is)
 
 -- names of valid signatures are valid
 pub lawful_names : (signatures : List Signature) → AreLawfulSignatures signatures
     → AllByRecursion IsLawfullyNamed (names_in signatures)
 lawful_names signatures lawful = AllByRecursion-map IsLawfullyNamed (λ (s : Signature). s.names)
-    signatures lawful.named
+    signatures (AllByRecursion-follows IsLawfulSignature _ (λ s fits. fits.named) signatures lawful)
 
 -- and consist of bytes
 pub HaveNamesOfBytes-lawful : (signatures : List Signature) → AreLawfulSignatures signatures
     → HaveNamesOfBytes (names_in signatures)
 HaveNamesOfBytes-lawful [] lawful place =
     (All-nil (λ byte. byte < 256), All-nil (λ byte. byte < 256))
-HaveNamesOfBytes-lawful (s ∷ more) lawful zero = (
-  IsOfBytes-utf8 s.names.short lawful.shorts.0,
-  IsOfBytes-utf8 s.names.long lawful.longs.0,
-)
-HaveNamesOfBytes-lawful (s ∷ more) lawful (suc place) = HaveNamesOfBytes-lawful more (record {
-  named = lawful.named.1;
-  shorts = lawful.shorts.1;
-  longs = lawful.longs.1;
-}) place
+HaveNamesOfBytes-lawful (s ∷ more) lawful zero =
+    (IsOfBytes-utf8 s.names.short lawful.0.short, IsOfBytes-utf8 s.names.long lawful.0.long)
+HaveNamesOfBytes-lawful (s ∷ more) lawful (suc place) = HaveNamesOfBytes-lawful more lawful.1 place
 
 -- ---- one more
 
@@ -123,7 +104,7 @@ pub signatures-push : (text more : Text) → IsUtf8 more → (records : List Sig
     × (map (signature_in (text ++ more)) (records ++ added ∷ [])
     ≡ map (signature_in text) records ++ signature_in (text ++ more) added ∷ [])
 signatures-push text more utf8 records held added last =
-    let kept = each_kept (IsStored text) (IsStored (text ++ more)) (signature_in text)
+    each_pushed (IsStored text) (IsStored (text ++ more)) (signature_in text)
     (signature_in (text ++ more)) (λ r held.
     let stand = two-append text more utf8 (ends_of r) held.ends in
     let same : signature_in (text ++ more) r ≡ signature_in text r =
@@ -131,13 +112,10 @@ signatures-push text more utf8 records held added last =
       record {
         ends = stand.ends;
         keys = subst (λ (s : Signature). HasKeys r s.names) (sym same) held.keys;
+        lawful = subst IsLawfulSignature (sym same) held.lawful;
       },
       same,
-    )) records held in (
-      AllByRecursion-append (IsStored (text ++ more)) records (added ∷ []) kept.0 (last, tt),
-      map-append (signature_in (text ++ more)) records (added ∷ [])
-          ∙ ap (λ (ss : List Signature). ss ++ signature_in (text ++ more) added ∷ []) kept.1,
-    )
+    )) added _ last refl records held
 
 -- with more text, the two texts of each group are as before, and two more are the last
 pub twos-push : (text more : Text) → IsUtf8 more → (ends : List PairEnds)
@@ -146,13 +124,9 @@ pub twos-push : (text more : Text) → IsUtf8 more → (ends : List PairEnds)
     → AllByRecursion (AreEndsOf (text ++ more)) (ends ++ added ∷ [])
     × (map (pair_at (text ++ more)) (ends ++ added ∷ []) ≡ map (pair_at text) ends ++ two ∷ [])
 twos-push text more utf8 ends held added two last =
-    let kept = each_kept (AreEndsOf text) (AreEndsOf (text ++ more)) (pair_at text)
+    each_pushed (AreEndsOf text) (AreEndsOf (text ++ more)) (pair_at text)
     (pair_at (text ++ more)) (λ e held. let stand = two-append text more utf8 e held in
-    (stand.ends, stand.are)) ends held in (
-      AllByRecursion-append (AreEndsOf (text ++ more)) ends (added ∷ []) kept.0 (last.ends, tt),
-      map-append (pair_at (text ++ more)) ends (added ∷ [])
-          ∙ (λ i. kept.1 i ++ last.are i ∷ []),
-    )
+    (stand.ends, stand.are)) added two last.ends last.are ends held
 
 -- one more group has the texts after the others
 pub groups_with-push : (signature : Signature) (texts : Text × Text) (signatures : List Signature)
@@ -236,9 +210,9 @@ main_at-names (group ∷ groups) (suc place) = main_at-names groups place
 -- groups with valid signatures may be declared
 pub MayBeDeclared-lawful : (groups : List Group) → AreLawfulSignatures (signatures_of groups)
     → MayBeDeclared groups
-MayBeDeclared-lawful groups lawful = record {
-  named = AllByRecursion-unmap (λ (s : Signature). IsLawfullyNamed s.names)
-      (λ (g : Group). g.signature) groups lawful.named;
-  shorts = AllByRecursion-unmap (λ (s : Signature). IsUtf8 s.names.short)
-      (λ (g : Group). g.signature) groups lawful.shorts;
-}
+MayBeDeclared-lawful groups lawful =
+    let each = AllByRecursion-unmap IsLawfulSignature (λ (g : Group). g.signature) groups lawful in
+    record {
+      named = AllByRecursion-follows _ _ (λ g fits. fits.named) groups each;
+      shorts = AllByRecursion-follows _ _ (λ g fits. fits.short) groups each;
+    }

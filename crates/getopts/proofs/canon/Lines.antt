@@ -1,12 +1,12 @@
 -- The laws of the canonical line.
-use Rattle.std.proofs.Common.{◌≡◌, ◌<◌, ◌≢◌, ◌⊎◌, ◌↔◌, ℕ, zero, suc, ◌+◌, ◌==◌, Bool, true, false}
-use Rattle.std.proofs.Common.{not, List, [], ◌∷◌, ◌++◌, length, map, Option, Some, None, refl, sym}
+use Rattle.std.proofs.Common.{◌≡◌, ◌<◌, ◌≢◌, ◌↔◌, ℕ, zero, suc, ◌+◌, ◌==◌, Bool, true, false}
+use Rattle.std.proofs.Common.{not, List, [], ◌∷◌, ◌++◌, drop, length, map, Option, Some, None, refl, sym}
 use Rattle.std.proofs.Common.{ap, ◌∙◌, subst, inl, inr, arith, append-nil}
-use Rattle.std.proofs.lemmas.Bool.{cases_Bool, and_parts, not-true, or_cases, or_left, or_right}
+use Rattle.std.proofs.lemmas.Bool.{cases_Bool, and_parts, not-true, not-false, or_cases, or_left, or_right}
 use Rattle.std.proofs.lemmas.Bool.{true≢false}
 use Rattle.std.proofs.lemmas.List.{append_cancel_right, length-map}
-use Rattle.std.proofs.lemmas.Option.{none-some, option_and_then_some, same_Some, slice_get-get_or}
-use Rattle.std.specs.Prelude.{slice_get}
+use Rattle.std.proofs.lemmas.Option.{none-some, option_and_then_some, slice_get-get_or}
+use Rattle.std.specs.Prelude.{slice_get, if◌then◌else◌}
 use Rattle.std.specs.List.{AllByRecursion, Contains, filter, flat_map, list_all}
 use Rattle.std.specs.Option.{option_and_then, option_map, unwrap_or}
 use Rattle.getopts.specs.Names.{Text, IsLawfullyNamed, resolution}
@@ -16,21 +16,21 @@ use Rattle.getopts.specs.Reading.{dash, equals_sign, begins_with_dash, holds_equ
 use Rattle.getopts.specs.Reading.{Argument, none, attached, separate, one, two, flags, ends_in}
 use Rattle.getopts.specs.Reading.{end_text, attached_argument, argument_words, value_of, FitsKind}
 use Rattle.getopts.specs.Step.{with_equals, cut_at_equals}
-use Rattle.getopts.specs.Reading.{Item, free, long, cluster, spelled_all, FitsLong, FitsEnd, IsFlag}
+use Rattle.getopts.specs.Reading.{Item, free, long, long_word, cluster, spelled_all, FitsLong, FitsEnd, IsFlag}
 use Rattle.getopts.specs.Reading.{IsLawfulItem, AreWellFollowed, Reading, IsReading, Mention}
 use Rattle.getopts.specs.Reading.{mention_of, mentions, Occurrence, occurrences_of, free_items}
 use Rattle.getopts.specs.ReadingLaws.{mentions_of}
-use Rattle.getopts.specs.Matches.{occurrences_mentioning, matched, FitsCount, KeepsCounts}
+use Rattle.getopts.specs.Matches.{occurrences_mentioning, matched, fits_count, KeepsCounts}
 use Rattle.getopts.specs.Canon.{Content, content_of, main_at}
 use Rattle.getopts.specs.Canon.{IsPlain, IsSound, canonical_word, canonical_line, attached_value}
 use Rattle.getopts.specs.Canon.{canonical_item, canonical_reading, with_setting, IsAcceptedWith}
 use Rattle.getopts.specs.Canon.{Says, ReadsBack, HasCanonicalLine, HasNoItem, HasUnwritable}
 use Rattle.getopts.specs.Theorem.{OneLineOneContent}
 use Rattle.getopts.specs.declared.kinds.HasArg.{HasArg}
-use Rattle.getopts.specs.declared.kinds.HasArg.TheVariants.{Yes, No, Maybe}
+use Rattle.getopts.specs.declared.kinds.HasArg.TheVariants.{No, Maybe}
 use Rattle.getopts.specs.declared.kinds.ParsingStyle.{ParsingStyle}
 use Rattle.getopts.proofs.Lists.{AllByRecursion-append, AllByRecursion-follows, AllByRecursion-map}
-use Rattle.getopts.proofs.Lists.{length-filter-map}
+use Rattle.getopts.proofs.Lists.{filter-map}
 use Rattle.getopts.proofs.table.Names.{main_at-Some, resolution-main_name, resolution-nil}
 use Rattle.getopts.proofs.table.Names.{resolution_within}
 use Rattle.getopts.proofs.Reading.Positions.{mentions_of-items}
@@ -113,25 +113,15 @@ IsGood-mention options name kind value signature fits =
 -- a valid argument gives a value that the kind may have
 FitsKind-long : (kind : HasArg) (argument : Argument) → FitsLong kind argument
     → FitsKind kind (value_of argument)
-FitsKind-long No none fits = fits
-FitsKind-long No (attached value) fits = fits
-FitsKind-long No (separate word) fits = fits
-FitsKind-long Yes none fits = fits
-FitsKind-long Yes (attached value) fits = fits
-FitsKind-long Yes (separate word) fits = fits
-FitsKind-long Maybe none fits = fits
-FitsKind-long Maybe (attached value) fits = fits
 FitsKind-long Maybe (separate word) fits = absurd fits
+FitsKind-long kind argument fits = fits
 
 FitsKind-end : (kind : HasArg) (argument : Argument) → FitsEnd kind argument
     → FitsKind kind (value_of argument)
 FitsKind-end No argument fits = absurd fits
-FitsKind-end Yes none fits = fits
-FitsKind-end Yes (attached value) fits = tt
-FitsKind-end Yes (separate word) fits = fits
-FitsKind-end Maybe none fits = fits
-FitsKind-end Maybe (attached value) fits = tt
+FitsKind-end kind (attached value) fits = tt
 FitsKind-end Maybe (separate word) fits = tt
+FitsKind-end kind argument fits = fits
 
 -- the mentions of flags, of a valid item and of valid items
 IsGood-flags : (options : Declared) (names : List ℕ)
@@ -211,12 +201,10 @@ value_of-attached_value (Some value) = refl
 
 FitsLong-attached_value : (kind : HasArg) (value : Option Text) → FitsKind kind value
     → FitsLong kind (attached_value value)
-FitsLong-attached_value No None fits = fits
-FitsLong-attached_value No (Some value) fits = fits
-FitsLong-attached_value Yes None fits = fits
-FitsLong-attached_value Yes (Some value) fits = fits
 FitsLong-attached_value Maybe None fits = fits
 FitsLong-attached_value Maybe (Some value) fits = fits
+FitsLong-attached_value kind None fits = fits
+FitsLong-attached_value kind (Some value) fits = fits
 
 -- canonical items spell canonical words
 spelled_all-canonical : (groups : List Group) (ms : List Mention) (more : List Text)
@@ -316,8 +304,8 @@ length-occurrences_mentioning : (place : ℕ) (grammar : Grammar) (reading : Rea
     ≡ count_at place (mentions_of grammar reading)
 length-occurrences_mentioning place grammar reading =
     length-map _ _
-    ∙ sym (length-filter-map (λ m. m.group == place) (λ (o : Occurrence). o.mention)
-    (occurrences_of grammar reading))
+    ∙ sym (ap length (filter-map (λ m. m.group == place) (λ (o : Occurrence). o.mention)
+    (occurrences_of grammar reading)) ∙ length-map _ _)
 
 -- the counts depend on the number of occurrences for each place
 KeepsCounts-numbers : (signatures : List Signature) (place : ℕ) (old new : List Occurrence)
@@ -325,7 +313,7 @@ KeepsCounts-numbers : (signatures : List Signature) (place : ℕ) (old new : Lis
     → KeepsCounts (matched place signatures old) → KeepsCounts (matched place signatures new)
 KeepsCounts-numbers [] place old new same keeps = tt
 KeepsCounts-numbers (signature ∷ signatures) place old new same keeps = (
-  subst (λ (count : ℕ). FitsCount signature.occur count) (same place) keeps.0,
+  subst (λ (count : ℕ). fits_count signature.occur count ≡ true) (same place) keeps.0,
   KeepsCounts-numbers signatures (place + 1) old new same keeps.1,
 )
 
@@ -411,69 +399,43 @@ says_nothing_else-reads_back options content named back other says =
 
 -- ---- the line determines the content
 
--- a text without `=` can be split off in only one way
-cut_once-with_equals : (a b : Text) (v w : Option Text) → holds_equals a ≡ false
-    → holds_equals b ≡ false → a ++ with_equals v ≡ b ++ with_equals w → (a ≡ b) × (v ≡ w)
-cut_once-with_equals a b v w none_a none_b same =
-    let both = sym (cut_at_equals-append a v none_a) ∙ ap cut_at_equals same
-    ∙ cut_at_equals-append b w none_b in
-    (ap (λ (p : Text × Option Text). p.0) both, ap (λ (p : Text × Option Text). p.1) both)
+-- `--`, or another word of two bytes
+abbrev is_stop : Text → Bool
+is_stop (c ∷ d ∷ []) = true
+is_stop word = false
 
--- the text after the dashes of a canonical word
-canonical_word-text : (groups : List Group) (m : Mention) (text : Text)
-    → canonical_word groups m ≡ dash ∷ dash ∷ text
-    → main_at groups m.group ++ with_equals m.value ≡ text
-canonical_word-text groups m text same = cc
+-- the word of a mention isn't `--`, if the main name isn't empty
+is_stop-word : (main : Text) (value : Option Text) → main ≢ []
+    → is_stop (long_word two main value) ≡ false
+is_stop-word [] value filled = absurd (filled refl)
+is_stop-word (c ∷ main) value filled = refl
 
--- the word determines the mention
-canonical_word-cancel : (groups : List Group) (m o : Mention) → AnswersMain groups m.group
-    → AnswersMain groups o.group → HasPlainMain groups m.group → HasPlainMain groups o.group
-    → canonical_word groups m ≡ canonical_word groups o → m ≡ o
-canonical_word-cancel groups m o own own_other plain plain_other same =
-    let text = canonical_word-text groups m (main_at groups o.group ++ with_equals o.value) same in
-    let parts = cut_once-with_equals (main_at groups m.group)
-    (main_at groups o.group) m.value o.value plain plain_other text in
-    let place : m.group ≡ o.group =
-    same_Some _ _ (sym own ∙ ap (resolution (names_of groups)) parts.0 ∙ own_other) in
-    let mention_with : ℕ → Option Text → Mention =
-    λ group value. record { group = group; value = value } in
-    ap (λ group. mention_with group m.value) place ∙ ap (mention_with o.group) parts.1
+-- the content of a canonical line
+abbrev content_in : List Group → List Text → Content
+content_in groups [] = record { mentions = []; free = [] }
+content_in groups (word ∷ words) =
+    let cut = cut_at_equals (drop 2 word) in
+    let place = resolution (names_of groups) cut.0 in
+    let mention : Mention = record { group = unwrap_or place 0; value = cut.1 } in
+    let others : Content = content_in groups words in
+    if is_stop word then record { mentions = []; free = words }
+    else record { mentions = mention ∷ others.mentions; free = others.free }
 
--- `--` is the word of no mention
-canonical_word-no_stop : (groups : List Group) (m : Mention) → AreLawfullyNamed groups
-    → AnswersMain groups m.group → HasPlainMain groups m.group → canonical_word groups m ≢ stop_word
-canonical_word-no_stop groups m lawful own plain same =
-    let parts = cut_once-with_equals (main_at groups m.group) [] m.value None plain refl
-    (canonical_word-text groups m [] same) in
-    main_at-filled groups m.group lawful own parts.0
-
--- the line determines the mentions and the free words
-canonical_line-parts : (groups : List Group) (ms os : List Mention) (frees others : List Text)
+-- a name without `=` can end in only one place, so the line determines the content
+content_in-canonical : (groups : List Group) (ms : List Mention) (frees : List Text)
     → AreLawfullyNamed groups → AllByRecursion (λ m. AnswersMain groups m.group) ms
-    → AllByRecursion (λ m. AnswersMain groups m.group) os
     → AllByRecursion (λ m. HasPlainMain groups m.group) ms
-    → AllByRecursion (λ m. HasPlainMain groups m.group) os
-    → map (canonical_word groups) ms ++ stop_word ∷ frees
-    ≡ map (canonical_word groups) os ++ stop_word ∷ others → (ms ≡ os) × (frees ≡ others)
-canonical_line-parts groups [] [] frees others lawful own own_other plain plain_other same =
-    (refl, cc)
-canonical_line-parts groups [] (o ∷ os) frees others lawful own own_other plain plain_other same =
-    let first : canonical_word groups o ≡ stop_word = cc in
-    absurd (canonical_word-no_stop groups o lawful own_other.0 plain_other.0 first)
-canonical_line-parts groups (m ∷ ms) [] frees others lawful own own_other plain plain_other same =
-    let first : canonical_word groups m ≡ stop_word = cc in
-    absurd (canonical_word-no_stop groups m lawful own.0 plain.0 first)
-canonical_line-parts groups (m ∷ ms) (o ∷ os) frees others lawful own own_other
-    plain plain_other same =
-    let first : canonical_word groups m ≡ canonical_word groups o = cc in
-    let after : map (canonical_word groups) ms ++ stop_word ∷ frees ≡ map (canonical_word groups) os
-    ++ stop_word ∷ others = cc in
-    let head : m ≡ o =
-    canonical_word-cancel groups m o own.0 own_other.0 plain.0 plain_other.0 first in
-    let parts = canonical_line-parts groups ms os frees others lawful own.1 own_other.1 plain.1
-    plain_other.1 after in
-    let told : ms ≡ os = parts.0 in
-    (cc, parts.1)
+    → content_in groups (map (canonical_word groups) ms ++ stop_word ∷ frees)
+    ≡ record { mentions = ms; free = frees }
+content_in-canonical groups [] frees lawful own plain = refl
+content_in-canonical groups (m ∷ ms) frees lawful own plain =
+    rw (
+      is_stop-word (main_at groups m.group) m.value
+          (main_at-filled groups m.group lawful own.0),
+      cut_at_equals-append (main_at groups m.group) m.value plain.0,
+      own.0,
+      content_in-canonical groups ms frees lawful own.1 plain.1,
+    ) refl
 
 -- sound and plain contents have equal canonical lines exactly if they are equal
 pub canonical_line-same : (groups : List Group) (content other : Content) → AreLawfullyNamed groups
@@ -483,13 +445,9 @@ canonical_line-same groups content other lawful sound plain sound_other plain_ot
     (tells, ap (canonical_line groups)) where
       tells : canonical_line groups content ≡ canonical_line groups other → content ≡ other
       tells same =
-          let parts = canonical_line-parts groups content.mentions other.mentions content.free
-          other.free lawful sound
-          sound_other plain plain_other same in
-          let content_with : List Mention → List Text → Content =
-          λ told frees. record { mentions = told; free = frees } in
-          ap (λ told. content_with told content.free) parts.0
-          ∙ ap (content_with other.mentions) parts.1
+          sym (content_in-canonical groups content.mentions content.free lawful sound plain)
+          ∙ ap (content_in groups) same
+          ∙ content_in-canonical groups other.mentions other.free lawful sound_other plain_other
 
 -- the laws of the canonical line of a line's plain content
 pub HasCanonicalLine-says : (options : Declared) (words : List Text) (content : Content)
@@ -564,6 +522,17 @@ HasNoItem-equals options m holds style long_only (cluster names end) lawful just
     ∷ (main_at options.groups m.group ++ with_equals m.value) = cc in
     true≢false (sym (ap begins_with_dash text) ∙ lawful.short_form)
 
+-- if not all pass a test, one fails it
+not_all : {X : Type 0} (p : X → Bool) (xs : List X) → list_all p xs ≡ false
+    → (x : X) × Contains xs x × (p x ≡ false)
+not_all p [] fails = absurd (true≢false fails)
+not_all p (x ∷ xs) fails = elim (cases_Bool (p x)) [
+  | inl passes ↦
+      let found = not_all p xs (rw passes at fails) in
+      (found.0, (suc found.1.0, omega (arith, found.1.1), found.1.2), found.2)
+  | inr here ↦ (x, (0, omega arith, refl), here)
+]
+
 -- whether no mentioned group has a main name that contains `=`
 abbrev pub is_plain : List Group → List Mention → Bool
 is_plain groups mentions = list_all (λ m. not (holds_equals (main_at groups m.group))) mentions
@@ -589,28 +558,13 @@ pub is_plain-false : (groups : List Group) (mentions : List Mention)
 is_plain-false groups mentions other =
     λ plain. true≢false (sym (is_plain-from groups mentions plain) ∙ other)
 
--- mentions are plain, or one is of such a group
-plain_cases : (groups : List Group) (ms : List Mention)
-    → AllByRecursion (λ m. HasPlainMain groups m.group) ms
-    ⊎ ((m : Mention) × Contains ms m × (holds_equals (main_at groups m.group) ≡ true))
-plain_cases groups [] = inl tt
-plain_cases groups (m ∷ ms) = elim (cases_Bool (holds_equals (main_at groups m.group))) [
-  | inl holds ↦ inr (m, (0, omega arith, refl), holds)
-  | inr plain ↦ elim (plain_cases groups ms) [
-    | inl others ↦ inl (plain, others)
-    | inr found ↦ inr (found.0, (suc found.1.0, omega arith, found.1.2), found.2)
-  ]
-]
-
 -- a content that isn't plain has a mention that can't be written
 pub HasUnwritable-content : (options : Declared) (content : Content)
-    → ¬ (IsPlain options.groups content) → HasUnwritable options content
-HasUnwritable-content options content not_plain =
-    elim (plain_cases options.groups content.mentions) [
-      | inl plain ↦ absurd (not_plain plain)
-      | inr found ↦ record {
-        unwritable = found.0;
-        mentioned = found.1;
-        no_item = HasNoItem-equals options found.0 found.2;
-      }
-    ]
+    → is_plain options.groups content.mentions ≡ false → HasUnwritable options content
+HasUnwritable-content options content some =
+    let found = not_all (λ m. not (holds_equals (main_at options.groups m.group))) _ some in
+    record {
+      unwritable = found.0;
+      mentioned = found.1;
+      no_item = HasNoItem-equals options found.0 (not-false _ found.2);
+    }

@@ -1,20 +1,22 @@
--- The counts of groups, one after the other.
+-- Matched groups: what holds for each, and their counts.
 use Rattle.std.proofs.Common.{◌≡◌, ◌==◌, ◌<◌, ◌+◌, ℕ, zero, suc}
-use Rattle.std.proofs.Common.{List, [], ◌∷◌, length, map, drop, slice_get, unwrap_or}
-use Rattle.std.proofs.Common.{Option, Some, option_map, refl, ap, ◌∙◌, sym, arith}
+use Rattle.std.proofs.Common.{List, [], ◌∷◌, length, drop, slice_get}
+use Rattle.std.proofs.Common.{Some, option_map, refl, ap, ◌∙◌, sym, arith, add-zero}
 use Rattle.std.specs.Prelude.{if◌then◌else◌}
-use Rattle.std.specs.List.{filter}
+use Rattle.std.specs.List.{AllByRecursion, filter}
+use Rattle.std.proofs.lemmas.Bool.{lt-ltb}
 use Rattle.std.proofs.lemmas.List.{length-map}
 use Rattle.getopts.specs.Names.{main_name}
 use Rattle.getopts.specs.Options.{Signature}
 use Rattle.getopts.specs.Reading.{Occurrence}
-use Rattle.getopts.specs.Matches.{occurrences_mentioning, matched, count_fault}
-use Rattle.getopts.specs.Results.{first_count_fault, fits_count}
+use Rattle.getopts.specs.Matches.{MatchedGroup, occurrences_mentioning, matched, fits_count, count_fault}
+use Rattle.getopts.specs.Results.{first_count_fault}
 use Rattle.getopts.specs.Stored.Index.{index_of, count_in, first_wrong}
 use Rattle.getopts.specs.Stored.Names.{names_at}
+use Rattle.getopts.specs.Stored.Occurrences.{no_occurrence}
 use Rattle.getopts.specs.Stored.Signatures.{kinds_of, names_in}
 use Rattle.getopts.specs.declared.kinds.Kinds.{Kinds}
-use Rattle.getopts.proofs.Stored.Index.{length-places_of, slice_get-places_by_group}
+use Rattle.getopts.proofs.Stored.Index.{length-places_of}
 
 -- the number of a group's occurrences, from the index
 pub length-occurrences_mentioning : (count : ℕ) (occurrences : List Occurrence) (i : ℕ) → i < count
@@ -23,10 +25,8 @@ pub length-occurrences_mentioning : (count : ℕ) (occurrences : List Occurrence
 length-occurrences_mentioning count occurrences i within =
     let founds : length (occurrences_mentioning i occurrences)
     ≡ length (filter (λ (o : Occurrence). o.mention.group == i) occurrences) = simp length-map in
-    ap (λ (o : Option (List ℕ)). length (unwrap_or o []))
-    (slice_get-places_by_group count i
-    (map (λ (o : Occurrence). o.mention.group) occurrences) within)
-    ∙ length-places_of (λ (o : Occurrence). o.mention.group) i occurrences ∙ sym founds
+    rw (lt-ltb i count within)
+    (length-places_of (λ (o : Occurrence). o.mention.group) i occurrences no_occurrence ∙ sym founds)
 
 -- there are as many matched groups as signatures
 pub length-matched : (first : ℕ) (signatures : List Signature) (occurrences : List Occurrence)
@@ -34,6 +34,21 @@ pub length-matched : (first : ℕ) (signatures : List Signature) (occurrences : 
 length-matched first [] occurrences = refl
 length-matched first (signature ∷ signatures) occurrences =
     ap suc (length-matched (first + 1) signatures occurrences)
+
+-- a property of each signature, with the occurrences of its place, holds for the matched groups
+pub AllByRecursion-matched : (P : MatchedGroup → Type 0) (first : ℕ) (signatures : List Signature)
+    (occurrences : List Occurrence)
+    → ((i : ℕ) (signature : Signature) → slice_get signatures i ≡ Some signature → P (record {
+      signature = signature;
+      found = occurrences_mentioning (first + i) occurrences;
+    })) → AllByRecursion P (matched first signatures occurrences)
+AllByRecursion-matched P first [] occurrences each = tt
+AllByRecursion-matched P first (signature ∷ signatures) occurrences each = (
+  rw add-zero at (each 0 signature refl),
+  AllByRecursion-matched P (first + 1) signatures occurrences
+      (λ i other there. let place : first + suc i ≡ first + 1 + i = omega arith in
+      rw place at (each (suc i) other there)),
+)
 
 -- the first wrong count from a group on, by the kinds of that group
 pub first_wrong-at : (signatures : List Signature) (i place : ℕ) (kinds : Kinds) (count : ℕ → ℕ)

@@ -14,7 +14,7 @@ use Rattle.getopts.specs.Canon.{Content, content_of, main_at, canonical_line}
 use Rattle.getopts.specs.Results.{made_of, accepted_reading, with_counts_kept, unless_fault}
 use Rattle.getopts.specs.Results.{written_line}
 use Rattle.getopts.specs.Returns.{HasResults}
-use Rattle.getopts.specs.Stored.Index.{count_in, first_wrong}
+use Rattle.getopts.specs.Stored.Index.{count_in, first_wrong, places_in}
 use Rattle.getopts.specs.Stored.Matches.{IsReadLine}
 use Rattle.getopts.specs.Stored.Scan.{line_content}
 use Rattle.getopts.specs.declared.matches.ReadLine.{ReadLine}
@@ -54,7 +54,7 @@ module _ {options : Declared} {outcome : Result Reading Fault} {read : ReadLine}
 
   -- the outcome with its counts checked
   pub with_counts_kept-line : (fault : Option Fault)
-      → first_wrong 0 (signatures_of options.groups) (count_in read.index) ≡ fault
+      → first_wrong 0 (signatures_of options.groups) (count_in (places_in read.index)) ≡ fault
       → with_counts_kept options outcome ≡ unless_fault is.gives.reading fault
   with_counts_kept-line fault first =
       let signatures = signatures_of options.groups in

@@ -12,14 +12,14 @@ use Rattle.getopts.specs.Options.{Grammar}
 use Rattle.getopts.specs.Fail.{Fault}
 use Rattle.getopts.specs.Reading as Spec
 use Rattle.getopts.specs.Results.{made_of}
-use Rattle.getopts.specs.Step.{Step, takes, faults, AddsItem}
+use Rattle.getopts.specs.Step.{Step, ends, takes, faults, AddsItem}
 use Rattle.getopts.specs.Stored.Scan.{GivesLine}
 use Rattle.getopts.specs.declared.scan.Line.{Line}
 use Rattle.getopts.specs.declared.kinds.ParsingStyle.TheVariants.{FloatingFrees, StopAtFirstFree}
 use Rattle.getopts.proofs.Lists.{drop_past}
 use Rattle.getopts.proofs.Reading.Laws.{free_items-append}
 use Rattle.getopts.proofs.Reading.Reader.{step, with_items, read}
-use Rattle.getopts.proofs.Reading.Readings.{read_item, read_tail, read_error, made_of-ok}
+use Rattle.getopts.proofs.Reading.Readings.{read_item, read_step, made_of-ok}
 use Rattle.getopts.proofs.Reading.Readings.{made_of-err}
 use Rattle.getopts.proofs.Reading.Steps.{step_free, step_stop}
 
@@ -143,13 +143,13 @@ module _ {grammar : Grammar} {words : List Text} {at : ℕ} {found : List Spec.O
     -- the rest, from a free word on
     pub read-rest : Spec.is_dashed word ≡ false → grammar.style ≡ StopAtFirstFree
         → read grammar (drop at words) ≡ Ok (record { items = []; tail = Spec.rest (drop at words) })
-    read-rest plain stops = rw left (read_tail grammar word after (Spec.rest (word ∷ after))
+    read-rest plain stops = rw left (read_step grammar word after (ends (Spec.rest (word ∷ after)))
         (step_free grammar word after plain ∙ rw stops refl))
 
     -- the stop, and the words after it
     pub read-stop : word ≡ Spec.stop_word
         → read grammar (drop at words) ≡ Ok (record { items = []; tail = Spec.stop after })
-    read-stop stops = ap (read grammar) left ∙ read_tail grammar word after _
+    read-stop stops = ap (read grammar) left ∙ read_step grammar word after (ends (Spec.stop after))
         (ap (λ (w : Text). step grammar w after) stops ∙ step_stop grammar after)
 
     -- an error
@@ -157,4 +157,4 @@ module _ {grammar : Grammar} {words : List Text} {at : ℕ} {found : List Spec.O
         → said ≡ faults fault → read grammar words ≡ Err fault
     read-fault said is fault fails = made_of-err _ (read grammar words) fault
         (before.left ∙ ap (made_of (with_reading grammar at found frees))
-        (ap (read grammar) left ∙ read_error grammar word after fault (is ∙ fails)))
+        (ap (read grammar) left ∙ read_step grammar word after (faults fault) (is ∙ fails)))

@@ -1,12 +1,14 @@
 -- Breakings of a line's words: filling rows from the left gives the one tight breaking, and no
 -- fitting breaking has fewer runs.
-use Rattle.std.proofs.Common.{◌≡◌, ◌≢◌, ℕ, ◌<◌, ◌≤◌, Bool, true, false, List, [], ◌∷◌, ◌++◌}
+use Rattle.std.proofs.Common.{◌≡◌, ℕ, ◌<◌, ◌≤◌, true, false, List, [], ◌∷◌, ◌++◌}
 use Rattle.std.proofs.Common.{length, sym, refl, ap, ◌∙◌, subst, inl, inr, ⊎_elim, append_assoc}
+use Rattle.std.specs.Prelude.{All}
 use Rattle.std.proofs.Common.{append-nil, arith, length-append}
 use Rattle.std.specs.List.{flat_map}
 use Rattle.std.proofs.lemmas.Bool.{cases_Bool, cond-true, cond-false, leb-true, le-leb}
 use Rattle.std.proofs.lemmas.List.Elements.{All-nil, All-cons, All-head, All-tail}
 use Rattle.std.proofs.lemmas.List.Sums.{sum_by-append}
+use Rattle.std.proofs.lemmas.Bool.{false_from_ne_true}
 use Rattle.getopts.specs.Names.{Text}
 use Rattle.getopts.specs.Wrap.{Run, width_of, columns_of, FitsIn, IsFittingBreaking, NoneTakesMore}
 use Rattle.getopts.specs.Wrap.{IsTightBreaking, IsFewestBreaking, has_room, runs_from, runs_of}
@@ -70,13 +72,20 @@ tight-cons limit run word words ((first ∷ more) ∷ runs) has_word fits long i
       tight = (rw same long, is.tight);
     }
 
+-- a run with a word more that fits had room for the word
+room_if_fits : (limit : ℕ) (run : Run) (word : Text) → 0 < length run
+    → FitsIn limit (run ++ word ∷ []) → has_room limit run word ≡ true
+room_if_fits limit run word has_word fits =
+    ⊎_elim
+    (λ (one : length (run ++ word ∷ []) ≡ 1).
+    absurd (omega (arith, length-append run (word ∷ []))))
+    (λ (within : columns_of (run ++ word ∷ []) ≤ limit). le-leb _ _ within)
+    fits
+
 refused_does_not_fit : (limit : ℕ) (run : Run) (word : Text) → 0 < length run
     → has_room limit run word ≡ false → ¬ FitsIn limit (run ++ word ∷ [])
 refused_does_not_fit limit run word has_word refused fits =
-    ⊎_elim
-    (λ (one : length (run ++ word ∷ []) ≡ 1). omega (arith, length-append run (word ∷ [])))
-    (λ (within : columns_of (run ++ word ∷ []) ≤ limit). let taken = le-leb _ _ within in cc)
-    fits
+    let taken = room_if_fits limit run word has_word fits in cc
 
 runs_from-tight : (limit : ℕ) (run : Run) (words : List Text) → 0 < length run → FitsIn limit run
     → IsTightBreaking limit (run ++ words) (runs_from limit run words)
@@ -122,133 +131,103 @@ runs_of-tight limit (word ∷ words) =
 abbrev words_in : List Run → List Text
 words_in runs = flat_map (λ run. run) runs
 
--- the runs after the first break the rest of the words
-fitting-tail : (limit : ℕ) (words rest : List Text) (run : Run) (runs : List Run)
-    → IsFittingBreaking limit words (run ∷ runs) → words_in runs ≡ rest
-    → IsFittingBreaking limit rest runs
-fitting-tail limit words rest run runs fitting joined = record {
-  all_words = joined;
-  nonempty = All-tail (λ run. 0 < length run) run runs fitting.nonempty;
-  fits = All-tail (FitsIn limit) run runs fitting.fits;
-}
-
--- and tightly
-tight-tail : (limit : ℕ) (words rest : List Text) (run : Run) (runs : List Run)
-    → IsTightBreaking limit words (run ∷ runs) → words_in runs ≡ rest
-    → IsTightBreaking limit rest runs
-tight-tail limit words rest run runs is joined = record {
-  fitting = fitting-tail limit words rest run runs is.fitting joined;
-  tight = none_after run runs is.tight;
-}
-  where
-    none_after : (run : Run) (runs : List Run) → NoneTakesMore limit (run ∷ runs)
-        → NoneTakesMore limit runs
-    none_after run [] tight = tt
-    none_after run (next ∷ runs) tight = tight.1
-
--- a fitting run that contains the first run to its end contains nothing after it
-nothing_after : (limit : ℕ) (front middle rest words : List Text) (run : Run) (runs : List Run)
-    → IsTightBreaking limit words (run ∷ runs) → FitsIn limit (front ++ (run ++ middle))
-    → words_in runs ≡ middle ++ rest → middle ≡ []
-nothing_after limit front [] rest words run runs is fits after = refl
-nothing_after limit front (word ∷ middle) rest words run [] is fits after = absurd cc
-nothing_after limit front (word ∷ middle) rest words run ([] ∷ runs) is fits after =
-    let empty = All-tail (λ run. 0 < length run) run ([] ∷ runs) is.fitting.nonempty in
-    absurd (omega (arith, All-head (λ run. 0 < length run) [] runs empty))
-nothing_after limit front (word ∷ middle) rest words run ((first ∷ more) ∷ runs) is fits after =
-    let same : first ≡ word = cc in
-    absurd (is.tight.0 (rw same (FitsIn-inside limit front (run ++ word ∷ []) middle
-    (omega (arith, length-append run (word ∷ [])))
-    (subst (λ (inner : Run). FitsIn limit (front ++ inner))
-    (sym (append_assoc run (word ∷ []) middle)) fits))))
-
--- if a fitting run begins with the first run, they are equal
-first_same : (limit : ℕ) (words rest : List Text) (run other : Run) (runs : List Run)
-    → IsTightBreaking limit words (run ∷ runs) → FitsIn limit other
-    → Within run (words_in runs) other rest → (run ≡ other) × (words_in runs ≡ rest)
-first_same limit words rest run other runs is fits within =
-    let none = nothing_after limit [] within.0 rest words run runs is
-    (subst (FitsIn limit) within.1 fits) within.2 in (
-      sym (within.1 ∙ ap (λ (middle : Run). run ++ middle) none ∙ append-nil run),
-      within.2 ∙ ap (λ (middle : Run). middle ++ rest) none,
-    )
-
--- no words break into no runs, or into some
-none_or_some : (limit : ℕ) (words : List Text) (run : Run) (runs : List Run)
-    → IsFittingBreaking limit words (run ∷ runs) → words ≢ []
-none_or_some limit words run runs fitting none = omega (
-  arith,
-  All-head (λ run. 0 < length run) run runs fitting.nonempty,
-  length-append run (words_in runs),
-  ap length (fitting.all_words ∙ none),
-)
+-- if no run has room for the next word, filling from the front of the first run gives these runs
+filled : (limit : ℕ) (run more : Run) (runs : List Run) → 0 < length run
+    → FitsIn limit (run ++ more) → NoneTakesMore limit ((run ++ more) ∷ runs)
+    → All (λ run. 0 < length run) runs → All (FitsIn limit) runs
+    → (run ++ more) ∷ runs ≡ runs_from limit run (more ++ words_in runs)
+filled limit run [] [] has_word fit tight nonempty fits = ap (λ run. run ∷ []) (append-nil run)
+filled limit run [] ([] ∷ runs) has_word fit tight nonempty fits =
+    absurd (omega (arith, All-head (λ run. 0 < length run) [] runs nonempty))
+filled limit run [] ((word ∷ more) ∷ runs) has_word fit tight nonempty fits =
+    let long : ¬ FitsIn limit (run ++ word ∷ []) = rw append-nil at tight.0 in
+    let refused : has_room limit run word ≡ false =
+    false_from_ne_true _ (λ taken. long (inr (leb-true _ _ taken))) in
+    let others = filled limit (word ∷ []) more runs (omega arith)
+    (All-head (FitsIn limit) (word ∷ more) runs fits) tight.1
+    (All-tail (λ run. 0 < length run) (word ∷ more) runs nonempty)
+    (All-tail (FitsIn limit) (word ∷ more) runs fits) in
+    (λ i. append-nil run i ∷ others i)
+    ∙ sym (runs_from-refused limit run word (more ++ words_in runs) refused)
+filled limit run (word ∷ more) runs has_word fit tight nonempty fits =
+    let longer : 0 < length (run ++ word ∷ []) = omega (arith, length-append run (word ∷ [])) in
+    let joined : run ++ word ∷ more ≡ (run ++ word ∷ []) ++ more =
+    sym (append_assoc run (word ∷ []) more) in
+    let fit_now = subst (FitsIn limit) joined fit in
+    let taken = room_if_fits limit run word has_word
+    (FitsIn-inside limit [] (run ++ word ∷ []) more longer fit_now) in
+    ap (λ first. first ∷ runs) joined
+    ∙ filled limit (run ++ word ∷ []) more runs longer fit_now
+    (subst (λ first. NoneTakesMore limit (first ∷ runs)) joined tight) nonempty fits
+    ∙ sym (runs_from-taken limit run word (more ++ words_in runs) taken)
 
 -- words have one tight breaking
-tight_once : (limit : ℕ) (words : List Text) (runs others : List Run)
-    → IsTightBreaking limit words runs → IsTightBreaking limit words others → runs ≡ others
-tight_once limit words [] [] is also = refl
-tight_once limit words [] (other ∷ others) is also =
-    absurd (none_or_some limit words other others also.fitting (sym is.fitting.all_words))
-tight_once limit words (run ∷ runs) [] is also =
-    absurd (none_or_some limit words run runs is.fitting (sym also.fitting.all_words))
-tight_once limit words (run ∷ runs) (other ∷ others) is also =
-    let fits = All-head (FitsIn limit) run runs is.fitting.fits in
-    let fit = All-head (FitsIn limit) other others also.fitting.fits in
-    let first : (run ≡ other) × (words_in runs ≡ words_in others) = ⊎_elim
-    (λ (w : Within run (words_in runs) other (words_in others)).
-    first_same limit words _ run other runs is fit w)
-    (λ (w : Within other (words_in others) run (words_in runs)).
-    let same = first_same limit words _ other run others also fits w in (sym same.0, sym same.1))
-    (cuts run (words_in runs) other (words_in others) (is.fitting.all_words
-    ∙ sym also.fitting.all_words)) in
-    let later = tight_once limit (words_in others) runs others
-    (tight-tail limit words _ run runs is first.1)
-    (tight-tail limit words _ other others also refl) in
-    cc
-
 pub runs_of-only : (limit : ℕ) (words : List Text) (others : List Run)
     → IsTightBreaking limit words others → others ≡ runs_of limit words
-runs_of-only limit words others tight =
-    tight_once limit words others _ tight (runs_of-tight limit words)
+runs_of-only limit words [] tight = ap (runs_of limit) tight.fitting.all_words
+runs_of-only limit words ([] ∷ runs) tight =
+    absurd (omega (arith, All-head (λ run. 0 < length run) [] runs tight.fitting.nonempty))
+runs_of-only limit words ((word ∷ more) ∷ runs) tight =
+    filled limit (word ∷ []) more runs (omega arith)
+    (All-head (FitsIn limit) (word ∷ more) runs tight.fitting.fits) tight.tight
+    (All-tail (λ run. 0 < length run) (word ∷ more) runs tight.fitting.nonempty)
+    (All-tail (FitsIn limit) (word ∷ more) runs tight.fitting.fits)
+    ∙ ap (runs_of limit) tight.fitting.all_words
 
--- a tight breaking has no more runs than any fitting breaking, even one of words that begin earlier
-few_runs : (limit : ℕ) (front words : List Text) (runs others : List Run)
-    → IsTightBreaking limit words runs → IsFittingBreaking limit (front ++ words) others
-    → length runs ≤ length others
-few_runs limit front words [] others is fitting = omega arith
-few_runs limit front words (run ∷ runs) [] is fitting =
-    absurd (none_or_some limit words run runs is.fitting (nothing front words fitting.all_words))
-  where
-    nothing : (front words : List Text) → [] ≡ front ++ words → words ≡ []
-    nothing [] words none = sym none
-    nothing (word ∷ front) words none = absurd cc
-few_runs limit front words (run ∷ runs) (other ∷ others) is fitting =
-    let left = tight-tail limit words _ run runs is refl in
-    ⊎_elim
-    (λ (w : Within other (words_in others) (front ++ run) (words_in runs)).
-    omega (
-      arith,
-      few_runs limit w.0 _ runs others left
-          (fitting-tail limit _ _ other others fitting w.2),
-    ))
-    (λ (w : Within (front ++ run) (words_in runs) other (words_in others)).
-    let fits = subst (FitsIn limit) (w.1 ∙ append_assoc front run w.0)
-    (All-head (FitsIn limit) other others fitting.fits) in
-    let none = nothing_after limit front w.0 _ words run runs is fits w.2 in
-    let rest : words_in others ≡ words_in runs =
-    sym (w.2 ∙ ap (λ (middle : Run). middle ++ words_in others) none) in
-    omega (
-      arith,
-      few_runs limit [] _ runs others left
-          (fitting-tail limit _ _ other others fitting rest),
-    ))
-    (cuts other (words_in others) (front ++ run) (words_in runs)
-    (fitting.all_words ∙ ap (λ (words : List Text). front ++ words) (sym is.fitting.all_words)
-    ∙ sym (append_assoc front run (words_in runs))))
+-- filling gives no more runs than any fitting runs, even of words that begin earlier
+few_runs : (limit : ℕ) (run : Run) (words front : List Text) (others : List Run)
+    → 0 < length run → words_in others ≡ front ++ (run ++ words) → All (FitsIn limit) others
+    → length (runs_from limit run words) ≤ length others
+few_runs limit run words front [] has_word joined fits = absurd (omega (
+  arith,
+  ap length joined,
+  length-append front (run ++ words),
+  length-append run words,
+))
+few_runs limit run [] front (other ∷ others) has_word joined fits = omega arith
+few_runs limit run (word ∷ words) front (other ∷ others) has_word joined fits =
+    let later : (front : List Text) → words_in others ≡ front ++ (word ∷ words)
+    → length (runs_from limit (word ∷ []) words) ≤ length others =
+    λ front joined. few_runs limit (word ∷ []) words front others (omega arith) joined
+    (All-tail (FitsIn limit) other others fits) in
+    elim (cases_Bool (has_room limit run word)) [
+      | inl taken ↦ rw (runs_from-taken limit run word words taken)
+          (few_runs limit (run ++ word ∷ []) words front (other ∷ others)
+          (omega (arith, length-append run (word ∷ [])))
+          (joined ∙ ap (λ rest. front ++ rest) (sym (append_assoc run (word ∷ []) words))) fits)
+      | inr refused ↦
+          rw (runs_from-refused limit run word words refused) (⊎_elim
+          -- the first run ends before the word
+          (λ (w : Within other (words_in others) (front ++ run) (word ∷ words)).
+          omega (arith, later w.0 w.2))
+          (λ (w : Within (front ++ run) (word ∷ words) other (words_in others)).
+          omega (arith, past later refused w.0 w.1 w.2))
+          (cuts other (words_in others) (front ++ run) (word ∷ words)
+          (joined ∙ sym (append_assoc front run (word ∷ words)))))
+    ] where
+      -- it ends with the run, since it doesn't fit with the word
+      past : ((front : List Text) → words_in others ≡ front ++ (word ∷ words)
+          → length (runs_from limit (word ∷ []) words) ≤ length others)
+          → has_room limit run word ≡ false → (middle : List Text) → other ≡ (front ++ run) ++ middle
+          → word ∷ words ≡ middle ++ words_in others
+          → length (runs_from limit (word ∷ []) words) ≤ length others
+      past later refused [] is rest = later [] (sym rest)
+      past later refused (next ∷ middle) is rest =
+          let same : word ≡ next = cc in
+          absurd (refused_does_not_fit limit run word has_word refused
+          (FitsIn-inside limit front (run ++ word ∷ []) middle
+          (omega (arith, length-append run (word ∷ [])))
+          (subst (FitsIn limit) (is ∙ ap (λ w. (front ++ run) ++ w ∷ middle) (sym same)
+          ∙ simp append_assoc)
+          (All-head (FitsIn limit) other others fits))))
+
+fewest_runs : (limit : ℕ) (words : List Text) (others : List Run)
+    → IsFittingBreaking limit words others → length (runs_of limit words) ≤ length others
+fewest_runs limit [] others fitting = omega arith
+fewest_runs limit (word ∷ words) others fitting =
+    few_runs limit (word ∷ []) words [] others (omega arith) fitting.all_words fitting.fits
 
 pub runs_of-is_fewest : (limit : ℕ) (words : List Text)
     → IsFewestBreaking limit words (runs_of limit words)
-runs_of-is_fewest limit words = record {
-  tight = runs_of-tight limit words;
-  fewest = λ others fitting. few_runs limit [] words _ others (runs_of-tight limit words) fitting;
-}
+runs_of-is_fewest limit words =
+    record { tight = runs_of-tight limit words; fewest = fewest_runs limit words }

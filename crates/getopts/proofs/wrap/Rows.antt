@@ -1,13 +1,13 @@
 -- The rows of a line, while they are filled word after word.
 use Rattle.std.proofs.Common.{◌≡◌, ℕ, ◌+◌, ◌<◌, ◌≤◌, true, false, List, [], ◌∷◌, ◌++◌, length, map}
-use Rattle.std.proofs.Common.{refl, sym, ap, ◌∙◌, subst, append_assoc, append-nil, arith, length-append}
+use Rattle.std.proofs.Common.{refl, sym, ap, ◌∙◌, append_assoc, append-nil, arith, length-append}
 use Rattle.std.specs.Str.{IsUtf8}
 use Rattle.std.proofs.lemmas.Bool.{le-leb, lt-leb}
 use Rattle.std.proofs.lemmas.List.Sums.{sum_by-append, sum_by-cons}
 use Rattle.getopts.specs.Names.{Text}
-use Rattle.getopts.specs.Wrap.{Run, width_of, columns_of, text_of, IsTightBreaking, words_of}
+use Rattle.getopts.specs.Wrap.{Run, width_of, columns_of, text_of, words_of}
 use Rattle.getopts.specs.Wrap.{has_room, runs_from, runs_of}
-use Rattle.getopts.proofs.wrap.Breakings.{runs_from-taken, runs_from-refused, runs_of-tight}
+use Rattle.getopts.proofs.wrap.Breakings.{runs_from-taken, runs_from-refused}
 
 -- one more word at the end of a run: columns and text
 columns_of-push : (run : Run) (word : Text) → 0 < length run
@@ -35,19 +35,11 @@ pub record RowsSoFar (limit : ℕ) (line : Text) (before rows : List Text) (row 
   pub to_come : rows ++ map text_of (runs_from limit run (words_of rest))
       ≡ before ++ map text_of (runs_of limit (words_of line))
 
--- the rows of the line's tight breaking were added to the rows before
-abbrev pub AddsLine : ℕ → Text → List Text → List Text → Type 0
-AddsLine limit line old new =
-    (runs : List Run) × IsTightBreaking limit (words_of line) runs × (new ≡ old ++ map text_of runs)
-
 -- a line without words adds nothing
 pub adds_none : (limit : ℕ) (line : Text) (rows : List Text) → words_of line ≡ []
-    → AddsLine limit line rows rows
-adds_none limit line rows none = (
-  [],
-  subst (λ (words : List Text). IsTightBreaking limit words []) (sym none) (runs_of-tight limit []),
-  sym (append-nil rows),
-)
+    → rows ≡ rows ++ map text_of (runs_of limit (words_of line))
+adds_none limit line rows none =
+    sym (append-nil rows) ∙ ap (λ words. rows ++ map text_of (runs_of limit words)) (sym none)
 
 -- the first word begins a row
 pub rows_begin : (limit : ℕ) (line : Text) (rows : List Text) (row word : Text) (columns : ℕ)
@@ -110,11 +102,8 @@ module _ {limit : ℕ} {line : Text} {before rows : List Text} {row : Text} {col
 -- with no words left, the current row is the last
 pub rows_finish : (limit : ℕ) (line : Text) (before rows : List Text) (row : Text) (columns : ℕ)
     (rest : Text) → RowsSoFar limit line before rows row columns rest → words_of rest ≡ []
-    → AddsLine limit line before (rows ++ row ∷ [])
-rows_finish limit line before rows row columns rest so_far none = (
-  runs_of limit (words_of line),
-  runs_of-tight limit (words_of line),
-  ap (λ (row : Text). rows ++ row ∷ []) so_far.row_is
-      ∙ ap (λ (words : List Text). rows ++ map text_of (runs_from limit so_far.run words)) (sym none)
-      ∙ so_far.to_come,
-)
+    → rows ++ row ∷ [] ≡ before ++ map text_of (runs_of limit (words_of line))
+rows_finish limit line before rows row columns rest so_far none =
+    ap (λ (row : Text). rows ++ row ∷ []) so_far.row_is
+    ∙ ap (λ (words : List Text). rows ++ map text_of (runs_from limit so_far.run words)) (sym none)
+    ∙ so_far.to_come

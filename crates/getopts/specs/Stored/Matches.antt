@@ -6,7 +6,7 @@ use Rattle.getopts.specs.Options.{Signature, Declared, signatures_of, grammar_of
 use Rattle.getopts.specs.Matches.{MatchedGroup, matched}
 use Rattle.getopts.specs.Reading.{Reading}
 use Rattle.getopts.specs.Stored.Signatures.{names_in}
-use Rattle.getopts.specs.Stored.Index.{index_of}
+use Rattle.getopts.specs.Stored.Index.{index_of, places_in}
 use Rattle.getopts.specs.Stored.Scan.{GivesLine}
 use Rattle.getopts.specs.Stored.Table.{IsTableOf}
 use Rattle.getopts.specs.declared.matches.MatchedGroups.TheInside.{Inside}
@@ -15,7 +15,7 @@ use Rattle.getopts.specs.declared.matches.ReadLine.{ReadLine}
 -- The line has the table and the index of groups with these signatures.
 pub record IsOfSignatures (signatures : List Signature) (read : ReadLine) : Type 0 where
   pub table : IsTableOf (names_in signatures) read.table
-  pub index : read.index ≡ index_of (length signatures) read.line.found
+  pub index : places_in read.index ≡ index_of (length signatures) read.line.found
 
 -- The outcome is a reading that gives this line, with the table and the index of the options.
 pub record IsReadLine (options : Declared) (outcome : Result Reading Fault) (read : ReadLine)
@@ -30,4 +30,4 @@ matched_view inside = matched 0 inside.signatures inside.found
 -- The table and the index are those of the groups.
 pub record KeepsGroups (inside : Inside) : Type 0 where
   pub table : IsTableOf (names_in inside.signatures) inside.table
-  pub index : inside.index ≡ index_of (length inside.signatures) inside.found
+  pub index : places_in inside.index ≡ index_of (length inside.signatures) inside.found

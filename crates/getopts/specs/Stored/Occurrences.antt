@@ -1,7 +1,7 @@
 -- The occurrences of a command line, and those of one group, as they are stored.
-use Rattle.std.specs.Prelude.{◌≡◌, ◌<◌, ◌≤◌, if◌then◌else◌, nat_le, ℕ, List, length, map, slice_get}
+use Rattle.std.specs.Prelude.{◌≡◌, ◌<◌, ◌≤◌, if◌then◌else◌, nat_le, ℕ, List, length, map, get_or}
 use Rattle.std.specs.Prelude.{Option, Some, None}
-use Rattle.std.specs.List.{AllByRecursion, filter_map}
+use Rattle.std.specs.List.{AllByRecursion}
 use Rattle.std.specs.Str.{IsCharBoundary}
 use Rattle.std.specs.String.{string_bytes}
 use Rattle.getopts.specs.Names.{Text}
@@ -43,10 +43,14 @@ abbrev pub HaveTheirValues : Inside → Type 0
 HaveTheirValues inside =
     AllByRecursion (λ held. IsSpanOf (string_bytes inside.values) held.value) inside.records.items
 
+-- stands for an occurrence past the last one
+abbrev pub no_occurrence : Occurrence
+no_occurrence = record { mention = record { group = 0; value = None }; position = 0 }
+
 -- the occurrences at these places
 abbrev pub occurrences_at_places : List Occurrence → List ℕ → List GroupOccurrence
 occurrences_at_places occurrences places =
-    map without_group (filter_map (λ place. slice_get occurrences place) places)
+    map (λ place. without_group (get_or occurrences place no_occurrence)) places
 
 -- These are places of occurrences.
 abbrev pub ArePlacesOf : List Occurrence → List ℕ → Type 0

@@ -78,11 +78,15 @@ signature_in text group =
 abbrev pub signatures_view : Inside → List Signature
 signatures_view inside = map (signature_in (string_bytes inside.text)) inside.records.items
 
--- Each group has valid names, which are UTF-8.
-pub record AreLawfulSignatures (signatures : List Signature) : Type 0 where
-  pub named : AllByRecursion (λ signature. IsLawfullyNamed signature.names) signatures
-  pub shorts : AllByRecursion (λ signature. IsUtf8 signature.names.short) signatures
-  pub longs : AllByRecursion (λ signature. IsUtf8 signature.names.long) signatures
+-- The signature has valid names, which are UTF-8.
+pub record IsLawfulSignature (signature : Signature) : Type 0 where
+  pub named : IsLawfullyNamed signature.names
+  pub short : IsUtf8 signature.names.short
+  pub long : IsUtf8 signature.names.long
+
+-- Each group has a valid signature.
+abbrev pub AreLawfulSignatures : List Signature → Type 0
+AreLawfulSignatures signatures = AllByRecursion IsLawfulSignature signatures
 
 -- The record has the main name's key, the short name's byte, and whether there is a long name.
 pub record HasKeys (group : SignatureRecord) (names : Names) : Type 0 where
@@ -90,15 +94,15 @@ pub record HasKeys (group : SignatureRecord) (names : Names) : Type 0 where
   pub short : group.short ≡ short_code names.short
   pub has_long : group.has_long ≡ not (is_empty names.long)
 
--- The names of the record are in the text of all names, and it has their keys.
+-- The names of the record are in the text of all names, and valid, and it has their keys.
 pub record IsStored (text : Text) (group : SignatureRecord) : Type 0 where
   pub ends : AreEndsOf text (ends_of group)
   pub keys : HasKeys group (signature_in text group).names
+  pub lawful : IsLawfulSignature (signature_in text group)
 
--- Each record has its names and keys, and the groups are valid.
-pub record HoldSignatures (inside : Inside) : Type 0 where
-  pub held : AllByRecursion (IsStored (string_bytes inside.text)) inside.records.items
-  pub lawful : AreLawfulSignatures (signatures_view inside)
+-- Each record has its names and keys.
+abbrev pub HoldSignatures : Inside → Type 0
+HoldSignatures inside = AllByRecursion (IsStored (string_bytes inside.text)) inside.records.items
 
 -- the signature of a borrowed group
 abbrev pub signature_view : SignatureView → Signature

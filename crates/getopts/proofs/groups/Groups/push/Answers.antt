@@ -5,11 +5,10 @@ use Rattle.std.proofs.lemmas.Grind.{common_steps}
 use Rattle.std.proofs.lemmas.List.{length-map}
 use Rattle.std.proofs.lemmas.Str.{IsUtf8-append}
 use Rattle.std.specs.List.{AllByRecursion}
-use Rattle.std.specs.Str.{IsUtf8}
 use Rattle.std.specs.String.{string_bytes}
-use Rattle.getopts.specs.Names.{Text, IsLawfullyNamed}
+use Rattle.getopts.specs.Names.{Text}
 use Rattle.getopts.specs.Options.{Signature, Group}
-use Rattle.getopts.specs.Stored.Signatures.{signature_with, pair_at, AreEndsOf}
+use Rattle.getopts.specs.Stored.Signatures.{signature_with, pair_at, AreEndsOf, IsLawfulSignature}
 use Rattle.getopts.specs.Stored.Groups.{groups_with}
 use Rattle.getopts.specs.declared.signatures.PairEnds.{PairEnds}
 use Rattle.getopts.proofs.Lists.{AllByRecursion-append}
@@ -31,12 +30,8 @@ abbrev added : goal.After-push_reserved → Signature
 added c = signature_with c.args.kinds c.args.short.now c.args.long.now
 
 -- the signatures with the added one
-signatures : (c : goal.After-push_reserved) → c.push.new.self
-    ≡ c.self.inside.signatures
-    ++ signature_with c.args.kinds c.args.short.now c.args.long.now ∷ []
-signatures c = c.in_ok-push.ensures.ok
-    ∙ ap (λ (ss : List Signature). ss
-    ++ signature_with c.args.kinds c.args.short.now c.args.long.now ∷ [])
+signatures : (c : goal.After-push_reserved) → c.push.new.self ≡ c.self.inside.signatures ++ added c ∷ []
+signatures c = c.in_ok-push.ensures.ok ∙ ap (λ (ss : List Signature). ss ++ added c ∷ [])
     (elim c.if-is_empty.branch [
       | goal.then-is_empty+in_ok-reserve+in_ok-reserve-2 w ↦ rw w.self-inside-is refl
       | goal.else-is_empty+in_ok-reserve-3+in_ok-reserve-4 w ↦ rw w.self-inside-is refl
@@ -64,20 +59,11 @@ invariant_of-self-2 c = record {
   as_many = ap (λ (ends : List PairEnds). length ends) (items c)
       ∙ length-append c.self.inside.ends.items (c.push_pair-pair.result ∷ [])
       ∙ ap (λ n. n + 1) c.self.invariant.as_many
-      ∙ sym (length-append c.self.inside.signatures
-      (signature_with c.args.kinds c.args.short.now c.args.long.now ∷ []))
+      ∙ sym (length-append c.self.inside.signatures (added c ∷ []))
       ∙ sym (ap (λ (ss : List Signature). length ss) (signatures c));
-  lawful = record {
-    named = rw (signatures c)
-        (AllByRecursion-append (λ (s : Signature). IsLawfullyNamed s.names) _ (added c ∷ [])
-        c.self.invariant.lawful.named (c.requires, tt));
-    shorts = rw (signatures c)
-        (AllByRecursion-append (λ (s : Signature). IsUtf8 s.names.short) _ (added c ∷ [])
-        c.self.invariant.lawful.shorts (c.utf8.short, tt));
-    longs = rw (signatures c)
-        (AllByRecursion-append (λ (s : Signature). IsUtf8 s.names.long) _ (added c ∷ [])
-        c.self.invariant.lawful.longs (c.utf8.long, tt));
-  };
+  lawful = rw (signatures c) (AllByRecursion-append IsLawfulSignature _ (added c ∷ [])
+      c.self.invariant.lawful
+      (record { named = c.requires; short = c.utf8.short; long = c.utf8.long }, tt));
 }
 
 pub returns-clause-ok : goal.returns-clause-ok

@@ -1,7 +1,7 @@
 -- The copies equal the stored values.
-use Rattle.std.proofs.Common.{◌≡◌, ◌∙◌, length, sym}
+use Rattle.std.proofs.Common.{◌≡◌, ◌∙◌, ap, length, sym}
 use Rattle.getopts.specs.Matches.{matched}
-use Rattle.getopts.specs.Stored.Index.{index_of}
+use Rattle.getopts.specs.Stored.Index.{index_of, places_in}
 use Rattle.getopts.proofs.matches.MatchedGroupsClone.clone.Goals as goal
 
 pub invariant_of-result : goal.invariant_of-result
@@ -18,7 +18,7 @@ invariant_of-result c =
         are_letters = rw (signatures, letters) c.self.invariant.table.are_letters;
         are_words = rw (signatures, words) c.self.invariant.table.are_words;
       };
-      index = index ∙ c.self.invariant.index ∙ sym (λ i. index_of (length (signatures i)) (found i));
+      index = ap places_in index ∙ c.self.invariant.index ∙ sym (λ i. index_of (length (signatures i)) (found i));
     }
 
 pub returns : goal.returns

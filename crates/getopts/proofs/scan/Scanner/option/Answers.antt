@@ -1,12 +1,10 @@
 -- The table finds what a name resolves to.
-use Rattle.std.proofs.Common.{refl, sym, ap, ◌∙◌, arith}
+use Rattle.std.proofs.Common.{refl, sym, arith}
 use Rattle.std.proofs.lemmas.List.{length-map}
-use Rattle.std.specs.Option.{option_map}
 use Rattle.getopts.specs.Options.{Signature}
 use Rattle.getopts.specs.Stored.Signatures.{names_in}
-use Rattle.getopts.specs.declared.kinds.Kinds.{Kinds}
 use Rattle.getopts.proofs.table.Names.{resolution_within}
-use Rattle.getopts.proofs.Stored.Signatures.{names-signatures_of, kinds-signatures_of, kind_of-kinds}
+use Rattle.getopts.proofs.Stored.Signatures.{names-signatures_of, kind-signatures_of}
 use Rattle.getopts.proofs.scan.Scanner.option.Goals as goal
 
 pub resolve-requires : goal.resolve-requires
@@ -35,9 +33,8 @@ returns c =
     let groups = c.args.self.now.options.now.groups in
     let there = rw (c.signatures-signatures.ensures.signatures, names-signatures_of groups) at
     c.in_ok-place.ensures in
-    let kinds = (rw c.signatures-signatures.ensures.signatures at c.record.ensures.kinds)
-    ∙ sym (kinds-signatures_of groups c.in_ok-place.place) in
     record {
       place = sym there;
-      kind = rw (← there) (sym (ap (option_map (λ (k : Kinds). k.kind)) kinds ∙ kind_of-kinds _));
+      kind = rw (← there) (kind-signatures_of groups c.in_ok-place.place _
+          (rw c.signatures-signatures.ensures.signatures at c.record.ensures.kinds));
     }

@@ -2,13 +2,11 @@
 use Rattle.std.proofs.Common.{◌≤◌, ◌∷◌, [], List, sym, ap, ◌∙◌, refl, arith}
 use Rattle.std.proofs.lemmas.Grind.{common_steps}
 use Rattle.std.proofs.lemmas.List.{length-map}
-use Rattle.std.specs.Option.{option_map}
 use Rattle.getopts.specs.Names.{Names, resolution}
 use Rattle.getopts.specs.Options.{Signature}
 use Rattle.getopts.specs.Stored.Signatures.{names_in}
-use Rattle.getopts.specs.declared.kinds.Kinds.{Kinds}
 use Rattle.getopts.proofs.table.Names.{resolution_within, wide_unknown}
-use Rattle.getopts.proofs.Stored.Signatures.{names-signatures_of, kinds-signatures_of, kind_of-kinds}
+use Rattle.getopts.proofs.Stored.Signatures.{names-signatures_of, kind-signatures_of}
 use Rattle.getopts.proofs.scan.Scanner.option_at.Goals as goal
 
 pub returns-then-not-is_ascii-clause-option : goal.returns-then-not-is_ascii-clause-option
@@ -39,9 +37,8 @@ pub returns-clause-option : goal.returns-clause-option
 returns-clause-option c =
     let groups = c.args.self.now.options.now.groups in
     let there = c.in_ok-place.ensures ∙ c.requires.table.are_letters.finds c.args.byte in
-    let kinds = (rw c.signatures.ensures.signatures at c.record.ensures.kinds)
-    ∙ sym (kinds-signatures_of groups c.in_ok-place.place) in
     record {
       place = sym there;
-      kind = rw (← there) (sym (ap (option_map (λ (k : Kinds). k.kind)) kinds ∙ kind_of-kinds _));
+      kind = rw (← there) (kind-signatures_of groups c.in_ok-place.place _
+          (rw c.signatures.ensures.signatures at c.record.ensures.kinds));
     }

@@ -11,11 +11,11 @@ index-requires c =
 pub second_at-requires : goal.second_at-requires
 second_at-requires c =
     rw (c.ends.ensures, c.deref.ensures) (stored_at _ c.self.inside.records.items _ _ c.index.result.now
-    c.self.invariant.held c.self.view_is c.requires c.index.ensures).0.ends
+    c.self.invariant c.self.view_is c.requires c.index.ensures).0.ends
 
 pub returns : goal.returns
 returns c =
     let held = stored_at _ c.self.inside.records.items _ _ c.index.result.now
-    c.self.invariant.held c.self.view_is c.requires c.index.ensures in
+    c.self.invariant c.self.view_is c.requires c.index.ensures in
     let is = rw (c.ends.ensures, c.deref.ensures) at c.second_at.ensures in
     rw (names_at-signature _ _ _ held.1) is

@@ -6,16 +6,14 @@ use Rattle.std.proofs.lemmas.List.Elements.{All-head}
 use Rattle.std.proofs.lemmas.Grind.{common_steps}
 use Rattle.std.proofs.lemmas.Str.{IsUtf8-append}
 use Rattle.std.specs.List.{AllByRecursion}
-use Rattle.std.specs.Str.{IsUtf8}
 use Rattle.std.specs.String.{string_bytes}
-use Rattle.getopts.specs.Names.{Text, IsLawfullyNamed, main_name}
+use Rattle.getopts.specs.Names.{Text, main_name}
 use Rattle.getopts.specs.Options.{Signature}
 use Rattle.getopts.specs.Stored.Signatures.{signature_with, signature_in, HasKeys, IsStored, ends_of}
-use Rattle.getopts.specs.Stored.Signatures.{pair_at, AreEndsOf}
+use Rattle.getopts.specs.Stored.Signatures.{IsLawfulSignature, pair_at, AreEndsOf}
 use Rattle.getopts.specs.Stored.Names.{key_of, short_code}
 use Rattle.getopts.specs.Stored.Texts.{IsOfBytes}
 use Rattle.getopts.specs.declared.signatures.SignatureRecord.{SignatureRecord}
-use Rattle.getopts.proofs.Lists.{AllByRecursion-append}
 use Rattle.getopts.proofs.Stored.Signatures.{signatures-push}
 use Rattle.getopts.proofs.Stored.Texts.{IsOfBytes-utf8}
 use Rattle.getopts.proofs.signatures.Signatures.push.Goals as goal
@@ -105,6 +103,8 @@ last c = record {
   ends = subst (AreEndsOf (string_bytes c.push_pair-names.new.texts)) (sym (ends_are c))
       c.push_pair-names.ensures.two.ends;
   keys = subst (λ (s : Signature). HasKeys (added c) s.names) (sym (signature_is c)) (has_keys c);
+  lawful = subst IsLawfulSignature (sym (signature_is c))
+      (record { named = c.requires; short = c.utf8.short; long = c.utf8.long });
 }
 
 pushed : (c : goal.After-push_reserved)
@@ -115,26 +115,11 @@ pushed : (c : goal.After-push_reserved)
 pushed c =
     let both = signatures-push (string_bytes c.self.inside.text) (more c)
     (IsUtf8-append _ _ c.utf8.short c.utf8.long) c.self.inside.records.items
-    c.self.invariant.held (added c) (rw (← text c) (last c)) in
+    c.self.invariant (added c) (rw (← text c) (last c)) in
     rw (items c, ← signature_is c) (rw (← text c) at both)
 
 pub invariant_of-self-2 : goal.invariant_of-self-2
-invariant_of-self-2 c =
-    let same = (pushed c).1 in
-    record {
-      held = (pushed c).0;
-      lawful = record {
-        named = rw same
-            (AllByRecursion-append (λ (s : Signature). IsLawfullyNamed s.names) _
-            (signature c ∷ []) c.self.invariant.lawful.named (c.requires, tt));
-        shorts = rw same
-            (AllByRecursion-append (λ (s : Signature). IsUtf8 s.names.short) _
-            (signature c ∷ []) c.self.invariant.lawful.shorts (c.utf8.short, tt));
-        longs = rw same
-            (AllByRecursion-append (λ (s : Signature). IsUtf8 s.names.long) _
-            (signature c ∷ []) c.self.invariant.lawful.longs (c.utf8.long, tt));
-      };
-    }
+invariant_of-self-2 c = (pushed c).0
 
 pub returns-clause-ok : goal.returns-clause-ok
 returns-clause-ok c = rw (← c.self.view_is) (pushed c).1
