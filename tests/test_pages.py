@@ -129,7 +129,7 @@ def lines_in(folder, *omitted):
 def sizes():
     """PROOFS: the lines of the library, and the mutants of all crates."""
     return table(["definitions", "source", "proofs", "mutants"],
-                 [lines_in("specs", "Results", "Step", "Stored"), lines_in("src"), lines_in("proofs"), str(len(mutants))])
+                 [lines_in("specs", "Results", "Step", "Stored", "UsageResults"), lines_in("src"), lines_in("proofs"), str(len(mutants))])
 
 
 def quoted_contracts():

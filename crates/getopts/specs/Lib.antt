@@ -44,6 +44,8 @@ pub mod Same
 pub mod Wrap
 -- usage texts
 pub mod Usage
+-- rows of descriptions and usage texts as functions
+pub mod UsageResults
 -- the definitions above that most callers import
 pub mod Prelude
 -- Cited by private clauses alone, and by the views of private types.

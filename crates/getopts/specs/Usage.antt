@@ -4,7 +4,7 @@ use Rattle.std.specs.Prelude.{codes, if◌then◌else◌}
 use Rattle.std.specs.List.{AllZip, list_any, repeat}
 use Rattle.getopts.specs.Names.{Text, Names, is_empty}
 use Rattle.getopts.specs.Options.{Group, Declared}
-use Rattle.getopts.specs.Wrap.{width_of, IsDescriptionRows, description_rows, joined}
+use Rattle.getopts.specs.Wrap.{width_of, IsDescriptionRows, joined}
 use Rattle.getopts.specs.declared.kinds.HasArg.{HasArg}
 use Rattle.getopts.specs.declared.kinds.HasArg.TheVariants as argument
 use Rattle.getopts.specs.declared.kinds.Occur.{Occur}
@@ -143,29 +143,3 @@ IsUsageTextIn columns options brief text =
 -- This is the usage text of these options within the usual columns.
 abbrev pub IsUsageText : Declared → Text → Text → Type 0
 IsUsageText options brief text = IsUsageTextIn usual_columns options brief text
-
--- ---- the same as functions
-
--- a group's row within so many columns
-abbrev pub usage_row_in : ℕ → Bool → Bool → Group → Text
-usage_row_in columns long_only among_shorts group =
-    row_text (head long_only among_shorts group)
-    (description_rows (description_columns columns) group.description)
-
--- the rows within so many columns
-abbrev pub usage_rows_in_result : ℕ → Declared → List Text
-usage_rows_in_result columns options =
-    map (usage_row_in columns options.long_only (any_short options.groups)) options.groups
-
--- the result of `usage_rows`
-abbrev pub usage_rows_result : Declared → List Text
-usage_rows_result options = usage_rows_in_result usual_columns options
-
--- Nobody has to trust this definition: the clause `text` of `usage_in` says which text it gives.
--- the result of `usage_in`
-abbrev pub usage_in_result : ℕ → Declared → Text → Text
-usage_in_result columns options brief = usage_text brief (usage_rows_in_result columns options)
-
--- the result of `usage`
-abbrev pub usage_result : Declared → Text → Text
-usage_result options brief = usage_in_result usual_columns options brief

@@ -1,6 +1,6 @@
 -- Descriptions in rows: the lines of a description, their words, and the ways to break a line's
 -- words.
-use Rattle.std.specs.Prelude.{◌≡◌, ℕ, ◌+◌, ◌-◌, ◌<◌, ◌≤◌, ◌==◌, nat_le, nat_lt, Bool, false, ◌⊎◌}
+use Rattle.std.specs.Prelude.{◌≡◌, ℕ, ◌+◌, ◌-◌, ◌<◌, ◌≤◌, ◌==◌, nat_lt, Bool, false, ◌⊎◌}
 use Rattle.std.specs.Prelude.{List, [], ◌∷◌, ◌++◌, length, take, map, filter, sum_by, All}
 use Rattle.std.specs.Prelude.{chars, encode_utf8_all, if◌then◌else◌}
 use Rattle.std.specs.List.{AllZip, flat_map, join_by, join_with_byte, slice_split}
@@ -80,35 +80,6 @@ pub record BreaksInto (IsBroken : List Text → List Run → Type 0) (desc : Tex
 -- These are the rows of the description: those of each line's tight breaking.
 abbrev pub IsDescriptionRows : ℕ → Text → List Text → Type 0
 IsDescriptionRows limit desc rows = BreaksInto (IsTightBreaking limit) desc rows
-
--- ---- rows as a function
-
--- whether the word fits after the run
-abbrev pub has_room : ℕ → Run → Text → Bool
-has_room limit run word = nat_le (columns_of (run ++ word ∷ [])) limit
-
--- the runs of words, if the first run begins with these and the others follow
-abbrev pub runs_from : ℕ → Run → List Text → List Run
-runs_from limit run [] = run ∷ []
-runs_from limit run (word ∷ words) =
-    if has_room limit run word then runs_from limit (run ++ word ∷ []) words
-    else run ∷ runs_from limit (word ∷ []) words
-
--- the runs of words: each takes as many words as fit
-abbrev pub runs_of : ℕ → List Text → List Run
-runs_of limit [] = []
-runs_of limit (word ∷ words) = runs_from limit (word ∷ []) words
-
--- the rows of lines
-abbrev pub rows_of : ℕ → List Text → List Text
-rows_of limit lines =
-    map text_of (flat_map (λ runs. runs) (map (runs_of limit) (map words_of lines)))
-
--- Nobody has to trust this definition: the clause `rows` of `each_split_within`, which returns
--- these rows, says what they are.
--- the rows of a description
-abbrev pub description_rows : ℕ → Text → List Text
-description_rows limit desc = rows_of limit (lines_of desc)
 
 -- ---- rows in one text
 

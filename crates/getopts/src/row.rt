@@ -3,7 +3,8 @@
 ghost use Rattle.std.specs.Prelude.{◌≡◌, ◌++◌, string_bytes, IfOk, OnOk};
 ghost use Rattle.getopts.specs.Wrap.{width_of};
 ghost use Rattle.getopts.specs.Usage.{argument_part, has_columns, head, long_part, padding};
-ghost use Rattle.getopts.specs.Usage.{short_part, usage_row_in};
+ghost use Rattle.getopts.specs.Usage.{short_part};
+ghost use Rattle.getopts.specs.UsageResults.{usage_row_in};
 ghost use Rattle.getopts.specs.Stored.Signatures.{names_view};
 ghost use Rattle.getopts.specs.Stored.Groups.{group_view};
 

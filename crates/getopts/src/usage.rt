@@ -8,9 +8,8 @@ ghost use Rattle.getopts.specs.Names.{Text};
 ghost use Rattle.getopts.specs.Only.{IsTheOnly};
 ghost use Rattle.getopts.specs.Usage.{AreUsageRows, AreUsageRowsIn, IsUsageText, IsUsageTextIn};
 ghost use Rattle.getopts.specs.Usage.{any_short, option_name, option_text, short_usage_text};
-ghost use Rattle.getopts.specs.Usage.{usage_in_result, usage_result, usage_rows_in_result};
-ghost use Rattle.getopts.specs.Usage.{usage_rows_result};
 ghost use Rattle.getopts.specs.Wrap.{joined};
+ghost use Rattle.getopts.specs.UsageResults.{usage_in_result, usage_result, usage_rows_in_result, usage_rows_result};
 
 use crate::groups::GroupView;
 use crate::kinds::{HasArg, Occur};

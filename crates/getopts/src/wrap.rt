@@ -2,7 +2,8 @@
 
 ghost use Rattle.std.specs.Prelude.{◌≡◌, ◌++◌, map, string_bytes, IfOk, OnOk};
 ghost use Rattle.getopts.specs.Wrap.{BreaksInto, IsDescriptionRows, IsFewestBreaking};
-ghost use Rattle.getopts.specs.Wrap.{description_rows, joined, parting, runs_of, text_of, words_of};
+ghost use Rattle.getopts.specs.Wrap.{joined, parting, text_of, words_of};
+ghost use Rattle.getopts.specs.UsageResults.{description_rows, runs_of};
 ghost use Rattle.getopts.specs.Only.{IsTheOnly};
 
 use std::alloc::{AllocError, Global};

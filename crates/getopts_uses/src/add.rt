@@ -3,7 +3,7 @@
 ghost use Rattle.std.specs.Prelude.{◌≡◌, codes, map, IfOk};
 ghost use Rattle.std.specs.String.{string_bytes};
 ghost use Rattle.getopts.specs.Prelude.{parse_unless_result};
-ghost use Rattle.getopts.specs.Usage.{usage_in_result};
+ghost use Rattle.getopts.specs.UsageResults.{usage_in_result};
 ghost use Rattle.getopts_uses.specs.Command.{IsAddOrError, add_help, add_options, narrow_add_help};
 
 use getopts::{Fail, Options};

@@ -3,7 +3,7 @@
 ghost use Rattle.std.specs.Prelude.{◌≡◌, codes, map, IfOk};
 ghost use Rattle.std.specs.String.{string_bytes};
 ghost use Rattle.getopts.specs.Prelude.{FitOptionsAndCounts, parse_unless_result};
-ghost use Rattle.getopts.specs.Usage.{usage_result};
+ghost use Rattle.getopts.specs.UsageResults.{usage_result};
 ghost use Rattle.getopts_uses.specs.Log.{IsLogOf, IsLogOrError, log_help, log_options};
 
 use getopts::{Fail, Matches, Options};

@@ -13,8 +13,8 @@ use Rattle.getopts.specs.Options.{Group, Declared}
 use Rattle.getopts.specs.Only.{IsTheOnly}
 use Rattle.getopts.specs.Usage.{any_short, spaces, head, margin, next_row, padding, row_text}
 use Rattle.getopts.specs.Usage.{IsUsageRowIn, AreUsageRowsIn, IsUsageTextIn, description_columns, usage_text}
-use Rattle.getopts.specs.Usage.{usage_row_in, usage_rows_in_result, usage_in_result}
-use Rattle.getopts.specs.Wrap.{width_of, IsDescriptionRows, description_rows}
+use Rattle.getopts.specs.Wrap.{width_of, IsDescriptionRows}
+use Rattle.getopts.specs.UsageResults.{usage_row_in, usage_rows_in_result, usage_in_result, description_rows}
 use Rattle.getopts.proofs.Lists.{take_more_at}
 use Rattle.getopts.proofs.Only.{made_of_the_only, each_is_the_only}
 use Rattle.getopts.proofs.wrap.Lines.{description_rows-are, rows_exactly}

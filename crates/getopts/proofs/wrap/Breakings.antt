@@ -11,7 +11,8 @@ use Rattle.std.proofs.lemmas.List.Sums.{sum_by-append}
 use Rattle.std.proofs.lemmas.Bool.{false_from_ne_true}
 use Rattle.getopts.specs.Names.{Text}
 use Rattle.getopts.specs.Wrap.{Run, width_of, columns_of, FitsIn, IsFittingBreaking, NoneTakesMore}
-use Rattle.getopts.specs.Wrap.{IsTightBreaking, IsFewestBreaking, has_room, runs_from, runs_of}
+use Rattle.getopts.specs.Wrap.{IsTightBreaking, IsFewestBreaking}
+use Rattle.getopts.specs.UsageResults.{has_room, runs_from, runs_of}
 use Rattle.getopts.proofs.Lists.{Within, cuts}
 
 -- ---- filling row after row

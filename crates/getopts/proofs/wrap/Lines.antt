@@ -6,8 +6,8 @@ use Rattle.std.proofs.lemmas.List.{map-append}
 use Rattle.std.proofs.lemmas.List.Concat.{flat_map-append}
 use Rattle.getopts.specs.Names.{Text}
 use Rattle.getopts.specs.Wrap.{Run, text_of, IsTightBreaking, IsFewestBreaking, words_of}
-use Rattle.getopts.specs.Wrap.{BreaksInto, IsDescriptionRows, lines_of, runs_of, rows_of}
-use Rattle.getopts.specs.Wrap.{description_rows}
+use Rattle.getopts.specs.Wrap.{BreaksInto, IsDescriptionRows, lines_of}
+use Rattle.getopts.specs.UsageResults.{runs_of, rows_of, description_rows}
 use Rattle.getopts.proofs.wrap.Breakings.{runs_of-tight, runs_of-only, runs_of-is_fewest}
 
 -- one more line adds its rows

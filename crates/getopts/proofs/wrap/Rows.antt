@@ -6,7 +6,7 @@ use Rattle.std.proofs.lemmas.Bool.{le-leb, lt-leb}
 use Rattle.std.proofs.lemmas.List.Sums.{sum_by-append, sum_by-cons}
 use Rattle.getopts.specs.Names.{Text}
 use Rattle.getopts.specs.Wrap.{Run, width_of, columns_of, text_of, words_of}
-use Rattle.getopts.specs.Wrap.{has_room, runs_from, runs_of}
+use Rattle.getopts.specs.UsageResults.{has_room, runs_from, runs_of}
 use Rattle.getopts.proofs.wrap.Breakings.{runs_from-taken, runs_from-refused}
 
 -- one more word at the end of a run: columns and text

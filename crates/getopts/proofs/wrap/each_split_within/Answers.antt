@@ -4,7 +4,8 @@ use Rattle.std.specs.Str.Iter.{split_text, split_has_more, split_pattern}
 use Rattle.std.proofs.lemmas.Iterator.Consumers.{YieldsList-end}
 use Rattle.std.proofs.lemmas.Iterator.Splits.{YieldsList-from_str_split}
 use Rattle.std.proofs.lemmas.List.{map-append}
-use Rattle.getopts.specs.Wrap.{IsDescriptionRows, rows_of, description_rows}
+use Rattle.getopts.specs.Wrap.{IsDescriptionRows}
+use Rattle.getopts.specs.UsageResults.{rows_of, description_rows}
 use Rattle.getopts.proofs.wrap.Lines.{rows_of-push, description_rows-are, rows_exactly, rows_fewest}
 use Rattle.getopts.proofs.wrap.each_split_within.Goals as goal
 

@@ -1,6 +1,6 @@
 -- The rows are those of the lines so far.
 use Rattle.std.proofs.Common.{◌≡◌, map, string_bytes}
-use Rattle.getopts.specs.Wrap.{rows_of}
+use Rattle.getopts.specs.UsageResults.{rows_of}
 use Rattle.getopts.proofs.wrap.each_split_within.Given as goal
 
 abbrev pub invariant-loop-line : goal.invariant-loop-line

@@ -1,6 +1,6 @@
 -- The checker computes the program's help, which is the text written out.
 use Rattle.std.proofs.Common.{◌≡◌, ap, refl, sym, ◌∙◌}
-use Rattle.getopts.specs.Usage.{usage_result}
+use Rattle.getopts.specs.UsageResults.{usage_result}
 use Rattle.getopts.proofs.OnLiterals.{usage_on_literals}
 use Rattle.getopts_shell.specs.Program.{done, own_brief, own_help, own_options}
 use Rattle.getopts_shell.proofs.Chosen.{at_true}

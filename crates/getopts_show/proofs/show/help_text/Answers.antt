@@ -2,7 +2,7 @@
 use Rattle.std.proofs.Common.{◌≡◌, ◌∙◌, refl, Result, Ok, Err}
 use Rattle.std.specs.Prelude.{IfOk}
 use Rattle.std.proofs.lemmas.Result.{IfOk-weaker}
-use Rattle.getopts.specs.Usage.{usage_result}
+use Rattle.getopts.specs.UsageResults.{usage_result}
 use Rattle.getopts.proofs.OnLiterals.{usage_on_literals}
 use Rattle.getopts_show.specs.Program.{help_brief, program_help, program_options}
 use Rattle.getopts_show.proofs.show.help_text.Goals as goal

@@ -1,7 +1,8 @@
 -- The text consists of the computed rows.
 use Rattle.std.proofs.Common.{◌≡◌, string_bytes, rules, append_assoc, subst, sym}
 use Rattle.getopts.specs.Only.{IsTheOnly}
-use Rattle.getopts.specs.Usage.{IsUsageTextIn, usage_in_result}
+use Rattle.getopts.specs.Usage.{IsUsageTextIn}
+use Rattle.getopts.specs.UsageResults.{usage_in_result}
 use Rattle.getopts.proofs.usage.Rows.{usage_in_computed}
 use Rattle.getopts.proofs.options.Options.usage_in.Goals as goal
 

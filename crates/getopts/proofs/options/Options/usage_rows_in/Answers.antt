@@ -3,7 +3,8 @@ use Rattle.std.proofs.Common.{string_bytes, subst}
 use Rattle.std.proofs.lemmas.List.{map-append, take_all}
 use Rattle.getopts.specs.Only.{IsTheOnly}
 use Rattle.getopts.specs.Options.{Group}
-use Rattle.getopts.specs.Usage.{AreUsageRowsIn, any_short, usage_row_in, usage_rows_in_result}
+use Rattle.getopts.specs.Usage.{AreUsageRowsIn, any_short}
+use Rattle.getopts.specs.UsageResults.{usage_row_in, usage_rows_in_result}
 use Rattle.getopts.specs.Stored.Groups.{group_view}
 use Rattle.getopts.proofs.Lists.{map-take_more}
 use Rattle.getopts.proofs.usage.Rows.{usage_rows_in_computed}
