@@ -1,6 +1,6 @@
 -- Rows of descriptions and usage texts as functions. Nobody has to trust these definitions: the
--- clauses `rows` of `each_split_within`, `rows` of `usage_rows` and `text` of `usage_in` say what
--- the results are.
+-- clauses of `usage_texts_are_computed` say that each gives the only value that a definition of
+-- `Wrap` or `Usage` allows.
 use Rattle.std.specs.Prelude.{ℕ, Bool, nat_le, if◌then◌else◌, List, [], ◌∷◌, ◌++◌, map}
 use Rattle.std.specs.List.{flat_map}
 use Rattle.getopts.specs.Names.{Text}

@@ -3,18 +3,22 @@
 
 ghost use Rattle.getopts.specs.Canon.{Content, Says, IsSound, IsPlain, HasCanonicalLine, with_setting};
 ghost use Rattle.getopts.specs.declared.kinds.ParsingStyle.{ParsingStyle};
-ghost use Rattle.std.specs.Prelude.{List, Bool};
+ghost use Rattle.std.specs.Prelude.{ℕ, List, Bool};
 ghost use Rattle.getopts.specs.Accessors.{held_names};
 ghost use Rattle.getopts.specs.CanonAnswers.{IsParseAnswer, IsCanonicalAnswer, KeepsLineLaws};
 ghost use Rattle.getopts.specs.Returns.{HasResults};
 ghost use Rattle.getopts.specs.Names.{Text, AreTexts, MainNameResolves, OneByteIsShort};
 ghost use Rattle.getopts.specs.Names.{EmptyResolvesNot};
-ghost use Rattle.getopts.specs.Only.{AtMostOne};
+ghost use Rattle.getopts.specs.Only.{AtMostOne, IsTheOnly};
 ghost use Rattle.getopts.specs.Options.{Declared, MayBeDeclared, names_of, grammar_of};
 ghost use Rattle.getopts.specs.Parse.{KeepsReadingLaws};
 ghost use Rattle.getopts.specs.Theorem.{OneReading, AcceptedExactlyWhen, RefusedExactlyWhen};
 ghost use Rattle.getopts.specs.Theorem.{HaveResults, OneContentHoldsSame, LinesReadAgain};
 ghost use Rattle.getopts.specs.Theorem.{OneLineOneContent};
+ghost use Rattle.getopts.specs.Usage.{AreUsageRowsIn, IsUsageTextIn};
+ghost use Rattle.getopts.specs.UsageResults.{description_rows, usage_in_result};
+ghost use Rattle.getopts.specs.UsageResults.{usage_rows_in_result};
+ghost use Rattle.getopts.specs.Wrap.{BreaksInto, IsDescriptionRows, IsFewestBreaking};
 
 use crate::matches::Matches;
 use crate::options::Options;
@@ -123,4 +127,18 @@ pub fn equal_input_equal_answers()
 pub fn results_are_computed()
     ensures results { (options : Declared) (words : List Text) → MayBeDeclared options.groups
         → AreTexts words → HasResults options words }
+{}
+
+/// The rows of descriptions and the usage texts are those that functions such as `usage_result`
+/// compute, and no fitting breaking of a line has fewer rows. This is a lemma for proofs, which
+/// does nothing.
+pub fn usage_texts_are_computed()
+    ensures text { (columns : ℕ) (options : Declared) (brief : Text)
+        → IsTheOnly (IsUsageTextIn columns options brief) (usage_in_result columns options brief) }
+    ensures rows { (columns : ℕ) (options : Declared)
+        → IsTheOnly (AreUsageRowsIn columns options) (usage_rows_in_result columns options) }
+    ensures description { (limit : ℕ) (desc : Text)
+        → IsTheOnly (IsDescriptionRows limit desc) (description_rows limit desc) }
+    ensures fewest { (limit : ℕ) (desc : Text) (rows : List Text)
+        → IsDescriptionRows limit desc rows → BreaksInto (IsFewestBreaking limit) desc rows }
 {}

@@ -66,7 +66,7 @@ pub use fail::Fail;
 pub use kinds::{HasArg, Occur, ParsingStyle};
 pub use laws::{
     declared_options_keep_laws, equal_input_equal_answers, held_names_resolve, names_resolve,
-    one_reading_one_canonical_line, results_are_computed,
+    one_reading_one_canonical_line, results_are_computed, usage_texts_are_computed,
 };
 pub use matches::Matches;
 pub use names::names_lawful;
