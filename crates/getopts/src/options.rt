@@ -10,6 +10,8 @@ ghost use Rattle.getopts.specs.Borrows.{UnchangedIfErr};
 ghost use Rattle.getopts.specs.Options.{group_of, with_group, signatures_of, MayBeDeclared};
 
 use crate::groups::Groups;
+use crate::kinds::HasArg::{Maybe, No, Yes};
+use crate::kinds::Occur::{Multi, Optional, Req};
 use crate::kinds::{HasArg, Kinds, Occur, ParsingStyle};
 use crate::signatures::Signatures;
 use std::alloc::{AllocError, Global};
@@ -178,7 +180,7 @@ impl Options {
         ensures same_options { IfOk result (λ options.
             options.ghost_name ≡ self.entry.ghost_name) }
     {
-        self.opt(short_name, long_name, desc, "", HasArg::No, Occur::Optional)
+        self.opt(short_name, long_name, desc, "", No, Optional)
     }
 
     /// Adds an option without an argument that may occur any number of times.
@@ -199,7 +201,7 @@ impl Options {
         ensures same_options { IfOk result (λ options.
             options.ghost_name ≡ self.entry.ghost_name) }
     {
-        self.opt(short_name, long_name, desc, "", HasArg::No, Occur::Multi)
+        self.opt(short_name, long_name, desc, "", No, Multi)
     }
 
     /// Adds an option with an optional argument that may occur once.
@@ -224,14 +226,7 @@ impl Options {
         ensures same_options { IfOk result (λ options.
             options.ghost_name ≡ self.entry.ghost_name) }
     {
-        self.opt(
-            short_name,
-            long_name,
-            desc,
-            hint,
-            HasArg::Maybe,
-            Occur::Optional,
-        )
+        self.opt(short_name, long_name, desc, hint, Maybe, Optional)
     }
 
     /// Adds an option with a mandatory argument that may occur any number of times.
@@ -252,7 +247,7 @@ impl Options {
         ensures same_options { IfOk result (λ options.
             options.ghost_name ≡ self.entry.ghost_name) }
     {
-        self.opt(short_name, long_name, desc, hint, HasArg::Yes, Occur::Multi)
+        self.opt(short_name, long_name, desc, hint, Yes, Multi)
     }
 
     /// Adds an option with a mandatory argument that may occur once.
@@ -273,14 +268,7 @@ impl Options {
         ensures same_options { IfOk result (λ options.
             options.ghost_name ≡ self.entry.ghost_name) }
     {
-        self.opt(
-            short_name,
-            long_name,
-            desc,
-            hint,
-            HasArg::Yes,
-            Occur::Optional,
-        )
+        self.opt(short_name, long_name, desc, hint, Yes, Optional)
     }
 
     /// Adds a required option with a mandatory argument: it has to occur exactly once.
@@ -302,7 +290,7 @@ impl Options {
         ensures same_options { IfOk result (λ options.
             options.ghost_name ≡ self.entry.ghost_name) }
     {
-        self.opt(short_name, long_name, desc, hint, HasArg::Yes, Occur::Req)
+        self.opt(short_name, long_name, desc, hint, Yes, Req)
     }
 }
 

@@ -4,6 +4,8 @@
 use crate::fallible::*;
 
 use super::groups::Groups;
+use super::kinds::HasArg::{Maybe, No, Yes};
+use super::kinds::Occur::{Multi, Optional, Req};
 use super::kinds::{HasArg, Kinds, Occur, ParsingStyle};
 use super::signatures::Signatures;
 use crate::alloc::{AllocError, Global};
@@ -120,7 +122,7 @@ impl Options {
         long_name: &str,
         desc: &str,
     ) -> Result<&mut Options, AllocError> {
-        self.opt(short_name, long_name, desc, "", HasArg::No, Occur::Optional)
+        self.opt(short_name, long_name, desc, "", No, Optional)
     }
 
     /// Adds an option without an argument that may occur any number of times.
@@ -135,7 +137,7 @@ impl Options {
         long_name: &str,
         desc: &str,
     ) -> Result<&mut Options, AllocError> {
-        self.opt(short_name, long_name, desc, "", HasArg::No, Occur::Multi)
+        self.opt(short_name, long_name, desc, "", No, Multi)
     }
 
     /// Adds an option with an optional argument that may occur once.
@@ -154,14 +156,7 @@ impl Options {
         desc: &str,
         hint: &str,
     ) -> Result<&mut Options, AllocError> {
-        self.opt(
-            short_name,
-            long_name,
-            desc,
-            hint,
-            HasArg::Maybe,
-            Occur::Optional,
-        )
+        self.opt(short_name, long_name, desc, hint, Maybe, Optional)
     }
 
     /// Adds an option with a mandatory argument that may occur any number of times.
@@ -176,7 +171,7 @@ impl Options {
         desc: &str,
         hint: &str,
     ) -> Result<&mut Options, AllocError> {
-        self.opt(short_name, long_name, desc, hint, HasArg::Yes, Occur::Multi)
+        self.opt(short_name, long_name, desc, hint, Yes, Multi)
     }
 
     /// Adds an option with a mandatory argument that may occur once.
@@ -191,14 +186,7 @@ impl Options {
         desc: &str,
         hint: &str,
     ) -> Result<&mut Options, AllocError> {
-        self.opt(
-            short_name,
-            long_name,
-            desc,
-            hint,
-            HasArg::Yes,
-            Occur::Optional,
-        )
+        self.opt(short_name, long_name, desc, hint, Yes, Optional)
     }
 
     /// Adds a required option with a mandatory argument: it has to occur exactly once.
@@ -214,7 +202,7 @@ impl Options {
         desc: &str,
         hint: &str,
     ) -> Result<&mut Options, AllocError> {
-        self.opt(short_name, long_name, desc, hint, HasArg::Yes, Occur::Req)
+        self.opt(short_name, long_name, desc, hint, Yes, Req)
     }
 }
 
