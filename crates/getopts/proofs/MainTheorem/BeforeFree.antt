@@ -1,5 +1,5 @@
 -- Under `StopAtFirstFree` the words before the free ones give the same options.
-use Rattle.std.proofs.Common.{◌≡◌, List, [], ◌∷◌, ◌++◌, None, refl, sym, ap, ◌∙◌, append-nil}
+use Rattle.std.proofs.Common.{◌≡◌, List, [], ◌∷◌, ◌++◌, None, refl, sym, ap, ◌∙◌, subst, append-nil}
 use Rattle.std.specs.List.{AllByRecursion}
 use Rattle.getopts.specs.Names.{Text}
 use Rattle.getopts.specs.Options.{Declared, Grammar, MayBeDeclared, grammar_of}
@@ -14,7 +14,7 @@ use Rattle.getopts.specs.declared.kinds.ParsingStyle.TheVariants.{FloatingFrees,
 use Rattle.getopts.proofs.MainTheorem.Accepted.{parse_result-accepted}
 use Rattle.getopts.proofs.Only.{meets}
 use Rattle.getopts.proofs.parse.Parsed.{only_reads, positions_below-read}
-use Rattle.getopts.proofs.Reading.Readings.{EndsOrIsDashed-spelled, spelled_all-append}
+use Rattle.getopts.proofs.Reading.Readings.{ends-front, spelled_all-append}
 
 -- a tail without its free words
 abbrev cut_tail : Tail → Tail
@@ -41,11 +41,8 @@ words_cut items (rest words) = spelled_all-append items [] words
 
 ends_cut : (items : List Item) (tail : Tail) → EndsOrIsDashed (spelled_all items (tail_words tail))
     → EndsOrIsDashed (spelled_all items (tail_words (cut_tail tail)))
-ends_cut [] line_end ends = ends
-ends_cut [] (stop words) ends = ends
-ends_cut [] (rest words) ends = tt
-ends_cut (item ∷ items) tail ends = EndsOrIsDashed-spelled item
-    (spelled_all items (tail_words tail)) (spelled_all items (tail_words (cut_tail tail))) ends
+ends_cut items tail ends =
+    ends-front _ (tail_frees tail) (subst EndsOrIsDashed (words_cut items tail) ends)
 
 followed_cut : (items : List Item) (tail : Tail) → AreWellFollowed items (tail_words tail)
     → AreWellFollowed items (tail_words (cut_tail tail))

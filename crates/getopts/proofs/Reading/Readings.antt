@@ -133,7 +133,7 @@ ends-append [] ys front more = more
 ends-append (x ∷ xs) ys front more = front
 
 -- the first of such words
-ends-front : (xs ys : List Text) → EndsOrIsDashed (xs ++ ys) → EndsOrIsDashed xs
+pub ends-front : (xs ys : List Text) → EndsOrIsDashed (xs ++ ys) → EndsOrIsDashed xs
 ends-front [] ys whole = tt
 ends-front (x ∷ xs) ys whole = whole
 

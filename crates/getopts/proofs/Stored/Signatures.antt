@@ -18,7 +18,7 @@ use Rattle.getopts.specs.Stored.Names.{names_at, HaveNamesOfBytes}
 use Rattle.getopts.specs.Stored.Signatures.{signature_with, names_in, pair_at, AreEndsOf, IsPairAt}
 use Rattle.getopts.specs.Stored.Signatures.{ends_of, signature_in, AreLawfulSignatures, HasKeys}
 use Rattle.getopts.specs.Stored.Signatures.{IsLawfulSignature, IsStored, kinds_of}
-use Rattle.getopts.specs.Stored.Groups.{groups_with, groups_view, HoldGroups}
+use Rattle.getopts.specs.Stored.Groups.{group_with, groups_with, groups_view, HoldGroups}
 use Rattle.getopts.specs.declared.groups.Groups.TheInside.{Inside}
 use Rattle.getopts.specs.declared.signatures.PairEnds.{PairEnds}
 use Rattle.getopts.specs.declared.signatures.SignatureRecord.{SignatureRecord}
@@ -132,20 +132,12 @@ twos-push text more utf8 ends held added two last =
 pub groups_with-push : (signature : Signature) (texts : Text × Text) (signatures : List Signature)
     (twos : List (Text × Text)) → length twos ≡ length signatures
     → groups_with (signatures ++ signature ∷ []) (twos ++ texts ∷ [])
-    ≡ groups_with signatures twos ++ record {
-      signature = signature;
-      hint = texts.0;
-      description = texts.1;
-    } ∷ []
+    ≡ groups_with signatures twos ++ group_with signature texts ∷ []
 groups_with-push signature texts [] [] as_many = refl
 groups_with-push signature texts [] (two ∷ twos) as_many = absurd (omega (arith, as_many))
 groups_with-push signature texts (first ∷ signatures) [] as_many = absurd (omega (arith, as_many))
 groups_with-push signature texts (first ∷ signatures) (two ∷ twos) as_many =
-    ap (λ (more : List Group). record {
-      signature = first;
-      hint = two.0;
-      description = two.1;
-    } ∷ more)
+    ap (λ more. group_with first two ∷ more)
     (groups_with-push signature texts signatures twos (omega (arith, as_many)))
 
 -- ---- groups
@@ -153,19 +145,12 @@ groups_with-push signature texts (first ∷ signatures) (two ∷ twos) as_many =
 -- the group at a place
 pub groups_with-at : (signatures : List Signature) (twos : List (Text × Text)) (i : ℕ)
     (signature : Signature) (texts : Text × Text) → slice_get signatures i ≡ Some signature
-    → slice_get twos i ≡ Some texts → slice_get (groups_with signatures twos) i ≡ Some (record {
-      signature = signature;
-      hint = texts.0;
-      description = texts.1;
-    })
+    → slice_get twos i ≡ Some texts → slice_get (groups_with signatures twos) i
+    ≡ Some (group_with signature texts)
 groups_with-at [] twos i signature texts at there = cc at
 groups_with-at (first ∷ signatures) [] i signature texts at there = cc there
 groups_with-at (first ∷ signatures) (two ∷ twos) zero signature texts at there =
-    λ k. Some (record {
-      signature = same_Some first signature at k;
-      hint = (same_Some two texts there k).0;
-      description = (same_Some two texts there k).1;
-    })
+    λ k. Some (group_with (same_Some first signature at k) (same_Some two texts there k))
 groups_with-at (first ∷ signatures) (two ∷ twos) (suc i) signature texts at there =
     groups_with-at signatures twos i signature texts at there
 

@@ -10,13 +10,15 @@ use Rattle.getopts.specs.Stored.Signatures.{pair_at, AreEndsOf, AreLawfulSignatu
 use Rattle.getopts.specs.declared.groups.GroupView.{GroupView}
 use Rattle.getopts.specs.declared.groups.Groups.TheInside.{Inside}
 
+-- the group with this signature, hint and description
+abbrev pub group_with : Signature → Text × Text → Group
+group_with signature texts =
+    record { signature = signature; hint = texts.0; description = texts.1 }
+
 -- groups with these signatures, each with the next two texts
 abbrev pub groups_with : List Signature → List (Text × Text) → List Group
-groups_with (signature ∷ signatures) (texts ∷ more) = record {
-  signature = signature;
-  hint = texts.0;
-  description = texts.1;
-} ∷ groups_with signatures more
+groups_with (signature ∷ signatures) (texts ∷ more) =
+    group_with signature texts ∷ groups_with signatures more
 groups_with signatures more = []
 
 -- the groups that are stored

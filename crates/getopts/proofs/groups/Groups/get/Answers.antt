@@ -3,6 +3,7 @@ use Rattle.std.proofs.Common.{◌≡◌, Some, slice_get, refl, sym, ap, ◌∙�
 use Rattle.std.proofs.lemmas.Option.{slice_get-map, slice_get_read}
 use Rattle.std.specs.Option.{option_map}
 use Rattle.std.specs.String.{string_bytes}
+use Rattle.getopts.specs.Stored.Groups.{group_with}
 use Rattle.getopts.specs.Stored.Signatures.{signature_view, pair_at, AreEndsOf}
 use Rattle.getopts.proofs.Lists.{AllByRecursion-at}
 use Rattle.getopts.proofs.Stored.Signatures.{signatures_stored, groups_with-at}
@@ -48,8 +49,5 @@ returns c =
     (signature_view c.get.result) (pair_at text c.index-pair.result.now) (sym c.get.ensures) two in
     let hint = rw c.deref.ensures at c.first_at.ensures in
     let description = rw c.deref-2.ensures at c.second_at.ensures in
-    rw (← c.self.view_is) ((λ i. Some (record {
-      signature = signature_view c.get.result;
-      hint = hint i;
-      description = description i;
-    })) ∙ sym there)
+    rw (← c.self.view_is) ((λ i. Some (group_with (signature_view c.get.result)
+    (hint i, description i))) ∙ sym there)

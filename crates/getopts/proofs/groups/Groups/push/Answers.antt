@@ -7,9 +7,9 @@ use Rattle.std.proofs.lemmas.Str.{IsUtf8-append}
 use Rattle.std.specs.List.{AllByRecursion}
 use Rattle.std.specs.String.{string_bytes}
 use Rattle.getopts.specs.Names.{Text}
-use Rattle.getopts.specs.Options.{Signature, Group}
+use Rattle.getopts.specs.Options.{Signature}
 use Rattle.getopts.specs.Stored.Signatures.{signature_with, pair_at, AreEndsOf, IsLawfulSignature}
-use Rattle.getopts.specs.Stored.Groups.{groups_with}
+use Rattle.getopts.specs.Stored.Groups.{group_with, groups_with}
 use Rattle.getopts.specs.declared.signatures.PairEnds.{PairEnds}
 use Rattle.getopts.proofs.Lists.{AllByRecursion-append}
 use Rattle.getopts.proofs.Stored.Signatures.{groups_with-push, twos-push}
@@ -75,8 +75,5 @@ returns-clause-ok c =
     (λ k. groups_with (signatures c k) ((pushed c).1 k))
     ∙ groups_with-push signature (c.args.hint.now, c.args.desc.now) c.self.inside.signatures twos
     as_many
-    ∙ ap (λ (groups : List Group). groups ++ record {
-      signature = signature;
-      hint = c.args.hint.now;
-      description = c.args.desc.now;
-    } ∷ []) c.self.view_is
+    ∙ ap (λ groups. groups ++ group_with signature (c.args.hint.now, c.args.desc.now) ∷ [])
+    c.self.view_is

@@ -9,6 +9,7 @@ use Rattle.std.specs.String.{string_bytes}
 use Rattle.getopts.specs.Accessors.{free_before_trailing, trailing_words}
 use Rattle.getopts.specs.Matches.{Matched}
 use Rattle.getopts.proofs.matches.Matches.take_trailing.Goals as goal
+use Rattle.getopts.proofs.matches.Matches.take_trailing.Goals.{After-split_off}
 
 -- where they are split
 abbrev split_at : List (String Global) → Option ℕ → ℕ
@@ -26,27 +27,28 @@ after : (free : List (String Global)) (start : Option ℕ)
 after free None = rw (drop_min (length free) free, drop-length free) refl
 after free (Some s) = rw (drop_min s free) (sym (drop-map string_bytes s free))
 
+start : (c : After-split_off)
+    → c.min-start.result ≡ split_at c.self.inside.free.items c.self.inside.trailing_start
+start c =
+    let len : c.len-len.result ≡ length c.self.inside.free.items =
+    c.len-len.ensures ∙ c.self.inside.free.ok.0 in
+    rw (c.min-start.ensures, c.unwrap_or.ensures, len) refl
+
 pub returns-clause-taken : goal.returns-clause-taken
 returns-clause-taken c =
     let free = c.self.inside.free.items in
-    let len : c.len-len.result ≡ length free = c.len-len.ensures ∙ c.self.inside.free.ok.0 in
-    let start : c.min-start.result ≡ split_at free c.self.inside.trailing_start =
-    rw (c.min-start.ensures, c.unwrap_or.ensures, len) refl in
     IfOk-weaker c.split_off.result _ _
     (λ (words : Vec (String Global) Global) is.
-    ap (map string_bytes) (is ∙ ap (λ k. drop k free) start)
+    ap (map string_bytes) (is ∙ ap (λ k. drop k free) (start (goal.at.returns-clause-taken c).After-split_off))
     ∙ after free c.self.inside.trailing_start ∙ ap trailing_words c.self.view_is)
     c.split_off.ensures.tail
 
 pub returns-clause-left : goal.returns-clause-left
 returns-clause-left c =
     let free = c.self.inside.free.items in
-    let len : c.len-len.result ≡ length free = c.len-len.ensures ∙ c.self.inside.free.ok.0 in
-    let start : c.min-start.result ≡ split_at free c.self.inside.trailing_start =
-    rw (c.min-start.ensures, c.unwrap_or.ensures, len) refl in
     on_ok_weaker c.split_off.result
     (λ is.
-    let left = ap (map string_bytes) (is ∙ ap (λ k. take k free) start)
+    let left = ap (map string_bytes) (is ∙ ap (λ k. take k free) (start (goal.at.returns-clause-left c).After-split_off))
     ∙ before free c.self.inside.trailing_start in
     (λ i. record {
       groups = c.self.inside.held;
