@@ -85,6 +85,16 @@ impl Matches {
             trailing_start,
         }
     }
+
+    /// Checks how often each option occurs, in order of declaration.
+    #[tactic(auto, using(crate::proofs::counts::Groups::first_wrong_matched))]
+    pub(crate) fn check_all(&self, alloc: Global) -> Result<(), Fail>
+        ensures ok { OnOk result (first_count_fault self.now.groups ≡ None) }
+        ensures err { IfErr result (λ fail. IsOutOfMemoryOr fail
+            (λ fault. first_count_fault self.now.groups ≡ Some fault)) }
+    {
+        check_counts(alloc, &self.held.signatures, &self.held.index)
+    }
 }
 
 impl Clone for Matches {
@@ -203,16 +213,6 @@ impl MatchedGroups {
             Some(place) => self.occurrences_at(place),
             None => Occurrences::of(&self.found, &[]),
         }
-    }
-
-    /// Checks how often each option occurs, in order of declaration.
-    #[tactic(auto, using(crate::proofs::counts::Groups::first_wrong_matched))]
-    pub(crate) fn check_all(&self, alloc: Global) -> Result<(), Fail>
-        ensures ok { OnOk result (first_count_fault self.now ≡ None) }
-        ensures err { IfErr result (λ fail. IsOutOfMemoryOr fail
-            (λ fault. first_count_fault self.now ≡ Some fault)) }
-    {
-        check_counts(alloc, &self.signatures, &self.index)
     }
 
     /// Whether the groups are the same, and so are their occurrences.

@@ -53,6 +53,11 @@ impl Matches {
             trailing_start,
         }
     }
+
+    /// Checks how often each option occurs, in order of declaration.
+    pub(crate) fn check_all(&self, alloc: Global) -> Result<(), Fail> {
+        check_counts(alloc, &self.held.signatures, &self.held.index)
+    }
 }
 
 impl TryClone for Matches {
@@ -119,11 +124,6 @@ impl MatchedGroups {
             Some(place) => self.occurrences_at(place),
             None => Occurrences::of(&self.found, &[]),
         }
-    }
-
-    /// Checks how often each option occurs, in order of declaration.
-    pub(crate) fn check_all(&self, alloc: Global) -> Result<(), Fail> {
-        check_counts(alloc, &self.signatures, &self.index)
     }
 
     /// Whether the groups are the same, and so are their occurrences.

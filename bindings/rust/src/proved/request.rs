@@ -38,7 +38,7 @@ impl Options {
         if matches.has("version") {
             return Ok(Request::Version);
         }
-        matches.held.check_all(alloc)?;
+        matches.check_all(alloc)?;
         Ok(Request::Parsed(matches))
     }
 
@@ -59,7 +59,7 @@ impl Options {
         if read.has(flag) {
             return Ok(None);
         }
-        read.held.check_all(alloc)?;
+        read.check_all(alloc)?;
         Ok(Some(read))
     }
 }

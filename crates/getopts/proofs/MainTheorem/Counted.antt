@@ -2,11 +2,13 @@
 use Rattle.std.proofs.Common.{◌≡◌, List, Option, Some, None, Ok, Err, ap, sym, subst, ◌∙◌}
 use Rattle.getopts.specs.Names.{Text}
 use Rattle.getopts.specs.Options.{Declared}
-use Rattle.getopts.specs.Fail.{Fault}
+use Rattle.getopts.specs.Fail.{Fault, IsOutOfMemoryOr}
 use Rattle.getopts.specs.Reading.{Reading}
 use Rattle.getopts.specs.Matches.{Matched, matches_of}
 use Rattle.getopts.specs.Results as Spec
+use Rattle.getopts.specs.declared.fail.Fail.{Fail}
 use Rattle.getopts.proofs.Reading.Readings.{made_of-ok}
+use Rattle.getopts.proofs.Weaker.{IsOutOfMemoryOr-weaker}
 
 module _ (options : Declared) (words : List Text) (matches : Matched)
     (read : Spec.parse_ignoring_counts_result options words ≡ Ok matches) where
@@ -30,6 +32,8 @@ module _ (options : Declared) (words : List Text) (matches : Matched)
       let made = counted None kept in made.1 ∙ ap (λ (m : Matched). Ok m) made.2
 
   -- and otherwise their count error is
-  pub parse_result-broken : (fault : Fault) → Spec.first_count_fault matches.groups ≡ Some fault
-      → Spec.parse_result options words ≡ Err fault
-  parse_result-broken fault broken = (counted (Some fault) broken).1
+  pub parse_result-broken : (fail : Fail)
+      → IsOutOfMemoryOr fail (λ fault. Spec.first_count_fault matches.groups ≡ Some fault)
+      → IsOutOfMemoryOr fail (λ fault. Spec.parse_result options words ≡ Err fault)
+  parse_result-broken fail broken = IsOutOfMemoryOr-weaker fail _ _ broken
+      (λ fault first. (counted (Some fault) first).1)

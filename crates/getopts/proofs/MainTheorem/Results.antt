@@ -10,6 +10,7 @@ use Rattle.getopts.specs.Fail.{Fault}
 use Rattle.getopts.specs.Reading.{Reading, IsReading, holds_equals}
 use Rattle.getopts.specs.Matches.{Matched, matches_of}
 use Rattle.getopts.specs.Parse.{Reads, IsAccepted, IsRefused, HasReading, HasNoReading}
+use Rattle.getopts.specs.Holds.{Accepts}
 use Rattle.getopts.specs.Canon.{Content, content_of, main_at, canonical_line, IsAcceptedWith}
 use Rattle.getopts.specs.Canon.{IsCountKeeping}
 use Rattle.getopts.specs.CanonAnswers.{IsCanonicalAnswer, IsWritten, IsUnwritable, IsOrder}
@@ -19,6 +20,7 @@ use Rattle.getopts.proofs.canon.Lines.{is_plain-true, is_plain-false, Says-accep
 use Rattle.getopts.proofs.canon.Lines.{IsSound-says, HasUnwritable-content}
 use Rattle.getopts.proofs.canon.Answered as Answered
 use Rattle.getopts.proofs.counts.FirstFault.{HaveFault, first_count_fault-is}
+use Rattle.getopts.proofs.MainTheorem.BeforeFree.{Accepts-accepted}
 use Rattle.getopts.proofs.MainTheorem.Given.{only_unless, only_request}
 use Rattle.getopts.proofs.Only.{IsTheOnly-from}
 use Rattle.getopts.proofs.parse.Parsed.{only_reads, named_here, HasNoReading-fault}
@@ -161,9 +163,9 @@ module _ (options : Declared) (words : List Text) where
 
   -- matches accept the words
   pub is_accepted : (matches : Matched) → Spec.parse_result options words ≡ Ok matches
-      → MayBeDeclared options.groups → AreTexts words → IsAccepted options words matches
-  is_accepted matches is declared texts =
-      ((HasResults-declared options declared words texts).parse (Ok matches)).1 (sym is)
+      → MayBeDeclared options.groups → AreTexts words → Accepts options words matches
+  is_accepted matches is declared texts = Accepts-accepted options declared words matches
+      (((HasResults-declared options declared words texts).parse (Ok matches)).1 (sym is))
 
   -- and an error rejects them
   pub is_refused : (fault : Fault) → Spec.parse_result options words ≡ Err fault

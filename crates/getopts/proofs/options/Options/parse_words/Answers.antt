@@ -1,8 +1,7 @@
 -- The line that was read gives accepted matches, and the laws of readings hold for its options.
-use Rattle.std.proofs.Common.{◌≡◌, ◌∙◌, sym, Ok, rules}
+use Rattle.std.proofs.Common.{◌≡◌, ◌∙◌, rules}
 use Rattle.getopts.specs.Options.{signatures_of}
-use Rattle.getopts.proofs.MainTheorem.BeforeFree.{Accepts-accepted}
-use Rattle.getopts.proofs.MainTheorem.Results.{HasResults-declared, is_refused}
+use Rattle.getopts.proofs.MainTheorem.Results.{is_accepted, is_refused}
 use Rattle.getopts.proofs.parse.Made.{made_of-matches}
 use Rattle.getopts.proofs.parse.Holds.{FitOptionsAndCounts-accepted}
 use Rattle.getopts.proofs.options.Options.parse_words.Goals as goal
@@ -16,9 +15,7 @@ returns-clause-result g c =
 pub returns-clause-accepted : goal.returns-clause-accepted
 returns-clause-accepted g c =
     let before = c.in_ok-accepted.ensures in
-    Accepts-accepted _ before.declared _ _
-    (((HasResults-declared _ before.declared _ before.texts).parse (Ok _)).1
-    (sym (returns-clause-result g c)))
+    is_accepted _ _ _ (returns-clause-result g c) before.declared before.texts
 
 pub returns-clause-declared : goal.returns-clause-declared
 returns-clause-declared g c = FitOptionsAndCounts-accepted _ _ _ (returns-clause-accepted g c).accepted
