@@ -1,5 +1,5 @@
 -- The only value with a property, and what is made of it.
-use Rattle.std.proofs.Common.{◌≡◌, refl, sym, subst, List, [], ◌∷◌, ap, ◌∙◌}
+use Rattle.std.proofs.Common.{◌≡◌, refl, sym, subst, List, [], ◌∷◌, map, ap, ◌∙◌}
 use Rattle.std.specs.List.{AllZip}
 use Rattle.getopts.specs.Only.{IsTheOnly}
 
@@ -41,3 +41,11 @@ each_is_the_only {X} {Y} R (x ∷ xs) (y ∷ ys) all = λ other. (
     same_as rest [] each = absurd each
     same_as rest (z ∷ zs) each = let first = (all.0 z).0 each.0 in let more =
         (rest zs).0 each.1 in cc
+
+-- the only results of a function, for each element
+pub map_is_the_only : {X Y : Type 0} (R : X → Y → Type 0) (f : X → Y)
+    → ((x : X) → IsTheOnly (R x) (f x)) → (xs : List X) → IsTheOnly (AllZip R xs) (map f xs)
+map_is_the_only {X} R f only xs = each_is_the_only R xs (map f xs) (each xs) where
+  each : (xs : List X) → AllZip (λ x y. IsTheOnly (R x) y) xs (map f xs)
+  each [] = tt
+  each (x ∷ xs) = (only x, each xs)

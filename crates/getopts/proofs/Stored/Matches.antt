@@ -1,5 +1,5 @@
 -- What is in matches, in terms of the groups and the list of occurrences that the code stores.
-use Rattle.std.proofs.Common.{◌≡◌, ℕ, suc, zero, ◌+◌, ◌<◌, true, false, List, [], ◌∷◌, map}
+use Rattle.std.proofs.Common.{◌≡◌, ℕ, suc, zero, ◌+◌, ◌<◌, true, List, [], ◌∷◌, map}
 use Rattle.std.proofs.Common.{length, Option, Some, None, get_or, refl, ap, sym, ◌∙◌}
 use Rattle.std.proofs.Common.{subst, inl, inr, arith, zero-add}
 use Rattle.std.specs.Cmp.Lexicographic.{pointwise}
@@ -8,7 +8,7 @@ use Rattle.std.specs.Option.{option_map, option_map_or}
 use Rattle.std.specs.String.{string_bytes}
 use Rattle.std.specs.declared.string.String.{String}
 use Rattle.std.specs.declared.alloc.Global.{Global}
-use Rattle.std.proofs.lemmas.Bool.{true≢false, cases_lt, and_cases, and_left, and_right, and_parts}
+use Rattle.std.proofs.lemmas.Bool.{cases_lt, and_parts}
 use Rattle.std.proofs.lemmas.Bool.{and_from, le-ltb, lt-ltb}
 use Rattle.std.proofs.lemmas.List.{length-map}
 use Rattle.std.proofs.lemmas.List.Elements.{recursion_from_All}
@@ -121,34 +121,7 @@ pub texts_of_held_pairs : (pairs : List (ℕ × String Global)) (founds : List G
 texts_of_held_pairs pairs founds same = sym (map-map (λ (pair : ℕ × Text). pair.1) pair_view pairs)
     ∙ ap (map (λ (pair : ℕ × Text). pair.1)) same ∙ texts_of_pairs founds
 
--- groups with occurrences differ if their signatures do
-pub differ_signature : (groups others : List MatchedGroup)
-    → pointwise same_signature (map (λ (group : MatchedGroup). group.signature) groups)
-    (map (λ (group : MatchedGroup). group.signature) others) ≡ false
-    → pointwise same_matched_group groups others ≡ false
-differ_signature [] [] differ = absurd (true≢false differ)
-differ_signature [] (b ∷ others) differ = refl
-differ_signature (a ∷ groups) [] differ = refl
-differ_signature (a ∷ groups) (b ∷ others) differ =
-    elim (and_cases (same_signature a.signature b.signature) _ differ) [
-      | inl first ↦ and_left _ _ (and_left _ (pointwise same_group_occurrence a.found b.found) first)
-      | inr rest ↦ and_right (same_matched_group a b) _ (differ_signature groups others rest)
-    ]
-
--- or if the occurrences at some place do
-pub differ_found : (groups others : List MatchedGroup) (i : ℕ)
-    → pointwise same_group_occurrence (occurrences_of_group groups i)
-    (occurrences_of_group others i) ≡ false
-    → pointwise same_matched_group groups others ≡ false
-differ_found [] [] i differ = absurd (true≢false differ)
-differ_found [] (b ∷ others) i differ = refl
-differ_found (a ∷ groups) [] i differ = refl
-differ_found (a ∷ groups) (b ∷ others) zero differ =
-    and_left _ _ (and_right (same_signature a.signature b.signature) _ differ)
-differ_found (a ∷ groups) (b ∷ others) (suc i) differ =
-    and_right (same_matched_group a b) _ (differ_found groups others i differ)
-
--- otherwise they are equal
+-- groups are equal if their signatures and the occurrences at each place are
 pub same_found_everywhere : (groups others : List MatchedGroup)
     → pointwise same_signature (map (λ (group : MatchedGroup). group.signature) groups)
     (map (λ (group : MatchedGroup). group.signature) others) ≡ true

@@ -1,9 +1,9 @@
 -- `==` decides equality.
-use Rattle.std.proofs.Common.{◌≡◌, ◌==◌, Bool, Option, Some, None, refl, ap}
+use Rattle.std.proofs.Common.{◌≡◌, ◌==◌, Bool, false, Option, Some, None, refl, sym, ap, ◌∙◌}
 use Rattle.std.specs.Bool.{Decides}
 use Rattle.std.specs.Cmp.Lexicographic.{pointwise, pointwise_decides, bytes_decides}
 use Rattle.std.specs.Option.{option_eq}
-use Rattle.std.proofs.lemmas.Bool.{false≢true}
+use Rattle.std.proofs.lemmas.Bool.{false≢true, false_from_ne_true}
 use Rattle.std.proofs.lemmas.Bool.Decides.{Decides-and, Decides-like, Decides-eqb}
 use Rattle.std.specs.Cmp.{booleans_Decides}
 use Rattle.getopts.specs.Matches.{GroupOccurrence, MatchedGroup, Matched}
@@ -94,7 +94,7 @@ options_decide E decides (Some x) (Some y) =
     (λ e. ap (λ z. Some z) ((decides x y).0 e), λ e. (decides x y).1 (cc e))
 
 -- the comparison of two occurrences decides equality
-same_group_occurrence-decides : (a b : GroupOccurrence)
+pub same_group_occurrence-decides : (a b : GroupOccurrence)
     → Decides (same_group_occurrence a b) (a ≡ b)
 same_group_occurrence-decides a b = Decides-like (same_group_occurrence a b)
     (λ h. λ i. record { position = h.0 i; value = h.1 i })
@@ -103,7 +103,7 @@ same_group_occurrence-decides a b = Decides-like (same_group_occurrence a b)
     (options_decide (pointwise ◌==◌) bytes_decides a.value b.value))
 
 -- the comparison of two groups decides equality
-same_matched_group-decides : (a b : MatchedGroup) → Decides (same_matched_group a b) (a ≡ b)
+pub same_matched_group-decides : (a b : MatchedGroup) → Decides (same_matched_group a b) (a ≡ b)
 same_matched_group-decides a b = Decides-like (same_matched_group a b)
     (λ h. λ i. record { signature = h.0 i; found = h.1 i })
     (λ e. (ap (λ g. g.signature) e, ap (λ g. g.found) e))
@@ -118,3 +118,10 @@ same_matches-decides a b = Decides-like (same_matches a b)
     (Decides-and _ _ (pointwise_decides same_matched_group-decides a.groups b.groups)
     (Decides-and _ _ (pointwise_decides bytes_decides a.free b.free)
     (options_decide ◌==◌ Decides-eqb a.trailing_start b.trailing_start)))
+
+-- values differ if what is made of them does
+pub differ : {X Y : Type 0} (E : X → X → Bool) (F : Y → Y → Bool)
+    → ((a b : X) → Decides (E a b) (a ≡ b)) → ((a b : Y) → Decides (F a b) (a ≡ b))
+    → (make : X → Y) (a b : X) → F (make a) (make b) ≡ false → E a b ≡ false
+differ E F decides made_decides make a b apart = false_from_ne_true _ (λ same.
+    false≢true (sym apart ∙ (made_decides (make a) (make b)).1 (ap make ((decides a b).0 same))))

@@ -1,8 +1,8 @@
 -- The rows of a usage text.
 use Rattle.std.proofs.Common.{◌≡◌, ℕ, zero, suc, ◌+◌, ◌-◌, ◌<◌, ◌≤◌, Bool, true, not, ◌||◌, List, refl}
-use Rattle.std.proofs.Common.{[], ◌∷◌, Some, length, map, take, drop, ap, sym, ◌∙◌, arith}
+use Rattle.std.proofs.Common.{[], ◌∷◌, Some, length, take, drop, ap, sym, ◌∙◌, arith}
 use Rattle.std.specs.Prelude.{Result, Ok, Err, OnOk, slice_get, nat_lt, if◌then◌else◌}
-use Rattle.std.specs.List.{AllZip, slice_index}
+use Rattle.std.specs.List.{slice_index}
 use Rattle.std.specs.Str.{IsAscii, IsCharBoundary}
 use Rattle.std.proofs.Math.Bool.{or-false}
 use Rattle.std.proofs.lemmas.Bool.Decides.{nat_tests}
@@ -14,10 +14,10 @@ use Rattle.getopts.specs.Only.{IsTheOnly}
 use Rattle.getopts.specs.Usage.{any_short, spaces, head, margin, next_row, padding, row_text}
 use Rattle.getopts.specs.Usage.{IsUsageRowIn, AreUsageRowsIn, IsUsageTextIn, description_columns, usage_text}
 use Rattle.getopts.specs.Wrap.{width_of, IsDescriptionRows}
-use Rattle.getopts.specs.UsageResults.{usage_row_in, usage_rows_in_result, usage_in_result, description_rows}
+use Rattle.getopts.specs.UsageResults.{usage_row_in, usage_rows_in_result, usage_in_result}
 use Rattle.getopts.proofs.Lists.{take_more_at}
-use Rattle.getopts.proofs.Only.{made_of_the_only, each_is_the_only}
-use Rattle.getopts.proofs.wrap.Lines.{description_rows-are, rows_exactly}
+use Rattle.getopts.proofs.Only.{made_of_the_only, map_is_the_only}
+use Rattle.getopts.proofs.wrap.Lines.{description_rows-only}
 
 -- a property that always holds, holds if the result is `Ok`
 pub on_ok : {T E P : Type 0} (r : Result T E) → P → OnOk r P
@@ -74,28 +74,17 @@ next_row_cut columns narrow =
 
 -- ---- the computed rows and text
 
-each_computed : (columns : ℕ) (long_only among : Bool) (groups : List Group)
-    → AllZip (λ group row. IsTheOnly (IsUsageRowIn columns long_only among group) row) groups
-    (map (usage_row_in columns long_only among) groups)
-each_computed columns long_only among [] = tt
-each_computed columns long_only among (group ∷ groups) =
-    let limit = description_columns columns in
-    let rows = description_rows limit group.description in (
-      made_of_the_only (IsDescriptionRows limit group.description)
-          (row_text (head long_only among group)) rows (usage_row_in columns long_only among group)
-          (λ other. rows_exactly limit group.description rows other
-          (description_rows-are limit group.description))
-          refl,
-      each_computed columns long_only among groups,
-    )
-
 -- the computed rows are the only usage rows
 pub usage_rows_in_computed : (columns : ℕ) (options : Declared)
     → IsTheOnly (AreUsageRowsIn columns options) (usage_rows_in_result columns options)
 usage_rows_in_computed columns options =
     let among = any_short options.groups in
-    each_is_the_only (IsUsageRowIn columns options.long_only among) options.groups
-    (usage_rows_in_result columns options) (each_computed columns options.long_only among options.groups)
+    map_is_the_only (IsUsageRowIn columns options.long_only among)
+    (usage_row_in columns options.long_only among)
+    (λ group. made_of_the_only (IsDescriptionRows (description_columns columns) group.description)
+    (row_text (head options.long_only among group)) _ _
+    (description_rows-only (description_columns columns) group.description) refl)
+    options.groups
 
 -- the computed text is the only usage text
 pub usage_in_computed : (columns : ℕ) (options : Declared) (brief : Text)

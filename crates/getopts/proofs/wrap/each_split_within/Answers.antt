@@ -4,9 +4,11 @@ use Rattle.std.specs.Str.Iter.{split_text, split_has_more, split_pattern}
 use Rattle.std.proofs.lemmas.Iterator.Consumers.{YieldsList-end}
 use Rattle.std.proofs.lemmas.Iterator.Splits.{YieldsList-from_str_split}
 use Rattle.std.proofs.lemmas.List.{map-append}
+use Rattle.getopts.specs.Only.{IsTheOnly}
 use Rattle.getopts.specs.Wrap.{IsDescriptionRows}
 use Rattle.getopts.specs.UsageResults.{rows_of, description_rows}
-use Rattle.getopts.proofs.wrap.Lines.{rows_of-push, description_rows-are, rows_exactly, rows_fewest}
+use Rattle.getopts.proofs.Only.{meets}
+use Rattle.getopts.proofs.wrap.Lines.{rows_of-push, description_rows-only, rows_fewest}
 use Rattle.getopts.proofs.wrap.each_split_within.Goals as goal
 
 -- one more line, with its rows
@@ -29,16 +31,13 @@ computed c =
     c.next.ensures.steps in
     c.loop-line.invariant ∙ ap (rows_of c.args.lim) each.0
 
-are_rows : (c : goal.In-None)
-    → IsDescriptionRows c.args.lim c.args.desc.now (map string_bytes c.loop-line.rows.items)
-are_rows c = subst (IsDescriptionRows c.args.lim c.args.desc.now) (sym (computed c))
-    (description_rows-are c.args.lim c.args.desc.now)
-
 pub returns-clause-result : goal.returns-clause-result
 returns-clause-result c = computed c
 
 pub returns-clause-rows : goal.returns-clause-rows
-returns-clause-rows c = λ others. rows_exactly c.args.lim c.args.desc.now _ others (are_rows c)
+returns-clause-rows c = subst (IsTheOnly (IsDescriptionRows c.args.lim c.args.desc.now))
+    (sym (computed c)) (description_rows-only c.args.lim c.args.desc.now)
 
 pub returns-clause-fewest : goal.returns-clause-fewest
-returns-clause-fewest c = rows_fewest c.args.lim c.args.desc.now _ (are_rows c)
+returns-clause-fewest c =
+    rows_fewest c.args.lim c.args.desc.now _ (meets _ _ (returns-clause-rows c))

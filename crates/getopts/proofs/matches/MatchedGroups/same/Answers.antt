@@ -1,12 +1,14 @@
 -- Groups are equal if their names and kinds are, and the occurrences at each place.
 use Rattle.std.proofs.Common.{◌≡◌, ◌∙◌, List, map, length, sym, ap, arith}
 use Rattle.std.proofs.lemmas.Bool.{not-true, not-false}
-use Rattle.std.specs.Cmp.Lexicographic.{pointwise}
+use Rattle.std.specs.Cmp.Lexicographic.{pointwise, pointwise_decides}
+use Rattle.getopts.specs.Accessors.{occurrences_of_group}
 use Rattle.getopts.specs.Matches.{MatchedGroup}
-use Rattle.getopts.specs.Same.{same_signature, same_group_occurrence}
+use Rattle.getopts.specs.Same.{same_signature, same_group_occurrence, same_matched_group}
 use Rattle.getopts.proofs.counts.Groups.{length-matched}
-use Rattle.getopts.proofs.Stored.Matches.{signatures-matched, differ_signature, differ_found}
-use Rattle.getopts.proofs.Stored.Matches.{same_found_everywhere}
+use Rattle.getopts.proofs.Stored.Matches.{signatures-matched, same_found_everywhere}
+use Rattle.getopts.proofs.Stored.Same.{differ, same_group_occurrence-decides}
+use Rattle.getopts.proofs.Stored.Same.{same_matched_group-decides, same_signature-decides}
 use Rattle.getopts.proofs.matches.MatchedGroups.same.Goals as goal
 use Rattle.getopts.proofs.matches.MatchedGroups.same.Goals.{After-ne}
 
@@ -26,13 +28,17 @@ as_many c = ap (λ (groups : List MatchedGroup). length groups) (sym c.self.view
     ∙ length-matched 0 c.self.inside.signatures c.self.inside.found
 
 pub returns-then-ne : goal.returns-then-ne
-returns-then-ne c = sym (differ_signature c.args.self.now c.args.other.now
+returns-then-ne c = sym (differ (pointwise same_matched_group) (pointwise same_signature)
+    (pointwise_decides same_matched_group-decides) (pointwise_decides same_signature-decides)
+    (map (λ (group : MatchedGroup). group.signature)) c.args.self.now c.args.other.now
     (signatures (goal.at.returns-then-ne c).After-ne
     ∙ not-true _ (sym c.ne.ensures ∙ c.if-ne.true)))
 
 pub returns-then-not-same : goal.returns-then-not-same
 returns-then-not-same c =
-    sym (differ_found c.args.self.now c.args.other.now c.loop-place.place
+    sym (differ (pointwise same_matched_group) (pointwise same_group_occurrence)
+    (pointwise_decides same_matched_group-decides) (pointwise_decides same_group_occurrence-decides)
+    (λ groups. occurrences_of_group groups c.loop-place.place) c.args.self.now c.args.other.now
     ((λ i. pointwise same_group_occurrence (sym c.occurrences_at.ensures i)
     (sym c.occurrences_at-in-loop-place.ensures i))
     ∙ sym c.same.ensures ∙ c.if-not-same.true))
