@@ -5,7 +5,9 @@ import re
 import textwrap
 
 ESCAPES = {b"\\": b"\\\\", b"\t": b"\\t", b"\n": b"\\n", b"\r": b"\\r"}
-KINDS = {  # for each call that adds an option: whether it takes an argument, and how often it may occur
+# Whether an option takes an argument, and how often it may occur, in the order of their numbers in C.
+KINDS, OCCURS = ["no", "yes", "maybe"], ["optional", "req", "multi"]
+CALLS = {  # for each call that adds an option, except `opt` and `add_group`: its kinds
     "optflag": ("no", "optional"), "optflagmulti": ("no", "multi"), "optflagopt": ("maybe", "optional"),
     "optmulti": ("yes", "multi"), "optopt": ("yes", "optional"), "reqopt": ("yes", "req"),
 }
@@ -21,6 +23,7 @@ class Group:
         self.short, self.long, self.kind, self.occur, self.desc, self.hint = short, long, kind, occur, desc, hint
         self.main = long or short
         self.alias = short if short and long else None
+        self.argument = {"yes": hint, "no": b"", "maybe": b"[%s]" % hint}[kind]
 
 
 class Options:
@@ -151,13 +154,18 @@ class Options:
         dashes, blank = (b"-" if self.long_only else b"--"), b" " * 4 if any(group.short for group in self.groups) else b""
         for group in self.groups:
             short = b"-%s%s " % (group.short, b"," if group.long else b"") if group.short else blank
-            hint = {"yes": group.hint, "no": b"", "maybe": b"[%s]" % group.hint}[group.kind]
-            head = b"    " + short + (b"%s%s " % (dashes, group.long) if group.long else b"") + hint
+            head = b"    " + short + (b"%s%s " % (dashes, group.long) if group.long else b"") + group.argument
             rows = wrapped(columns - 24, group.desc)
             yield (head.ljust(24) if len(head) < 24 else head + NEXT_ROW) + NEXT_ROW.join(rows)
 
     def usage(self, brief, columns=78):
         return b"%s\n\nOptions:\n%s\n" % (brief, b"\n".join(self.usage_rows(columns)))
+
+    def short_usage(self, program):
+        brackets = {"req": b"%s", "optional": b"[%s]", "multi": b"[%s].."}
+        texts = [(b"-" + group.short if group.short else b"--" + group.long) + (b" " if group.kind != "no" else b"")
+                 + group.argument for group in self.groups]
+        return b"Usage: %s " % program + b" ".join(brackets[group.occur] % text for group, text in zip(self.groups, texts))
 
 
 NEXT_ROW = b"\n" + b" " * 24
@@ -240,8 +248,10 @@ class Session:
         elif word in ("opt", "add_group"):
             short, long, desc, hint, kind, occur = fields
             self.options.groups.append(Group(short, long, kind.decode(), occur.decode(), desc, hint))
-        elif word in KINDS:
-            self.options.groups.append(Group(*fields[:2], *KINDS[word], *fields[2:]))
+        elif word in CALLS:
+            self.options.groups.append(Group(*fields[:2], *CALLS[word], *fields[2:]))
+        elif word == "short":
+            return [line("short", self.options.short_usage(*fields))]
         elif word in ("usage", "usage_in", "usage_rows", "rows", "wrap"):
             return [self.help(word, *fields)]
         elif word != "keep":

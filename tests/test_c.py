@@ -99,9 +99,9 @@ def test_misspelt_names(build):
 
 # ---- answers on random tables and words, compared with tests/model.py
 
-STOP, LONG_ONLY, KEEP_ORDER, REPEAT, STRICT = 16, 32, 64, 128, 256
-KINDS, OCCURS, BAD = ["no", "yes", "maybe"], ["optional", "req", "multi"], 7
+STOP, LONG_ONLY, KEEP_ORDER, REPEAT, STRICT, BAD = 16, 32, 64, 128, 256, 7
 STATUSES = ["", "ArgumentMissing", "UnrecognizedOption", "OptionMissing", "OptionDuplicated", "UnexpectedArgument"]
+OFTEN = [place for place, occur in enumerate(model.OCCURS) for _ in range(1 if "req" in occur else 9)]
 SHORTS, LONGS = ["", "", "", *"abcv7="], ["ab", "verbose", "verbatim", "a=b", "=a", "é", "日本", "no-v", "a" * 50]
 HINTS, DESCRIPTIONS = [None, "", "N", "FILE", "é"], [None, "", "say more", "many words " * 9]
 # Mistakes in a row: a field and its text.
@@ -115,7 +115,7 @@ def random_case(rng):
     """Modes, columns, rows (whose last field is the kind), the row with a mistake (None: no row), and words."""
     count = rng.randrange(1, 7)
     rows = [[short, long if not short or rng.random() < 0.7 else rng.choice([None, ""]), None, rng.choice(DESCRIPTIONS),
-             rng.choice([0, 1, 2]) + rng.choice([0, 8] * 9 + [4])]
+             rng.randrange(len(model.KINDS)) + 4 * rng.choice(OFTEN)]
             for short, long in zip(rng.sample(SHORTS, count), rng.sample(LONGS, count))]
     for row in rows:
         row[2] = rng.choice(HINTS if row[4] % 4 else HINTS[:2])
@@ -145,8 +145,8 @@ def fields_of(modes, columns, rows, names, words):
 
 
 def groups_of(rows):
-    return [model.Group(in_bytes(short), in_bytes(long), KINDS[kind % 4], OCCURS[kind // 4], in_bytes(description), in_bytes(hint))
-            for short, long, hint, description, kind in rows]
+    return [model.Group(in_bytes(short), in_bytes(long), model.KINDS[kind % 4], model.OCCURS[kind // 4], in_bytes(description),
+                        in_bytes(hint)) for short, long, hint, description, kind in rows]
 
 
 def first_byte(text, character=model.first_character):
@@ -163,13 +163,6 @@ def said_of_option(given):
         at, value = given[nth] if given and nth < len(values) else (-1, None)
         number = re.fullmatch(rb"[+-]?\d{1,9}", value or b"")
         yield from [at, value, int(value is None or bool(number)), int(number[0]) if number else 42]
-
-
-def short_usage(groups):
-    for group in groups:
-        text = b"-" + group.short if group.short else b"--" + group.long
-        text += {"no": b"", "yes": b" " + group.hint, "maybe": b" [%s]" % group.hint}[group.kind]
-        yield text if group.occur == "req" else b"[%s]%s" % (text, b".." if group.occur == "multi" else b"")
 
 
 def answers(modes, columns, rows, names, words):
@@ -194,7 +187,7 @@ def answers(modes, columns, rows, names, words):
     yield from [-1, None, len(free), *free, None, -1 if start is None else start, STATUSES.index(fault), *line, None]
     measured = all(model.is_measured(group.short, group.long, group.hint, group.desc) for group in groups)
     yield from [options.usage(b"brief"), options.usage(b"brief", columns)] if measured else [..., ...]
-    yield b"Usage: brief " + b" ".join(short_usage(groups))
+    yield options.short_usage(b"brief")
 
 
 def answers_if_wrong(place, names):

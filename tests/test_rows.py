@@ -1,10 +1,12 @@
 """The library's answers to rows, compared with stored answers and with model.py."""
 
 import functools
+import itertools
+import re
 
 import pytest
-from conftest import ROWS, VECTORS, run
-from model import answer_rows, rows_of
+from conftest import ROOT, ROWS, VECTORS, run
+from model import CALLS, KINDS, OCCURS, answer_rows, parts, rows_of
 
 # Errors, with rows that cause them.
 WRONG = {
@@ -41,6 +43,23 @@ def all_rows():
     assert not differ, b"\n  ".join(differ[0]).decode()
     assert given > 5000 and len(asked) > len(rows) + 20_000
     return asked
+
+
+def variants(name):
+    """The variants of an enum of the library, as rows name them."""
+    source = (ROOT / "crates/getopts/src/kinds.rt").read_text()
+    return re.findall(r"^    (\w+),", re.search(rf"enum {name} \{{(.*?)^\}}", source, re.M | re.S)[1].lower(), re.M)
+
+
+def test_rows_use_each_call_and_each_kind():
+    """Rows add options with each call, and with `opt` of each kind. So a program that lacks one can't answer the rows."""
+    source = (ROOT / "crates/getopts/src/options.rt").read_text()
+    calls = re.findall(r"pub fn (\w+)\([^()]*\)\s+-> Result<&mut Options, AllocError>", source)
+    rows = [parts(one) for one, _ in rows_of(ROWS[0].read_bytes())]
+    assert sorted(calls) == sorted(["opt", *CALLS]) and {word for word, _ in rows} >= {"add_group", *calls}
+    assert sorted(variants("HasArg")) == sorted(KINDS) and sorted(variants("Occur")) == sorted(OCCURS)
+    kinds = [[field.decode() for field in fields[4:]] for word, fields in rows if word == "opt"]
+    assert [{*column} for column in zip(*kinds)] == [{*KINDS}, {*OCCURS}]
 
 
 def test_model_matches_stored_rows():

@@ -48,6 +48,20 @@ fn panic_of<T>(call: impl FnOnce() -> T) -> (String, String) {
     (PLACE.with(RefCell::take), text)
 }
 
+/// The calls in a source that add an option.
+fn adding(source: &str) -> Vec<&str> {
+    let calls = source.split("pub fn ").skip(1);
+    let calls = calls.filter(|call| call.split('{').next().unwrap().contains("desc: &str"));
+    calls.map(|call| call.split('(').next().unwrap()).collect()
+}
+
+/// The calls that the list in a module of this file has.
+fn listed(module: &str) -> Vec<&'static str> {
+    let (_, from) = include_str!("names.rs").split_once(&format!("\nmod {module} ")).unwrap();
+    let calls = from.split("\nmod ").next().unwrap().split("|o, short, long| o.").skip(1);
+    calls.map(|call| call.split('(').next().unwrap()).collect()
+}
+
 #[cfg(feature = "std")]
 mod of_the_crate {
     use super::*;
@@ -55,6 +69,7 @@ mod of_the_crate {
 
     #[test]
     fn invalid_names_panic() {
+        assert_eq!(listed("of_the_crate"), adding(include_str!("../src/options.rs")));
         type Add = for<'o> fn(&'o mut Options, &str, &str) -> &'o mut Options;
         let first = line!() + 2;
         let calls: [Add; 7] = [
@@ -144,6 +159,9 @@ mod of_the_proved_source {
 
     #[test]
     fn invalid_names_panic() {
+        let source =
+            concat!(include_str!("../src/names.rs"), include_str!("../src/proved/options.rs"));
+        assert_eq!(listed("of_the_proved_source"), adding(source));
         type Add = fn(&mut Options, &str, &str) -> Result<(), AllocError>;
         let first = line!() + 2;
         let calls: [Add; 8] = [

@@ -1,6 +1,7 @@
 //! The Rust crate's answers to the lines of cases.
 
 use crate::form::Line;
+use crate::options::{Group, CALLS};
 use getopts::{Fail, HasArg, Matches, Occur, Options, ParsingStyle};
 use std::panic::catch_unwind;
 use std::str::FromStr;
@@ -51,15 +52,6 @@ impl Session {
                 "long-only" => _ = options.long_only(true),
                 other => panic!("unknown mode {other}"),
             },
-            "opt" | "add_group" => {
-                _ = options.opt(f(0), f(1), f(2), f(3), kind_of(f(4)), occur_of(f(5)));
-            }
-            "optflag" => _ = options.optflag(f(0), f(1), f(2)),
-            "optflagmulti" => _ = options.optflagmulti(f(0), f(1), f(2)),
-            "optflagopt" => _ = options.optflagopt(f(0), f(1), f(2), f(3)),
-            "optmulti" => _ = options.optmulti(f(0), f(1), f(2), f(3)),
-            "optopt" => _ = options.optopt(f(0), f(1), f(2), f(3)),
-            "reqopt" => _ = options.reqopt(f(0), f(1), f(2), f(3)),
             "words" => self.side.read = Some(options.parse(fields)),
             #[cfg(feature = "canonical")]
             "ignoring_counts" => self.side.read = Some(options.parse_ignoring_counts(fields)),
@@ -69,7 +61,10 @@ impl Session {
                 }
             }
             "same" => return self.same(f(0)),
-            _ => return self.ask(asked),
+            _ => match Group::of_line(asked) {
+                Some(group) => group.add(options),
+                None => return self.ask(asked),
+            },
         }
         match asked.word() {
             "words" | "ignoring_counts" | "clear" => self.result_of_words(),
@@ -244,47 +239,19 @@ fn any(matches: &Matches, names: &[String]) -> String {
     line(head, all)
 }
 
-/// The methods that add a group.
-pub const ADDING: [fn(&mut Options, &str, &str); 7] = [
-    |options, short, long| _ = options.opt(short, long, "", "", HasArg::No, Occur::Multi),
-    |options, short, long| _ = options.optflag(short, long, ""),
-    |options, short, long| _ = options.optflagmulti(short, long, ""),
-    |options, short, long| _ = options.optflagopt(short, long, "", ""),
-    |options, short, long| _ = options.optmulti(short, long, "", ""),
-    |options, short, long| _ = options.optopt(short, long, "", ""),
-    |options, short, long| _ = options.reqopt(short, long, "", ""),
-];
-
 /// Whether the Rust crate accepts these names: no panic in adding them and parsing. All methods
 /// have to agree.
 fn names_lawful(short: &str, long: &str) -> bool {
-    let taken = ADDING.map(|add| {
-        let names = (short.to_string(), long.to_string());
+    let taken = CALLS.iter().map(|(call, ..)| {
+        let group = Group::named(short, long, (call, "no", "multi"));
         catch_unwind(move || {
             let mut options = Options::new();
-            add(&mut options, &names.0, &names.1);
+            group.add(&mut options);
             let _ = options.parse(Vec::<String>::new());
         })
         .is_ok()
     });
+    let taken: Vec<bool> = taken.collect();
     assert!(taken.iter().all(|one| *one == taken[0]), "all methods agree on names");
     taken[0]
-}
-
-pub fn kind_of(kind: &str) -> HasArg {
-    match kind {
-        "yes" => HasArg::Yes,
-        "no" => HasArg::No,
-        "maybe" => HasArg::Maybe,
-        other => panic!("unknown kind {other}"),
-    }
-}
-
-pub fn occur_of(occur: &str) -> Occur {
-    match occur {
-        "req" => Occur::Req,
-        "optional" => Occur::Optional,
-        "multi" => Occur::Multi,
-        other => panic!("unknown occurrence kind {other}"),
-    }
 }

@@ -2,7 +2,7 @@
 
 use crate::answer::Session;
 use crate::form::{Case, Line};
-use crate::options::{Declared, Group, CALLS};
+use crate::options::{Declared, Group, CALLS, KINDS, OCCURS};
 use crate::random::Random;
 use crate::tables::{self, Table};
 use crate::texts;
@@ -75,21 +75,17 @@ fn group(random: &mut Random) -> Group {
         1 => (String::new(), texts::long_name(random)),
         _ => (texts::short_name(random), texts::long_name(random)),
     };
-    let (call, kind, occur) = if random.one_in(3) {
-        ("opt", random.of(&["yes", "no", "maybe"]), random.of(&["req", "optional", "multi"]))
+    let call = if random.one_in(3) {
+        ("opt", random.of(KINDS).0, random.of(OCCURS).0)
     } else {
-        random.of(&CALLS)
+        let (call, kind, occur, _) = random.of(&CALLS[1..]);
+        (call, kind, occur)
     };
-    let has_hint = call == "opt" || !call.starts_with("optflag") || call == "optflagopt";
-    Group {
-        short,
-        long,
-        desc: String::new(),
-        hint: if has_hint && random.one_in(8) { texts::hint(random) } else { String::new() },
-        kind,
-        occur,
-        call,
+    let mut group = Group::named(&short, &long, call);
+    if group.has_hint() && random.one_in(8) {
+        group.hint = texts::hint(random);
     }
+    group
 }
 
 fn declared(random: &mut Random, most: usize) -> Declared {
@@ -218,7 +214,7 @@ fn text(random: &mut Random, number: usize) -> Making {
     let mut declared = declared(random, 4);
     for group in &mut declared.groups {
         group.desc = texts::description(random);
-        if group.call != "optflag" && group.call != "optflagmulti" {
+        if group.has_hint() {
             group.hint = texts::hint(random);
         }
         if !group.long.is_empty() && random.one_in(4) {
@@ -303,8 +299,8 @@ fn change(random: &mut Random, declared: &mut Declared) {
                 1 => group.long = texts::long_name(random),
                 2 => group.desc = "another".to_string(),
                 3 => group.hint = "another".to_string(),
-                4 => group.kind = random.of(&["yes", "no", "maybe"]),
-                5 => group.occur = random.of(&["req", "optional", "multi"]),
+                4 => group.kind = random.of(KINDS).0,
+                5 => group.occur = random.of(OCCURS).0,
                 _ => {}
             }
         }
@@ -336,15 +332,8 @@ fn changed_words(random: &mut Random, declared: &Declared, words: &[String]) -> 
 fn value(random: &mut Random, number: usize) -> Making {
     let mut making = Making::begin("value", number);
     let kind = random.of(&["yes", "yes", "maybe", "no"]);
-    let group = Group {
-        short: "n".to_string(),
-        long: if random.one_in(2) { "number".to_string() } else { String::new() },
-        desc: String::new(),
-        hint: String::new(),
-        kind,
-        occur: "multi",
-        call: "opt",
-    };
+    let long = if random.one_in(2) { "number" } else { "" };
+    let group = Group::named("n", long, ("opt", kind, "multi"));
     making.add(group.line());
     let mut words = Vec::new();
     for _ in 0..random.below(3) {

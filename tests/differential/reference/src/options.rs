@@ -1,6 +1,7 @@
 //! The groups that a case declares, for generating cases and naming their kinds.
 
 use crate::form::Line;
+use getopts::{HasArg, Occur, Options};
 
 #[derive(Clone, Debug, PartialEq, Eq)]
 pub struct Group {
@@ -14,31 +15,52 @@ pub struct Group {
     pub call: &'static str,
 }
 
-/// The methods that declare groups, each with its kind and occurrence kind.
-pub const CALLS: [(&str, &str, &str); 6] = [
-    ("optflag", "no", "optional"),
-    ("optflagmulti", "no", "multi"),
-    ("optflagopt", "maybe", "optional"),
-    ("optmulti", "yes", "multi"),
-    ("optopt", "yes", "optional"),
-    ("reqopt", "yes", "req"),
+type Add = fn(&mut Options, &Group);
+
+/// The methods that declare groups, each with its kind and occurrence kind; for `opt`, a line has
+/// both.
+#[rustfmt::skip]
+pub const CALLS: &[(&str, &str, &str, Add)] = &[
+    ("opt", "", "", |o, g| _ = o.opt(&g.short, &g.long, &g.desc, &g.hint, g.kind(), g.occur())),
+    ("optflag", "no", "optional", |o, g| _ = o.optflag(&g.short, &g.long, &g.desc)),
+    ("optflagmulti", "no", "multi", |o, g| _ = o.optflagmulti(&g.short, &g.long, &g.desc)),
+    ("optflagopt", "maybe", "optional", |o, g| _ = o.optflagopt(&g.short, &g.long, &g.desc, &g.hint)),
+    ("optmulti", "yes", "multi", |o, g| _ = o.optmulti(&g.short, &g.long, &g.desc, &g.hint)),
+    ("optopt", "yes", "optional", |o, g| _ = o.optopt(&g.short, &g.long, &g.desc, &g.hint)),
+    ("reqopt", "yes", "req", |o, g| _ = o.reqopt(&g.short, &g.long, &g.desc, &g.hint)),
 ];
 
-const KINDS: [&str; 3] = ["yes", "no", "maybe"];
-const OCCURS: [&str; 3] = ["req", "optional", "multi"];
+pub const KINDS: &[(&str, HasArg)] =
+    &[("yes", HasArg::Yes), ("no", HasArg::No), ("maybe", HasArg::Maybe)];
+pub const OCCURS: &[(&str, Occur)] =
+    &[("req", Occur::Req), ("optional", Occur::Optional), ("multi", Occur::Multi)];
 
-fn known(text: &str, among: &[&'static str]) -> &'static str {
-    among.iter().find(|one| **one == text).expect("a known word")
+/// The entry of a table with this name.
+fn known<T: Copy>(name: &str, among: &[(&'static str, T)]) -> (&'static str, T) {
+    *among.iter().find(|(one, _)| *one == name).expect("a known word")
 }
 
 impl Group {
+    /// A group without texts.
+    pub fn named(
+        short: &str,
+        long: &str,
+        call: (&'static str, &'static str, &'static str),
+    ) -> Group {
+        let [short, long, desc, hint] = [short, long, "", ""].map(String::from);
+        let (call, kind, occur) = call;
+        Group { short, long, desc, hint, kind, occur, call }
+    }
+
     /// The group that a line declares, if any.
     pub fn of_line(line: &Line) -> Option<Group> {
         let fields = line.fields();
         let field = |place: usize| fields.get(place).cloned().unwrap_or_default();
         let (call, kind, occur) = match line.word() {
-            "opt" => ("opt", known(&field(4), &KINDS), known(&field(5), &OCCURS)),
-            word => *CALLS.iter().find(|(call, _, _)| *call == word)?,
+            "opt" | "add_group" => ("opt", known(&field(4), KINDS).0, known(&field(5), OCCURS).0),
+            word => {
+                CALLS.iter().find(|call| call.0 == word).map(|call| (call.0, call.1, call.2))?
+            }
         };
         let [short, long, desc, hint] = [0, 1, 2, 3].map(field);
         Some(Group { short, long, desc, hint, kind, occur, call })
@@ -48,9 +70,28 @@ impl Group {
         let Group { short, long, desc, hint, .. } = self;
         match self.call {
             "opt" => Line::new(&["opt", short, long, desc, hint, self.kind, self.occur]),
-            "optflag" | "optflagmulti" => Line::new(&[self.call, short, long, desc]),
-            _ => Line::new(&[self.call, short, long, desc, hint]),
+            _ if self.has_hint() => Line::new(&[self.call, short, long, desc, hint]),
+            _ => Line::new(&[self.call, short, long, desc]),
         }
+    }
+
+    /// Adds the group to options.
+    pub fn add(&self, options: &mut Options) {
+        let call = CALLS.iter().find(|call| call.0 == self.call).expect("a known call");
+        call.3(options, self);
+    }
+
+    /// Whether its method takes a hint.
+    pub fn has_hint(&self) -> bool {
+        self.call == "opt" || self.kind != "no"
+    }
+
+    fn kind(&self) -> HasArg {
+        known(self.kind, KINDS).1
+    }
+
+    fn occur(&self) -> Occur {
+        known(self.occur, OCCURS).1
     }
 
     pub fn main(&self) -> &str {
@@ -95,15 +136,14 @@ impl Declared {
     }
 
     /// The same options in the Rust crate, all repeatable, with the flag `PROBE` added.
-    fn probed(&self) -> getopts::Options {
-        let mut options = getopts::Options::new();
+    fn probed(&self) -> Options {
+        let mut options = Options::new();
         if self.stop {
             options.parsing_style(getopts::ParsingStyle::StopAtFirstFree);
         }
         options.long_only(self.long_only);
         for group in &self.groups {
-            let kind = crate::answer::kind_of(group.kind);
-            options.opt(&group.short, &group.long, "", "", kind, getopts::Occur::Multi);
+            options.opt(&group.short, &group.long, "", "", group.kind(), Occur::Multi);
         }
         options.optflagmulti("", PROBE, "");
         options

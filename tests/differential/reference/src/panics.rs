@@ -1,6 +1,6 @@
 //! The panic messages of calls with names that they don't accept.
 
-use crate::answer::ADDING;
+use crate::options::{Group, CALLS};
 use getopts::{Matches, Options};
 use std::panic::{catch_unwind, AssertUnwindSafe};
 
@@ -19,10 +19,11 @@ fn text_of<T>(call: impl FnOnce() -> T) -> String {
 pub fn lines() -> Vec<String> {
     let mut lines = Vec::new();
     for (short, long) in [("ab", ""), ("é", ""), ("", "a"), ("ab", "c"), ("", "")] {
-        for add in ADDING {
+        for (call, ..) in CALLS {
+            let group = Group::named(short, long, (call, "no", "multi"));
             let text = text_of(|| {
                 let mut options = Options::new();
-                add(&mut options, short, long);
+                group.add(&mut options);
                 options.parse(Vec::<String>::new())
             });
             // The drop-in adds the name to the message of the Rust crate.
