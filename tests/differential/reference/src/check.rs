@@ -40,14 +40,18 @@ pub fn check(rows: &str, words: &[String]) -> bool {
     let rows = rows.replace("{Z}", "\u{300}");
     let mut lines = rows.lines().peekable();
     let mut session = Session::default();
-    let (mut cases, mut same, mut differ, mut passed) = (0, 0, 0, 0);
+    let (mut cases, mut same, mut differ, mut passed, mut lacks) = (0, 0, 0, 0, false);
     while let Some(line) = lines.next() {
         let asked = match Line::read(line) {
             Some(asked) => asked,
             None => continue,
         };
         let wanted = answer_beside(&mut lines);
-        if NOT_HAD.contains(&asked.word()) || words.iter().any(|word| word == asked.word()) {
+        let skipped =
+            NOT_HAD.contains(&asked.word()) || words.iter().any(|word| word == asked.word());
+        // A line without an answer declares something, which the rest of its case needs.
+        lacks = asked.word() != "case" && (lacks || skipped && wanted.is_empty());
+        if skipped || lacks {
             passed += 1;
             continue;
         }
