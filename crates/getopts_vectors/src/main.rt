@@ -26,6 +26,7 @@
 //!   OCCUR is `req`, `optional` or `multi`
 //! - `optflag SHORT LONG DESC`, also `optflagmulti`
 //! - `optflagopt SHORT LONG DESC HINT`, also `optmulti`, `optopt` and `reqopt`
+//! - `chained`: declares seven options, a style and a mode in one chain of calls
 //! - `keep`: keeps a copy of the options and of the result of the last `words`
 //! - `anew`: returns to the state after `case`, except for what is kept
 //!

@@ -52,6 +52,7 @@ impl Session {
                 "long-only" => _ = options.long_only(true),
                 other => panic!("unknown mode {other}"),
             },
+            "chained" => chained(options),
             "words" => self.side.read = Some(options.parse(fields)),
             #[cfg(feature = "canonical")]
             "ignoring_counts" => self.side.read = Some(options.parse_ignoring_counts(fields)),
@@ -117,6 +118,24 @@ impl Session {
             },
         }
     }
+}
+
+/// Sets style and mode, and adds a group with each method, in one chain.
+fn chained(options: &mut Options) {
+    options
+        .parsing_style(ParsingStyle::StopAtFirstFree)
+        .long_only(true)
+        .optflag("a", "apple", "take an apple")
+        .optopt("o", "output", "write to this file", "NAME")
+        .parsing_style(ParsingStyle::FloatingFrees)
+        .optflagmulti("v", "verbose", "say more")
+        .long_only(false)
+        .optmulti("L", "", "add a folder", "DIR")
+        .optflagopt("c", "color", "colour the output", "WHEN")
+        .reqopt("i", "input", "read this file", "NAME")
+        .opt("t", "tag", "add a tag", "TAG", HasArg::Maybe, Occur::Multi)
+        .long_only(true)
+        .parsing_style(ParsingStyle::StopAtFirstFree);
 }
 
 #[cfg(feature = "canonical")]
