@@ -225,6 +225,9 @@ class Session:
             return [self.unless(word, fields)]
         if word in ("canonical", "canonical_words", "canonical_filtered"):
             return [self.canonical(word, fields)]
+        if word == "error" and not fields:
+            rejected = self.read is not None and len(self.read) == 2
+            return [line("error", TEXTS[self.read[0]] % self.read[1] if rejected else "nothing")]
         if word == "parse_in_order":
             read = self.options.parse(fields)
             return [line(word) + b"\t" + (self.result("", read) if len(read) == 2 else
@@ -292,7 +295,7 @@ class Session:
 
     def result(self, word, read):
         if len(read) == 2:
-            return line("refused", read[0], read[1], TEXTS[read[0]] % read[1])
+            return line("refused", *read)
         return line(word, "-" if read[2] is None else read[2], *read[1])
 
     def canonical(self, word, words):

@@ -5,7 +5,7 @@ use crate::stop::{Stop, WRONG_FIELDS};
 use getopts::Fail;
 use std::alloc::{AllocError, Global};
 
-/// Answers an error: its kind, its name, and its text.
+/// Answers an error: its kind and its name.
 pub fn fault(fail: &Fail, answer: &mut Answer) {
     match fail {
         Fail::ArgumentMissing(name) => named("ArgumentMissing", name.as_str(), answer),
@@ -15,7 +15,6 @@ pub fn fault(fail: &Fail, answer: &mut Answer) {
         Fail::UnexpectedArgument(name) => named("UnexpectedArgument", name.as_str(), answer),
         Fail::OutOfMemory => answer.stop(Stop::NoMemory),
     }
-    answer.printed(fail);
 }
 
 /// Answers the kind of an error and its name.

@@ -35,7 +35,7 @@
 //! value, else `=` and the value.
 //!
 //! - `words WORD..`: `accepted START FREE..`, where START is `-` or the trailing start, or
-//!   `refused FAULT NAME TEXT`, where TEXT is the error's text
+//!   `refused FAULT NAME`
 //! - `parse_words WORD..`, `parse_filtered WORD..`, `parse_promised WORD..` and `ignoring_counts
 //!   WORD..`: like `words`, with `parse_words`, with `parse` of an iterator that doesn't say how
 //!   many words it has or of one that promises too many, and with `parse_ignoring_counts`
@@ -67,13 +67,13 @@
 //!   closure is returned
 //! - `wrap LIMIT DESC`: the rows of `each_split_within`
 //! - `canonical WORD..`: `canonical line WORD..`, `canonical none`, or `canonical refused FAULT
-//!   NAME TEXT`; also `canonical_words`, `canonical_filtered` and `canonical_promised`
-//! - `taken WORD..`: how many words `parse` takes from an iterator, and `FAULT NAME TEXT`, or `-`
-//!   if the words are accepted; then the same for `canonical`
+//!   NAME`; also `canonical_words`, `canonical_filtered` and `canonical_promised`
+//! - `taken WORD..`: how many words `parse` takes from an iterator, and `FAULT NAME`, or `-` if the
+//!   words are accepted; then the same for `canonical`
+//! - `error`: the text of the error of the last `words`, or `nothing` if they were accepted
 //! - `error FAULT NAME`: the error's text, whether it prints the same in other formats, and whether
 //!   it equals its clone
-//! - `parse_in_order WORD..`: `parse_in_order order PLACE..`, or `parse_in_order refused FAULT NAME
-//!   TEXT`
+//! - `parse_in_order WORD..`: `parse_in_order order PLACE..`, or `parse_in_order refused FAULT NAME`
 //!
 //! These make one call, and are answered with the line itself and the result:
 //!

@@ -239,6 +239,7 @@ impl Session {
         answer.word(word);
         match (word, fields) {
             ("same", [what]) => self.same(what.as_str(), answer),
+            ("error", []) => self.error(answer),
             _ if accessors::has(word) => self.ask_of_matches(alloc, word, fields, answer),
             _ => asks::ask(alloc, &self.side.options, word, fields, answer),
         }
@@ -255,6 +256,14 @@ impl Session {
                 _ => answer.stop(WRONG_FIELDS),
             },
             None => answer.stop(WRONG_FIELDS),
+        }
+    }
+
+    /// Answers the text of the last words' error.
+    fn error(&self, answer: &mut Answer) {
+        match &self.side.read {
+            Some(Err(fail)) => answer.printed(fail),
+            _ => answer.field("nothing"),
         }
     }
 

@@ -112,6 +112,10 @@ impl Session {
                 });
                 line(&["rows", &made], given)
             }
+            ("error", []) => match &self.side.read {
+                Some(Err(fail)) => line(&["error"], [fail.to_string()]),
+                _ => line(&["error", "nothing"], []),
+            },
             _ => match &self.side.read {
                 Some(Ok(matches)) => ask_of_matches(matches, asked),
                 _ => line(&[asked.word(), "nothing"], []),
@@ -163,8 +167,8 @@ fn is_in_order(given: &[(&str, Option<String>)], line: &[String]) -> bool {
     written.eq(line[..given.len()].iter().cloned()) && line[given.len()] == "--"
 }
 
-/// The kind of an error, its name and its text.
-fn error_fields(fail: &Fail) -> [String; 3] {
+/// The kind of an error and its name.
+fn error_fields(fail: &Fail) -> [String; 2] {
     let (variant, name) = match fail {
         Fail::ArgumentMissing(name) => ("ArgumentMissing", name),
         Fail::UnrecognizedOption(name) => ("UnrecognizedOption", name),
@@ -172,7 +176,7 @@ fn error_fields(fail: &Fail) -> [String; 3] {
         Fail::OptionDuplicated(name) => ("OptionDuplicated", name),
         Fail::UnexpectedArgument(name) => ("UnexpectedArgument", name),
     };
-    [variant.to_string(), name.clone(), fail.to_string()]
+    [variant.to_string(), name.clone()]
 }
 
 /// Answers a question about matches.

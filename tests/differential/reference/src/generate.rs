@@ -43,11 +43,15 @@ impl Making {
         }
     }
 
-    /// Adds words, and returns whether they are accepted.
+    /// Adds words, and returns whether they are accepted. If not, asks for the text of the error.
     fn words(&mut self, words: &[String]) -> bool {
         let mut line = vec!["words".to_string()];
         line.extend(words.iter().cloned());
-        self.add(Line(line)).starts_with("accepted")
+        let accepted = self.add(Line(line)).starts_with("accepted");
+        if !accepted {
+            self.put(&["error"]);
+        }
+        accepted
     }
 }
 
