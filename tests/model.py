@@ -16,6 +16,8 @@ TEXTS = {
     "OptionMissing": b"Required option '%s' missing", "OptionDuplicated": b"Option '%s' given more than once",
     "UnexpectedArgument": b"Option '%s' does not take an argument",
 }
+MARGIN = 24  # columns before descriptions
+USUAL_COLUMNS, NEXT_ROW = MARGIN + 54, b"\n" + b" " * MARGIN
 
 
 class Group:
@@ -155,10 +157,10 @@ class Options:
         for group in self.groups:
             short = b"-%s%s " % (group.short, b"," if group.long else b"") if group.short else blank
             head = b"    " + short + (b"%s%s " % (dashes, group.long) if group.long else b"") + group.argument
-            rows = wrapped(columns - 24, group.desc)
-            yield (head.ljust(24) if len(head) < 24 else head + NEXT_ROW) + NEXT_ROW.join(rows)
+            rows = wrapped(columns - MARGIN, group.desc)
+            yield (head.ljust(MARGIN) if len(head) < MARGIN else head + NEXT_ROW) + NEXT_ROW.join(rows)
 
-    def usage(self, brief, columns=78):
+    def usage(self, brief, columns=USUAL_COLUMNS):
         return b"%s\n\nOptions:\n%s\n" % (brief, b"\n".join(self.usage_rows(columns)))
 
     def short_usage(self, program):
@@ -166,9 +168,6 @@ class Options:
         texts = [(b"-" + group.short if group.short else b"--" + group.long) + (b" " if group.kind != "no" else b"")
                  + group.argument for group in self.groups]
         return b"Usage: %s " % program + b" ".join(brackets[group.occur] % text for group, text in zip(self.groups, texts))
-
-
-NEXT_ROW = b"\n" + b" " * 24
 
 
 def wrapped(limit, desc):
@@ -271,7 +270,7 @@ class Session:
             return line(word, *wrapped(int(fields[0]), fields[1]))
         if word in ("usage", "usage_in"):
             return line(word, self.options.usage(fields[-1], *map(int, fields[:-1])))
-        rows = list(self.options.usage_rows(78))
+        rows = list(self.options.usage_rows(USUAL_COLUMNS))
         return line(word, *([b"%d rows" % len(rows)] if word == "rows" else []), *rows)
 
     def unless(self, word, fields):
