@@ -52,14 +52,20 @@ find_pytest() {
         "$python" -c 'import pytest, pytest_timeout, xdist' 2>/dev/null && return
     done
 }
-packages='' unpack='' news=''
-if [ "$install" ] && [ "$(id -u)" = 0 ] && command -v apt-get >/dev/null; then
-    packages=$(lacking 2>/dev/null | xargs)
-    ! rust_older 85 || [ -x "$rust/usr/bin/rustc" ] || ! grep -qs '^VERSION_CODENAME=bookworm' /etc/os-release || unpack=1
-    news="${packages:+, the Debian packages $packages}${unpack:+, Rust 1.85 into $rust}"
-elif [ "$install" ] && ! find_pytest; then
-    news=", pytest into $own"
-fi
+# What to install, as text in $news.
+find_news() {
+    packages='' unpack='' news=''
+    if [ "$install" ] && [ "$(id -u)" = 0 ] && command -v apt-get >/dev/null; then
+        packages=$(lacking 2>/dev/null | xargs)
+        ! rust_older 85 || [ -x "$rust/usr/bin/rustc" ] || ! grep -qs '^VERSION_CODENAME=bookworm' /etc/os-release || unpack=1
+        news="${packages:+, the Debian packages $packages}${unpack:+, Rust 1.85 into $rust}"
+    elif [ "$install" ] && ! find_pytest; then
+        news=", pytest into $own"
+    fi
+}
+find_news
+# Another run may be installing the same: wait until it has, and look again.
+[ -z "$news" ] || { mkdir -p "$cache" && exec 9>"$cache/lock" && flock 9; find_news; }
 [ -z "$news" ] || echo "test.sh: about to install (--no-install leaves this out)${news/,/:}"
 apt_errors() { sed -n 's/^E: /test.sh: apt-get: /p' | tail -1; }
 [ -z "$packages" ] || install_packages 2>&1 | apt_errors
@@ -70,6 +76,7 @@ if rust_older 85 && [ -x "$rust/usr/bin/rustc" ]; then
 fi
 find_pytest || [ -z "$install" ] ||
     { python3 -m venv "$own" && "$own/bin/pip" install pytest pytest-xdist pytest-timeout; } >/dev/null 2>&1
+exec 9>&-
 find_pytest || stop "pytest not found: apt-get install python3-pytest python3-pytest-xdist python3-pytest-timeout"
 command -v rt >/dev/null || echo "test.sh: rt not found: tests that need it are left out"
 [ "${1:-}" != -k ] || exec "$python" -m pytest tests "${quick[@]}" "$@"
