@@ -3,9 +3,10 @@ a folder `must-fail`. Those in a folder `mutants` are tried here, before a relea
 
 import re
 import shutil
+from concurrent.futures import ThreadPoolExecutor
 
 import pytest
-from conftest import ROOT, copy_tree, run, tracked
+from conftest import ROOT, answer, copy_tree, run, tracked
 
 MUTANTS = [ROOT / name for name in tracked() if re.match(r"crates/\w+/(must-fail|mutants)/.*\.edit$", name)]
 FOR_RELEASE = sorted({mutant.parts[-3] for mutant in MUTANTS if mutant.parent.name == "mutants"})
@@ -67,17 +68,36 @@ def test_public_functions_have_mutants():
     assert len(names) > 50 and not without, f"no mutant of their own: {without}"
 
 
+def rejected(crate, mutants, copy):
+    """How many of these mutants are rejected in a copy of the repository, and what `rt` prints."""
+    copy_tree(copy)
+    # Libraries that are already proved aren't proved again.
+    for library in ROOT.glob("crates/*/out/rlib"):
+        if library.parents[1].name != crate:
+            shutil.copytree(library, copy / library.relative_to(ROOT))
+    folder = copy / f"crates/{crate}/must-fail"
+    shutil.rmtree(folder, ignore_errors=True)
+    folder.mkdir()
+    for mutant in mutants:
+        shutil.copy(mutant, folder)
+    said = answer("nice", "rt", "must-fail", crate, cwd=copy)[0].decode()
+    shutil.rmtree(copy)
+    # A mutant that only takes a name away says nothing about contracts: for these, `rt` adds words before the colon.
+    return len(re.findall(": refused, as it must be(?::|$)", said, re.M)), said
+
+
 @pytest.mark.release
 @pytest.mark.rt
 @pytest.mark.timeout(6 * 3600)
 @pytest.mark.parametrize("crate", FOR_RELEASE)
 def test_mutants_are_rejected(crate, tmp_path):
-    """In a copy, where `rt` finds these mutants, too. Libraries that are already proved aren't proved again."""
-    copy = copy_tree(tmp_path / "copy")
-    for library in ROOT.glob("crates/*/out/rlib"):
-        shutil.copytree(library, copy / library.relative_to(ROOT))
-    shutil.copytree(copy / f"crates/{crate}/mutants", copy / f"crates/{crate}/must-fail", dirs_exist_ok=True)
-    said = "".join(run("nice", "rt", "must-fail", crate, cwd=copy))
-    # A mutant that only takes a name away says nothing about contracts: for these, `rt` adds words before the colon.
-    rejected = re.findall(": refused, as it must be(?::|$)", said, re.M)
-    assert len(rejected) == len(list(copy.glob(f"crates/{crate}/must-fail/*.edit"))), said
+    """In copies with at most 20, side by side. Each first proves the crate, which for `getopts` takes as long as 15."""
+    mutants = sorted(it for it in MUTANTS if it.parts[-3:-1] == (crate, "mutants"))
+    lanes = -(-len(mutants) // 20)
+    if crate != "getopts":
+        # Proves the library, unless an earlier command did: `rt ci` leaves none that other commands use.
+        run("nice", "rt", "check", cwd=ROOT / "crates/getopts_bytes")
+    with ThreadPoolExecutor(lanes) as pool:
+        parts = [(crate, mutants[at::lanes], tmp_path / str(at)) for at in range(lanes)]
+        counts, said = zip(*pool.map(rejected, *zip(*parts)))
+    assert sum(counts) == len(mutants), "".join(said)
