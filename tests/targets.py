@@ -9,7 +9,7 @@ import shutil
 from pathlib import Path
 
 import pytest
-from conftest import ROOT, need, need_compiler, run, succeeds
+from conftest import ROOT, need, need_compiler, run, script, succeeds
 
 # Cargo has to build in the folders of the tests.
 os.environ.pop("CARGO_TARGET_DIR", None)
@@ -68,6 +68,22 @@ def cargo(folder, *words, env=None, registry=REGISTRY):
     if words[0] == "clippy":
         need("cargo-clippy")
     return run("cargo", words[0], *offline(registry), *words[1:], cwd=folder, env=env)
+
+
+def shared_folder(room):
+    """Makes a folder in which everybody may write, with files that cargo and rustup would read in a folder above theirs.
+    Returns a file: it exists as soon as one of them ran a program named there."""
+    ran = room.with_name("ran")
+    for folder in (".cargo", "own/bin"):
+        (room / folder).mkdir(parents=True)
+    room.chmod(0o1777)
+    wrapper = script(room / "wrapper", f"#!/bin/sh\necho \"$0\" >>'{ran}'\nexec \"$@\"\n")
+    for tool in ("cargo", "rustc"):
+        script(room / "own/bin" / tool, f"#!/bin/sh\necho \"$0\" >>'{ran}'\nexit 1\n")
+    (room / ".cargo/config.toml").write_text(f'[build]\nrustc-wrapper = "{wrapper}"\n')
+    (room / "Cargo.toml").write_text("[workspace]\n")
+    (room / "rust-toolchain.toml").write_text(f'[toolchain]\npath = "{room}/own"\n')
+    return ran
 
 
 def commit_repository(clone):

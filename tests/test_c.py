@@ -14,7 +14,7 @@ import time
 import model
 import pytest
 from conftest import MARGIN, ROOT, answer, check_page, need, need_compiler, run, script
-from targets import OLD, cargo, cargo_for, copy_folders, need_cargo, need_target, runner
+from targets import OLD, cargo, cargo_for, copy_folders, need_cargo, need_target, runner, shared_folder
 
 C = ROOT / "bindings/c"
 WARNINGS = "-std=c11 -Wall -Wextra -Wpedantic -Wshadow -Wconversion -Wno-sign-conversion -Werror".split()
@@ -482,6 +482,18 @@ def copies(library, tmp_path):
     """A cargo that copies the library that is already built, for tests of where files are installed."""
     text = f'#!/bin/sh\nmkdir -p "$CARGO_TARGET_DIR/release"\ncp "{library(None)}" "$CARGO_TARGET_DIR/release"\n'
     return {"CARGO": str(script(tmp_path / "cargo", text))}
+
+
+def test_install_in_shared_folder(prefix, tmp_path):
+    """The library is built in a temporary folder. Cargo and rustup read nothing that other users put beside it, and the
+    libraries have the same bytes as those built in another folder."""
+    room = tmp_path / "shared room"
+    ran = shared_folder(room)
+    planted = set(room.rglob("*"))
+    run("sh", C / "install.sh", tmp_path / "to", env={"TMPDIR": str(room)})
+    assert not ran.exists() and set(room.rglob("*")) == planted
+    for name in ("libgetopts.a", "libgetopts.so"):
+        assert (tmp_path / "to/lib" / name).read_bytes() == (prefix / "lib" / name).read_bytes()
 
 
 @pytest.mark.parametrize("shell", ["dash", "busybox"])

@@ -14,7 +14,8 @@
 # busybox has its own ar, as Debian's does, set AR=/usr/bin/ar. If Debian's librust-unicode-width-dev is installed, it
 # provides the crate unicode-width; otherwise cargo downloads it. To cross-compile, name the target and its compiler:
 # CARGO_BUILD_TARGET=aarch64-unknown-linux-gnu CC=aarch64-linux-gnu-gcc. The variables CARGO, CARGO_FLAGS, CC, AR,
-# CFLAGS and LDFLAGS are used, and files are written below DESTDIR.
+# CFLAGS and LDFLAGS are used, and files are written below DESTDIR. The same tools build the same bytes in any folder. Cargo
+# reads CARGO_HOME/config.toml, which may name vendored crates, but no .cargo/config.toml of the repository.
 set -eu
 unset CDPATH
 here=$(cd "$(dirname "$0")" && pwd)
@@ -93,21 +94,29 @@ command -v "${cc%% *}" >/dev/null ||
     fail "${cc%% *} not found: install a C compiler (Debian's package gcc), or set CC to yours"
 [ -z "$target" ] || [ -n "${CC:-}" ] || fail "set CC to the C compiler for $target"
 room=$(mktemp -d)
+room=$(absolute "$room")
 trap 'rm -rf "$room"' EXIT
 trap 'exit 1' HUP INT TERM
 
-# Build a copy, so that nothing is written to the source folder.
-mkdir "$room/c" "$room/rust" "$room/c/.cargo"
-cp -R "$here/Cargo.toml" "$here/src" "$room/c"
-cp -R "$top/bindings/rust/Cargo.toml" "$top/bindings/rust/src" "$room/rust"
+# Build a copy, so that nothing is written to the source folder. Other users could put a workspace, a configuration of
+# cargo or a toolchain into a folder above, such as /tmp. So the copy is a workspace of its own, and cargo runs in /, since
+# it looks for the other two above the current folder. The workspace contains the Rust package: otherwise cargo would put a
+# hash of the absolute path into symbols, and each build would have other bytes.
+mkdir -p "$room/c/rust"
+sed 's,"../rust","rust",' "$here/Cargo.toml" >"$room/c/Cargo.toml"
+printf '\n[workspace]\nexclude = ["rust"]\n' >>"$room/c/Cargo.toml"
+cp -R "$here/src" "$room/c"
+cp -R "$top/bindings/rust/Cargo.toml" "$top/bindings/rust/src" "$room/c/rust"
+: >"$room/config.toml"
 for crate in /usr/share/cargo/registry/unicode-width-*; do
     if [ -d "$crate" ]; then
         printf '[net]\noffline = true\n[source]\ncrates-io.replace-with = "debian"\ndebian.directory = "%s"\n' "${crate%/*}" \
-            >"$room/c/.cargo/config.toml"
+            >"$room/config.toml"
     fi
 done
 # shellcheck disable=SC2086
-(cd "$room/c" && CARGO_TARGET_DIR=$room/target "$cargo" build --release --quiet ${CARGO_FLAGS:-}) ||
+(cd / && CARGO_TARGET_DIR=$room/target "$cargo" build --release --quiet --manifest-path "$room/c/Cargo.toml" \
+    --config "$room/config.toml" ${CARGO_FLAGS:-}) ||
     fail "cargo failed. The build needs Rust 1.68 or later (on Debian 12, cargo-web and rustc-web) with the target's standard
 library, and the crate unicode-width (without a network, from Debian's package librust-unicode-width-dev)"
 built=$room/target/${target:+$target/}release/libgetopts.a
