@@ -11,10 +11,13 @@
 # tests of built programs run only if these exist, other targets are left out, and there are fewer random cases. Without
 # rt, --quick leaves out the tests that need it. -k runs only the tests that match NAME, and accepts pytest's flags.
 set -uo pipefail
-start=$SECONDS quick=() install=1 absent=tests/out/absent cache=${XDG_CACHE_HOME:-${HOME:-/tmp}/.cache}/proved-getopts
-own=$cache/venv rust=$cache/rust
+start=$SECONDS quick=() install=1 absent=tests/out/absent
 for flag; do case $flag in --quick) quick=(--quick) ;; --no-install) install='' ;; *) break ;; esac; shift; done
 stop() { echo "test.sh: $1" >&2; exit 2; }
+# Other users could put programs into a cache below /tmp.
+[ "${XDG_CACHE_HOME:-${HOME:-}}" ] || stop "set HOME or XDG_CACHE_HOME"
+cache=${XDG_CACHE_HOME:-${HOME:-}/.cache}/proved-getopts
+own=$cache/venv rust=$cache/rust
 [ ! -d "${1:-}" ] || set -- "$(cd "$1" && pwd)"
 cd "$(dirname "$0")" || exit
 command -v rt >/dev/null || [ ${#quick[@]} = 1 ] || [ "${1:-}" = -k ] ||

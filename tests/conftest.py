@@ -18,6 +18,10 @@ import pytest
 sys.dont_write_bytecode = True
 os.environ["LC_ALL"] = "C.UTF-8"
 os.environ.pop("POSIXLY_CORRECT", None)
+# Cargo reads configurations in all folders above. So tests use no folder below /tmp, where other users may put them.
+ROOM = Path(os.environ.get("XDG_CACHE_HOME") or Path.home() / ".cache") / "proved-getopts/tmp"
+ROOM.mkdir(mode=0o700, parents=True, exist_ok=True)
+os.environ["TMPDIR"] = tempfile.tempdir = str(ROOM)
 ROOT = Path(__file__).resolve().parents[1]
 MACHINE = platform.machine()
 VECTORS = ROOT / "crates/getopts_vectors"

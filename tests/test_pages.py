@@ -395,6 +395,15 @@ def test_shell_scripts():
     run("shellcheck", *scripts, cwd=ROOT)
 
 
+def test_folders_of_others(tmp_path):
+    """Tests start programs in no folder in which, or above which, other users may put files. Without a home, test.sh stops:
+    it would use /tmp/.cache."""
+    others = [folder for folder in tmp_path.parents if folder.stat().st_mode & 0o002 or folder.stat().st_uid not in (0, os.getuid())]
+    assert not others
+    words = ["env", "-i", f"PATH={os.environ['PATH']}", "bash", ROOT / "test.sh", "--quick", "--no-install", "-k", "none"]
+    assert run(*words, status=2)[1] == "test.sh: set HOME or XDG_CACHE_HOME\n"
+
+
 @pytest.mark.parametrize("manifest", [name for name in tracked if name.endswith("/Cargo.toml")])
 def test_rust_format(manifest):
     need("cargo")

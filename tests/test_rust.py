@@ -16,7 +16,7 @@ import pytest
 import test_c
 from conftest import LINES, ROOT, ROWS, VECTORS, answer, need_rustfmt, run
 from targets import (REGISTRY, TARGETS, UNWINDS, cargo, cargo_for, commit_repository, copy_folders, need_cargo, offline,
-                     passed, runner)
+                     passed, runner, shared_folder)
 
 RUST = ROOT / "bindings/rust"
 REFERENCE = ROOT / "tests/differential/reference"
@@ -312,6 +312,15 @@ def ours(reference):
 @pytest.mark.parametrize("rows", ROWS, ids=lambda path: path.stem)
 def test_stored_answers(ours, rows):
     assert ", 0 differ" in run(ours, "check", rows)[0]
+
+
+def test_build_in_shared_folder(tmp_path):
+    """build.sh, which also builds the benchmarks' peers, reads nothing that other users put above its folder OUT."""
+    need_cargo(RUST)
+    ran = shared_folder(tmp_path / "shared room")
+    out = tmp_path / "shared room/out"
+    run(ROOT / "tests/differential/build.sh", REFERENCE, out, RUST / "getopts")
+    assert (out / "target/release/reference").exists() and not ran.exists()
 
 
 def test_recorded_answers(reference, crate):

@@ -13,12 +13,13 @@ if [ $# -lt 2 ] || [ $# -gt 3 ]; then
     exit 2
 fi
 command -v cargo >/dev/null || { echo 'tests/differential/build.sh: cargo not found' >&2; exit 2; }
-mkdir -p "$2/.cargo"
+mkdir -p "$2"
 cp -r "$1/." "$2"
+out=$(cd "$2" && pwd)
 read -r -a flags <<<"${CARGO_FLAGS:-}"
 config=''
 if [ -n "${3:-}" ]; then
-    printf '\n[patch.crates-io]\ngetopts = { path = "%s" }\n' "$(cd "$3" && pwd)" >>"$2/Cargo.toml"
+    printf '\n[patch.crates-io]\ngetopts = { path = "%s" }\n' "$(cd "$3" && pwd)" >>"$out/Cargo.toml"
     registry=/usr/share/cargo/registry
     lacking=''
     for name in unicode-width $(sed -n '1,/^\[dependencies\]/d; s/^\([a-z-]*\) = .*/\1/p' "$1/Cargo.toml"); do
@@ -29,6 +30,7 @@ if [ -n "${3:-}" ]; then
         flags+=(--offline)
     fi
 fi
-echo "$config" >"$2/.cargo/config.toml"
-cd "$2"
-cargo build --release --quiet --jobs 2 "${flags[@]}"
+echo "$config" >"$out/config.toml"
+# Cargo looks for configurations above the current folder, and other users may put some into /tmp.
+cd /
+cargo build --release --quiet --jobs 2 --manifest-path "$out/Cargo.toml" --config "$out/config.toml" "${flags[@]}"
