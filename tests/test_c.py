@@ -418,7 +418,7 @@ def test_program_size(prefix, tmp_path):
 def installed(request, tmp_path_factory):
     need_install(request.param)
     to = tmp_path_factory.mktemp("installed")
-    run("sh", C / "install.sh", to, env={"CC": request.param})
+    run("sh", C / "install.sh", to, env={"CC": request.param, "DEBUG_INFO": "1"})
     return request.param, to
 
 
@@ -427,6 +427,14 @@ def test_install_with_compiler(link, installed, tmp_path):
     compiler, to = installed
     run(compiler, "-isystem", to / "include", C / "order.c", *link.format(to).split(), "-o", tmp_path / "linked")
     assert run(tmp_path / "linked", "-qv")[0] == "verbose\n"
+
+
+def test_debug_information(installed, prefix):
+    """DEBUG_INFO=1 keeps debug information, without the name of the temporary folder."""
+    need("readelf")
+    for file, kept in ((installed[1] / "lib/libgetopts.so", True), (prefix / "lib/libgetopts.so", False)):
+        assert (".debug_info" in run("readelf", "-S", "-W", file)[0]) == kept
+        assert os.environ["TMPDIR"].encode() not in file.read_bytes()
 
 
 @pytest.mark.full
@@ -482,6 +490,20 @@ def copies(library, tmp_path):
     """A cargo that copies the library that is already built, for tests of where files are installed."""
     text = f'#!/bin/sh\nmkdir -p "$CARGO_TARGET_DIR/release"\ncp "{library(None)}" "$CARGO_TARGET_DIR/release"\n'
     return {"CARGO": str(script(tmp_path / "cargo", text))}
+
+
+def test_libdir(copies, tmp_path):
+    """LIBDIR replaces lib. All users may read the folders, whatever the umask."""
+    need_install()
+    to = tmp_path / "to"
+    run("sh", "-c", 'umask 077; exec sh "$0" "$1"', C / "install.sh", to, env={**copies, "LIBDIR": f"{to}/lib/own"})
+    assert (to / "lib/own/libgetopts.so").is_file() and [*(to / "lib").iterdir()] == [to / "lib/own"]
+    assert "libdir=${prefix}/lib/own\n" in (to / "lib/own/pkgconfig/getopts.pc").read_text()
+    assert all(path.stat().st_mode & 0o555 == 0o555 for path in [to, *to.rglob("*")] if path.is_dir())
+    run("sh", C / "install.sh", "--uninstall", to, env={"LIBDIR": "lib/own"})
+    assert not any(path.is_file() for path in to.rglob("*"))
+    for wrong in ("/elsewhere", "../lib", "lib 64", to):
+        assert "LIBDIR must be" in run("sh", C / "install.sh", to, status=1, env={"LIBDIR": str(wrong)})[1]
 
 
 def test_install_in_shared_folder(prefix, tmp_path):

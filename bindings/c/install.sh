@@ -14,10 +14,12 @@
 # busybox has its own ar, as Debian's does, set AR=/usr/bin/ar. If Debian's librust-unicode-width-dev is installed, it
 # provides the crate unicode-width; otherwise cargo downloads it. To cross-compile, name the target and its compiler:
 # CARGO_BUILD_TARGET=aarch64-unknown-linux-gnu CC=aarch64-linux-gnu-gcc. The variables CARGO, CARGO_FLAGS, CC, AR,
-# CFLAGS and LDFLAGS are used, and files are written below DESTDIR. The same tools build the same bytes in any folder. Cargo
-# reads CARGO_HOME/config.toml, which may name vendored crates, but no .cargo/config.toml of the repository.
+# CFLAGS and LDFLAGS are used. Files are written below DESTDIR. LIBDIR, such as lib64, replaces lib. DEBUG_INFO=1 keeps
+# debug information. The same tools build the same bytes in any folder. Cargo reads CARGO_HOME/config.toml, which may name
+# vendored crates, but no .cargo/config.toml of the repository.
 set -eu
 unset CDPATH
+umask 022
 here=$(cd "$(dirname "$0")" && pwd)
 top=$here/../..
 cargo=${CARGO:-cargo} cc=${CC:-cc} target=${CARGO_BUILD_TARGET:-}
@@ -51,6 +53,11 @@ case $1$prefix in
 *[[:space:]]) fail "PREFIX must not end with a blank (pkg-config misreads it)" ;;
 *[\"\$\#\\:]*) fail "PREFIX must not contain \", \$, #, \\ or : (pkg-config or search paths misread them)" ;;
 esac
+lib=${LIBDIR:-lib}
+lib=${lib#"$prefix/"}
+case /$lib/ in
+//* | */../* | *[[:space:]\"\$\#\\:]*) fail "LIBDIR must be a folder below PREFIX, without blanks, \", \$, #, \\ and :" ;;
+esac
 to=$(absolute "${DESTDIR:-/}")$prefix
 
 # The version of the library. Programs linked with one version work with later ones that have the same first number.
@@ -64,8 +71,8 @@ documents="README.md head.c order.c ../../LICENSE-MIT ../../LICENSE-APACHE ../..
 
 # Removes the shared libraries of all versions with the same first number.
 remove_versions() {
-    for file in "$to/lib/$soname".*; do
-        case ${file#"$to/lib/$soname."} in
+    for file in "$to/$lib/$soname".*; do
+        case ${file#"$to/$lib/$soname."} in
         *[!0-9.]*) ;;
         *) rm -f "$file" ;;
         esac
@@ -73,8 +80,8 @@ remove_versions() {
 }
 
 if [ -n "$remove" ]; then
-    rm -f "$to/include/getopts.h" "$to/lib/libgetopts.a" "$to/lib/libgetopts.so" "$to/lib/$soname" \
-        "$to/lib/libgetopts-static.a" "$to/lib/pkgconfig/getopts.pc" "$to/lib/pkgconfig/getopts-static.pc" \
+    rm -f "$to/include/getopts.h" "$to/$lib/libgetopts.a" "$to/$lib/libgetopts.so" "$to/$lib/$soname" \
+        "$to/$lib/libgetopts-static.a" "$to/$lib/pkgconfig/getopts.pc" "$to/$lib/pkgconfig/getopts-static.pc" \
         "$to/share/man/man3/getopts.3"
     remove_versions
     for function in $functions; do
@@ -114,6 +121,12 @@ for crate in /usr/share/cargo/registry/unicode-width-*; do
             >"$room/config.toml"
     fi
 done
+strip=--strip-debug
+if [ -n "${DEBUG_INFO:-}" ]; then
+    strip=''
+    printf '[profile.release]\ndebug = true\n[build]\nrustflags = ["--remap-path-prefix=%s=getopts"]\n' "$room" \
+        >>"$room/config.toml"
+fi
 # shellcheck disable=SC2086
 (cd / && CARGO_TARGET_DIR=$room/target "$cargo" build --release --quiet --manifest-path "$room/c/Cargo.toml" \
     --config "$room/config.toml" ${CARGO_FLAGS:-}) ||
@@ -134,7 +147,7 @@ put() {
 describe() {
     cat <<END
 prefix=$prefix
-libdir=\${prefix}/lib
+libdir=\${prefix}/$lib
 includedir=\${prefix}/include
 
 Name: getopts
@@ -161,27 +174,27 @@ case $($cc -dumpmachine) in
     # shellcheck disable=SC2086
     "$(tool ld)" -r --gc-sections $roots -o "$room/all.o" "$built"
     # shellcheck disable=SC2086
-    "$(tool objcopy)" --strip-debug $keep "$room/all.o" "$room/getopts.o"
+    "$(tool objcopy)" $strip $keep "$room/all.o" "$room/getopts.o"
     "${AR:-$(tool ar)}" rcs "$room/libgetopts.a" "$room/getopts.o"
     built=$room/libgetopts.a
     # shellcheck disable=SC2086
     $cc -shared ${CFLAGS:-} ${LDFLAGS:-} -Wl,-soname,"$soname" -Wl,-z,defs -Wl,-z,text "$room/getopts.o" \
         -o "$room/$shared"
-    put "$room/$shared" "lib/$shared" 755
-    ln -sf "$shared" "$to/lib/$soname"
-    ln -sf "$soname" "$to/lib/libgetopts.so"
+    put "$room/$shared" "$lib/$shared" 755
+    ln -sf "$shared" "$to/$lib/$soname"
+    ln -sf "$soname" "$to/$lib/libgetopts.so"
     # shellcheck disable=SC2016
     describe '"-L${libdir}" -lgetopts' >"$room/getopts.pc"
-    put "$room/getopts.pc" lib/pkgconfig/getopts.pc
+    put "$room/getopts.pc" "$lib/pkgconfig/getopts.pc"
     ;;
 esac
 # Linked by a name that no shared library has: CMake would put an archive's path before the objects that need it.
 # shellcheck disable=SC2016
 describe '"-L${libdir}" -lgetopts-static' >"$room/getopts-static.pc"
 echo '.so man3/getopts.3' >"$room/page.3"
-put "$built" lib/libgetopts.a
-ln -sf libgetopts.a "$to/lib/libgetopts-static.a"
-put "$room/getopts-static.pc" lib/pkgconfig/getopts-static.pc
+put "$built" "$lib/libgetopts.a"
+ln -sf libgetopts.a "$to/$lib/libgetopts-static.a"
+put "$room/getopts-static.pc" "$lib/pkgconfig/getopts-static.pc"
 put "$here/getopts.h" include/getopts.h
 put "$room/getopts.3" share/man/man3/getopts.3
 for function in $functions; do
