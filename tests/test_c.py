@@ -399,6 +399,11 @@ def test_manual_page(prefix):
         assert (page.parent / f"{name}.3").read_text() == ".so man3/getopts.3\n"
 
 
+def test_installed_documents(prefix):
+    for name in ("README.md", "head.c", "order.c", "../../LICENSE-MIT", "../../LICENSE-APACHE", "../../NOTICE"):
+        assert (prefix / "share/doc/getopts" / os.path.basename(name)).read_bytes() == (C / name).read_bytes()
+
+
 def test_program_size(prefix, tmp_path):
     page = " ".join((C / "README.md").read_text().split())
     about, least, most = map(int, re.search(r"grows by about (\d+) KB, or by (\d+) to (\d+) KB", page).groups())

@@ -5,7 +5,7 @@ import hashlib
 import importlib.util
 
 import pytest
-from conftest import ROOT, answer, copy_tree, need_rustfmt, run
+from conftest import ROOT, answer, copy_tree, kit, need_rustfmt, run
 
 BUILD = "bindings/build.py"
 UP_TO_DATE = "bindings/shell is up to date\n", ""
@@ -72,3 +72,10 @@ def test_stale_rust_is_found(tmp_path):
 def test_licences(file):
     for folder in ("crates/getopts", "bindings/rust"):
         assert (ROOT / folder / file).read_bytes() == (ROOT / file).read_bytes()
+
+
+@pytest.mark.rt
+def test_licence_of_unicode_width():
+    """The shell binaries contain the toolchain's unicode_width, whose licences have to come with them."""
+    for file in ("LICENSE-MIT", "LICENSE-UNICODE"):
+        assert (kit() / "rattle/unicode_width" / file).read_text() in (ROOT / "bindings/shell/LICENSE-unicode").read_text()

@@ -401,8 +401,11 @@ def test_install(checked_in, tmp_path):
     install("a prefix", CDPATH=f"/:{SHELL}")
     assert (tmp_path / "a prefix/bin/getopts_shell").read_bytes() == checked_in.read_bytes()
     assert (tmp_path / "a prefix/share/man/man1/getopts_shell.1").is_file()
-    papers = {"LICENSE-musl", "LICENSE-MIT", "LICENSE-APACHE", "NOTICE", "examples"}
+    papers = {"LICENSE-musl", "LICENSE-unicode", "LICENSE-MIT", "LICENSE-APACHE", "NOTICE", "examples"}
     assert set(os.listdir(tmp_path / "a prefix/share/doc/getopts_shell")) == papers
+    for name in papers - {"examples"}:
+        source = SHELL if (SHELL / name).exists() else ROOT
+        assert (tmp_path / "a prefix/share/doc/getopts_shell" / name).read_bytes() == (source / name).read_bytes()
     # The page, from which the manual page is generated, names the examples.
     named = set(re.findall(r"`(examples/\w+)`", (SHELL / "README.md").read_text()))
     assert named == {f"examples/{name}" for name in os.listdir(SHELL / "examples")}

@@ -14,7 +14,7 @@ fail() {
     echo "install.sh: $1" >&2
     exit 1
 }
-remove='' licences='LICENSE-musl ../../LICENSE-MIT ../../LICENSE-APACHE ../../NOTICE' examples='backup notes'
+remove='' licences='LICENSE-musl LICENSE-unicode ../../LICENSE-MIT ../../LICENSE-APACHE ../../NOTICE' examples='backup notes'
 case ${1-} in
 --help | -h) sed -n '2,/^[^#]/s/^# \{0,1\}//p' "$0"; exit ;;
 --uninstall) remove=yes; shift ;;
