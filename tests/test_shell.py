@@ -59,7 +59,8 @@ def by_cargo(tmp_path_factory):
     need_cargo(SHELL)
     room = tmp_path_factory.mktemp("cargo")
     clone = commit_repository(copy_folders(room, "bindings/rust", "bindings/shell") / "bindings")
-    run("cargo", "install", *offline()[1:], "--quiet", "--git", clone, "--root", room / "root", "getopts_shell")
+    words = ["install", *offline()[1:], "--quiet", "--git", clone, "--root", room / "root", "getopts_shell"]
+    run("cargo", *words, env={"CARGO_HOME": str(room / "home")})
     return room / "root/bin/getopts_shell"
 
 
@@ -433,6 +434,15 @@ def test_install(checked_in, tmp_path):
     (tmp_path / "bsd/uname").chmod(0o755)
     assert "no binary for FreeBSD, only for Linux" in install("other", status=1, PATH=f"{tmp_path}/bsd:{os.environ['PATH']}")
     (tmp_path / "bsd/uname").unlink()
+    # A program built by cargo, which contains nothing of musl, and a root whose files nobody else may read.
+    script(tmp_path / "built", "own")
+    run("sh", "-c", 'umask 077; exec sh "$0" own', SHELL / "install.sh", cwd=tmp_path, env={"PROGRAM": "built"})
+    assert (tmp_path / "own/bin/getopts_shell").read_text() == "own"
+    assert set(os.listdir(tmp_path / "own/share/doc/getopts_shell")) == papers - {"LICENSE-musl"}
+    assert all(path.stat().st_mode & 0o555 == 0o555 for path in (tmp_path / "own").rglob("**"))
+    install("--uninstall", "own")
+    (tmp_path / "built").unlink()
+    assert f"no file {tmp_path}/built" in install("own", status=1, PROGRAM="built")
     (tmp_path / "link").symlink_to(SHELL / "install.sh")
     assert "through a symbolic link" in run("sh", tmp_path / "link", "other", status=1)[1]
     (tmp_path / "link").unlink()
@@ -503,6 +513,14 @@ def test_manual_page(tmp_path):
     page, readme = tmp_path / "getopts_shell.1", SHELL / "README.md"
     page.write_text(run("awk", "-f", SHELL / "man.awk", readme)[0])
     check_page(page, page_blocks(readme.read_text()))
+
+
+def test_same_bytes_in_any_folder(tmp_path):
+    rooms = [copy_folders(tmp_path / name, "bindings") / "bindings" for name in ("one", "another place")]
+    for room in rooms:
+        cargo(room / "shell", "build", "--release")
+    one, other = ((room / "target/release/getopts_shell").read_bytes() for room in rooms)
+    assert one == other
 
 
 def test_cargo_without_warnings(tmp_path):

@@ -7,9 +7,11 @@
 # - PREFIX/share/man/man1: getopts_shell.1, generated from README.md
 # - PREFIX/share/doc/getopts_shell: examples and licences
 #
-# Files are written below DESTDIR. MACHINE selects another processor, by the name that `uname -m` prints.
+# Files are written below DESTDIR. MACHINE selects another processor, by the name that `uname -m` prints. PROGRAM is a file
+# to install instead of the checked-in binary: the program as built by cargo, which contains nothing of musl.
 set -eu
 unset CDPATH
+umask 022
 fail() {
     echo "install.sh: $1" >&2
     exit 1
@@ -35,21 +37,29 @@ if [ -n "$remove" ]; then
     echo "removed $program, its manual page and examples"
     exit
 fi
+source=${PROGRAM-}
+case $source in '' | /*) ;; *) source=$PWD/$source ;; esac
 cd "$(dirname "$0")"
-if [ -z "${MACHINE-}" ] && [ "$(uname -s)" != Linux ]; then
-    fail "no binary for $(uname -s), only for Linux; see README.md for building with cargo"
+[ -f man.awk ] || fail "don't run this script through a symbolic link"
+if [ -n "$source" ]; then
+    licences=${licences#LICENSE-musl }
+    [ -f "$source" ] || fail "no file $source"
+else
+    if [ -z "${MACHINE-}" ] && [ "$(uname -s)" != Linux ]; then
+        fail "no binary for $(uname -s), only for Linux; see README.md for building with cargo"
+    fi
+    machine=${MACHINE:-$(uname -m)}
+    case $machine in amd64) machine=x86_64 ;; arm64) machine=aarch64 ;; esac
+    source=$machine/getopts_shell
+    if [ ! -f "$source" ]; then
+        echo "install.sh: no binary for $machine, only for" */getopts_shell | sed 's|/getopts_shell||g' >&2
+        exit 1
+    fi
+    sum=$(sha256sum <"$source")
+    read -r wanted _ <"$source.sha256"
+    [ "${sum%% *}" = "$wanted" ] ||
+        fail "$source is damaged: run 'git checkout -- $machine' in $PWD, or clone the repository again"
 fi
-machine=${MACHINE:-$(uname -m)}
-case $machine in amd64) machine=x86_64 ;; arm64) machine=aarch64 ;; esac
-if [ ! -f "$machine/getopts_shell" ]; then
-    [ -d x86_64 ] || fail "don't run this script through a symbolic link"
-    echo "install.sh: no binary for $machine, only for" */getopts_shell | sed 's|/getopts_shell||g' >&2
-    exit 1
-fi
-sum=$(sha256sum <"$machine/getopts_shell")
-read -r wanted _ <"$machine/getopts_shell.sha256"
-[ "${sum%% *}" = "$wanted" ] ||
-    fail "$machine/getopts_shell is damaged: run 'git checkout -- $machine' in $PWD, or clone the repository again"
 mkdir -p "$to/bin" "$to/share/man/man1" "$papers/examples"
 # put FILE PLACE MODE: replaces a file only once the new one is complete. FILE may be - for standard input.
 put() {
@@ -59,7 +69,7 @@ put() {
         fail "can't write $2"
     fi
 }
-put "$machine/getopts_shell" "$program" 755
+put "$source" "$program" 755
 text=$(awk -f man.awk README.md)
 printf '%s\n' "$text" | put - "$page" 644
 for name in $licences; do put "$name" "$papers/${name##*/}" 644; done
