@@ -17,6 +17,8 @@ from conftest import MARGIN, ROOT, answer, check_page, need, need_compiler, run,
 from targets import OLD, cargo, cargo_for, copy_folders, need_cargo, need_target, runner, shared_folder
 
 C = ROOT / "bindings/c"
+VERSION = re.search(r'GETOPTS_VERSION "(.*)"', (C / "getopts.h").read_text())[1]
+SONAME = f"libgetopts.so.{VERSION.partition('.')[0]}"
 WARNINGS = "-std=c11 -Wall -Wextra -Wpedantic -Wshadow -Wconversion -Wno-sign-conversion -Werror".split()
 PLUS_WARNINGS = "-Wall -Wextra -Wpedantic -Werror".split()
 SANITIZERS = "-fsanitize=address,undefined -fno-sanitize-recover=all -g -O1".split()
@@ -314,9 +316,7 @@ def flags(request, prefix, monkeypatch):
     if request.param == "getopts":
         monkeypatch.setenv("LD_LIBRARY_PATH", str(prefix / "lib"))
     env = {"PKG_CONFIG_PATH": str(prefix / "lib/pkgconfig")}
-    version = re.search(r'GETOPTS_VERSION "(.*)"', (C / "getopts.h").read_text())[1]
-    assert run("pkg-config", "--modversion", request.param, env=env)[0] == f"{version}\n"
-    assert f'version = "{version}"\n' in (C / "Cargo.toml").read_text()
+    assert run("pkg-config", "--modversion", request.param, env=env)[0] == f"{VERSION}\n"
     # As if another package of the same prefix came first.
     return [f"-L{prefix}/lib", *shlex.split(run("pkg-config", "--cflags", "--libs", request.param, env=env)[0])]
 
@@ -349,7 +349,7 @@ def test_cmake(module, prefix, tmp_path):
     run("cmake", "-S", tmp_path, "-B", tmp_path, env={"PKG_CONFIG_PATH": str(prefix / "lib/pkgconfig")})
     run("cmake", "--build", tmp_path)
     assert run(tmp_path / "head", "-n1", tmp_path / "CMakeLists.txt")[0] == CMAKE.splitlines(True)[0]
-    assert ("libgetopts.so.2" in run("readelf", "-d", tmp_path / "head")[0]) == (module == "getopts")
+    assert (SONAME in run("readelf", "-d", tmp_path / "head")[0]) == (module == "getopts")
 
 
 @pytest.mark.parametrize("compiler", ["g++", "clang++"])
@@ -369,7 +369,16 @@ def test_exports(prefix):
         assert {line.split()[-1] for line in listed if re.match(r"[0-9a-f]{8}", line)} == declared
     asked = {line.split()[-1] for line in run("nm", "-u", archive)[0].splitlines() if " U " in line}
     assert asked <= set("abort bcmp free malloc memcmp memcpy memmove memset realloc strlen write".split())
-    assert re.search(r"SONAME.*\[libgetopts.so.2\]", run("readelf", "-d", shared)[0])
+
+
+def test_installed_versions(prefix):
+    """The shared library, the files for pkg-config and the manual page have the version of getopts.h."""
+    shared = (prefix / "lib/libgetopts.so").resolve()
+    assert shared.name == f"libgetopts.so.{VERSION}"
+    assert re.search(rf"SONAME.*\[{SONAME}\]", run("readelf", "-d", shared)[0])
+    for module in ("getopts", "getopts-static"):
+        assert f"\nVersion: {VERSION}\n" in (prefix / f"lib/pkgconfig/{module}.pc").read_text()
+    assert f'"getopts {VERSION}"' in (prefix / "share/man/man3/getopts.3").read_text()
 
 
 def page_blocks(header):
@@ -546,13 +555,13 @@ def test_destdir_and_uninstall(shell, relative, copies, tmp_path):
 def test_uninstall_keeps_other_files(copies, tmp_path):
     """Other files stay, also the target of a link that is replaced; a folder in the place of a file is an error."""
     need_install()
-    to, others = tmp_path / "to", ["share/doc/getopts/others", "lib/libgetopts.so.2.others", "others.h"]
+    to, others = tmp_path / "to", ["share/doc/getopts/others", f"lib/{SONAME}.others", "others.h"]
     for other in others:
         (to / other).parent.mkdir(parents=True, exist_ok=True)
         (to / other).write_text("others'")
     (to / "include").mkdir()
     (to / "include/getopts.h").symlink_to(to / "others.h")
-    (to / "lib/libgetopts.so.2.0").write_text("an old version")
+    (to / f"lib/{SONAME}.0").write_text("an old version")
     run("sh", C / "install.sh", to, env=copies)
     assert (to / "include/getopts.h").read_bytes() == (C / "getopts.h").read_bytes()
     run("sh", C / "install.sh", "--uninstall", to)

@@ -5,7 +5,7 @@ import hashlib
 import importlib.util
 
 import pytest
-from conftest import ROOT, answer, copy_tree, kit, need_rustfmt, run
+from conftest import ROOT, answer, copy_tree, kit, need_rustfmt, other_version, run
 
 BUILD = "bindings/build.py"
 UP_TO_DATE = "bindings/shell is up to date\n", ""
@@ -22,7 +22,8 @@ def test_binaries_match_checksums(processor):
 @pytest.mark.rt
 def test_binaries_match_source():
     """A release has binaries of its own source. Until then they may be older, if they give the same answers."""
-    if answer(ROOT / BUILD, "--check", "shell")[1] and "\n## Unreleased\n" in (ROOT / "CHANGELOG.md").read_text():
+    unreleased = other_version() or "\n## Unreleased\n" in (ROOT / "CHANGELOG.md").read_text()
+    if unreleased and answer(ROOT / BUILD, "--check", "shell")[1]:
         pytest.skip("the shell binaries were built from older source: bindings/build.py builds them before a release")
     assert run(ROOT / BUILD, "--check", "shell") == UP_TO_DATE
 

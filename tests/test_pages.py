@@ -165,6 +165,28 @@ def test_oldest_rust(folder):
     assert f"Rust {oldest}" in row and f"Rust {oldest} or later" in pages[f"bindings/{folder}/README.md"]
 
 
+# How often each file names the version of this repository.
+VERSIONS = {"CHANGELOG.md": 1, "README.md": 1, "bindings/c/Cargo.toml": 1, "bindings/c/getopts.h": 2, "bindings/rust/Cargo.toml": 1,
+            "bindings/rust/README.md": 1, "bindings/rust/getopts/Cargo.toml": 2, "bindings/shell/Cargo.toml": 1,
+            "bindings/shell/src/program/answer.rs": 1, "crates/getopts_shell/specs/Program.antt": 1,
+            "crates/getopts_shell/src/answer.rt": 1, "tests/shell/answers.rows": 1}
+
+
+def test_versions():
+    """All parts have the same version. Only the package for patches has the crate's, and ours behind it."""
+    version = re.search(r"^## ([\d.]+)", pages["CHANGELOG.md"], re.M)[1]
+    place, found = re.compile(rf"(?<!\d)(?<!\d\.){re.escape(version)}(?!\.?\d)"), {}
+    for name in tracked:
+        # proved.sha256 has the version of the checked-in binaries.
+        if b"\0" not in (ROOT / name).read_bytes() and not name.endswith("proved.sha256") and place.search(read(name)):
+            found[name] = len(place.findall(read(name)))
+    assert found == VERSIONS
+    crate = re.search(r'GETOPTS_CRATE_VERSION "(.*)"', read("bindings/c/getopts.h"))[1]
+    for name in ("bindings/rust/README.md", "bindings/rust/getopts/Cargo.toml"):
+        assert f"{crate}+proved.{version}" in read(name)
+    assert f'"getopts {version}"' in run("awk", "-f", *(ROOT / f"bindings/c/{it}" for it in ("man.awk", "getopts.h", "getopts.h")))[0]
+
+
 def test_toolchain_is_named():
     """README names the logic with which the library is proved."""
     logic = re.search(r"logic (\w+)", read("bindings/shell/proved.sha256"))[1]

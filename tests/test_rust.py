@@ -210,7 +210,7 @@ def test_package(folder, tmp_path):
     cargo(folder, "package", "--allow-dirty")
     for crate in REGISTRY.glob("unicode-width-*"):
         (tmp_path / crate.name).symlink_to(crate)
-    archive, = folder.glob("target/package/proved-getopts-0.2.24+proved.*.crate")
+    archive, = folder.glob("target/package/proved-getopts-*.crate")
     shutil.unpack_archive(archive, tmp_path, "gztar")
     (tmp_path / archive.stem / ".cargo-checksum.json").write_text('{"files": {}}')
     if offline():

@@ -33,7 +33,7 @@
 
 /* The version of this header. A program compiled with it can run with this version of the library,
  * and with later versions that have the same major number. */
-#define GETOPTS_VERSION "2.2.0"
+#define GETOPTS_VERSION "1.0.0"
 
 /* The version of the Rust crate getopts whose rules the library follows. */
 #define GETOPTS_CRATE_VERSION "0.2.24"
@@ -210,7 +210,7 @@ int getopts_canonical(const struct getopts *options, int count, char *const *wor
 /* Frees options, and all results that are valid until the next getopts_read. NULL is allowed. */
 void getopts_delete(struct getopts *options);
 
-/* The version of the library that the program runs with, such as "2.2.0". */
+/* The version of the library that the program runs with, such as "1.0.0". */
 const char *getopts_version(void);
 
 #ifdef __cplusplus

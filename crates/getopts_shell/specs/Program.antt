@@ -457,7 +457,7 @@ AnswersFree asked words answer =
 -- This is the answer to the program's own words, which have these matches.
 abbrev pub AnswersOwn : Matched → Answer → Type 0
 AnswersOwn own answer = MatchBool (is_given own (codes "help")) (answer ≡ done own_help)
-    (MatchBool (is_given own (codes "version")) (answer ≡ done (codes "getopts_shell 0.4.0\n"))
+    (MatchBool (is_given own (codes "version")) (answer ≡ done (codes "getopts_shell 1.0.0\n"))
     (AnswersFree (asked_by own) own.free answer))
 
 -- This is the answer to the program's words.

@@ -59,7 +59,7 @@ const BRIEF: &str = "Usage: getopts_shell [options] NAME TABLE [WORD]..\n\n\
     Parses each WORD as TABLE describes, and prints shell code to be run by eval.";
 
 /// What `--version` writes.
-const VERSION: &str = "getopts_shell 0.4.0\n";
+const VERSION: &str = "getopts_shell 1.0.0\n";
 
 /// What is written if the name or the table is missing.
 const NEEDED: &str = "getopts_shell: NAME and TABLE are required (see --help)\n";
