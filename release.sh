@@ -1,0 +1,36 @@
+#!/usr/bin/env bash
+# Checks this repository, and writes the files of a release to tests/out/release. It publishes nothing.
+# usage: release.sh VERSION [CRATE]
+#
+# CHANGELOG.md must begin with "## VERSION, DATE". CRATE is a folder with the Rust crate getopts 0.2.24, to compare with.
+# TESTED=1 leaves out the tests, which take hours. It needs rt, cargo 1.84 or later, and root on Debian 12.
+set -euo pipefail
+stop() { echo "release.sh: $1" >&2; exit 1; }
+case ${1:-} in
+--help | -h) sed -n '2,/^[^#]/s/^# \{0,1\}//p' "$0"; exit ;;
+'' | -*) stop "usage: release.sh VERSION [CRATE]" ;;
+esac
+version=$1 crate=${2:+$(cd -- "$2" && pwd)}
+cd "$(dirname "$0")"
+out=$PWD/tests/out/release name=getopts-$version
+unchanged() { [ -z "$(git status --porcelain)" ] || stop "there are uncommitted changes: release a clean clone"; }
+unchanged
+! git rev-parse -q --verify "refs/tags/$version" >/dev/null || stop "the tag $version exists"
+heading=$(grep -m1 '^## ' CHANGELOG.md)
+[[ $heading =~ ^"## $version, "[0-9]{4}-[0-9]{2}-[0-9]{2}$ ]] ||
+    stop "CHANGELOG.md begins with '$heading', not '## $version, DATE'"
+bash test.sh --quick --no-install -k versions -q
+bindings/build.py --check
+if [ -z "${TESTED:-}" ]; then
+    bash test.sh ${crate:+"$crate"}
+    bash test.sh -k rejected --release -n 3
+    tests/fresh.sh
+    unchanged
+fi
+rm -rf "$out" && mkdir -p "$out/target"
+git -c tar.tar.gz.command='gzip -9n' archive --format=tar.gz --prefix="$name/" -o "$out/$name.tar.gz" HEAD
+cargo package --quiet --no-verify --exclude-lockfile --manifest-path bindings/rust/Cargo.toml --target-dir "$out/target"
+mv "$out"/target/package/*.crate "$out" && rm -rf "$out/target"
+for machine in x86_64 aarch64; do cp "bindings/shell/$machine/getopts_shell" "$out/getopts_shell-$version-$machine"; done
+(cd "$out" && sha256sum -- * >SHA256SUMS && cat SHA256SUMS)
+echo "release.sh: all is checked. Now run: git tag -s $version && gpg --armor --detach-sign $out/SHA256SUMS"
