@@ -4,7 +4,8 @@
 usage: real.py OUT [--getopts FOLDER]
 
 Runs both builds of each program on some hundred command lines, and prints how many differ in exit status, standard
-output or standard error. FOLDER has the Rust crate getopts; without it, Debian's version 0.2.21 is used.
+output or standard error. Without --getopts, the crate is Debian's getopts 0.2.21. FOLDER has another version, such as
+0.2.24.
 
 Run it as root: it downloads Debian's packages of the sources and of the crates that they need, and unpacks them in the
 folder OUT, but installs nothing. It needs cargo and a C compiler, and some minutes of processor time.
@@ -82,8 +83,9 @@ def build(out, kind, crate):
     (out / "work/Cargo.lock").unlink(missing_ok=True)
     names = [program for program, *_ in PROGRAMS.values()]
     words = [word for name in names for word in ("--bin" if name in PROGRAMS else "--example", name)]
+    # Cargo looks for configurations above the current folder, and other users may put some into /tmp.
     run("cargo", "build", "--release", "--quiet", "--offline", "--config", 'source.crates-io.replace-with="debian"',
-        "--config", f'source.debian.directory="{out}/registry"', *words, cwd=out / "work",
+        "--config", f'source.debian.directory="{out}/registry"', "--manifest-path", out / "work/Cargo.toml", *words, cwd="/",
         env={**os.environ, "RUSTFLAGS": "--cap-lints=warn -Awarnings", "CARGO_TARGET_DIR": str(out / "target")})
     (out / kind).mkdir(exist_ok=True)
     for name in names:
@@ -132,8 +134,11 @@ def compare(out):
         print(f"{program:<16}{len(options):>8}{len(pairs):>7}{accepted:>10}{len(differing):>8}", *differing[:3])
 
 
-def main(out, flag="--getopts", crate=None):
+def main(out, crate=None):
     out = Path(out).resolve()
+    out.mkdir(mode=0o700, parents=True, exist_ok=True)
+    if out.stat().st_uid != os.getuid() or out.stat().st_mode & 0o022:
+        sys.exit(f"real.py: other users may write to {out}: name a new folder")
     fetch(out)
     copy_sources(out)
     build(out, "crate", crate and Path(crate).resolve())
@@ -142,4 +147,10 @@ def main(out, flag="--getopts", crate=None):
 
 
 if __name__ == "__main__":
-    main(*sys.argv[1:]) if len(sys.argv) in (2, 4) else sys.exit(__doc__)
+    words = sys.argv[1:]
+    if words[:1] in (["--help"], ["-h"]):
+        print(__doc__.strip())
+    elif words and words[0][:1] not in ("", "-") and (len(words) == 1 or len(words) == 3 and words[1] == "--getopts"):
+        main(words[0], *words[2:])
+    else:
+        sys.exit("usage: real.py OUT [--getopts FOLDER]")
