@@ -12,7 +12,15 @@
 # rt, --quick leaves out the tests that need it. -k runs only the tests that match NAME, and accepts pytest's flags.
 set -uo pipefail
 start=$SECONDS quick=() install=1 absent=tests/out/absent
-for flag; do case $flag in --quick) quick=(--quick) ;; --no-install) install='' ;; *) break ;; esac; shift; done
+for flag; do
+    case $flag in
+    --help | -h) sed -n '2,/^[^#]/s/^# \{0,1\}//p' "$0"; exit ;;
+    --quick) quick=(--quick) ;;
+    --no-install) install='' ;;
+    *) break ;;
+    esac
+    shift
+done
 stop() { echo "test.sh: $1" >&2; exit 2; }
 # Other users could put programs into a cache below /tmp.
 [ "${XDG_CACHE_HOME:-${HOME:-}}" ] || stop "set HOME or XDG_CACHE_HOME"

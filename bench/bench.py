@@ -300,6 +300,8 @@ def main(words):
             sys.exit("bench.py: --getopts needs a folder with the Rust crate getopts")
         getopts = words[2] if words[1:2] == ["--getopts"] else None
         tables(words[0], getopts, words[3 if getopts else 1:])
+    elif words[:1] in (["--help"], ["-h"]):
+        print(__doc__.strip())
     else:
         sys.exit(__doc__)
 

@@ -7,6 +7,10 @@ usage: chart.py [FOLDER]     writes both files to a folder, by default to this o
 import sys
 from pathlib import Path
 
+if sys.argv[1:2] in (["--help"], ["-h"]):
+    # Also without matplotlib.
+    sys.exit(print(__doc__.strip()))
+
 import matplotlib
 import matplotlib.pyplot as plt
 from matplotlib.ticker import NullLocator

@@ -115,6 +115,8 @@ def shell(check):
 
 
 def main(words):
+    if words[:1] in (["--help"], ["-h"]):
+        return print(__doc__.strip())
     if words[:1] == ["--link"]:
         return link(*words[1:])
     check = "--check" in words

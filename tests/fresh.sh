@@ -9,6 +9,7 @@
 #
 # The bare system is kept in tests/out, as a file for each list of packages.
 set -euo pipefail
+case ${1:-} in --help | -h) sed -n '2,/^[^#]/s/^# \{0,1\}//p' "$0"; exit ;; esac
 with=''
 [ "${1:-}" != --with ] || { with=,$2; shift 2; }
 cd "$(dirname "$0")/.."

@@ -417,6 +417,26 @@ def test_shell_scripts():
     run("shellcheck", *scripts, cwd=ROOT)
 
 
+scripts = [name for name in tracked if (ROOT / name).read_bytes().startswith(b"#!")]
+
+
+def test_scripts_are_executable():
+    """Scripts, and files that a page runs, with or without their folder."""
+    runs = re.findall(r"(?:^ {4}|[`(]|\w=\S+ )(?:\./)?(?!test_)([\w./-]+\.(?:sh|py))(?= [^`|])", "\n".join(pages.values()), re.M)
+    assert {"bindings/rust/erase.py", "tests/differential/real.py", "bindings/c/install.sh"} <= set(runs)
+    files = scripts + [name for name in tracked for path in runs if f"/{name}".endswith(f"/{path}")]
+    assert_none(f"{name} isn't executable" for name in files if not os.access(ROOT / name, os.X_OK))
+
+
+@pytest.mark.parametrize("name", [name for name in scripts if not re.match(r"\.ci/|bindings/shell/examples/", name)])
+def test_help_of_scripts(name, tmp_path):
+    """--help and -h print how a script is called, and do nothing else."""
+    for word in ("--help", "-h"):
+        words = ["env", "-i", "PATH=/usr/bin:/bin", f"HOME={tmp_path}", f"TMPDIR={tmp_path}", ROOT / name, word]
+        said, errors = run(*words, cwd=tmp_path)
+        assert os.path.basename(name) in said and errors == "" and not [*tmp_path.iterdir()]
+
+
 def test_folders_of_others(tmp_path):
     """Tests start programs in no folder in which, or above which, other users may put files. Without a home, test.sh stops:
     it would use /tmp/.cache."""

@@ -610,6 +610,8 @@ def sources():
 
 
 def main(arguments):
+    if arguments in (["--help"], ["-h"]):
+        return print(__doc__.strip())
     if arguments not in ([], ["--check"]):
         print("usage: bindings/rust/erase.py [--check]", file=sys.stderr)
         return 2
@@ -632,6 +634,8 @@ def main(arguments):
                 (folder / file).write_text(files[file], encoding="utf-8")
             else:
                 (folder / file).unlink()
+    if arguments and status == 0:
+        print("the erased Rust is up to date")
     return status
 
 

@@ -100,4 +100,6 @@ def main(source, folder):
 
 
 if __name__ == "__main__":
-    sys.exit(main(*sys.argv[1:]))
+    if len(sys.argv) == 3:
+        sys.exit(main(*sys.argv[1:]))
+    sys.exit(print(__doc__.strip()) if sys.argv[1:] in (["--help"], ["-h"]) else __doc__)
