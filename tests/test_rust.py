@@ -164,7 +164,7 @@ def folder(tmp_path_factory):
 
 
 @pytest.mark.parametrize("features, tests, programs", [
-    ("std,unicode,proved", [], 9), ("std", ["--tests"], 7), ("proved", [], 5)])
+    ("std,unicode,proved", [], 8), ("std", ["--tests"], 6), ("proved", [], 4)])
 def test_own_tests_of_the_crate(folder, features, tests, programs):
     said, _ = cargo(folder, "test", "--no-default-features", "--features", features, *tests)
     assert len(passed(said)) == programs
@@ -263,15 +263,18 @@ def answers_of_parse_os(modes, _, rows, names, words):
     yield from [*free, start] if len(kept) == 3 else []
 
 
-def test_answers_of_parse_os(folder, cases, tmp_path):
+def with_named_kinds(rows):
+    return [[*row[:4], model.KINDS[row[4] % 4], model.OCCURS[row[4] // 4]] for row in rows]
+
+
+def test_answers_of_parse_os(ours, cases):
     """On random tables and words of any bytes, `parse_os` and what follows it answer as the model does."""
     rng, chosen = random.Random(1), []
     for modes, columns, rows, wrong, words in (test_c.random_case(rng) for _ in range(cases(10_000))):
         names = ["nope", *(name for row in rows for name in row[:2] if name)]
         chosen += [(modes, columns, rows, [*map(test_c.in_bytes, names)], [*map(test_c.in_bytes, words)])] if wrong is None else []
-    (tmp_path / "cases").write_bytes(b"".join(test_c.fields_of(*case) for case in chosen))
-    cargo(folder, "test", "--release", "--test", "answers", env={"CASES": str(tmp_path / "cases")})
-    printed = iter((tmp_path / "cases").read_bytes().split(b"\0"))
+    fields = b"".join(test_c.fields_of(modes, columns, with_named_kinds(rows), *more) for modes, columns, rows, *more in chosen)
+    printed = iter(subprocess.run([ours, "os"], input=fields, stdout=subprocess.PIPE, check=True).stdout.split(b"\0"))
     for case in chosen:
         for nth, wanted in enumerate(answers_of_parse_os(*case)):
             assert next(printed) == test_c.said(wanted), (case, nth, wanted)

@@ -6,6 +6,8 @@ mod check;
 mod form;
 mod generate;
 mod options;
+#[cfg(all(feature = "canonical", unix))]
+mod os;
 mod panics;
 mod random;
 mod tables;
@@ -18,6 +20,7 @@ const USE: &str = "reference generate SEED COUNT     prints the first COUNT case
 reference answer                  prints the cases on its standard input as rows with answers
 reference check ROWS [WORD..]     answers rows and compares stored answers; status 1 if one differs. Skips lines that begin
                                   with one of these words
+reference os                      answers tables and words of any bytes, with the feature canonical on Unix
 reference panics                  prints the messages of panics";
 
 fn number(word: Option<&String>) -> u64 {
@@ -55,6 +58,12 @@ fn main() -> ExitCode {
             if !check::check(&text_of(words.get(1)), &words[2..]) {
                 return ExitCode::FAILURE;
             }
+        }
+        #[cfg(all(feature = "canonical", unix))]
+        Some("os") => {
+            let mut input = Vec::new();
+            std::io::Read::read_to_end(&mut std::io::stdin(), &mut input).expect("an input");
+            out.write_all(&os::answers(&input)).expect("a write");
         }
         Some("panics") => {
             for line in panics::lines() {

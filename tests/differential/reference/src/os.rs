@@ -1,13 +1,14 @@
-//! Answers the cases of tests/test_c.py, so that tests/test_rust.py can compare the answers with
-//! tests/model.py. A case is a table and words, in strings that end with a zero byte: `-` for NULL,
-//! or `=` and bytes. So are the answers.
-#![cfg(all(feature = "std", unix))]
+//! Answers of `parse_os` to cases, which `tests/test_rust.py` compares with `tests/model.py`.
+//! A case is a table and words, in strings that end with a zero byte: `-` for none, or `=` and
+//! bytes. So are the answers.
 
-use getopts::{HasArg, Occur, Options, ParsingStyle};
+use crate::form::Line;
+use crate::options::Group;
+use getopts::{Options, ParsingStyle};
 use std::ffi::{OsStr, OsString};
 use std::os::unix::ffi::{OsStrExt, OsStringExt};
 
-/// The next string of the input, unless that is NULL or has ended.
+/// The next string of the input, unless that is none or the input has ended.
 fn next(input: &mut &[u8]) -> Option<OsString> {
     let end = input.iter().position(|byte| *byte == 0)?;
     let (field, rest) = (input[..end].strip_prefix(b"="), &input[end + 1..]);
@@ -35,23 +36,18 @@ fn answer(input: &mut &[u8], out: &mut Vec<u8>) {
     );
     options.long_only(modes / 32 % 2 == 1);
     for _ in 0..number(input) {
-        let [short, long, hint, desc] = [(); 4].map(|()| text(input));
-        let kind = number(input);
-        let hasarg = [HasArg::No, HasArg::Yes, HasArg::Maybe][kind % 4];
-        options.opt(
-            &short,
-            &long,
-            &desc,
-            &hint,
-            hasarg,
-            [Occur::Optional, Occur::Req, Occur::Multi][kind / 4],
-        );
+        let [short, long, hint, desc, kind, occur] = [(); 6].map(|()| text(input));
+        let line = Line::new(&["opt", &short, &long, &desc, &hint, &kind, &occur]);
+        Group::of_line(&line).expect("a group").add(&mut options);
     }
     let names: Vec<_> = std::iter::from_fn(|| next(input)).collect();
     let words: Vec<_> = std::iter::from_fn(|| next(input)).collect();
     let message = options.parse_os(&words).err().map(|fail| fail.to_string());
     say(out, message.as_deref().map(OsStr::new));
-    let Ok(matches) = options.parse_os_ignoring_counts(&words) else { return };
+    let matches = match options.parse_os_ignoring_counts(&words) {
+        Ok(matches) => matches,
+        Err(_) => return,
+    };
     for name in
         names.iter().filter_map(|name| name.to_str()).filter(|name| matches.opt_defined(name))
     {
@@ -71,13 +67,11 @@ fn answer(input: &mut &[u8], out: &mut Vec<u8>) {
     );
 }
 
-#[test]
-fn answers() {
-    let Some(file) = std::env::var_os("CASES") else { return };
-    let (cases, mut out) = (std::fs::read(&file).unwrap(), Vec::new());
-    let mut input = &cases[..];
+/// The answers to all cases of an input.
+pub fn answers(mut input: &[u8]) -> Vec<u8> {
+    let mut out = Vec::new();
     while !input.is_empty() {
         answer(&mut input, &mut out);
     }
-    std::fs::write(file, out).unwrap();
+    out
 }
