@@ -22,10 +22,10 @@
 //!
 //! - `case NAME`: no groups, the style `floating`, the mode `ordinary`, no words, nothing kept
 //! - `style floating` or `style stop`; `mode ordinary` or `mode long-only`
-//! - `opt SHORT LONG DESC HINT KIND OCCUR`, also `add_group`: KIND is `yes`, `no` or `maybe`, and
-//!   OCCUR is `req`, `optional` or `multi`
-//! - `optflag SHORT LONG DESC`, also `optflagmulti`
-//! - `optflagopt SHORT LONG DESC HINT`, also `optmulti`, `optopt` and `reqopt`
+//! - `opt SHORT LONG DESC HINT KIND OCCUR`, also `add_group`: KIND and OCCUR are variants of
+//!   `HasArg` and `Occur` in small letters, such as `yes` and `multi`
+//! - the other calls that add an option, such as `optflag SHORT LONG DESC` and `optopt SHORT LONG
+//!   DESC HINT`, with the call's arguments
 //! - `chained`: declares seven options, a style and a mode in one chain of calls
 //! - `keep`: keeps a copy of the options and of the result of the last `words`
 //! - `anew`: returns to the state after `case`, except for what is kept
