@@ -1,21 +1,28 @@
--- Flags of which the last one wins: the options, and how much output a command line asks for.
-use Rattle.std.specs.Prelude.{◌≡◌, ◌==◌, if◌then◌else◌, false, ℕ, List, [], ◌∷◌, codes}
+-- Help, a value, and flags of which the last one wins: the options, and what words ask for.
+use Rattle.std.specs.Prelude.{◌≡◌, ◌==◌, ⊤, if◌then◌else◌, false, ℕ, List, [], ◌∷◌, codes, map}
 use Rattle.std.specs.Prelude.{Option, Some, None, Result, Ok, Err, unwrap_or}
-use Rattle.getopts.specs.Prelude.{Declared, Fault, IsOutOfMemoryOr, group_of}
+use Rattle.std.specs.Option.{option_map}
+use Rattle.std.specs.String.{string_bytes}
+use Rattle.getopts.specs.Prelude.{Declared, Fault, IsOutOfMemoryOr, Matched, first_value, group_of}
+use Rattle.getopts.specs.Prelude.{occurrences_of_name}
 use Rattle.getopts.specs.declared.fail.Fail.{Fail}
 use Rattle.getopts.specs.declared.kinds.HasArg.TheVariants.{No, Yes}
 use Rattle.getopts.specs.declared.kinds.Occur.TheVariants.{Optional, Multi}
 use Rattle.getopts.specs.declared.kinds.ParsingStyle.TheVariants.{FloatingFrees}
+use Rattle.getopts.specs.declared.request.Request.{Request}
+use Rattle.getopts.specs.declared.request.Request.TheVariants.{Help, Parsed, Version}
 use Rattle.getopts_uses.specs.declared.loudness.Loudness.{Loudness}
 use Rattle.getopts_uses.specs.declared.loudness.Loudness.TheVariants.{Normal, Quiet, Verbose}
+use Rattle.getopts_uses.specs.declared.loudness.Report.{Report}
 
--- two flags, and an option with a value
-abbrev pub loudness_options : Declared
-loudness_options = record {
+-- two flags, an option with a value, and help
+abbrev pub report_options : Declared
+report_options = record {
   groups =
       group_of (codes "q") (codes "quiet") (codes "say less") [] No Multi
       ∷ group_of (codes "v") (codes "verbose") (codes "say more") [] No Multi
       ∷ group_of (codes "o") (codes "output") (codes "write to FILE") (codes "FILE") Yes Optional
+      ∷ group_of (codes "h") (codes "help") (codes "print this help") [] No Optional
       ∷ [];
   style = FloatingFrees;
   long_only = false;
@@ -36,3 +43,20 @@ abbrev pub IsLoudnessOrError : Result (List ℕ) Fault → Result Loudness Fail 
 IsLoudnessOrError line (Err fail) = IsOutOfMemoryOr fail (λ fault. line ≡ Err fault)
 IsLoudnessOrError (Ok places) (Ok loudness) = loudness ≡ after Normal places
 IsLoudnessOrError (Err fault) (Ok loudness) = ⊥
+
+-- This is the report that matches ask for, with this much output.
+pub record IsReportOf (matches : Matched) (loudness : Loudness) (report : Report) : Type 0 where
+  pub loud : report.loudness ≡ loudness
+  pub output : option_map string_bytes report.output
+      ≡ first_value (occurrences_of_name matches.groups (codes "output"))
+  pub files : map string_bytes report.files.items ≡ matches.free
+
+-- The places are those of the options, in the order in which they were typed.
+-- This is what a command line asks for, or its error.
+abbrev pub IsAskedOrError : Result (Request Matched) Fault → Result (List ℕ) Fault
+    → Result (Request Report) Fail → Type 0
+IsAskedOrError asked line (Err fail) = IsOutOfMemoryOr fail (λ fault. asked ≡ Err fault)
+IsAskedOrError (Ok Help) line (Ok Help) = ⊤
+IsAskedOrError (Ok (Parsed matches)) (Ok places) (Ok (Parsed report)) =
+    IsReportOf matches (after Normal places) report
+IsAskedOrError asked line result = ⊥

@@ -7,7 +7,7 @@ use crate::checked::read_settings;
 use crate::flag::says_more;
 use crate::lists::{any_given, count_of, place_named};
 use crate::logged::{read_and_log, read_build};
-use crate::loudness::loudness_of;
+use crate::loudness::read_report;
 use crate::output::output_of;
 use crate::plugin::add_flag;
 use crate::subcommand::read_run;
@@ -52,7 +52,7 @@ fn push_caller(
         "logged" => push(text, read_and_log(alloc, words)),
         "replayed" => push_replayed(alloc, text, words),
         "checked" => push(text, read_settings(alloc, words)),
-        "loudness" => push(text, loudness_of(alloc, words)),
+        "report" => push(text, read_report(alloc, words)),
         "wrapper" => push(text, handed_on(alloc, words)),
         "command" => push(text, read_run(alloc, words)),
         "add_help" => push(text, add::help_text(alloc)),

@@ -1,13 +1,16 @@
-//! Flags of which the last one wins: how much to print, by `-q` and `-v` in the order in which they
-//! were typed.
+//! Help, a value, and flags of which the last one wins: how much to print, by `-q` and `-v` in the
+//! order in which they were typed.
 
-ghost use Rattle.std.specs.Prelude.{◌≡◌, [], ◌∷◌, codes, map, IfOk, Ok};
+ghost use Rattle.std.specs.Prelude.{◌≡◌, [], ◌∷◌, codes, map, Err, IfErr, IfOk, Ok};
 ghost use Rattle.std.specs.Result.{result_map_both};
-ghost use Rattle.getopts.specs.Prelude.{parse_in_order_result};
-ghost use Rattle.getopts_uses.specs.Loudness.{IsLoudnessOrError, after, loudness_at, loudness_options};
+ghost use Rattle.getopts.specs.Prelude.{FitOptionsAndCounts, IsOutOfMemoryOr};
+ghost use Rattle.getopts.specs.Prelude.{parse_in_order_result, parse_request_result, parse_result};
+ghost use Rattle.getopts.specs.declared.request.Request.TheVariants.{Help};
+ghost use Rattle.getopts_uses.specs.Loudness.{IsAskedOrError, IsLoudnessOrError, IsReportOf, after};
+ghost use Rattle.getopts_uses.specs.Loudness.{loudness_at, report_options};
 ghost use Rattle.getopts_uses.specs.declared.loudness.Loudness.TheVariants.{Normal, Quiet, Verbose};
 
-use getopts::{Fail, Options};
+use getopts::{Fail, Matches, Options, Request};
 use std::alloc::{AllocError, Global};
 use std::convert::AsStr;
 
@@ -19,32 +22,62 @@ pub enum Loudness {
     Verbose,
 }
 
-/// The options. The value of the last one may look like a flag.
+/// What to report, and where.
+#[derive(Debug, Drop)]
+pub struct Report {
+    pub loudness: Loudness,
+    pub output: Option<String>,
+    pub files: Vec<String>,
+}
+
+/// The options. The value of `--output` may look like a flag.
 fn options(alloc: Global) -> Result<Options, AllocError>
-    ensures { IfOk result (λ options. options ≡ loudness_options) }
+    ensures { IfOk result (λ options. options ≡ report_options) }
 {
     let mut options = Options::new(alloc);
     options
         .optflagmulti("q", "quiet", "say less")?
         .optflagmulti("v", "verbose", "say more")?
-        .optopt("o", "output", "write to FILE", "FILE")?;
+        .optopt("o", "output", "write to FILE", "FILE")?
+        .optflag("h", "help", "print this help")?;
     Ok(options)
 }
 
-/// Two command lines written out: the last flag wins, even within a word.
-fn loudness_of_lines()
+/// Three command lines written out: the last flag wins, even within a word, and help wins over all.
+#[tactic(auto, unfolding(getopts::proofs::OnLiterals::getopts_on_literals))]
+fn lines_written_out()
     ensures verbose { result_map_both (after Normal) (λ fault. fault) (parse_in_order_result
-        loudness_options (codes "-qv" ∷ codes "x" ∷ [])) ≡ Ok Verbose }
+        report_options (codes "-qv" ∷ codes "x" ∷ [])) ≡ Ok Verbose }
     ensures quiet { result_map_both (after Normal) (λ fault. fault) (parse_in_order_result
-        loudness_options (codes "-vq" ∷ codes "-o" ∷ codes "-v" ∷ [])) ≡ Ok Quiet }
+        report_options (codes "-vq" ∷ codes "-o" ∷ codes "-v" ∷ [])) ≡ Ok Quiet }
+    ensures help { parse_request_result report_options (codes "-vh" ∷ codes "-ox" ∷ []) ≡ Ok Help }
 {}
+
+/// What a command line asks for: help, or a report. The words are parsed twice. By the clauses
+/// `parsed` and `same_error`, the second call fails only if memory runs out.
+pub fn read_report<S: AsStr>(alloc: Global, words: &[S]) -> Result<Request<Report>, Fail>
+    ensures result { IsAskedOrError (parse_request_result report_options (map S.text words.now))
+        (parse_in_order_result report_options (map S.text words.now)) result }
+{
+    let options = options(alloc)?;
+    match options.parse_request(alloc, words)? {
+        Request::Help => Ok(Request::Help),
+        Request::Version => Ok(Request::Version),
+        Request::Parsed(matches) => {
+            let loudness = loudness_of(alloc, &options, words)?;
+            Ok(Request::Parsed(report_of(alloc, matches, loudness)?))
+        }
+    }
+}
 
 /// How much output a command line asks for: the last of `-q` and `-v` wins, even in `-qv`, in which
 /// both have the same position.
-pub fn loudness_of<S: AsStr>(alloc: Global, words: &[S]) -> Result<Loudness, Fail>
-    ensures result { IsLoudnessOrError (parse_in_order_result loudness_options (map S.text words.now)) result }
+fn loudness_of<S: AsStr>(alloc: Global, options: &Options, words: &[S]) -> Result<Loudness, Fail>
+    ensures result { IsLoudnessOrError (parse_in_order_result options.now (map S.text words.now)) result }
+    ensures same_error { IfErr result (λ fail. IsOutOfMemoryOr fail (λ fault.
+        parse_result options.now (map S.text words.now) ≡ Err fault)) }
 {
-    let places = options(alloc)?.parse_in_order(alloc, words)?;
+    let places = options.parse_in_order(alloc, words)?;
     Ok(last_of(&places))
 }
 
@@ -68,4 +101,16 @@ fn loudness_at(place: usize) -> Option<Loudness>
         1 => Some(Loudness::Verbose),
         _ => None,
     }
+}
+
+/// The report that matches ask for, with this much output.
+fn report_of(alloc: Global, matches: Matches, loudness: Loudness) -> Result<Report, AllocError>
+    requires { FitOptionsAndCounts report_options matches.groups }
+    ensures { IfOk result (IsReportOf matches loudness) }
+{
+    Ok(Report {
+        loudness,
+        output: matches.opt_str(alloc, "output")?,
+        files: matches.free,
+    })
 }
