@@ -5,6 +5,7 @@ ghost use Rattle.getopts.specs.Prelude.{Declares};
 
 use crate::checked::read_settings;
 use crate::flag::says_more;
+use crate::join::join;
 use crate::lists::{any_given, count_of, place_named};
 use crate::logged::{read_and_log, read_build};
 use crate::loudness::read_report;
@@ -52,6 +53,7 @@ fn push_caller(
         "logged" => push(text, read_and_log(alloc, words)),
         "replayed" => push_replayed(alloc, text, words),
         "checked" => push(text, read_settings(alloc, words)),
+        "join" => push_joined(alloc, text, words),
         "report" => push(text, read_report(alloc, words)),
         "wrapper" => push(text, handed_on(alloc, words)),
         "command" => push(text, read_run(alloc, words)),
@@ -61,6 +63,15 @@ fn push_caller(
         "output" => push(text, output_of(alloc, words)),
         "driver" => push(text, driver::read_job(alloc, words)),
         _ => push_given(alloc, text, caller, words),
+    }
+}
+
+/// Appends what `join` prints for words.
+fn push_joined(alloc: Global, text: &mut String, words: &[&str]) -> Result<(), AllocError> {
+    let mut out = Vec::<u8>::new(alloc);
+    match join(alloc, words, &mut out) {
+        Ok(()) => text.push_str(str::from_utf8(&out).unwrap_or("not UTF-8")),
+        Err(_) => Err(AllocError),
     }
 }
 

@@ -10,6 +10,7 @@ mod cases;
 mod checked;
 mod driver;
 mod flag;
+mod join;
 mod lists;
 mod log;
 mod logged;
