@@ -117,6 +117,12 @@ def times():
                  *([*shown, span(command, 1), span(command, 2)] for command, shown in commands.items()))
 
 
+def compared():
+    """The library's page: the recorded cases, in which the Rust crate answered."""
+    cases = len(re.findall(r"^case\t", read("crates/getopts_vectors/data/recorded.rows"), re.M))
+    return f"The definitions describe the Rust crate: its answers to {cases:,} recorded cases, and to random ones, are the same."
+
+
 def lines_in(folder, *omitted):
     """The lines of a folder of the library, rounded to hundreds, without comments, imports and blank lines."""
     start = f"crates/getopts/{folder}/"
@@ -143,7 +149,8 @@ def quoted_contracts():
 
 
 # What --fix writes between `<!-- generated: NAME -->` and `<!-- end -->`.
-GENERATED = {make.__name__: make for make in (help_text, usage_example, speed, speed_in_c, memory, times, sizes, quoted_contracts)}
+GENERATED = {make.__name__: make for make in (help_text, usage_example, speed, speed_in_c, memory, times, compared, sizes,
+                                              quoted_contracts)}
 
 
 @pytest.mark.parametrize("page", pages)
@@ -192,9 +199,9 @@ def test_versions():
 
 
 def test_toolchain_is_named():
-    """README names the logic with which the library is proved."""
+    """README and the library's page name the logic with which the library is proved."""
     logic = re.search(r"logic (\w+)", read("bindings/shell/proved.sha256"))[1]
-    assert f"logic {logic}`" in pages["README.md"]
+    assert f"logic {logic}`" in pages["README.md"] and f"logic {logic}`" in pages["crates/getopts/README.md"]
 
 
 def joined(text):
