@@ -117,6 +117,11 @@ def times():
                  *([*shown, span(command, 1), span(command, 2)] for command, shown in commands.items()))
 
 
+def first_output():
+    """README: what its first command prints."""
+    return f"```text\n{read('crates/getopts_show/stdout')}```"
+
+
 def compared():
     """The library's page: the recorded cases, in which the Rust crate answered."""
     cases = len(re.findall(r"^case\t", read("crates/getopts_vectors/data/recorded.rows"), re.M))
@@ -149,8 +154,8 @@ def quoted_contracts():
 
 
 # What --fix writes between `<!-- generated: NAME -->` and `<!-- end -->`.
-GENERATED = {make.__name__: make for make in (help_text, usage_example, speed, speed_in_c, memory, times, compared, sizes,
-                                              quoted_contracts)}
+GENERATED = {make.__name__: make for make in (help_text, usage_example, speed, speed_in_c, memory, times, first_output,
+                                              compared, sizes, quoted_contracts)}
 
 
 @pytest.mark.parametrize("page", pages)
@@ -257,9 +262,10 @@ examples = sources | {name: read(name) for name in tracked if name.startswith("b
 
 
 def test_first_command():
-    """README has the command that tests/fresh.sh looks for and runs."""
+    """README has the command that tests/fresh.sh looks for and runs, with the words for which `stdout` has the output."""
+    words = " ".join(read("crates/getopts_show/args").split())
     first = re.search(r"^ *\(cd .*rt try.*", pages["README.md"], re.M)[0]
-    assert first == "    (cd crates/getopts_show && rt try -- --output=x.txt --verbose in.txt)"
+    assert first == f"    (cd crates/getopts_show && rt try -- {words})"
 
 
 @pytest.mark.parametrize("page, block", blocks, ids=[f"{page}-{at}" for at, (page, _) in enumerate(blocks)])
