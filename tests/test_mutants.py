@@ -127,9 +127,9 @@ def rejected(crate, mutants, copy):
 @pytest.mark.timeout(6 * 3600)
 @pytest.mark.parametrize("crate", FOR_RELEASE)
 def test_mutants_are_rejected(crate, tmp_path, request):
-    """In copies with at most 20, side by side. Each first proves the crate, which for `getopts` takes as long as 15."""
+    """In copies with at most 25, side by side. Each first proves the crate, which for `getopts` takes as long as 15."""
     mutants = sorted(it for it in MUTANTS if it.parts[-3:-1] == (crate, "mutants"))
-    lanes, (checksum, file) = -(-len(mutants) // 20), contracts(crate)
+    lanes, (checksum, file) = -(-len(mutants) // 25), contracts(crate)
     if crate != "getopts":
         # Proves the library, unless an earlier command did: `rt ci` leaves none that other commands use.
         run("nice", "rt", "check", cwd=ROOT / "crates/getopts_bytes")
