@@ -33,4 +33,4 @@ cargo package --quiet --no-verify --exclude-lockfile --manifest-path bindings/ru
 mv "$out"/target/package/*.crate "$out" && rm -rf "$out/target"
 for machine in x86_64 aarch64; do cp "bindings/shell/$machine/getopts_shell" "$out/getopts_shell-$version-$machine"; done
 (cd "$out" && sha256sum -- * >SHA256SUMS && cat SHA256SUMS)
-echo "release.sh: all is checked. Now run: git tag -s $version && gpg --armor --detach-sign $out/SHA256SUMS"
+echo "release.sh: all is checked. Now run: git tag -s $version && gpg --armor --detach-sign '$out/SHA256SUMS'"

@@ -298,7 +298,7 @@ def test_sentence_on_page(program, one_shell, row):
 @pytest.fixture
 def open_room():
     """A folder that every user can read and write."""
-    with tempfile.TemporaryDirectory() as room:
+    with tempfile.TemporaryDirectory(dir="/tmp") as room:
         os.chmod(room, 0o777)
         yield Path(room)
 
@@ -314,7 +314,7 @@ def run_limited(seconds, program, room, *words, **env):
     counted = f"""timeout -s KILL {seconds} "$@"; printf '\\0'; sh -c 'echo $$'; :"""
     wrote, _ = run("unshare", "--pid", "--fork", "--kill-child=KILL", "setpriv", f"--reuid={user}", f"--regid={user}",
                    "--clear-groups", "prlimit", "--nproc=30", "sh", "-c", counted, "sh", *words,
-                   cwd=room, env={"PATH": f"{room}:{os.environ['PATH']}", **env})
+                   cwd=room, env={"PATH": f"{room}:{os.environ['PATH']}", "TMPDIR": str(room), **env})
     wrote, _, count = wrote.rpartition("\0")
     return wrote, int(count)
 
