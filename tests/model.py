@@ -138,9 +138,9 @@ class Options:
             return readings[0]
         counts = [sum(place == mine for place, _, _ in readings[0][0]) for mine in range(len(self.groups))]
         for group, count in zip(self.groups, counts):
-            if count > 1 and group.occur != "multi":
+            if count > 1 and "multi" not in group.occur:
                 return "OptionDuplicated", group.main
-            if count == 0 and group.occur == "req":
+            if count == 0 and "req" in group.occur:
                 return "OptionMissing", group.main
         return readings[0]
 
@@ -164,7 +164,7 @@ class Options:
         return b"%s\n\nOptions:\n%s\n" % (brief, b"\n".join(self.usage_rows(columns)))
 
     def short_usage(self, program):
-        brackets = {"req": b"%s", "optional": b"[%s]", "multi": b"[%s].."}
+        brackets = {"req": b"%s", "optional": b"[%s]", "multi": b"[%s]..", "reqmulti": b"%s.."}
         texts = [(b"-" + group.short if group.short else b"--" + group.long) + (b" " if group.kind != "no" else b"")
                  + group.argument for group in self.groups]
         return b"Usage: %s " % program + b" ".join(brackets[group.occur] % text for group, text in zip(self.groups, texts))

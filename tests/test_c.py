@@ -92,7 +92,7 @@ def test_results_and_errors_of_calls(build):
 def test_misspelt_names(build):
     """In strict mode, each function with a name ends the program: after words are read, rejected, or neither."""
     program = build(C / "tests/layer.c")
-    for words in ("-h -ox", "--nope", "", "-h"):
+    for words in ("-h -ox", "--nope", "-h", ""):
         assert run(*program, "none", *words.split()) == ("", "")
         for function, name in [*((one, "hepl") for one in "cpvVl"), ("N", "NULL")]:
             said = run(*program, function, *words.split(), status=-6)
@@ -102,8 +102,9 @@ def test_misspelt_names(build):
 # ---- answers on random tables and words, compared with tests/model.py
 
 STOP, LONG_ONLY, KEEP_ORDER, REPEAT, STRICT, BAD = 16, 32, 64, 128, 256, 7
+# In C, an option that must be given may be repeated: by its kind, or in the mode REPEAT.
+OCCURS = [*model.OCCURS, "reqmulti"]
 STATUSES = ["", "ArgumentMissing", "UnrecognizedOption", "OptionMissing", "OptionDuplicated", "UnexpectedArgument"]
-OFTEN = [place for place, occur in enumerate(model.OCCURS) for _ in range(1 if "req" in occur else 9)]
 SHORTS, LONGS = ["", "", "", *"abcv7="], ["ab", "verbose", "verbatim", "a=b", "=a", "é", "日本", "no-v", "a" * 50]
 HINTS, DESCRIPTIONS = [None, "", "N", "FILE", "é"], [None, "", "say more", "many words " * 9]
 # Mistakes in a row: a field and its text.
@@ -113,11 +114,12 @@ PARTS = ["-", "--", "", *"abv7=x-é", "ab", "verbose", "\udcff", "\udcf4", "\U00
          "--verbose", "-7", "9" * 20, "0123456789" * 50]
 
 
-def random_case(rng):
+def random_case(rng, occurs=model.OCCURS):
     """Modes, columns, rows (whose last field is the kind), the row with a mistake (None: no row), and words."""
     count = rng.randrange(1, 7)
+    often = [place for place, occur in enumerate(occurs) for _ in range(1 if "req" in occur else 9)]
     rows = [[short, long if not short or rng.random() < 0.7 else rng.choice([None, ""]), None, rng.choice(DESCRIPTIONS),
-             rng.randrange(len(model.KINDS)) + 4 * rng.choice(OFTEN)]
+             rng.randrange(len(model.KINDS)) + 4 * rng.choice(often)]
             for short, long in zip(rng.sample(SHORTS, count), rng.sample(LONGS, count))]
     for row in rows:
         row[2] = rng.choice(HINTS if row[4] % 4 else HINTS[:2])
@@ -147,7 +149,7 @@ def fields_of(modes, columns, rows, names, words):
 
 
 def groups_of(rows):
-    return [model.Group(in_bytes(short), in_bytes(long), model.KINDS[kind % 4], model.OCCURS[kind // 4], in_bytes(description),
+    return [model.Group(in_bytes(short), in_bytes(long), model.KINDS[kind % 4], OCCURS[kind // 4], in_bytes(description),
                         in_bytes(hint)) for short, long, hint, description, kind in rows]
 
 
@@ -157,10 +159,10 @@ def first_byte(text, character=model.first_character):
     return name[:1] if name >= "\U0010ff80".encode() else name
 
 
-def said_of_option(given):
-    """The answers about an option's occurrences, which are None if it isn't defined."""
-    values = [value for _, value in given or []]
-    yield from [int(given is not None), len(values), *values, None]
+def said_of_option(defined, given):
+    """The answers about an option's occurrences."""
+    values = [value for _, value in given]
+    yield from [int(defined), len(values), *values, None]
     for nth in [*range(len(values) + 1), -1]:
         at, value = given[nth] if given and nth < len(values) else (-1, None)
         number = re.fullmatch(rb"[+-]?\d{1,9}", value or b"")
@@ -170,20 +172,21 @@ def said_of_option(given):
 def answers(modes, columns, rows, names, words):
     """The answers for a valid table; `...` for help texts that the rules don't determine."""
     groups = groups_of(rows)
-    last = [modes & REPEAT and group.occur == "optional" for group in groups]
+    last = [modes & REPEAT and "multi" not in group.occur for group in groups]
     for group, counts in zip(groups, last):
-        group.occur = "multi" if counts else group.occur
+        group.occur = {"optional": "multi", "req": "reqmulti"}[group.occur] if counts else group.occur
     options = model.Options(groups, modes & STOP, modes & LONG_ONLY)
+    defined = [options.resolve(name) is not None for name in names]
     read = options.parse(words)
     fault, name = read if len(read) == 2 else ("", b"")
     line = [] if fault else options.canonical(read) or []
     read = options.parse(words, with_counts=False) if fault.startswith("Option") else read
     occurrences, free, start = read if len(read) == 3 else ([], [], None)
-    yield from [b"", STATUSES.index(fault), model.TEXTS[fault] % name if fault else b""]
-    for name in names:
-        place = options.resolve(name) if len(read) == 3 else None
+    yield from [b"", *map(int, defined), STATUSES.index(fault), model.TEXTS[fault] % name if fault else b""]
+    for name, is_defined in zip(names, defined):
+        place = options.resolve(name)
         given = [(at, value) for mine, at, value in occurrences if mine == place]
-        yield from said_of_option(None if place is None else given[-1:] if last[place] else given)
+        yield from said_of_option(is_defined, given[-1:] if is_defined and last[place] else given)
     for place, _, value in occurrences if modes & KEEP_ORDER and not fault else []:
         yield from [place, value]
     yield from [-1, None, len(free), *free, None, -1 if start is None else start, STATUSES.index(fault), *line, None]
@@ -195,8 +198,8 @@ def answers(modes, columns, rows, names, words):
 def answers_if_wrong(place, names):
     """The answers if a row is wrong. The message begins with its place."""
     wrong = b"table[%d]: " % place
-    nothing = [one for _ in names for one in said_of_option(None)]
-    return [wrong, BAD, wrong, *nothing, -1, None, 0, None, -1, BAD, None, None, None, None]
+    nothing = [one for _ in names for one in said_of_option(False, [])]
+    return [wrong, *(0 for _ in names), BAD, wrong, *nothing, -1, None, 0, None, -1, BAD, None, None, None, None]
 
 
 @functools.cache
@@ -206,7 +209,7 @@ def random_cases(count):
     with pytest.MonkeyPatch.context() as patch:
         patch.setattr(model, "first_character", first_byte)
         for _ in range(count):
-            modes, columns, rows, wrong, words = random_case(rng)
+            modes, columns, rows, wrong, words = random_case(rng, OCCURS)
             names = [name for row in rows for name in row[:2] if name] + ([] if modes & STRICT else ["nope", "\udcff"])
             case = modes, columns, rows, [*map(in_bytes, names)], [*map(in_bytes, words)]
             fields.append(fields_of(*case))
@@ -331,6 +334,7 @@ def test_example(compiler, flags, tmp_path):
     for status, output, errors, words in HEAD:
         out, err = run(tmp_path / "head", *words, status=status, cwd=tmp_path)
         assert ("".join(out.splitlines(True)[:2]).startswith(output), err) == (True, errors), words
+    assert run(tmp_path / "head", "-h")[0] == re.search(r"^```text\n(.*?)^```", (C / "README.md").read_text(), re.M | re.S)[1]
 
 
 CMAKE = """cmake_minimum_required(VERSION 3.6)
@@ -590,6 +594,10 @@ def test_install_usage(tmp_path):
         assert "usage: bindings/c/install.sh [--uninstall] PREFIX" in run("sh", C / "install.sh", *words, status=1)[1]
 
 
-def test_example_on_page():
-    example = re.search(r"^```c\n(.*?)^```", (C / "README.md").read_text(), re.M | re.S)[1]
+def test_page():
+    """The page shows parts of head.c, and lists all functions."""
+    page, header = (C / "README.md").read_text(), (C / "getopts.h").read_text()
+    listed, declared = re.findall(r"^\| `(\w+)\(", page, re.M), re.findall(r"^[a-z].*[ *](getopts_\w+)\(", header, re.M)
+    assert sorted(listed) == sorted(declared)
+    example = re.search(r"^```c\n(.*?)^```", page, re.M | re.S)[1]
     assert all(part in (C / "head.c").read_text() for part in example.split("\n\n")) and len(example.splitlines()) < 40

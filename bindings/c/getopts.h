@@ -23,8 +23,8 @@
  * getopts_read or getopts_delete on it.
  *
  * `pkg-config --cflags --libs getopts` prints the flags for the shared library. For the static
- * library, write `getopts-static`; a program then grows by about 100 KB, or with -Wl,--gc-sections
- * by 60 to 85 KB. PREFIX/share/doc/getopts/head.c is a complete program. */
+ * library, write `getopts-static`; a program then grows by about 105 KB, or with -Wl,--gc-sections
+ * by 60 to 90 KB. PREFIX/share/doc/getopts/head.c is a complete program. */
 #ifndef GETOPTS_H
 #define GETOPTS_H
 
@@ -55,10 +55,12 @@ enum {
 };
 
 /* The kind of an option: whether it takes an argument, plus how often it may be given. GETOPTS_NO
- * and GETOPTS_OPTIONAL may be omitted: a kind of 0 is a plain flag. With GETOPTS_MAYBE, a short
- * option also takes the next word if that is `-` or doesn't begin with a dash: `-O f` gives O the
- * argument f, except in the mode GETOPTS_LONG_ONLY. With getopt_long, only `-Of` does. A long
- * option takes an optional argument only after `=`. */
+ * and GETOPTS_OPTIONAL may be omitted: a kind of 0 is a plain flag. With GETOPTS_REQ and
+ * GETOPTS_MULTI, an option must be given at least once.
+ *
+ * With GETOPTS_MAYBE, a short option also takes the next word if that is `-` or doesn't begin with
+ * a dash: `-O f` gives O the argument f, except in the mode GETOPTS_LONG_ONLY. With getopt_long,
+ * only `-Of` does. A long option takes an optional argument only after `=`. */
 enum getopts_kind {
     GETOPTS_NO = 0,       /* takes no argument */
     GETOPTS_YES = 1,      /* needs an argument, in the same word or the next */
@@ -70,7 +72,7 @@ enum getopts_kind {
 };
 
 /* A row of a table, which declares an option. NULL and "" both mean that a string is absent. The
- * table ends with a row whose names are both NULL. */
+ * table ends with a row whose names are both NULL; a row with the names NULL and "" is an error. */
 struct getopts_option {
     const char *short_name;  /* one byte; one of the two names may be absent */
     const char *long_name;   /* more than one byte */
@@ -84,12 +86,13 @@ struct getopts_option {
  * arguments as long options do: write `-I dir` or `-I=dir`, and `-v -v`. `-Idir` and `-vv`, which
  * getopt_long_only accepts, are rejected.
  *
- * With GETOPTS_REPEAT, an option whose kind includes neither GETOPTS_REQ nor GETOPTS_MULTI may be
- * given again. Its last occurrence then replaces the others, except for getopts_nth and
- * getopts_canonical.
+ * With GETOPTS_REPEAT, an option whose kind doesn't include GETOPTS_MULTI may be given again. Its
+ * last occurrence then replaces the others, except for getopts_nth and getopts_canonical. Usage
+ * lines show `..` after it.
  *
- * With GETOPTS_STRICT, a function that is passed the name of no option prints the name to stderr
- * and calls abort(), as assert() does. Only getopts_defined accepts such names. */
+ * With GETOPTS_STRICT, a function that is passed NULL or the name of no option prints the name to
+ * stderr and calls abort(), as assert() does, even if nothing was read. Only getopts_defined
+ * accepts such names. */
 enum getopts_modes {
     GETOPTS_ORDINARY = 0,    /* no mode */
     GETOPTS_STOP = 16,       /* the first free word ends the options */
@@ -134,14 +137,14 @@ int getopts_read(struct getopts *options, int count, char *const *words);
 const char *getopts_message(const struct getopts *options);
 
 /* In the next functions, `name` is the short or long name of an option, and nth counts from 0. If
- * nothing was read, if the name is unknown (see GETOPTS_STRICT) or NULL, or if nth is out of range,
- * getopts_values returns an empty list, getopts_long_value true, and the others false, 0, -1 or
- * NULL. */
+ * nothing was read, if the name is unknown or NULL (see GETOPTS_STRICT), or if nth is out of range,
+ * getopts_values returns an empty list, getopts_long_value true, and the others 0, -1 or NULL. */
 
 /* Pass this as nth for the last occurrence. */
 #define GETOPTS_LAST ((size_t)-1)
 
-/* Whether an option has this name. False if nothing was read. */
+/* Whether an option of the table has this name, also if nothing was read. False if the options are
+ * NULL or the table is invalid. */
 bool getopts_defined(const struct getopts *options, const char *name);
 
 /* How often the option was given. */
@@ -170,8 +173,9 @@ const char *const *getopts_values(const struct getopts *options, const char *nam
 int getopts_nth(const struct getopts *options, size_t nth, const char **value);
 
 /* If the value of the option's nth occurrence is a decimal number that fits in a long, stores the
- * number in *value and returns true. If there is no value, or no option of that name (see
- * getopts_defined), keeps *value and returns true. Otherwise keeps *value and returns false. */
+ * number in *value and returns true. Such a number consists of digits, perhaps after `+` or `-`,
+ * without blanks; `08` is 8. If there is no value, or no option of that name (see getopts_defined),
+ * keeps *value and returns true. Otherwise keeps *value and returns false. */
 bool getopts_long_value(const struct getopts *options, const char *name, size_t nth, long *value);
 
 /* The number of free words, which are the positional arguments. */

@@ -166,7 +166,7 @@ int LLVMFuzzerTestOneInput(const uint8_t *bytes, size_t len) {
     struct getopts_option *table = malloc((rows + 1) * sizeof *table);
     for (size_t row = 0; row < rows; row++) {
         unsigned kind = byte();
-        table[row].kind = (enum getopts_kind)(kind < 0xF0 ? kind % 3 + 4 * (kind / 3 % 3) : kind * 0x01010101u);
+        table[row].kind = (enum getopts_kind)(kind < 0xF0 ? kind % 3 + 4 * (kind / 3 % 4) : kind * 0x01010101u);
         table[row].short_name = field(table, row);
         table[row].long_name = field(table, row);
         table[row].hint = field(table, row);

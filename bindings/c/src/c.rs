@@ -13,7 +13,6 @@ use core::{ptr, slice};
 use library::alloc::Global;
 use library::bytes::plain_text;
 use library::fallible::String;
-use library::proved::Options;
 
 /// A C string, or NULL.
 pub type Text = *const u8;
@@ -294,7 +293,8 @@ fn reading(options: Option<&Getopts>) -> &Reading {
 #[no_mangle]
 unsafe extern "C" fn getopts_defined(options: Option<&Getopts>, name: Text) -> bool {
     // SAFETY: as above, also in the functions below.
-    reading(options).given(unsafe { bytes(name) }).is_some()
+    let name = unsafe { bytes(name) };
+    options.map_or(false, |options| options.declares(name))
 }
 
 /// Ends the program if strict options have no option of this name.
@@ -387,14 +387,14 @@ extern "C" fn getopts_trailing_start(options: Option<&Getopts>) -> c_int {
 fn usage(
     options: Option<&Getopts>,
     start: Option<&[u8]>,
-    make: impl FnOnce(&Options, &str) -> AllocResult<String>,
+    make: impl FnOnce(&Getopts, &str) -> AllocResult<String>,
 ) -> *mut u8 {
     owned_by_c(options.and_then(|options| options.usage(start, make)))
 }
 
 #[no_mangle]
 unsafe extern "C" fn getopts_usage(options: Option<&Getopts>, brief: Text) -> *mut u8 {
-    usage(options, unsafe { bytes(brief) }, |options, brief| options.usage(Global, brief))
+    usage(options, unsafe { bytes(brief) }, |of, brief| of.options.usage(Global, brief))
 }
 
 #[no_mangle]
@@ -404,12 +404,12 @@ unsafe extern "C" fn getopts_usage_in(
     columns: usize,
 ) -> *mut u8 {
     let brief = unsafe { bytes(brief) };
-    usage(options, brief, |options, brief| options.usage_in(Global, brief, columns))
+    usage(options, brief, |of, brief| of.options.usage_in(Global, brief, columns))
 }
 
 #[no_mangle]
 unsafe extern "C" fn getopts_short_usage(options: Option<&Getopts>, program: Text) -> *mut u8 {
-    usage(options, unsafe { bytes(program) }, |options, name| options.short_usage(Global, name))
+    usage(options, unsafe { bytes(program) }, Getopts::short_usage)
 }
 
 #[no_mangle]

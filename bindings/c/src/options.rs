@@ -8,11 +8,11 @@ use crate::{AllocResult, Error, OK, Status};
 use library::alloc::Global;
 use library::bytes::push_bytes;
 use library::fallible::{String, TryList, TryText, Vec};
-use library::proved::{Fail, Options};
+use library::proved::{Fail, HasArg, Matches, Options};
 
 /// A `struct getopts`.
 pub struct Getopts {
-    options: Options,
+    pub options: Options,
     table: Table,
     modes: u32,
     /// The options that were given, in order: the row of each, and the index of its value in the
@@ -51,22 +51,23 @@ impl Getopts {
     #[inline(always)]
     pub fn given(&self, name: Option<&[u8]>) -> Option<Given<'_>> {
         let mut given = self.reading.given(name)?;
-        if self.table.last_counts.get(given.place) == Some(&true) {
+        if self.table.more.get(given.place).map_or(false, |more| more.last_counts) {
             given.keep_last();
         }
         Some(given)
     }
 
+    /// Whether an option of the table, if it is valid, has this name.
+    pub fn declares(&self, name: Option<&[u8]>) -> bool {
+        let valid = self.table.wrong.is_none() && name.map_or(false, |name| !name.is_empty());
+        let mut names = self.options.declared().flat_map(|(names, ..)| names);
+        valid && names.any(|other| Some(other.as_bytes()) == name)
+    }
+
     /// Whether names have to be declared, and this one isn't.
     #[cold]
     pub fn misses(&self, name: Option<&[u8]>) -> bool {
-        if self.modes & STRICT == 0 || self.table.wrong.is_some() {
-            return false;
-        }
-        let none = self.options.parse_ignoring_counts(Global, &[""; 0]);
-        none.map_or(false, |none| {
-            name.and_then(text).and_then(|name| none.opt_place(name)).is_none()
-        })
+        self.modes & STRICT != 0 && self.table.wrong.is_none() && !self.declares(name)
     }
 
     /// The words as texts, if the table is valid.
@@ -96,12 +97,40 @@ impl Getopts {
         error.status()
     }
 
+    /// Parses words if the table has options that are `needed`. Reports the first option, in order
+    /// of declaration, that occurs the wrong number of times: one of these, or the library's.
+    #[cold]
+    fn parse_needed(&self, words: &[&str]) -> Result<Matches, Fail> {
+        let matches = self.options.parse_ignoring_counts(Global, words)?;
+        let fail = self.options.parse_in_order(Global, words).err();
+        let first = match &fail {
+            Some(Fail::OptionMissing(name) | Fail::OptionDuplicated(name)) => {
+                matches.opt_place(name).unwrap_or(0)
+            }
+            // Out of memory.
+            Some(_) => 0,
+            None => usize::MAX,
+        };
+        let is_missing = |place: &usize| matches.occurrences_at(*place).is_empty();
+        let missing = self.table.needed().find(is_missing);
+        if let Some(place) = missing.filter(|place| *place < first) {
+            let [short, long] = self.options.declared().nth(place).map_or([""; 2], |(it, ..)| it);
+            let main = if long.is_empty() { short } else { long };
+            return Err(Fail::OptionMissing(String::copy_of(Global, main)?));
+        }
+        fail.map_or(Ok(matches), Err)
+    }
+
     /// Reads words. Returns what was read, and the status. If a word can't be read, nothing was
     /// read; if an option is missing or was given too often, everything was.
     #[inline]
     pub fn read(&self, words: Result<Words<'_>, Error>) -> Result<(Reading, Status), Error> {
         let (mut texts, options) = (self.texts(words)?, &self.options);
-        let error = match texts.ask(|words| options.parse_words(Global, words)) {
+        let answer = match self.table.needed().next() {
+            None => texts.ask(|words| options.parse_words(Global, words)),
+            Some(_) => texts.ask(|words| self.parse_needed(words)),
+        };
+        let error = match answer {
             Ok(matches) => {
                 return Ok((Reading::of(Some(matches), None, self.table.rows, &texts)?, OK));
             }
@@ -165,7 +194,13 @@ impl Getopts {
         words: Result<Words<'_>, Error>,
     ) -> Result<Option<(Vec<u8>, usize)>, Error> {
         let mut texts = self.texts(words)?;
-        let Some(line) = texts.ask(|words| self.options.canonical_words(Global, words))? else {
+        let line = texts.ask(|words| {
+            if self.table.needed().next().is_some() {
+                self.parse_needed(words)?;
+            }
+            self.options.canonical_words(Global, words)
+        })?;
+        let Some(line) = line else {
             return Ok(None);
         };
         let mut bytes = Vec::empty(Global);
@@ -180,11 +215,34 @@ impl Getopts {
     pub fn usage(
         &self,
         start: Option<&[u8]>,
-        make: impl FnOnce(&Options, &str) -> AllocResult<String>,
+        make: impl FnOnce(&Getopts, &str) -> AllocResult<String>,
     ) -> Option<String> {
         let start = text(start.filter(|_| self.table.wrong.is_none())?)?;
-        let mut text = make(&self.options, start).ok()?;
+        let mut text = make(self, start).ok()?;
         text.try_push('\0').ok()?;
         Some(text)
+    }
+
+    /// The usage line of a program. Removes the brackets of the options that are `needed`, which
+    /// the library takes for optional ones.
+    pub fn short_usage(&self, program: &str) -> AllocResult<String> {
+        let mut line = self.options.short_usage(Global, program)?;
+        let mut at = "Usage: ".len() + program.len();
+        for (place, ([short, long], hint, hasarg, occur)) in self.options.declared().enumerate() {
+            let name = if short.is_empty() { "--".len() + long.len() } else { "-s".len() };
+            let argument = match hasarg {
+                HasArg::No => 0,
+                HasArg::Yes => " ".len() + hint.len(),
+                HasArg::Maybe => " []".len() + hint.len(),
+            };
+            let start = at + " ".len();
+            at = start + name + argument + [0, "[]".len(), "[]..".len()][occur as usize];
+            if self.table.needed().any(|needed| needed == place) {
+                line.remove(at - "]..".len());
+                line.remove(start);
+                at -= "[]".len();
+            }
+        }
+        Ok(line)
     }
 }

@@ -13,8 +13,9 @@ pub const KEEP_ORDER: u32 = 64;
 const REPEAT: u32 = 128;
 pub const STRICT: u32 = 256;
 
-/// The kind of a required option. Smaller kinds may be given once.
+/// The kinds of required and of repeatable options.
 const REQ: u32 = 4;
+const MULTI: u32 = 8;
 
 /// The most bytes that a message shows of a name that is too long.
 const SHOWN: usize = 40;
@@ -28,10 +29,26 @@ type Wrong = Option<Vec<u8>>;
 pub struct Table {
     /// How many rows were declared.
     pub rows: usize,
-    /// For each row, whether only the last occurrence counts. Empty if no mode lets options be
-    /// repeated.
-    pub last_counts: Vec<bool>,
+    /// How options differ from what the library takes them for: for each row, up to the last one
+    /// that differs.
+    pub more: Vec<More>,
     pub wrong: Wrong,
+}
+
+/// How an option differs from one that may be given any number of times.
+#[derive(Clone, Copy, Default)]
+pub struct More {
+    /// Only its last occurrence counts.
+    pub last_counts: bool,
+    /// It must be given.
+    pub needed: bool,
+}
+
+impl Table {
+    /// The rows of options that must be given, and may be given again.
+    pub fn needed(&self) -> impl Iterator<Item = usize> + '_ {
+        self.more.iter().enumerate().filter(|(_, more)| more.needed).map(|(place, _)| place)
+    }
 }
 
 /// Declares the rows of a table.
@@ -40,18 +57,18 @@ pub fn declare<'c>(
     rows: Option<impl Iterator<Item = Row<'c>> + Clone>,
     modes: u32,
 ) -> AllocResult<Table> {
-    let wrong_table = |wrong| Table { rows: 0, last_counts: Vec::new(), wrong };
+    let wrong_table = |wrong| Table { rows: 0, more: Vec::new(), wrong };
     let Some(rows) = rows else { return Ok(wrong_table(message_of(&[b"the table is NULL"])?)) };
-    let (mut names, mut last_counts, mut place) =
-        (Names { shorts: 0, longs: [0; 16] }, Vec::new(), 0);
+    let (mut names, mut more, mut place) =
+        (Names { shorts: 0, longs: [0; 16] }, Vec::<More>::new(), 0);
     let repeats = modes & REPEAT != 0;
     for row in rows.clone() {
         let earlier = rows.clone().take(place);
         if let wrong @ Some(_) = declare_row(options, &mut names, earlier, place, &row, repeats)? {
             return Ok(wrong_table(wrong));
         }
-        if repeats {
-            last_counts.try_push(row.kind < REQ)?;
+        if repeats || row.kind >= REQ + MULTI {
+            push_more(&mut more, place, row.kind)?;
         }
         place += 1;
     }
@@ -62,7 +79,16 @@ pub fn declare<'c>(
         options.parsing_style(ParsingStyle::StopAtFirstFree);
     }
     options.long_only(modes & LONG_ONLY != 0);
-    Ok(Table { rows: place, last_counts, wrong: None })
+    Ok(Table { rows: place, more, wrong: None })
+}
+
+/// Adds how an option of this kind, which may be repeated, differs from the library's.
+#[cold]
+fn push_more(more: &mut Vec<More>, place: usize, kind: u32) -> AllocResult<()> {
+    while more.len() < place {
+        more.try_push(More::default())?;
+    }
+    Ok(more.try_push(More { last_counts: kind < MULTI, needed: kind & REQ != 0 })?)
 }
 
 /// The names of rows: a bit for each, at a hash of the name.
@@ -91,9 +117,8 @@ impl Names {
 /// The two parts of a kind, if it is valid.
 fn kind_of(kind: u32) -> Option<(HasArg, Occur)> {
     let hasarg = [HasArg::No, HasArg::Yes, HasArg::Maybe].into_iter().nth(kind as usize % 4)?;
-    let occur =
-        [Occur::Optional, Occur::Req, Occur::Multi].into_iter().nth((kind / REQ) as usize)?;
-    Some((hasarg, occur))
+    let occurs = [Occur::Optional, Occur::Req, Occur::Multi, Occur::Multi];
+    Some((hasarg, occurs.into_iter().nth((kind / REQ) as usize)?))
 }
 
 #[inline]
@@ -122,7 +147,7 @@ fn declare_row<'c>(
             return Ok(wrong);
         }
     }
-    let occur = if repeats && row.kind < REQ { Occur::Multi } else { occur };
+    let occur = if repeats { Occur::Multi } else { occur };
     options.add_group(short, long, desc, hint, hasarg, occur).map(|()| None)
 }
 
@@ -132,7 +157,7 @@ const MODES: &[u8] =
 
 /// What to write instead of an invalid kind.
 const KINDS: &[u8] =
-    b": combine one of GETOPTS_NO, YES and MAYBE with one of GETOPTS_OPTIONAL, REQ and MULTI";
+    b": combine one of GETOPTS_NO, YES and MAYBE with GETOPTS_REQ, MULTI, both or neither";
 
 /// What to write instead of a hint for an option that takes no argument.
 const NO_ARGUMENT: &[u8] =

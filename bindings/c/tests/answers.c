@@ -86,6 +86,8 @@ static void say_reading(const struct getopts *options) {
 static void answer(struct getopts *options) {
     char **line;
     say(getopts_message(options));
+    for (char **name = names; *name != NULL; name++)
+        say_number(getopts_defined(options, *name));
     getopts_read(options, count / 2, words);
     say_number(getopts_read(options, count, words));
     say(getopts_message(options));

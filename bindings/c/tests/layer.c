@@ -9,7 +9,7 @@
 
 #define LEN_37 "1234567890123456789012345678901234567"
 #define LEN_38 LEN_37 "8"
-#define KINDS ": combine one of GETOPTS_NO, YES and MAYBE with one of GETOPTS_OPTIONAL, REQ and MULTI"
+#define KINDS ": combine one of GETOPTS_NO, YES and MAYBE with GETOPTS_REQ, MULTI, both or neither"
 #define MODES ": combine GETOPTS_STOP, LONG_ONLY, KEEP_ORDER, REPEAT and STRICT, or write GETOPTS_ORDINARY"
 #define NO_ARGUMENT "' on an option without argument: remove it, or use GETOPTS_YES or MAYBE"
 #define NOT_SHORT "' isn't one ASCII character"
@@ -37,8 +37,9 @@ static void wrong_rows_are_reported(void) {
         { { "a", "b", NULL, NULL, GETOPTS_NO }, "table[1]: long name 'b' has 1 byte: write it as the short name" },
         { { "", "", NULL, NULL, GETOPTS_NO }, "table[1]: both names are empty" },
         { { "", NULL, NULL, NULL, GETOPTS_NO }, "table[1]: both names are empty" },
+        { { NULL, "", NULL, NULL, GETOPTS_NO }, "table[1]: both names are empty" },
         { { "a", NULL, NULL, NULL, (enum getopts_kind)7 }, "table[1]: invalid kind 7" KINDS },
-        { { "a", NULL, NULL, NULL, (enum getopts_kind)12 }, "table[1]: invalid kind 12" KINDS },
+        { { "a", NULL, NULL, NULL, (enum getopts_kind)15 }, "table[1]: invalid kind 15" KINDS },
         { { "a", NULL, NULL, NULL, (enum getopts_kind)(GETOPTS_YES + GETOPTS_STOP) }, "table[1]: invalid kind 17" KINDS },
         { { "a", NULL, NULL, NULL, (enum getopts_kind)GETOPTS_LONG_ONLY }, "table[1]: invalid kind 32" KINDS },
         { { "a", NULL, NULL, NULL, (enum getopts_kind)-1 }, "table[1]: invalid kind 4294967295" KINDS },
@@ -127,6 +128,71 @@ static void modes_are_checked(void) {
         int wanted = rows[nth].message[0] != '\0' ? GETOPTS_BAD : GETOPTS_OK;
         expect(strcmp(getopts_message(options), rows[nth].message) == 0, rows[nth].message);
         expect(getopts_read(options, 0, NULL) == wanted, "getopts_read with these modes");
+        getopts_delete(options);
+    }
+}
+
+static void names_are_defined_by_the_table(void) {
+    static const struct getopts_option table[] = {
+        { "v", NULL, NULL, NULL, GETOPTS_NO }, { "h", "help", NULL, NULL, GETOPTS_NO }, { NULL, "all", NULL, NULL, GETOPTS_NO },
+        { "-", NULL, NULL, NULL, GETOPTS_NO }, { NULL, NULL, NULL, NULL, GETOPTS_NO },
+    };
+    struct getopts_option right[] = { table[0], table[1], table[2], table[4] };
+    struct getopts *options = getopts_new(right, GETOPTS_ORDINARY), *wrong = getopts_new(table, GETOPTS_ORDINARY);
+    char *lines[] = { "-v", "-z", "-hh" };
+    for (int line = -1; line < 3; line++) {
+        if (line >= 0)
+            getopts_read(options, 1, lines + line);
+        bool all = getopts_defined(options, "v") && getopts_defined(options, "h") && getopts_defined(options, "help");
+        expect(all && getopts_defined(options, "all"), "names of the table, before words are read and after");
+        bool any = getopts_defined(options, "") || getopts_defined(options, "a") || getopts_defined(options, "allx");
+        expect(!any && !getopts_defined(options, "\xff") && !getopts_defined(options, NULL), "other names");
+    }
+    expect(!getopts_defined(wrong, "v"), "a name of an invalid table");
+    getopts_delete(options);
+    getopts_delete(wrong);
+}
+
+/* Options that must be given and may be given again: by their kind, or in the mode GETOPTS_REPEAT. */
+static void needed_options_are_looked_for(void) {
+    static const struct getopts_option table[] = {
+        { "v", NULL, NULL, NULL, GETOPTS_NO + GETOPTS_REQ }, { "s", "set", "]..", NULL, GETOPTS_YES + GETOPTS_REQ + GETOPTS_MULTI },
+        { "q", NULL, NULL, NULL, GETOPTS_NO }, { NULL, "to", "X", NULL, GETOPTS_MAYBE + GETOPTS_REQ + GETOPTS_MULTI },
+        { NULL, NULL, NULL, NULL, GETOPTS_NO },
+    };
+    static const struct {
+        const char *words, *message, *repeated; /* the message in the mode GETOPTS_REPEAT */
+    } rows[] = {
+        { "-v -sa --to", "", "" }, { "-v -sa --to -sb --to=c", "", "" },
+        { "-v --to", "Required option 'set' missing", "Required option 'set' missing" },
+        { "-v -sa", "Required option 'to' missing", "Required option 'to' missing" },
+        { "-sa", "Required option 'v' missing", "Required option 'v' missing" },
+        { "-q -q -v", "Required option 'set' missing", "Required option 'set' missing" },
+        { "-q -q -v -sa", "Option 'q' given more than once", "Required option 'to' missing" },
+        { "-v -v", "Option 'v' given more than once", "Required option 'set' missing" },
+        { "-v -v -sa -sb --to", "Option 'v' given more than once", "" },
+        { "-x", "Unrecognized option: 'x'", "Unrecognized option: 'x'" }, { "-s", "Argument to option 's' missing", "Argument to option 's' missing" },
+    };
+    for (int repeats = 0; repeats < 2; repeats++) {
+        struct getopts *options = getopts_new(table, repeats ? GETOPTS_REPEAT : GETOPTS_ORDINARY);
+        char *usage = getopts_short_usage(options, "p"), text[40], *words[8], **line;
+        const char *wanted = repeats ? "Usage: p -v.. -s ].... [-q].. --to [X].." : "Usage: p -v -s ].... [-q] --to [X]..";
+        expect(usage != NULL && strcmp(usage, wanted) == 0, wanted);
+        for (size_t nth = 0; nth < sizeof rows / sizeof *rows; nth++) {
+            int count = 0;
+            for (char *word = strtok(strcpy(text, rows[nth].words), " "); word != NULL; word = strtok(NULL, " "))
+                words[count++] = word;
+            int status = getopts_read(options, count, words);
+            const char *message = repeats ? rows[nth].repeated : rows[nth].message;
+            expect(strcmp(getopts_message(options), message) == 0, rows[nth].words);
+            expect((status == GETOPTS_OK) == (*message == '\0'), "the status of these words");
+            expect(getopts_canonical(options, count, words, &line) == status, "the same status");
+            free(line);
+        }
+        expect(getopts_read(options, 3, (char *[]){ "-vv", "-sa", "-sb" }) != GETOPTS_OK, "words that are read anyway");
+        expect(getopts_count(options, "v") == (repeats ? 1 : 2), "how often an option counts");
+        expect(getopts_count(options, "s") == 2 && strcmp(getopts_value(options, "s", GETOPTS_LAST), "b") == 0, "its values");
+        free(usage);
         getopts_delete(options);
     }
 }
@@ -221,8 +287,10 @@ static void numbers_are_checked(void) {
 /* With GETOPTS_STRICT, passes a misspelt name to the function whose name begins with a letter. Returns if none does. */
 static int misspell(char function, int count, char **words) {
     struct getopts *options = getopts_new(required, GETOPTS_STRICT);
-    getopts_read(options, count, words);
-    bool fine = getopts_count(options, "help") == getopts_count(options, "h") && !getopts_defined(options, "hepl");
+    if (count > 0)
+        getopts_read(options, count, words);
+    bool fine = getopts_count(options, "help") == getopts_count(options, "h") && getopts_defined(options, "help")
+        && !getopts_defined(options, "hepl");
     switch (function) {
     case 'c': return (int)getopts_count(options, "hepl");
     case 'p': return getopts_position(options, "hepl", 0);
@@ -241,6 +309,8 @@ int main(int argc, char **argv) {
     wrong_rows_are_reported();
     repeated_names_are_found();
     modes_are_checked();
+    names_are_defined_by_the_table();
+    needed_options_are_looked_for();
     null_is_rejected();
     null_options_mean_no_memory();
     numbers_are_checked();

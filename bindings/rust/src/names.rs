@@ -1,4 +1,5 @@
 //! Checks the names of options: the proved source requires valid ones, and a program may pass any.
+//! Also lists declared options.
 
 use crate::alloc::AllocError;
 use crate::proved::{HasArg, Occur, Options, names_lawful};
@@ -27,6 +28,26 @@ impl Options {
             reject(short_name, long_name);
         }
         self.add_valid_group(short_name, long_name, desc, hint, hasarg, occur)
+    }
+
+    /// The options in order of declaration: the short and the long name of each, its hint, whether
+    /// it takes an argument, and how often it may occur. Allocates nothing. Not in Rattle.
+    ///
+    /// ```
+    /// use getopts::{HasArg, Occur, proved::Options};
+    /// let mut options = Options::new(getopts::alloc::Global);
+    /// options.optopt("o", "output", "set the output file", "FILE").unwrap();
+    /// let only = options.declared().next().unwrap();
+    /// assert_eq!(only, (["o", "output"], "FILE", HasArg::Yes, Occur::Optional));
+    /// ```
+    #[cfg(feature = "proved")]
+    pub fn declared(&self) -> impl Iterator<Item = ([&str; 2], &str, HasArg, Occur)> {
+        let groups = self.groups();
+        (0..groups.len()).map(move |place| {
+            let group = groups.get(place);
+            let (names, kinds) = (group.signature.names, group.signature.kinds);
+            ([names.short, names.long], group.hint, kinds.kind, kinds.occur)
+        })
     }
 }
 
