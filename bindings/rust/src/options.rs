@@ -159,7 +159,8 @@ impl Options {
     }
 
     /// Turns long-only mode on or off. In this mode, one dash or two may precede a long name, and
-    /// each short option needs a word of its own: `-vv` and `-ofile` aren't accepted.
+    /// each short option needs a word of its own: `-vv` and `-ofile` aren't accepted. An optional
+    /// argument needs `=`, also after a short name.
     ///
     /// ```
     /// let mut options = getopts::Options::new();
