@@ -283,6 +283,24 @@ def test_scripts_on_page(program, one_shell, tmp_path, monkeypatch):
     assert "\n_getopts_shell_complete 'backup' '\n-i|--input FILE " in code
 
 
+@IN_SHELLS
+def test_file_called_like_an_option(program, one_shell, tmp_path):
+    """If a script passes its file's name as NAME, and the file is called like an option of the program that prints
+    something other than code, the script evaluates nothing. After `--`, any name is NAME."""
+    for name in "-u", "-hA", "--version", "--usage", "--complete=bash", "-czsh", "--complete-words=fish":
+        for before, status, wrote in ("", 5, b""), ("-- ", 0, b"1 A\n"):
+            (tmp_path / name).write_text(f"""code=$(getopts_shell --variables opt_ {before}"${{0##*/}}" '[-a]  x
+[FILE]..  y' "$@") || exit
+eval "$code"
+echo "$opt_a" "${{1%%?\\[*}}"
+""")
+            words = ["A\n[-a]  $(touch canary)", "$(touch canary)", "-a"]
+            done = subprocess.run([*one_shell, f"./{name}", *words], cwd=tmp_path, capture_output=True)
+            assert (done.returncode, done.stdout) == (status, wrote), name
+            assert (b"write '--' before it" in done.stderr) == (not wrote), name
+    assert not (tmp_path / "canary").exists()
+
+
 # Each sentence of the page, with each shell that it is about.
 SENTENCES = [pytest.param(row, name, id=f"{row[0][0]}-{name}") for row in rows_in("tests/shell/sentences.rows")
              for name in SHELLS if row[0][1] == "all" or name.split()[0] in row[0][1].split()]

@@ -17,7 +17,7 @@ use Rattle.getopts_shell.specs.Program.{free_fault, AnswersWords, Asked, IsAnswe
 use Rattle.getopts_shell.specs.Program.{IsVariablesCode, OneAnswer, PrintsHelp, Script, asked_by}
 use Rattle.getopts_shell.specs.Program.{asked_fault, asks_help, brief_text, declared, done, faulty}
 use Rattle.getopts_shell.specs.Program.{help_front, shown_options, help_code, is_alone, is_given}
-use Rattle.getopts_shell.specs.Program.{misused, no_completion, own_options, read_options}
+use Rattle.getopts_shell.specs.Program.{misused, no_completion, own_options, read_options, sets_nothing}
 use Rattle.getopts_shell.specs.Program.{table_fault_line}
 use Rattle.getopts.specs.Usage.{IsUsageText}
 use Rattle.getopts_shell.specs.Table.{Entry, TableFault, is_word, operands_in}
@@ -218,9 +218,10 @@ one_free asked (name ∷ table ∷ words) =
     one_bool (is_word table) (one_equal _ is_misused) (one_of_table asked name table words)
 
 one_own : (own : Matched) → IsOne (AnswersOwn own)
-one_own own = one_bool (is_given own (codes "help")) (one_equal _ is_done)
+one_own own = one_bool (sets_nothing own) (one_equal _ is_misused)
+    (one_bool (is_given own (codes "help")) (one_equal _ is_done)
     (one_bool (is_given own (codes "version")) (one_equal _ is_done)
-    (one_free (asked_by own) own.free))
+    (one_free (asked_by own) own.free)))
 
 one : (words : List Text) → IsOne (IsAnswer words)
 one words = one_result (parse_result own_options words) one_own (λ fault. one_equal _ is_misused)

@@ -1,5 +1,5 @@
 -- The program: what it answers to its words, and with which status.
-use Rattle.std.specs.Prelude.{◌≡◌, ◌≢◌, ◌≤◌, ◌&&◌, ◌-◌, ℕ, Bool, true, false, List, [], ◌∷◌, ◌++◌}
+use Rattle.std.specs.Prelude.{◌≡◌, ◌≢◌, ◌≤◌, ◌&&◌, ◌||◌, ◌-◌, ℕ, Bool, true, false, List, [], ◌∷◌, ◌++◌}
 use Rattle.std.specs.Prelude.{Option, Some, None, MatchOption, MatchResult, codes, decimal}
 use Rattle.std.specs.Prelude.{if◌then◌else◌, length, map, nat_lt, not, take}
 use Rattle.std.specs.Bool.{MatchBool}
@@ -453,12 +453,24 @@ AnswersFree asked (name ∷ table ∷ words) answer = MatchBool (is_word table)
 AnswersFree asked words answer =
     answer ≡ misused (codes "getopts_shell: NAME and TABLE are required (see --help)\n")
 
--- The answer is the program's help, its version, or what the words ask for.
+-- whether matches contain `--variables` and an option whose text isn't code that sets variables
+abbrev pub sets_nothing : Matched → Bool
+sets_nothing own = is_given own (codes "variables")
+    && (is_given own (codes "help") || (is_given own (codes "version")
+    || (is_given own (codes "usage") || (is_given own (codes "complete")
+    || is_given own (codes "complete-words")))))
+
+-- the error for these, since a script may run the text
+abbrev pub no_code : Answer
+no_code = misused (codes "getopts_shell: --variables can't be given with --help, --version, --usage, --complete or --complete-words; if NAME may begin with '-', write '--' before it\n")
+
+-- The answer is an error, the program's help, its version, or what the words ask for.
 -- This is the answer to the program's own words, which have these matches.
 abbrev pub AnswersOwn : Matched → Answer → Type 0
-AnswersOwn own answer = MatchBool (is_given own (codes "help")) (answer ≡ done own_help)
+AnswersOwn own answer = MatchBool (sets_nothing own) (answer ≡ no_code)
+    (MatchBool (is_given own (codes "help")) (answer ≡ done own_help)
     (MatchBool (is_given own (codes "version")) (answer ≡ done (codes "getopts_shell 1.0.0\n"))
-    (AnswersFree (asked_by own) own.free answer))
+    (AnswersFree (asked_by own) own.free answer)))
 
 -- This is the answer to the program's words.
 abbrev pub IsAnswer : List Text → Answer → Type 0

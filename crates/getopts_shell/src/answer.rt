@@ -19,8 +19,8 @@ ghost use Rattle.getopts_shell.specs.Program.{IsOutput, IsStatus, ShowsAnswer, S
 ghost use Rattle.getopts_shell.specs.Program.{IsVariablesCode, alone_line, asked_by, asked_fault};
 ghost use Rattle.getopts_shell.specs.Program.{brief_text, completion_answer, done, help_code};
 ghost use Rattle.getopts_shell.specs.Program.{help_front, last_word, misused, no_completion};
-ghost use Rattle.getopts_shell.specs.Program.{no_table, options_in, own_groups, own_options};
-ghost use Rattle.getopts_shell.specs.Program.{read_options, refused, shown_options};
+ghost use Rattle.getopts_shell.specs.Program.{no_code, no_table, options_in, own_groups, own_options};
+ghost use Rattle.getopts_shell.specs.Program.{read_options, refused, sets_nothing, shown_options};
 ghost use Rattle.getopts_shell.specs.Stored.{HasOwnGroups, answer_of, asked_of, entries_of};
 ghost use Rattle.getopts_shell.specs.Stored.{entry_of_row, operand_fault_told, operands_of};
 ghost use Rattle.getopts_shell.specs.Stored.{variable_fault_told, with_groups};
@@ -60,6 +60,10 @@ const BRIEF: &str = "Usage: getopts_shell [options] NAME TABLE [WORD]..\n\n\
 
 /// What `--version` writes.
 const VERSION: &str = "getopts_shell 1.0.0\n";
+
+/// What is written if variables are asked for together with a text that sets none.
+const NO_CODE: &str = "getopts_shell: --variables can't be given with --help, --version, --usage, \
+    --complete or --complete-words; if NAME may begin with '-', write '--' before it\n";
 
 /// What is written if the name or the table is missing.
 const NEEDED: &str = "getopts_shell: NAME and TABLE are required (see --help)\n";
@@ -110,8 +114,9 @@ impl Outcome {
 /// - 2: why the script's words were rejected, and its short usage
 /// - 3: out of memory, with nothing written
 /// - 4: writing or flushing failed, and what was written is a prefix of the text
-/// - 5: what is wrong with the call: the program's own options, a missing name or table, a line of
-///   the table, the name of a variable, or an unknown shell
+/// - 5: what is wrong with the call: the program's own options, such as `--variables` with
+///   `--usage`, a missing name or table, a line of the table, the name of a variable, or an unknown
+///   shell
 pub fn answer<W: Write, E: Write>(alloc: Global, words: &[String], out: &mut W, err: &mut E) -> u8
     ensures status { IsStatus result }
     ensures shown { result ≡ 0
@@ -267,6 +272,9 @@ fn own_answer(alloc: Global, options: &Options, own: &Matches) -> Result<Outcome
     requires own { HasOwnGroups own.now.groups }
     ensures { IfOk result (λ outcome. AnswersOwn own.now (answer_of outcome)) }
 {
+    if sets_nothing(own) {
+        return Ok(Outcome::misused(String::from_str(alloc, NO_CODE)?));
+    }
     if own.opt_present("help") {
         return Ok(Outcome::done(options.usage(alloc, BRIEF)?));
     }
@@ -275,6 +283,19 @@ fn own_answer(alloc: Global, options: &Options, own: &Matches) -> Result<Outcome
     }
     let asked = asked_by(alloc, own)?;
     free_answer(alloc, &asked, &own.free)
+}
+
+/// Whether matches contain `--variables` and an option whose text isn't code that sets variables.
+fn sets_nothing(own: &Matches) -> bool
+    requires { HasOwnGroups own.now.groups }
+    ensures { result ≡ sets_nothing own.now }
+{
+    own.opt_present("variables")
+        && (own.opt_present("help")
+            || own.opt_present("version")
+            || own.opt_present("usage")
+            || own.opt_present("complete")
+            || own.opt_present("complete-words"))
 }
 
 /// What the program's own words ask for, if they are accepted with these matches.

@@ -36,6 +36,10 @@ const BRIEF: &str = "Usage: getopts_shell [options] NAME TABLE [WORD]..\n\n\
 /// What `--version` writes.
 const VERSION: &str = "getopts_shell 1.0.0\n";
 
+/// What is written if variables are asked for together with a text that sets none.
+const NO_CODE: &str = "getopts_shell: --variables can't be given with --help, --version, --usage, \
+    --complete or --complete-words; if NAME may begin with '-', write '--' before it\n";
+
 /// What is written if the name or the table is missing.
 const NEEDED: &str = "getopts_shell: NAME and TABLE are required (see --help)\n";
 
@@ -79,8 +83,9 @@ impl Outcome {
 /// - 2: why the script's words were rejected, and its short usage
 /// - 3: out of memory, with nothing written
 /// - 4: writing or flushing failed, and what was written is a prefix of the text
-/// - 5: what is wrong with the call: the program's own options, a missing name or table, a line of
-///   the table, the name of a variable, or an unknown shell
+/// - 5: what is wrong with the call: the program's own options, such as `--variables` with
+///   `--usage`, a missing name or table, a line of the table, the name of a variable, or an unknown
+///   shell
 pub fn answer<W: Write, E: Write>(alloc: Global, words: &[String], out: &mut W, err: &mut E) -> u8 {
     match output_to(alloc, words) {
         Ok(output) => match write_output(&output, out, err) {
@@ -195,6 +200,9 @@ fn add_own_options(options: &mut Options) -> Result<(), AllocError> {
 
 /// The answer to the program's own words, which have these matches.
 fn own_answer(alloc: Global, options: &Options, own: &Matches) -> Result<Outcome, AllocError> {
+    if sets_nothing(own) {
+        return Ok(Outcome::misused(String::copy_of(alloc, NO_CODE)?));
+    }
     if own.opt_present("help") {
         return Ok(Outcome::done(options.usage(alloc, BRIEF)?));
     }
@@ -203,6 +211,16 @@ fn own_answer(alloc: Global, options: &Options, own: &Matches) -> Result<Outcome
     }
     let asked = asked_by(alloc, own)?;
     free_answer(alloc, &asked, &own.free)
+}
+
+/// Whether matches contain `--variables` and an option whose text isn't code that sets variables.
+fn sets_nothing(own: &Matches) -> bool {
+    own.opt_present("variables")
+        && (own.opt_present("help")
+            || own.opt_present("version")
+            || own.opt_present("usage")
+            || own.opt_present("complete")
+            || own.opt_present("complete-words"))
 }
 
 /// What the program's own words ask for, if they are accepted with these matches.
