@@ -11,8 +11,8 @@ HINT = r"(?![-|])[^ \t\[\]]+(?<!\.\.)"
 # The inside of an item's brackets: its names, and perhaps an argument.
 ITEM = re.compile(rf"(?:-({SHORT})|(?:-({SHORT})\|)?--(?!-)({LONG_BYTE}{{2,}}(?<![:.])))(?: {HINT}| \[{HINT}\])?")
 OPERAND = re.compile(r"(?:[A-Z][A-Z0-9_-]*|(\[)[A-Z][A-Z0-9_-]*\])(\.{2,3})?")
-# A tab, two spaces, or one space between the end of an item and what doesn't begin like another.
-GAP_AT = re.compile(rf"\t|  |(?:(?<=[\]!])|(?<=\.\.)) (?![\[-]|{OPERAND.pattern}(?:[ \t]|$))")
+# A tab, two spaces, or one space between the end of an item and what doesn't begin like a part of one.
+GAP_AT = re.compile(rf"\t|  |(?:(?<=[\]!])|(?<=\.\.)) (?![\[!-]|\.\.|{OPERAND.pattern}(?:[ \t]|$))")
 OPERAND_FORM = "write an operand as FILE, [FILE], FILE.. or [FILE].."
 DASHES = "write a short name as -s, a long name as --long, and an operand in capital letters"
 APART = "write names as -s|--long, without spaces or commas"
@@ -29,6 +29,8 @@ def reason_of(item):
     reasons = [
         ("[" in item and "]" not in item, "missing ']'"),
         (end.startswith(" [-"), "write each option on its own line"),
+        (re.match(r" (\.\.|!)", end),
+         "write '..', '...' or '!' directly after ']', or put a tab or two spaces before a description"),
         (re.match(r"\[?[-|]|\]", argument), APART),
         (" " in end, GAP),
         (" " in argument, "an argument can't contain spaces, and a description needs a tab or two spaces before it"),
@@ -91,7 +93,7 @@ def table_error(table):
 def changed_tables(program, most):
     """Changes each byte of valid lines to many others, deletes it and doubles it; tries at most this many tables."""
     good = ["-v|--verbose  say more", "[-c|--color [WHEN]]..\tcolour it", "[-o|--output FILE]  write",
-            "[-V|--version]!  print it", "SOURCE  from here", "[DEST]..  to there"]
+            "[-V|--version]!  print it", "[-q] .it says less", "SOURCE  from here", "[DEST]..  to there"]
     others = [chr(c) for c in range(32, 128)] + ["", "\t", "\n", "\r", "\x01"]
     tables = ["\n".join([*good[:at], line[:place] + other + line[place + 1:], *good[at + 1:]])
               for at, line in enumerate(good) for place in range(len(line)) for other in [*others, 2 * line[place]]]

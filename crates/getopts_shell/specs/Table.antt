@@ -19,7 +19,7 @@ use Rattle.getopts.specs.declared.kinds.Occur.TheVariants.{Req, Optional, Multi}
 use Rattle.getopts_shell.specs.declared.item.TheConstants.{NAMES_TOGETHER, TWO_DASHES_AFTER_BAR, BRACKETS_AROUND_WHOLE, LONG_NAME_BYTES, LONG_NAME_END}
 use Rattle.getopts_shell.specs.declared.item.TheConstants.{NAME_FORMS, AFTER_BRACKET, ARGUMENT_AFTER_SPACE, DESCRIPTION_AFTER_GAP, SHORT_NAME_BYTES, LONG_NAME_LENGTH}
 use Rattle.getopts_shell.specs.declared.item.TheConstants.{MARK_WITHOUT_ARGUMENT, ONE_OPTION_A_LINE, MISSING_BRACKET, OPERAND_FORMS, SHORT_NAME_FIRST, SHORT_NAME_LENGTH}
-use Rattle.getopts_shell.specs.declared.item.TheConstants.{NO_SPACE_IN_ARGUMENT}
+use Rattle.getopts_shell.specs.declared.item.TheConstants.{END_WITHOUT_SPACE, NO_SPACE_IN_ARGUMENT}
 use Rattle.getopts_shell.specs.declared.row.Frequency.{Frequency}
 use Rattle.getopts_shell.specs.declared.row.Frequency.TheVariants.{Once, Last, All, Alone}
 
@@ -256,17 +256,23 @@ abbrev pub begins_gap : Text → Bool
 begins_gap text =
     slice_index text 0 == 9 || (slice_index text 0 == 32 && slice_index text 1 == 32)
 
--- whether a text begins like an item: with `[`, a dash, or an operand before a space or a tab
+-- whether a text begins like the end of an item: with two dots or `!`
+abbrev pub begins_end : Text → Bool
+begins_end text =
+    slice_index text 0 == 33 || (slice_index text 0 == 46 && slice_index text 1 == 46)
+
+-- whether a text begins like a part of an item: with `[`, a dash, the end of an item, or an operand
+-- before a space or a tab
 abbrev pub begins_item : Text → Bool
 begins_item text = slice_index text 0 == open_bracket || (slice_index text 0 == 45
-    || is_operand (before 9 (before 32 text)))
+    || (begins_end text || is_operand (before 9 (before 32 text))))
 
 -- whether a text ends like an item whose description needs one space: in `]`, `..` or `!`
 abbrev pub ends_item : Text → Bool
 ends_item text = ends_with ◌==◌ text (codes "]")
     || (ends_with ◌==◌ text (codes "..") || ends_with ◌==◌ text (codes "!"))
 
--- whether a text begins with a space after an item, before what doesn't begin like another
+-- whether a text begins with a space after an item, before what doesn't begin like a part of one
 abbrev pub is_single_gap : Text → Text → Bool
 is_single_gap before text =
     slice_index text 0 == 32 && (ends_item before && not (begins_item (drop 1 text)))
@@ -402,6 +408,11 @@ ends_behind text =
     holds close_bracket text
     && not (ends_with ◌==◌ text (codes "]") || ends_with ◌==◌ text (codes "."))
 
+-- whether a space is between the first `]` of a text and the end of an item
+abbrev pub ends_apart : Text → Bool
+ends_apart text = slice_index (after close_bracket text) 0 == 32
+    && begins_end (drop 1 (after close_bracket text))
+
 -- why an item may be invalid: for each reason, whether it applies, and its text
 abbrev pub reasons : Text → List (Bool × Text)
 reasons item =
@@ -410,6 +421,7 @@ reasons item =
     let long = (dashed names).long in
     (holds open_bracket item && not (holds close_bracket item), MISSING_BRACKET.now)
     ∷ (starts_with ◌==◌ (after close_bracket item) (codes " [-"), ONE_OPTION_A_LINE.now)
+    ∷ (ends_apart item, END_WITHOUT_SPACE.now)
     ∷ (begins_name (unopened (after 32 item)) || starts_with ◌==◌ (after 32 item) (codes "]"), NAMES_TOGETHER.now)
     ∷ (holds 32 (after close_bracket item), DESCRIPTION_AFTER_GAP.now)
     ∷ (holds 32 (after 32 item), NO_SPACE_IN_ARGUMENT.now)

@@ -11,7 +11,7 @@ ghost use Rattle.getopts.specs.declared.kinds.HasArg.{HasArg as Kind};
 ghost use Rattle.getopts_shell.specs.Table.{is_name, is_name_byte, is_hint, is_hint_byte, AreNames};
 ghost use Rattle.getopts_shell.specs.Table.{is_long_name, is_long_byte, MayBeNames, IsArgument};
 ghost use Rattle.getopts_shell.specs.Table.{HasParts, IsBracketed, IsItem, end_means};
-ghost use Rattle.getopts_shell.specs.Table.{begins_capital, begins_name, ends_as_name, ends_behind};
+ghost use Rattle.getopts_shell.specs.Table.{begins_capital, begins_end, begins_name, ends_as_name, ends_behind};
 ghost use Rattle.getopts_shell.specs.Table.{fits, unopened, after, before, dashed, holds, names_in};
 ghost use Rattle.getopts_shell.specs.Table.{close_bracket, open_bracket, reason_of};
 ghost use Rattle.getopts_shell.specs.declared.row.Frequency.{Frequency as HowOften};
@@ -250,6 +250,9 @@ fn is_hint_byte(byte: u8) -> bool
 const MISSING_BRACKET: &str = "missing ']'";
 /// The reason if a dash, `|` or `]` follows the first space, or a comma or `--` a short name.
 const NAMES_TOGETHER: &str = "write names as -s|--long, without spaces or commas";
+/// The reason if a space and the end of an item follow the first `]`.
+const END_WITHOUT_SPACE: &str = "write '..', '...' or '!' directly after ']', \
+    or put a tab or two spaces before a description";
 /// The reason if a space follows the first `]`, or an operand.
 const DESCRIPTION_AFTER_GAP: &str = "write each option or operand on its own line, \
     and put a tab or two spaces before a description";
@@ -301,6 +304,7 @@ pub(crate) fn reason_of(item: &str) -> &'static str
     let reasons = [
         (is_open(item), MISSING_BRACKET),
         (end.starts_with(b" [-"), ONE_OPTION_A_LINE),
+        (ends_apart(end), END_WITHOUT_SPACE),
         (stands_apart(argument), NAMES_TOGETHER),
         (end.contains(&b' '), DESCRIPTION_AFTER_GAP),
         (argument.contains(&b' '), NO_SPACE_IN_ARGUMENT),
@@ -363,6 +367,23 @@ fn begins_name(bytes: &[u8]) -> bool
     ensures { result ≡ begins_name bytes.now }
 {
     matches!(bytes, [b'-' | b'|', ..])
+}
+
+/// Whether bytes begin like the end of an item.
+pub(crate) fn begins_end(bytes: &[u8]) -> bool
+    ensures { result ≡ begins_end bytes.now }
+{
+    matches!(bytes, [b'!', ..] | [b'.', b'.', ..])
+}
+
+/// Whether bytes begin with a space and the end of an item.
+fn ends_apart(bytes: &[u8]) -> bool
+    ensures { result ≡ (slice_index bytes.now 0 == 32 && begins_end (drop 1 bytes.now)) }
+{
+    match bytes {
+        [b' ', rest @ ..] => begins_end(rest),
+        _ => false,
+    }
 }
 
 /// Whether a name or the end of brackets follows the first space, instead of an argument.

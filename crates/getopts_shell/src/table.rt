@@ -16,7 +16,7 @@ ghost use Rattle.getopts_shell.specs.Table.{Declares, DeclaresOptions, IsLineFau
 ghost use Rattle.getopts_shell.specs.Table.{conflicting_operand, late_operand, name_twice};
 ghost use Rattle.getopts_shell.specs.Table.{operand_at, operands_in, Operand as OperandOfTable};
 
-use crate::item::{cut_at, row_of};
+use crate::item::{begins_end, cut_at, row_of};
 use crate::operand::{Operand, are_operand, conflicting_operand, is_operand};
 use crate::row::Row;
 use std::alloc::{AllocError, Global};
@@ -237,7 +237,7 @@ fn begins_gap(bytes: &[u8]) -> bool
     matches!(bytes, [b'\t', ..] | [b' ', b' ', ..])
 }
 
-/// Whether bytes begin with a space after an item, before what doesn't begin like another.
+/// Whether bytes begin with a space after an item, before what doesn't begin like a part of one.
 fn is_single_gap(before: &[u8], bytes: &[u8]) -> bool
     ensures { result ≡ is_single_gap before.now bytes.now }
 {
@@ -254,9 +254,11 @@ fn ends_item(bytes: &[u8]) -> bool
     bytes.ends_with(b"]") || bytes.ends_with(b"..") || bytes.ends_with(b"!")
 }
 
-/// Whether bytes begin like an item.
+/// Whether bytes begin like a part of an item.
 fn begins_item(bytes: &[u8]) -> bool
     ensures { result ≡ begins_item bytes.now }
 {
-    matches!(bytes, [b'[' | b'-', ..]) || are_operand(cut_at(cut_at(bytes, b' ').0, b'\t').0)
+    matches!(bytes, [b'[' | b'-', ..])
+        || begins_end(bytes)
+        || are_operand(cut_at(cut_at(bytes, b' ').0, b'\t').0)
 }

@@ -181,6 +181,9 @@ fn is_hint_byte(byte: u8) -> bool {
 const MISSING_BRACKET: &str = "missing ']'";
 /// The reason if a dash, `|` or `]` follows the first space, or a comma or `--` a short name.
 const NAMES_TOGETHER: &str = "write names as -s|--long, without spaces or commas";
+/// The reason if a space and the end of an item follow the first `]`.
+const END_WITHOUT_SPACE: &str = "write '..', '...' or '!' directly after ']', \
+    or put a tab or two spaces before a description";
 /// The reason if a space follows the first `]`, or an operand.
 const DESCRIPTION_AFTER_GAP: &str = "write each option or operand on its own line, \
     and put a tab or two spaces before a description";
@@ -230,6 +233,7 @@ pub(crate) fn reason_of(item: &str) -> &'static str {
     let reasons = [
         (is_open(item), MISSING_BRACKET),
         (end.starts_with(b" [-"), ONE_OPTION_A_LINE),
+        (ends_apart(end), END_WITHOUT_SPACE),
         (stands_apart(argument), NAMES_TOGETHER),
         (end.contains(&b' '), DESCRIPTION_AFTER_GAP),
         (argument.contains(&b' '), NO_SPACE_IN_ARGUMENT),
@@ -282,6 +286,19 @@ fn ends_behind(bytes: &[u8]) -> bool {
 /// Whether bytes begin with a dash or `|`.
 fn begins_name(bytes: &[u8]) -> bool {
     matches!(bytes, [b'-' | b'|', ..])
+}
+
+/// Whether bytes begin like the end of an item.
+pub(crate) fn begins_end(bytes: &[u8]) -> bool {
+    matches!(bytes, [b'!', ..] | [b'.', b'.', ..])
+}
+
+/// Whether bytes begin with a space and the end of an item.
+fn ends_apart(bytes: &[u8]) -> bool {
+    match bytes {
+        [b' ', rest @ ..] => begins_end(rest),
+        _ => false,
+    }
 }
 
 /// Whether a name or the end of brackets follows the first space, instead of an argument.

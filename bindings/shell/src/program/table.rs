@@ -3,7 +3,7 @@
 
 use crate::host::*;
 
-use super::item::{cut_at, row_of};
+use super::item::{begins_end, cut_at, row_of};
 use super::operand::{Operand, are_operand, conflicting_operand, is_operand};
 use super::row::Row;
 use crate::host::alloc::{AllocError, Global};
@@ -162,7 +162,7 @@ fn begins_gap(bytes: &[u8]) -> bool {
     matches!(bytes, [b'\t', ..] | [b' ', b' ', ..])
 }
 
-/// Whether bytes begin with a space after an item, before what doesn't begin like another.
+/// Whether bytes begin with a space after an item, before what doesn't begin like a part of one.
 fn is_single_gap(before: &[u8], bytes: &[u8]) -> bool {
     match bytes {
         [b' ', rest @ ..] => ends_item(before) && !begins_item(rest),
@@ -175,7 +175,9 @@ fn ends_item(bytes: &[u8]) -> bool {
     bytes.ends_with(b"]") || bytes.ends_with(b"..") || bytes.ends_with(b"!")
 }
 
-/// Whether bytes begin like an item.
+/// Whether bytes begin like a part of an item.
 fn begins_item(bytes: &[u8]) -> bool {
-    matches!(bytes, [b'[' | b'-', ..]) || are_operand(cut_at(cut_at(bytes, b' ').0, b'\t').0)
+    matches!(bytes, [b'[' | b'-', ..])
+        || begins_end(bytes)
+        || are_operand(cut_at(cut_at(bytes, b' ').0, b'\t').0)
 }

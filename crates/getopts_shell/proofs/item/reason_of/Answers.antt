@@ -26,6 +26,7 @@ returns c =
     (find (λ (reason : Bool × Text). reason.0) reasons) BRACKETS_AROUND_WHOLE.now)
     (same _ _ _ _ _ (rw value at c.is_open.ensures)
     (same _ _ _ _ _ (rw (c.cut_at-2.ensures.after, value) at c.starts_with.ensures.value)
+    (same _ _ _ _ _ (rw (c.cut_at-2.ensures.after, value) at c.ends_apart.ensures)
     (same _ _ _ _ _ (rw argument at c.stands_apart.ensures)
     (same _ _ _ _ _ (rw (c.cut_at-2.ensures.after, value) at c.contains.ensures.value)
     (same _ _ _ _ _ (rw argument at c.contains-2.ensures.value)
@@ -47,4 +48,4 @@ returns c =
     (same _ _ _ _ _ (ap not (rw long at c.are_long_bytes.ensures))
     (same _ _ _ _ _ (ap not (rw long at c.ends_as_name.ensures))
     (same _ _ _ _ _ (rw value at c.ends_with-2.ensures.value)
-    (same _ _ _ [] [] (rw value at c.ends_behind.ensures) refl))))))))))))))))))))))))
+    (same _ _ _ [] [] (rw value at c.ends_behind.ensures) refl)))))))))))))))))))))))))
