@@ -16,7 +16,7 @@ from conftest import ROOT, answer, need, run, script
 from model import Group, Options
 
 TABLE = """
-[-i|--input FILE]  read this file
+-i|--input FILE  read this file
 [-o|--output FILE]  write to FILE: a 'new' one
 [-v|--verbose]..  say more, and \\more\\
 [-c|--color [WHEN]]  colour the `output` $HOME
@@ -24,8 +24,8 @@ TABLE = """
 [--a:b]
 [-h|--help]  print this help
 """
-# For each option: its short and long name, its argument, whether it has dots, and its description.
-OPTIONS = re.findall(r"^\[(?:-(\w))?\|?(?:--([\w:]+))?( FILE| \[WHEN\])?\](\.\.)?(?:  (.*))?$", TABLE, re.M)
+# For each option: whether it has brackets, its short and long name, its argument, and its description.
+OPTIONS = re.findall(r"^(\[?)(?=-)(?:-(\w))?\|?(?:--([\w:]+))?( FILE| \[WHEN\])?(?:\](?:\.\.)?)?(?:  (.*))?$", TABLE, re.M)
 KINDS = {"": "no", " FILE": "yes", " [WHEN]": "maybe"}
 FILES = ["files"]
 # The commands, and the flags with which each parses its arguments.
@@ -36,16 +36,16 @@ NAMES = ["file.txt", "spa ce"]
 
 def offers(before, word, flags=""):
     """The candidates for a word after these words: files, or options with their descriptions."""
-    groups = [Group(short.encode(), long.encode(), KINDS[argument], "multi") for short, long, argument, _, _ in OPTIONS]
+    groups = [Group(short.encode(), long.encode(), KINDS[argument], "multi") for _, short, long, argument, _ in OPTIONS]
     long_only = "l" in flags
     readings = Options(groups, "s" in flags, long_only).readings([one.encode() for one in before], whole=True)
     if not readings or not word.startswith("-"):
         return FILES
     given, offered = {place for place, _, _ in readings[0][0]}, []
-    for place, (short, long, argument, many, description) in enumerate(OPTIONS):
+    for place, (opened, short, long, argument, description) in enumerate(OPTIONS):
         forms = [("--" + long, True), ("-" + long, long_only)] if long else []
         for form, is_long in forms + ([("-" + short, long_only)] if short else []):
-            if place in given and not many or form == "-" + long and not long_only:
+            if place in given and not opened or form == "-" + long and not long_only:
                 continue
             if form.startswith(word):
                 offered.append(f"{form}\t{description}")
@@ -207,21 +207,22 @@ def test_completion_in_a_terminal(room, name, files):
     # A script called by its path.
     got, shown = terminal.type(f"{room}/bin/backup --inp\t\r")
     assert got == ["--input"], shown
-    # If several options fit, each is shown with its description from the table, except one that was already given.
-    got, shown = terminal.type("backup -h -\t\r")
-    assert got == ["-h", "-"], shown
+    # If several options fit, each is shown with its description from the table, unless it may be given only once.
+    got, shown = terminal.type("backup -hi x -\t\r")
+    assert got == ["-hi", "x", "-"], shown
     shown = " ".join(re.sub(r"\x1b\[[0-9;?]*[a-zA-Z]|\x1b\(B|\x0f", "", shown).split())
-    for line in offers(["-h"], "-"):
+    for line in offers(["-hi", "x"], "-"):
         form, description = line.split("\t")
         assert form in shown and " ".join(description.split()) in shown
-    assert "--help" not in shown
+    assert "--help" in shown and "--input" not in shown
     terminal.close()
 
 
 # Lines of the example with subcommands, and their arguments after completion.
 NOTES = {"ad": ["add"], "--fi": ["--file"], "-f fi": ["-f", "file.txt"], "add --t": ["add", "--tag"],
          "add x -tb --he": ["add", "x", "-tb", "--help"], "list --nu": ["list", "--number"], "list --t": ["list", "--t"],
-         "add fi": ["add", "file.txt"], "add -h --he": ["add", "-h", "--he"]}
+         "add fi": ["add", "file.txt"], "add -h --he": ["add", "-h", "--help"],
+         "-f x add --t": ["-f", "x", "add", "--t"]}
 
 
 @pytest.mark.parametrize("name", ["bash", "zsh", "fish"])

@@ -23,10 +23,9 @@ use Rattle.getopts_shell.specs.Program.{IsOneWord}
 use Rattle.getopts_shell.specs.Table.{Entry}
 use Rattle.getopts_shell.specs.Variables.{AreTextValues, CodeSetsVariables, found_in_bytes, Given}
 use Rattle.getopts_shell.specs.Variables.{count_text, given_alone, HaveOwnVariables, held_value}
-use Rattle.getopts_shell.specs.Variables.{HoldTexts, in_bytes, is_variable, is_variable_byte}
+use Rattle.getopts_shell.specs.Variables.{holds_all, HoldTexts, in_bytes, is_variable, is_variable_byte}
 use Rattle.getopts_shell.specs.Variables.{line_code, many, once, one, option_code, SetsVariables}
 use Rattle.getopts_shell.specs.Variables.{SetsWords, texts_found, Value, value_line, variable_of}
-use Rattle.getopts_shell.specs.Completion.{holds_all}
 use Rattle.getopts_shell.proofs.Assignments.{each_makes}
 use Rattle.getopts_shell.proofs.Quoting.{word_same}
 use Rattle.getopts_shell.proofs.QuotedBytes.{append_gives, ascii_gives, Gives, quoted_gives}

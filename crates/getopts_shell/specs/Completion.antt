@@ -1,5 +1,5 @@
 -- Completion: the code that a shell runs at a script's words, and what the program offers there.
-use Rattle.std.specs.Prelude.{◌==◌, ◌&&◌, ◌||◌, not, ℕ, nat_eq, Bool, true, false, List, [], ◌++◌}
+use Rattle.std.specs.Prelude.{◌==◌, ◌&&◌, not, ℕ, nat_eq, Bool, true, false, List, [], ◌++◌}
 use Rattle.std.specs.Prelude.{Option, Some, None, Result, Ok, Err, codes, if◌then◌else◌}
 use Rattle.std.specs.List.{filter, flat_map, starts_with}
 use Rattle.std.specs.Option.{option_map, option_map_or}
@@ -17,7 +17,7 @@ use Rattle.getopts_shell.specs.declared.complete.TheConstants.{BASH, ZSH, FISH}
 use Rattle.getopts_shell.specs.Quote.{backslash, quoted_byte}
 use Rattle.getopts_shell.specs.Table.{Entry, is_long_name}
 use Rattle.getopts_shell.specs.declared.row.Frequency.{Frequency}
-use Rattle.getopts_shell.specs.declared.row.Frequency.TheVariants.{All}
+use Rattle.getopts_shell.specs.declared.row.Frequency.TheVariants.{Once}
 
 -- ---- which options may follow
 
@@ -36,14 +36,15 @@ groups_at_end options (Err fault) = None
 abbrev pub groups_before_option : Declared → List Text → Option (List MatchedGroup)
 groups_before_option options before = groups_at_end options (reading_or_error options before)
 
--- whether all values of an option count
-abbrev pub holds_all : Frequency → Bool
-holds_all All = true
-holds_all frequency = false
+-- whether an option must be given exactly once
+abbrev pub is_required : Frequency → Bool
+is_required Once = true
+is_required frequency = false
 
--- whether an option is offered: it wasn't given, or all its values count
+-- whether an option is offered: it isn't one that must be given exactly once and was given
 abbrev pub may_come : List MatchedGroup → Entry → Bool
-may_come groups entry = holds_all entry.frequency || not (is_present groups (main_name entry.names))
+may_come groups entry =
+    not (is_required entry.frequency && is_present groups (main_name entry.names))
 
 -- ---- what is offered
 

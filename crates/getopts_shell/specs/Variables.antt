@@ -12,9 +12,10 @@ use Rattle.getopts.specs.Names.{AreTexts, Text, is_empty, main_name}
 use Rattle.getopts.specs.declared.kinds.HasArg.{HasArg}
 use Rattle.getopts.specs.declared.kinds.HasArg.TheVariants.{No}
 use Rattle.getopts_bytes.specs.Marks.{bytes_of}
-use Rattle.getopts_shell.specs.Completion.{holds_all}
 use Rattle.getopts_shell.specs.Quote.{quoted, quoted_words, shell_words}
 use Rattle.getopts_shell.specs.Table.{Entry}
+use Rattle.getopts_shell.specs.declared.row.Frequency.{Frequency}
+use Rattle.getopts_shell.specs.declared.row.Frequency.TheVariants.{All}
 use Rattle.getopts_shell.specs.declared.variables.OptionOccurrences.{OptionOccurrences}
 use Rattle.getopts_shell.specs.declared.variables.OptionOccurrences.TheVariants as option_occurrences
 
@@ -184,6 +185,11 @@ abbrev pub founds_of : OptionOccurrences → List GroupOccurrence
 founds_of (option_occurrences.InMatches held) = held.now
 founds_of option_occurrences.Once = once
 founds_of option_occurrences.Never = []
+
+-- whether all values of an option count
+abbrev pub holds_all : Frequency → Bool
+holds_all All = true
+holds_all frequency = false
 
 -- the values of occurrences, with an empty text for one that has none
 abbrev pub texts_found : List GroupOccurrence → List Text

@@ -6,7 +6,7 @@ ghost use Rattle.std.specs.Option.{option_map};
 ghost use Rattle.std.specs.Str.{bytes_eq};
 ghost use Rattle.getopts.specs.Accessors.{is_present};
 ghost use Rattle.getopts.specs.Names.{main_name};
-ghost use Rattle.getopts_shell.specs.Completion.{holds_all, may_come, takes_argument};
+ghost use Rattle.getopts_shell.specs.Completion.{is_required, may_come, takes_argument};
 ghost use Rattle.getopts_shell.specs.Program.{asks_help, is_alone, stands_alone};
 ghost use Rattle.getopts_shell.specs.Stored.{entries_of, entry_of_row};
 
@@ -24,11 +24,11 @@ pub(crate) fn main_name<'t>(row: Row<'t>) -> &'t str
     }
 }
 
-/// Whether an option is offered: it wasn't given, or all its values count.
+/// Whether an option is offered: it isn't one that must be given exactly once and was given.
 pub(crate) fn may_come(matches: &Matches, row: &Row<'_>) -> bool
     ensures { result ≡ may_come matches.now.groups (entry_of_row row.now) }
 {
-    holds_all(row.frequency) || !is_given(matches, main_name(*row))
+    !(is_required(row.frequency) && is_given(matches, main_name(*row)))
 }
 
 /// Whether matches contain an option of this name.
@@ -38,11 +38,11 @@ fn is_given(matches: &Matches, name: &str) -> bool
     matches.opt_defined(name) && matches.opt_present(name)
 }
 
-/// Whether all values of an option count.
-fn holds_all(frequency: Frequency) -> bool
-    ensures { result ≡ holds_all frequency }
+/// Whether an option must be given exactly once.
+fn is_required(frequency: Frequency) -> bool
+    ensures { result ≡ is_required frequency }
 {
-    matches!(frequency, Frequency::All)
+    matches!(frequency, Frequency::Once)
 }
 
 /// Whether a kind takes an argument.

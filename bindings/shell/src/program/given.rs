@@ -15,9 +15,9 @@ pub(crate) fn main_name<'t>(row: Row<'t>) -> &'t str {
     }
 }
 
-/// Whether an option is offered: it wasn't given, or all its values count.
+/// Whether an option is offered: it isn't one that must be given exactly once and was given.
 pub(crate) fn may_come(matches: &Matches, row: &Row<'_>) -> bool {
-    holds_all(row.frequency) || !is_given(matches, main_name(*row))
+    !(is_required(row.frequency) && is_given(matches, main_name(*row)))
 }
 
 /// Whether matches contain an option of this name.
@@ -25,9 +25,9 @@ fn is_given(matches: &Matches, name: &str) -> bool {
     matches.opt_defined(name) && matches.opt_present(name)
 }
 
-/// Whether all values of an option count.
-fn holds_all(frequency: Frequency) -> bool {
-    matches!(frequency, Frequency::All)
+/// Whether an option must be given exactly once.
+fn is_required(frequency: Frequency) -> bool {
+    matches!(frequency, Frequency::Once)
 }
 
 /// Whether a kind takes an argument.

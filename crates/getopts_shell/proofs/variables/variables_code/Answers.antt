@@ -3,8 +3,7 @@ use Rattle.std.proofs.lemmas.List.Concat.{flat_map-append}
 use Rattle.getopts.proofs.Lists.{AllByRecursion-append}
 use Rattle.getopts.specs.Matches.{Matched}
 use Rattle.getopts_shell.specs.Stored.{entries_of}
-use Rattle.getopts_shell.specs.Completion.{holds_all}
-use Rattle.getopts_shell.specs.Variables.{AreTextValues, Given, given_from}
+use Rattle.getopts_shell.specs.Variables.{AreTextValues, Given, given_from, holds_all}
 use Rattle.getopts_shell.proofs.Assignments.{given_more}
 use Rattle.getopts_shell.proofs.Written.{strings_are_texts}
 use Rattle.getopts_shell.proofs.variables.variables_code.Goals as goal
