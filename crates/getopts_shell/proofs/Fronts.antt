@@ -6,7 +6,7 @@ use Rattle.std.specs.Prelude.{OnOk, ◌⊎◌}
 use Rattle.std.specs.Io.KnownBytes.{Appends, Keeps}
 use Rattle.std.proofs.lemmas.List.{take-append-drop, take_rest}
 use Rattle.getopts.specs.Names.{Text}
-use Rattle.getopts_shell.specs.Program.{AppendsFront, IsOutput, ShowsFront}
+use Rattle.getopts_shell.specs.Program.{AppendsFront, IsOutput, ShowsFront, ShowsFrontAndFault, write_fault}
 
 -- nothing is appended if nothing changes
 pub appends_none : (old : Option (List ℕ)) → Appends old old []
@@ -43,17 +43,19 @@ pub cut_piece : (all done rest : List ℕ) (count : ℕ) → all ≡ done ++ res
 cut_piece all done rest count is = one_more_piece all done rest count is
     ∙ ap (λ (l : List ℕ). (done ++ take count rest) ++ l) (sym (take_rest rest count))
 
--- a prefix on one of two writers, by the status
-pub shows_front : (out out_now err err_now : Option (List ℕ)) (words : List Text)
-    → (bytes : List ℕ) (status : ℕ) → IsOutput words bytes status
-    → (status ≡ 0 → AppendsFront out out_now bytes)
-    → (status ≢ 0 → AppendsFront err err_now bytes)
-    → ShowsFront out out_now words (λ s. s ≡ 0) ⊎ ShowsFront err err_now words (λ s. s ≢ 0)
-shows_front out out_now err err_now words bytes zero is on_out on_err =
-    inl (bytes, zero, refl, is, on_out refl)
-shows_front out out_now err err_now words bytes (suc n) is on_out on_err =
+-- a prefix on one of two writers, by the status, and a prefix of the report
+pub shows_front : {Kept : Type 0} (out out_now err err_now err_end : Option (List ℕ))
+    (words : List Text) (bytes : List ℕ) (status : ℕ) → IsOutput words bytes status
+    → (status ≡ 0 → AppendsFront out out_now bytes × AppendsFront err err_end write_fault)
+    → (status ≢ 0 → AppendsFront err err_now bytes × Kept)
+    → AppendsFront err_now err_end write_fault
+    → (ShowsFront out out_now words (λ s. s ≡ 0) × AppendsFront err err_end write_fault)
+    ⊎ (ShowsFrontAndFault err err_end words × Kept)
+shows_front out out_now err err_now err_end words bytes zero is on_out on_err report =
+    inl ((bytes, zero, refl, is, (on_out refl).0), (on_out refl).1)
+shows_front out out_now err err_now err_end words bytes (suc n) is on_out on_err report =
     let other : suc n ≢ 0 = λ same. absurd (omega arith) in
-    inr (bytes, suc n, other, is, on_err other)
+    inr ((err_now, (bytes, suc n, other, is, (on_err other).0), report), (on_err other).1)
 
 -- a fact is true whatever the result
 pub on_ok : {X E : Type 0} (result : Result X E) (Fact : Type 0) → Fact → OnOk result Fact

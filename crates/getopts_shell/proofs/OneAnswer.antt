@@ -13,7 +13,7 @@ use Rattle.getopts_shell.specs.Completion.{functions, stub}
 use Rattle.getopts_shell.specs.Program.{Answer, AnswersAlone, AnswersCounted, AnswersDeclared}
 use Rattle.getopts_shell.specs.Program.{AnswersFree, AnswersLine, AnswersOffer, AnswersOwn}
 use Rattle.getopts_shell.specs.Program.{AnswersAccepted, AnswersRead, AnswersScript, AnswersTable}
-use Rattle.getopts_shell.specs.Program.{free_fault, AnswersWords, Asked, IsAnswer, IsHelp, IsStatus}
+use Rattle.getopts_shell.specs.Program.{free_fault, AnswersWords, Asked, IsAnswer, IsHelp, IsOutput, IsStatus}
 use Rattle.getopts_shell.specs.Program.{IsVariablesCode, OneAnswer, PrintsHelp, Script, asked_by}
 use Rattle.getopts_shell.specs.Program.{asked_fault, asks_help, brief_text, declared, done, faulty}
 use Rattle.getopts_shell.specs.Program.{help_front, shown_options, help_code, is_alone, is_given}
@@ -29,18 +29,22 @@ use Rattle.getopts_shell.proofs.Only.{one_table, one_fault, no_fault}
 pub record AnswersBy (status : ℕ) : Type 0 where
   pub known : IsStatus status
   pub memory : status ≢ 3
+  pub written : status ≢ 4
 
-by_status : (status : ℕ) → status ≤ 5 → status ≢ 1 → status ≢ 3 → AnswersBy status
-by_status status low one three = record { known = (low, one); memory = three }
+by_status : (status : ℕ) → status ≤ 5 → status ≢ 1 → status ≢ 3 → status ≢ 4 → AnswersBy status
+by_status status low one three four = record { known = (low, one); memory = three; written = four }
 
 is_done : AnswersBy 0
 is_done = by_status 0 (omega arith) (λ is. absurd (omega arith)) (λ is. absurd (omega arith))
+    (λ is. absurd (omega arith))
 
 is_refused : AnswersBy 2
 is_refused = by_status 2 (omega arith) (λ is. absurd (omega arith)) (λ is. absurd (omega arith))
+    (λ is. absurd (omega arith))
 
 is_misused : AnswersBy 5
 is_misused = by_status 5 (omega arith) (λ is. absurd (omega arith)) (λ is. absurd (omega arith))
+    (λ is. absurd (omega arith))
 
 -- ---- at most one answer
 
@@ -234,3 +238,8 @@ one_answer words = (one words).only
 pub answers_by : (words : List Text) (answer : Answer) → IsAnswer words answer
     → AnswersBy answer.status
 answers_by words = (one words).by
+
+-- and so has what is written
+pub output_by : (words : List Text) (bytes : List ℕ) (status : ℕ) → IsOutput words bytes status
+    → AnswersBy status
+output_by words bytes status is = answers_by words (record { text = is.0; status = status }) is.1

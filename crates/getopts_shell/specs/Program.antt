@@ -506,7 +506,16 @@ ShowsAnswer old new words status = (bytes : List ℕ)
 abbrev pub AppendsFront : Option (List ℕ) → Option (List ℕ) → List ℕ → Type 0
 AppendsFront old new bytes = (front rest : List ℕ) × (bytes ≡ front ++ rest) × Appends old new front
 
+-- what the program reports if a write fails
+abbrev pub write_fault : Text
+write_fault = codes "getopts_shell: writing the output failed\n"
+
 -- The writer has received a prefix of the answer to these words, which has such a status.
 abbrev pub ShowsFront : Option (List ℕ) → Option (List ℕ) → List Text → (ℕ → Type 0) → Type 0
 ShowsFront old new words IsItsStatus = (bytes : List ℕ) × (status : ℕ) × IsItsStatus status
     × IsOutput words bytes status × AppendsFront old new bytes
+
+-- The writer of errors has received a prefix of the answer to these words, and then of the report.
+abbrev pub ShowsFrontAndFault : Option (List ℕ) → Option (List ℕ) → List Text → Type 0
+ShowsFrontAndFault old new words = (between : Option (List ℕ))
+    × ShowsFront old between words (λ status. status ≢ 0) × AppendsFront between new write_fault

@@ -16,6 +16,7 @@ ghost use Rattle.getopts_shell.specs.Program.{usage_line, AnswersFree, AnswersLi
 ghost use Rattle.getopts_shell.specs.Program.{AnswersOwn, AnswersRead, AnswersScript, AnswersTable};
 ghost use Rattle.getopts_shell.specs.Program.{AnswersWords, AppendsFront, IsAnswer, IsHelp};
 ghost use Rattle.getopts_shell.specs.Program.{IsOutput, IsStatus, ShowsAnswer, ShowsFront};
+ghost use Rattle.getopts_shell.specs.Program.{ShowsFrontAndFault, write_fault};
 ghost use Rattle.getopts_shell.specs.Program.{IsVariablesCode, alone_line, asked_by, asked_fault};
 ghost use Rattle.getopts_shell.specs.Program.{brief_text, completion_answer, done, help_code};
 ghost use Rattle.getopts_shell.specs.Program.{help_front, last_word, misused, no_completion};
@@ -50,7 +51,7 @@ const REFUSED: u8 = 2;
 /// The status if an allocation failed.
 pub(crate) const NO_MEMORY: u8 = 3;
 /// The status if writing or flushing failed.
-pub(crate) const NOT_WRITTEN: u8 = 4;
+const NOT_WRITTEN: u8 = 4;
 /// The status if the script called the program incorrectly and the error was written.
 const MISUSED: u8 = 5;
 
@@ -113,7 +114,8 @@ impl Outcome {
 ///   program's own help or version with `--help` or `--version`
 /// - 2: why the script's words were rejected, and its short usage
 /// - 3: out of memory, with nothing written
-/// - 4: writing or flushing failed, and what was written is a prefix of the text
+/// - 4: writing or flushing failed. What was written is a prefix of the text, and then, to `err`, a
+///   line that says so, or a prefix of this line
 /// - 5: what is wrong with the call: the program's own options, such as `--variables` with
 ///   `--usage`, a missing name or table, a line of the table, the name of a variable, or an unknown
 ///   shell
@@ -126,20 +128,30 @@ pub fn answer<W: Write, E: Write>(alloc: Global, words: &[String], out: &mut W, 
         → ShowsAnswer (E.contents err.old) (E.contents err.new) (map string_bytes words.now) result }
     ensures refused_only { (result ≡ 2) ⊎ (result ≡ 5) → out.new ≡ out.old }
     ensures cut { result ≡ 4
-        → ShowsFront (W.contents out.old) (W.contents out.new) (map string_bytes words.now)
+        → (ShowsFront (W.contents out.old) (W.contents out.new) (map string_bytes words.now)
         (λ status. status ≡ 0)
-        ⊎ ShowsFront (E.contents err.old) (E.contents err.new) (map string_bytes words.now)
-        (λ status. status ≢ 0) }
-    ensures one_stream { (out.new ≡ out.old) ⊎ (err.new ≡ err.old) }
+        × AppendsFront (E.contents err.old) (E.contents err.new) write_fault)
+        ⊎ (ShowsFrontAndFault (E.contents err.old) (E.contents err.new) (map string_bytes words.now)
+        × (out.new ≡ out.old)) }
     ensures nothing_written { result ≡ 3 → (out.new ≡ out.old) × (err.new ≡ err.old) }
 {
     match output_to(alloc, words) {
         Ok(output) => match write_output(&output, out, err) {
             Ok(()) => output.status,
-            Err(_) => NOT_WRITTEN,
+            Err(_) => {
+                report_failure(err);
+                NOT_WRITTEN
+            }
         },
         Err(_) => NO_MEMORY,
     }
+}
+
+/// Reports that writing failed. If that fails, too, a prefix of the report was written.
+fn report_failure<E: Write>(err: &mut E)
+    ensures { AppendsFront (E.contents err.old) (E.contents err.new) write_fault }
+{
+    let _ = print(err, b"getopts_shell: writing the output failed\n");
 }
 
 /// Writes an output, to `out` if the status is 0 and otherwise to `err`. If that fails, a prefix of
@@ -164,7 +176,7 @@ fn write_output<W: Write, E: Write>(output: &Output, out: &mut W, err: &mut E) -
 }
 
 /// Writes bytes, and flushes them. If that fails, a prefix of them was written.
-pub(crate) fn print<W: Write>(out: &mut W, bytes: &[u8]) -> io::Result<()>
+fn print<W: Write>(out: &mut W, bytes: &[u8]) -> io::Result<()>
     ensures whole { OnOk result (Appends (W.contents out.old) (W.contents out.new) bytes.now) }
     ensures front { AppendsFront (W.contents out.old) (W.contents out.new) bytes.now }
 {

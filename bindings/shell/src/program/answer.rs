@@ -25,7 +25,7 @@ const REFUSED: u8 = 2;
 /// The status if an allocation failed.
 pub(crate) const NO_MEMORY: u8 = 3;
 /// The status if writing or flushing failed.
-pub(crate) const NOT_WRITTEN: u8 = 4;
+const NOT_WRITTEN: u8 = 4;
 /// The status if the script called the program incorrectly and the error was written.
 const MISUSED: u8 = 5;
 
@@ -82,7 +82,8 @@ impl Outcome {
 ///   program's own help or version with `--help` or `--version`
 /// - 2: why the script's words were rejected, and its short usage
 /// - 3: out of memory, with nothing written
-/// - 4: writing or flushing failed, and what was written is a prefix of the text
+/// - 4: writing or flushing failed. What was written is a prefix of the text, and then, to `err`, a
+///   line that says so, or a prefix of this line
 /// - 5: what is wrong with the call: the program's own options, such as `--variables` with
 ///   `--usage`, a missing name or table, a line of the table, the name of a variable, or an unknown
 ///   shell
@@ -90,10 +91,18 @@ pub fn answer<W: Write, E: Write>(alloc: Global, words: &[String], out: &mut W, 
     match output_to(alloc, words) {
         Ok(output) => match write_output(&output, out, err) {
             Ok(()) => output.status,
-            Err(_) => NOT_WRITTEN,
+            Err(_) => {
+                report_failure(err);
+                NOT_WRITTEN
+            }
         },
         Err(_) => NO_MEMORY,
     }
+}
+
+/// Reports that writing failed. If that fails, too, a prefix of the report was written.
+fn report_failure<E: Write>(err: &mut E) {
+    let _ = print(err, b"getopts_shell: writing the output failed\n");
 }
 
 /// Writes an output, to `out` if the status is 0 and otherwise to `err`. If that fails, a prefix of
@@ -107,7 +116,7 @@ fn write_output<W: Write, E: Write>(output: &Output, out: &mut W, err: &mut E) -
 }
 
 /// Writes bytes, and flushes them. If that fails, a prefix of them was written.
-pub(crate) fn print<W: Write>(out: &mut W, bytes: &[u8]) -> io::Result<()> {
+fn print<W: Write>(out: &mut W, bytes: &[u8]) -> io::Result<()> {
     let mut rest = bytes;
     // Bounded, so that the loop is proved to end.
     for _ in 0..u64::MAX {

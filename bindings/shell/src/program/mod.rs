@@ -17,7 +17,7 @@ mod table;
 mod variables;
 mod words;
 
-use answer::{NO_MEMORY, NOT_WRITTEN, answer, print};
+use answer::{NO_MEMORY, answer};
 use crate::host::alloc::AllocError;
 use crate::host::io;
 use std::process::ExitCode;
@@ -28,15 +28,10 @@ pub fn main(rt: HostRuntime) -> ExitCode {
     ExitCode::from(run(&rt).unwrap_or(NO_MEMORY))
 }
 
-/// The status of `answer` for the system's words. If writing failed, a line on standard error says
-/// so. Fails, without writing anything, if an allocation for the words fails.
+/// The status of `answer` for the system's words. Fails, without writing anything, if an allocation
+/// for the words fails.
 fn run(rt: &HostRuntime) -> Result<u8, AllocError> {
     let words = system_words(rt)?;
     let mut err = rt.stderr();
-    let status = answer(rt.alloc(), &words, &mut io::writer(rt), &mut err);
-    if status == NOT_WRITTEN {
-        // Nothing can be done if this fails, too.
-        let _ = print(&mut err, b"getopts_shell: writing the output failed\n");
-    }
-    Ok(status)
+    Ok(answer(rt.alloc(), &words, &mut io::writer(rt), &mut err))
 }
