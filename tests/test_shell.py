@@ -258,11 +258,13 @@ def test_random_lines(program, one_shell, tmp_path, cases, way):
 
 @IN_SHELLS
 def test_scripts_on_page(program, one_shell, tmp_path, monkeypatch):
-    """The README's first script, its two loops over options, one with output added, and the examples."""
+    """The README's first script and its help, two loops over options, one with output added, and the examples."""
     page = (SHELL / "README.md").read_text()
     (first, loop), values = re.findall(r"```sh\n(.*?)```", page, re.S)[:2], re.search(r"^    show_folders.*\n.*\n", page, re.M)[0]
     begin = run(program, "--variables", "opt_", "backup", first.split("'")[1], "-vv", "x", "-i", "a b")[0].splitlines(True)
     assert textwrap.indent("".join(begin[:5]), "    ") in page and f"`{begin[-1].strip()}`" in page
+    usage, _ = run(program, "--usage", "backup", first.split("'")[1])
+    assert textwrap.indent(usage, "    ", lambda line: line.strip()) in page
     show = "printf '%s\\n' \"$input|$output|$verbose|$color|$folders\"\nfor word do printf '%s\\n' \"$word\"; done\n"
     (tmp_path / "first").write_text(first)
     (tmp_path / "values").write_text(first.replace("for file", values + "for file"))
@@ -311,6 +313,24 @@ SENTENCES = [pytest.param(row, name, id=f"{row[0][0]}-{name}") for row in rows_i
 def test_sentence_on_page(program, one_shell, row):
     (_, _, out), script = row
     assert subprocess.run([*one_shell, "-c", script], capture_output=True).stdout == out.encode()
+
+
+@IN_SHELLS
+@pytest.mark.parametrize("locale, charmap, word", [("zh_TW", "EUC-TW", b"\x8e\xa1"), ("zh_CN", "GB18030", b"\x810")])
+def test_locales_of_bash(program, tmp_path, locale, charmap, word):
+    """As the README warns, an argument can run code in these locales, unless the script sets LC_ALL=C."""
+    need("bash", "localedef")
+    if answer("localedef", "-i", locale, "-f", charmap, tmp_path / "own")[1] > 1 or not (tmp_path / "own").exists():
+        pytest.skip(f"no charmap {charmap}: apt-get install locales")
+    for setting, runs in ("", True), ("LC_ALL=C", False):
+        code = f"""{setting}
+code=$(getopts_shell --variables o_ n 'FILE..  x' "$@") || exit
+eval "$code\""""
+        for shell in ["bash"], ["bash", "--posix"]:
+            subprocess.run([*shell, "-c", code, "sh", word, b"\n touch canary #"], cwd=tmp_path, capture_output=True,
+                           env={**os.environ, "LOCPATH": str(tmp_path), "LC_ALL": "own"})
+            assert (tmp_path / "canary").exists() == runs, (setting, shell)
+            (tmp_path / "canary").unlink(missing_ok=True)
 
 
 @pytest.fixture

@@ -33,7 +33,14 @@ NR == 1 {
 left_out { next }
 /^## / { goes_on("text"); print ".SH \"" toupper(substr($0, 4)) "\""; next }
 /^```/ { fenced = !fenced; goes_on(fenced ? "code" : "text"); next }
-fenced || /^    / { goes_on("code"); print escaped(fenced ? $0 : substr($0, 5)); next }
+fenced || /^    / {
+    if (blank && kind == "code")
+        print ""
+    blank = 0
+    goes_on("code")
+    print escaped(fenced ? $0 : substr($0, 5))
+    next
+}
 /^\|/ {
     if (kind != "table") {
         goes_on("table")
@@ -48,6 +55,6 @@ fenced || /^    / { goes_on("code"); print escaped(fenced ? $0 : substr($0, 5));
     next
 }
 /^- / { goes_on("item"); print ".IP \\(bu 2\n" said(substr($0, 3)); next }
-/^$/ { if (kind != "code") print ".P"; next }
+/^$/ { if (kind == "code") blank = 1; else print ".P"; next }
 { goes_on("text"); sub(/^  */, ""); print said($0) }
 END { print ".SH SEE ALSO\n.BR getopt (1)" }
