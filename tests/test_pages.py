@@ -145,7 +145,7 @@ def sizes():
 
 def quoted_contracts():
     """CALLING: the contracts that callers cite most, in few lines."""
-    names = "Options::new", "Options::opt", "Options::parse_words", "Matches::opt_str"
+    names = "Options::parse_words", "Matches::opt_str"
     parts = (re.split(r"\n +(?=(?:requires|ensures)\b)", contracts()[name]) for name in names)
     joined = ([re.sub(r"(?<=\() |,? (?=\))", "", " ".join(part.split())) for part in of_it] for of_it in parts)
     rows = (textwrap.wrap(part, 120, initial_indent=4 * " " * (at > 0), subsequent_indent=8 * " ")

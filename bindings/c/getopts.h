@@ -23,8 +23,7 @@
  * getopts_read or getopts_delete on it.
  *
  * `pkg-config --cflags --libs getopts` prints the flags for the shared library. For the static
- * library, write `getopts-static`; a program then grows by about 105 KB, or with -Wl,--gc-sections
- * by 60 to 90 KB. PREFIX/share/doc/getopts/head.c is a complete program. */
+ * library, write `getopts-static`. PREFIX/share/doc/getopts/head.c is a complete program. */
 #ifndef GETOPTS_H
 #define GETOPTS_H
 
@@ -82,7 +81,8 @@ struct getopts_option {
 };
 
 /* How words are read. Modes can be added. A mode used as a kind, or a kind used as a mode, is an
- * error: see getopts_new. With GETOPTS_LONG_ONLY, short options can't be combined, and take
+ * error: see getopts_new. (In docs/GRAMMAR.md, GETOPTS_STOP is a parsing style, and only
+ * GETOPTS_LONG_ONLY a mode.) With GETOPTS_LONG_ONLY, short options can't be combined, and take
  * arguments as long options do: write `-I dir` or `-I=dir`, and `-v -v`. `-Idir` and `-vv`, which
  * getopt_long_only accepts, are rejected.
  *
