@@ -24,7 +24,7 @@ LIBRARIES = {
     "pico-args": ("pico-args", "#e0a030", "s", 8),
     "lexopt": ("lexopt", "#3d5a80", "^", 8),
     "Rust crate": ("the Rust crate getopts", "#555555", "|", 9),
-    "bindings/rust": ("drop-in", "#0b6e4f", "D", 6),
+    "bindings/rust": ("proved-getopts", "#0b6e4f", "D", 6),
 }
 
 

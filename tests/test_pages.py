@@ -82,7 +82,7 @@ def speed():
         return [name, *measured(title, job, *columns), *measured(title, f"copied-{job}", "bindings/rust"),
                 *measured(title, job, *peers)]
 
-    return table(["job", "this library", "Rust crate", "drop-in", "drop-in, copying", *(f"{it} {versions[it]}" for it in peers)],
+    return table(["job", "Rattle", "Rust crate", "`proved-getopts`", "copying", *(f"{it} {versions[it]}" for it in peers)],
                  *(row("Instructions per iteration", described(job), job) for job in ("small", "typical", "long", "files")),
                  row("Microseconds per iteration", "`typical`, in microseconds", "typical"))
 
@@ -97,7 +97,7 @@ def memory():
     jobs = {"held-small": "3 words", "held-described": "options with long descriptions", "held-long": "1,000 words",
             "held-cluster": "a cluster of 100,000 letters", "held-values": "three values of 1 MB", "memory": "100,000 words"}
     columns = "this library", "bindings/rust", "Rust crate"
-    return table(["job", "this library", "drop-in", "Rust crate"], *(
+    return table(["job", "Rattle", "`proved-getopts`", "Rust crate"], *(
         [f"`{job}`: {words}", *measured("Bytes that matches take" if "-" in job else
                                         "Peak bytes while parsing, besides the words and the options", job, *columns)]
         for job, words in jobs.items()))
