@@ -51,11 +51,16 @@ def offline(registry=REGISTRY):
             "--config", f'source.debian.directory="{registry}"']
 
 
+def rust_minor():
+    """The N of the rustc 1.N that cargo uses. Before 1.95, the path of the sources may be in what it builds."""
+    return int(re.search(r"1\.(\d+)", run("rustc", "--version")[0])[1])
+
+
 def need_cargo(folder):
     """Skips the test if cargo can't build the crate in this folder."""
     need("cargo", "rustc", "cc")
     least = re.search(r'rust-version = "1\.(\d+)"', (folder / "Cargo.toml").read_text()) or (0, 63)
-    if int(re.search(r"1\.(\d+)", run("rustc", "--version")[0])[1]) < int(least[1]):
+    if rust_minor() < int(least[1]):
         pytest.skip(f"rustc is older than 1.{least[1]}: install a newer one from https://rustup.rs")
     flags = ["--config", "net.retry=0", "--config", "http.timeout=10", *offline()]
     if not succeeds("cargo", "build", *flags, **USES_WIDTH):

@@ -14,7 +14,7 @@ import time
 import model
 import pytest
 from conftest import MARGIN, ROOT, answer, check_page, need, need_compiler, run, script
-from targets import OLD, cargo, cargo_for, copy_folders, need_cargo, need_target, runner, shared_folder
+from targets import OLD, cargo, cargo_for, copy_folders, need_cargo, need_target, runner, rust_minor, shared_folder
 
 C = ROOT / "bindings/c"
 VERSION = re.search(r'GETOPTS_VERSION "(.*)"', (C / "getopts.h").read_text())[1]
@@ -452,7 +452,7 @@ def test_debug_information(installed, prefix):
     need("readelf")
     for file, kept in ((installed[1] / "lib/libgetopts.so", True), (prefix / "lib/libgetopts.so", False)):
         assert (".debug_info" in run("readelf", "-S", "-W", file)[0]) == kept
-        assert os.environ["TMPDIR"].encode() not in file.read_bytes()
+        assert rust_minor() < 95 or os.environ["TMPDIR"].encode() not in file.read_bytes()
 
 
 @pytest.mark.full
@@ -526,14 +526,15 @@ def test_libdir(copies, tmp_path):
 
 def test_install_in_shared_folder(prefix, tmp_path):
     """The library is built in a temporary folder. Cargo and rustup read nothing that other users put beside it, and the
-    libraries have the same bytes as those built in another folder."""
+    libraries have the same bytes as those built in another folder (with Rust 1.95 or later)."""
     room = tmp_path / "shared room"
     ran = shared_folder(room)
     planted = set(room.rglob("*"))
     run("sh", C / "install.sh", tmp_path / "to", env={"TMPDIR": str(room)})
     assert not ran.exists() and set(room.rglob("*")) == planted
-    for name in ("libgetopts.a", "libgetopts.so"):
-        assert (tmp_path / "to/lib" / name).read_bytes() == (prefix / "lib" / name).read_bytes()
+    if rust_minor() >= 95:
+        for name in ("libgetopts.a", "libgetopts.so"):
+            assert (tmp_path / "to/lib" / name).read_bytes() == (prefix / "lib" / name).read_bytes()
 
 
 @pytest.mark.parametrize("shell", ["dash", "busybox"])

@@ -19,7 +19,7 @@ from pathlib import Path
 import pytest
 from conftest import MACHINE, MARGIN, ROOT, answer, check_page, need, need_compiler, other_version, rows_in, run, script
 from shell import lines, tables
-from targets import cargo, cargo_for, commit_repository, copy_folders, need_cargo, offline, passed, runner
+from targets import cargo, cargo_for, commit_repository, copy_folders, need_cargo, offline, passed, runner, rust_minor
 
 SHELL = ROOT / "bindings/shell"
 SHELLS = ["dash", "bash", "bash --posix", "zsh", "ksh93", "mksh", "yash", "busybox sh"]
@@ -320,8 +320,10 @@ def test_sentence_on_page(program, one_shell, row):
 def test_locales_of_bash(program, tmp_path, locale, charmap, word):
     """As the README warns, an argument can run code in these locales, unless the script sets LC_ALL=C."""
     need("bash", "localedef")
-    if answer("localedef", "-i", locale, "-f", charmap, tmp_path / "own")[1] > 1 or not (tmp_path / "own").exists():
+    if not Path(f"/usr/share/i18n/charmaps/{charmap}.gz").exists():
         pytest.skip(f"no charmap {charmap}: apt-get install locales")
+    answer("localedef", "-i", locale, "-f", charmap, tmp_path / "own")
+    assert (tmp_path / "own").exists()
     for setting, runs in ("", True), ("LC_ALL=C", False):
         code = f"""{setting}
 code=$(getopts_shell --variables o_ n 'FILE..  x' "$@") || exit
@@ -554,6 +556,8 @@ def test_manual_page(tmp_path):
 
 
 def test_same_bytes_in_any_folder(tmp_path):
+    if rust_minor() < 95:
+        pytest.skip("before Rust 1.95, the path of the sources is in the program")
     rooms = [copy_folders(tmp_path / name, "bindings") / "bindings" for name in ("one", "another place")]
     for room in rooms:
         cargo(room / "shell", "build", "--release")

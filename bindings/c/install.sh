@@ -15,8 +15,8 @@
 # provides the crate unicode-width; otherwise cargo downloads it. To cross-compile, name the target and its compiler:
 # CARGO_BUILD_TARGET=aarch64-unknown-linux-gnu CC=aarch64-linux-gnu-gcc. The variables CARGO, CARGO_FLAGS, CC, AR,
 # CFLAGS and LDFLAGS are used. Files are written below DESTDIR. LIBDIR, such as lib64, replaces lib. DEBUG_INFO=1 keeps
-# debug information. The same tools build the same bytes in any folder. Cargo reads CARGO_HOME/config.toml, which may name
-# vendored crates, but no .cargo/config.toml of the repository.
+# debug information. With Rust 1.95 or later, the same tools build the same bytes in any folder. Cargo reads
+# CARGO_HOME/config.toml, which may name vendored crates, but no .cargo/config.toml of the repository.
 set -eu
 unset CDPATH
 umask 022
