@@ -1,7 +1,9 @@
 -- The only value with a property, and what is made of it.
-use Rattle.std.proofs.Common.{◌≡◌, refl, sym, subst, List, [], ◌∷◌, map, ap, ◌∙◌}
+use Rattle.std.proofs.Common.{◌≡◌, refl, sym, subst, List, [], ◌∷◌, map, rules, arith}
 use Rattle.std.specs.List.{AllZip}
 use Rattle.getopts.specs.Only.{IsTheOnly}
+use Rattle.std.proofs.lemmas.Grind.{common_steps}
+use Rattle.std.proofs.lemmas.Bool.Decides.{nat_tests}
 
 -- a value that has a property and equals every value that has it
 pub IsTheOnly-from : {X : Type 0} (Fact : X → Type 0) (value : X) → Fact value
@@ -15,32 +17,16 @@ meets Fact value only = (only value).1 refl
 -- a function of the only value has the only result
 pub made_of_the_only : {X Y : Type 0} (P : X → Type 0) (make : X → Y) (x : X) (y : Y)
     → IsTheOnly P x → y ≡ make x → IsTheOnly (λ (other : Y). (z : X) × P z × (other ≡ make z)) y
-made_of_the_only {X} P make x y only made = λ other. (
-  (λ found. found.2 ∙ ap make ((only found.0).0 found.1) ∙ sym made),
-  (λ same. (x, (only x).1 refl, same ∙ made)),
-)
+made_of_the_only {X} P make x y only made = search rules
 
 -- a list of unique elements is unique
 pub each_is_the_only : {X Y : Type 0} (R : X → Y → Type 0) (xs : List X) (ys : List Y)
     → AllZip (λ x y. IsTheOnly (R x) y) xs ys → IsTheOnly (AllZip R xs) ys
-each_is_the_only R [] [] all = λ other. (nothing other, λ same. subst (AllZip R []) (sym same) tt)
-  where
-    nothing : (other : List _) → AllZip R [] other → other ≡ []
-    nothing [] all = refl
-    nothing (z ∷ other) all = absurd all
+each_is_the_only R [] [] all = grind (arith, common_steps, nat_tests)
 each_is_the_only R [] (y ∷ ys) all = absurd all
 each_is_the_only R (x ∷ xs) [] all = absurd all
-each_is_the_only {X} {Y} R (x ∷ xs) (y ∷ ys) all = λ other. (
-  same_as (each_is_the_only R xs ys all.1) other,
-  λ same. subst (AllZip R (x ∷ xs)) (sym same)
-      ((all.0 y).1 refl, (each_is_the_only R xs ys all.1 ys).1 refl),
-)
-  where
-    same_as : IsTheOnly (AllZip R xs) ys → (other : List Y) → AllZip R (x ∷ xs) other
-        → other ≡ y ∷ ys
-    same_as rest [] each = absurd each
-    same_as rest (z ∷ zs) each = let first = (all.0 z).0 each.0 in let more =
-        (rest zs).0 each.1 in cc
+each_is_the_only {X} {Y} R (x ∷ xs) (y ∷ ys) all =
+    search (rules, each_is_the_only R xs ys all.1, each_is_the_only R xs ys all.1 ys)
 
 -- the only results of a function, for each element
 pub map_is_the_only : {X Y : Type 0} (R : X → Y → Type 0) (f : X → Y)

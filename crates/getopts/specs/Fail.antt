@@ -1,5 +1,5 @@
 -- The errors that a command line may have, and their printed texts.
-use Rattle.std.specs.Prelude.{ℕ, Option, Some, None, ◌++◌, codes, MatchOption, ⊤}
+use Rattle.std.specs.Prelude.{ℕ, Option, Some, None, ◌++◌, codes, IfSome}
 use Rattle.std.specs.Option.{option_map_or}
 use Rattle.std.specs.String.{string_bytes}
 use Rattle.getopts.specs.Names.{Text}
@@ -54,4 +54,4 @@ fail_text fail = option_map_or fault_text (fault_of fail) (codes "Out of memory"
 
 -- The `Fail` is out of memory, or reports an error with this property.
 abbrev pub IsOutOfMemoryOr : Fail → (Fault → Type 0) → Type 0
-IsOutOfMemoryOr fail P = MatchOption (fault_of fail) ⊤ P
+IsOutOfMemoryOr fail P = IfSome (fault_of fail) P

@@ -97,3 +97,11 @@ grammar_of options = record {
   style = options.style;
   long_only = options.long_only;
 }
+
+-- the place of the group that a name in long form means
+abbrev pub long_place : Grammar → Text → Option ℕ
+long_place grammar name = grammar.place name
+
+-- the kind of argument of the group that a name in long form means
+abbrev pub long_kind : Grammar → Text → Option HasArg
+long_kind grammar name = grammar.kind name

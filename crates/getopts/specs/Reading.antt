@@ -7,7 +7,7 @@ use Rattle.std.specs.Char.{IsScalar}
 use Rattle.std.specs.List.{AllByRecursion, list_any}
 use Rattle.std.specs.Option.{option_map_or, unwrap_or}
 use Rattle.getopts.specs.Names.{Text}
-use Rattle.getopts.specs.Options.{Grammar}
+use Rattle.getopts.specs.Options.{Grammar, long_kind, long_place}
 use Rattle.getopts.specs.Fail.{Fault, argument_missing, unrecognized_option, unexpected_argument}
 use Rattle.getopts.specs.declared.kinds.HasArg.{HasArg}
 use Rattle.getopts.specs.declared.kinds.HasArg.TheVariants.{Yes, No, Maybe}
@@ -157,7 +157,7 @@ pub record IsLawfulLong (grammar : Grammar) (dashes : Dashes) (name : Text) (arg
     : Type 0 where
   pub before : MayPrecede grammar.long_only dashes name
   pub cut_once : holds_equals name ≡ false
-  pub resolves : (kind : HasArg) × (grammar.kind name ≡ Some kind) × FitsLong kind argument
+  pub resolves : (kind : HasArg) × (long_kind grammar name ≡ Some kind) × FitsLong kind argument
 
 -- The mode is ordinary, no `-` follows the dash, each byte is a flag, and the end is valid.
 -- The cluster is valid.
@@ -237,9 +237,13 @@ pub record Mention : Type 0 where
   pub value : Option Text
 
 -- Every name in a valid item resolves, so the 0 is never used.
--- what a name with this value mentions
+-- a mention of the group at a place, with this value
+abbrev pub mention_at : Option ℕ → Option Text → Mention
+mention_at place value = record { group = unwrap_or place 0; value = value }
+
+-- what a name in a cluster mentions, with this value
 abbrev pub mention_of : Grammar → Text → Option Text → Mention
-mention_of grammar name value = record { group = unwrap_or (grammar.place name) 0; value = value }
+mention_of grammar name value = mention_at (grammar.place name) value
 
 -- what the end of a cluster mentions
 abbrev pub end_mentions : Grammar → End → List Mention
@@ -250,7 +254,8 @@ end_mentions grammar (ends_in option argument) =
 -- what an item mentions, in the order of its spelling
 abbrev pub mentions : Grammar → Item → List Mention
 mentions grammar (free word) = []
-mentions grammar (long dashes name argument) = mention_of grammar name (value_of argument) ∷ []
+mentions grammar (long dashes name argument) =
+    mention_at (long_place grammar name) (value_of argument) ∷ []
 mentions grammar (cluster bytes end) =
     map (λ byte. mention_of grammar (byte ∷ []) None) bytes ++ end_mentions grammar end
 
@@ -318,12 +323,16 @@ pub record HasAfterFlags (grammar : Grammar) (word text : Text) : Type 0 where
   pub second : begins_with_dash (bytes ++ text) ≡ false
   pub each : AllByRecursion (IsFlag grammar) bytes
 
+-- the error of a name in long form that means no group
+abbrev pub unknown_long : Grammar → Text → Fault
+unknown_long grammar name = unrecognized_option name
+
 -- An item begins at the word, and these words are after it.
 -- The word has this error.
 pub data IsFaultAt (grammar : Grammar) (word : Text) (after : List Text) : Fault → Type 0 where
   -- in long form, a name that doesn't resolve
   unknown_name : (name : Text) (argument : Option Text) → IsLongForm grammar word name argument
-      → grammar.kind name ≡ None → IsFaultAt grammar word after (unrecognized_option name)
+      → long_kind grammar name ≡ None → IsFaultAt grammar word after (unknown_long grammar name)
   -- in short form, after flags, an ASCII byte that doesn't resolve
   unknown_byte : (byte : ℕ) (more : Text) → byte < 128 → HasAfterFlags grammar word (byte ∷ more)
       → grammar.kind (byte ∷ []) ≡ None
@@ -335,10 +344,10 @@ pub data IsFaultAt (grammar : Grammar) (word : Text) (after : List Text) : Fault
       → IsFaultAt grammar word after (unrecognized_option (encode_utf8 character))
   -- in long form, an argument attached to an option of kind `No`
   unwanted_argument : (name argument : Text) → IsLongForm grammar word name (Some argument)
-      → grammar.kind name ≡ Some No → IsFaultAt grammar word after (unexpected_argument name)
+      → long_kind grammar name ≡ Some No → IsFaultAt grammar word after (unexpected_argument name)
   -- in long form, an option of kind `Yes` without an argument at the end of the command line
   long_unfinished : (name : Text) → IsLongForm grammar word name None
-      → grammar.kind name ≡ Some Yes → after ≡ []
+      → long_kind grammar name ≡ Some Yes → after ≡ []
       → IsFaultAt grammar word after (argument_missing name)
   -- in short form, after flags, a last option of kind `Yes` at the end of the command line
   short_unfinished : (option : ℕ) → HasAfterFlags grammar word (option ∷ [])

@@ -6,7 +6,7 @@ use Rattle.std.specs.List.{AllByRecursion, filter, last_or, zip}
 use Rattle.std.specs.Option.{option_map_or}
 use Rattle.std.specs.List.Sorted.{IsNonDecreasingBy}
 use Rattle.getopts.specs.Names.{Text}
-use Rattle.getopts.specs.Options.{Grammar}
+use Rattle.getopts.specs.Options.{Grammar, long_kind}
 use Rattle.getopts.specs.Reading.{begins_with_dash, Argument, attached, separate, Dashes, End, flags}
 use Rattle.getopts.specs.Reading.{ends_in, Item, long, cluster, end_text, item_words, spelled_all}
 use Rattle.getopts.specs.Reading.{is_bare, Tail, line_end, stop, tail_words, Reading, IsReading}
@@ -70,7 +70,7 @@ pub record AreOneWordApart (grammar : Grammar) (shorter longer : Item) : Type 0 
 -- A long option's argument may be attached or separate.
 pub record LongAttachedOrSeparate (grammar : Grammar) : Type 0 where
   pub either : (dashes : Dashes) (name argument : Text)
-      → grammar.kind name ≡ Some Yes
+      → long_kind grammar name ≡ Some Yes
       → AreOneWordApart grammar
       (long dashes name (attached argument)) (long dashes name (separate argument))
 

@@ -6,11 +6,11 @@ use Rattle.std.specs.Prelude.{Some, None, Result, Ok, Err, if◌then◌else◌, 
 use Rattle.std.specs.Option.{option_map_or}
 use Rattle.std.specs.Str.{chars}
 use Rattle.getopts.specs.Names.{Text}
-use Rattle.getopts.specs.Options.{Grammar}
+use Rattle.getopts.specs.Options.{Grammar, long_kind}
 use Rattle.getopts.specs.Fail.{Fault, argument_missing, unrecognized_option, unexpected_argument}
 use Rattle.getopts.specs.Reading.{dash, begins_with_dash, equals_sign, is_dashed, Argument, none}
 use Rattle.getopts.specs.Reading.{attached, separate, Dashes, dash_text, flags, ends_in, Item, long, cluster}
-use Rattle.getopts.specs.Reading.{value_of, argument_words, MayPrecede, free_items, Tail}
+use Rattle.getopts.specs.Reading.{value_of, argument_words, MayPrecede, free_items, Tail, unknown_long}
 use Rattle.getopts.specs.Reading.{Occurrence, at_position, mentions, word_count}
 use Rattle.getopts.specs.declared.kinds.HasArg.{HasArg}
 use Rattle.getopts.specs.declared.kinds.HasArg.TheVariants.{Yes, No, Maybe}
@@ -69,9 +69,9 @@ chosen_step item (Ok argument) = takes (item argument) argument
 chosen_step item (Err fault) = faults fault
 
 -- the step of a name in long form, by its kind and the argument attached to it
-abbrev pub named_step : Option HasArg → Dashes → Text → Option Text → List Text → Step
-named_step None dashes name argument after = faults (unrecognized_option name)
-named_step (Some kind) dashes name argument after =
+abbrev pub named_step : Grammar → Option HasArg → Dashes → Text → Option Text → List Text → Step
+named_step grammar None dashes name argument after = faults (unknown_long grammar name)
+named_step grammar (Some kind) dashes name argument after =
     chosen_step (λ a. long dashes name a) (chosen_long kind name argument after)
 
 -- a text in long form, split at its first `=`: the name, and the argument attached to it
@@ -84,7 +84,7 @@ cut_at_equals (c ∷ text) = if c == equals_sign then ([], Some text)
 abbrev pub long_step : Grammar → Dashes → Text → List Text → Step
 long_step grammar dashes text after =
     let cut = cut_at_equals text in
-    named_step (grammar.kind cut.0) dashes cut.0 cut.1 after
+    named_step grammar (long_kind grammar cut.0) dashes cut.0 cut.1 after
 
 -- the first character of a text
 abbrev pub first_char : Text → Text

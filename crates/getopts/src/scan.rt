@@ -227,12 +227,14 @@ impl<'o> Scanner<'o> {
     ghost use Rattle.getopts.specs.Stored.Scan.{scanner_grammar, IsLawfulScanner, IsNamedBy};
     ghost use Rattle.getopts.specs.Stored.Scan.{HasShape, GivesLine};
     ghost use Rattle.getopts.specs.Results.{read};
+    ghost use Rattle.getopts.specs.Options.{long_kind, long_place};
 
     /// The option that a name resolves to.
     fn option(&self, name: &str) -> Option<Resolved>
         requires { IsLawfulScanner self.now }
         ensures { let grammar = scanner_grammar self.now in
-            MatchOption result (grammar.kind name.now ≡ None) (IsNamedBy grammar name.now) }
+            MatchOption result (long_kind grammar name.now ≡ None)
+            (IsNamedBy (long_place grammar name.now) (long_kind grammar name.now)) }
     {
         let signatures = self.options.signatures();
         let place = self.table.resolve(signatures, name)?;
@@ -284,7 +286,8 @@ impl<'o> Scanner<'o> {
     fn option_at(&self, byte: u8) -> Option<Resolved>
         requires { IsLawfulScanner self.now }
         ensures option { let grammar = scanner_grammar self.now in
-            MatchOption result (grammar.kind (byte ∷ []) ≡ None) (IsNamedBy grammar (byte ∷ [])) }
+            MatchOption result (grammar.kind (byte ∷ []) ≡ None)
+            (IsNamedBy (grammar.place (byte ∷ [])) (grammar.kind (byte ∷ []))) }
         ensures ascii { OnSome result (byte < 128) }
     {
         if !byte.is_ascii() {

@@ -1,9 +1,8 @@
 -- Words have a reading that ends with the line if and only if `--` after them would be the stop.
-use Rattle.std.proofs.Common.{◌≡◌, ◌≢◌, ◌==◌, ℕ, ◌-◌, false, List, [], ◌∷◌, ◌++◌, ◌∙◌}
-use Rattle.std.proofs.Common.{ap, arith, length-append, refl, sym, take, length, Option}
-use Rattle.std.proofs.Common.{None, Some, Result, Ok, Err, String, Bor, Global, map, string_bytes}
+use Rattle.std.proofs.Common.{◌≡◌, ◌≢◌, ◌==◌, ◌-◌, false, List, [], ◌∷◌, ◌++◌, ◌∙◌, ap, arith, length-append, refl}
+use Rattle.std.proofs.Common.{sym, length, Option, None, Some, Result, Ok, Err, String, Bor, Global, map}
+use Rattle.std.proofs.Common.{string_bytes, rules}
 use Rattle.std.proofs.Math.Seq.{take-append_seam}
-use Rattle.std.proofs.lemmas.Bool.{ne_eqb}
 use Rattle.std.specs.Prelude.{if◌then◌else◌, MatchResult}
 use Rattle.std.specs.Str.{IsUtf8}
 use Rattle.getopts.specs.Fail.{Fault}
@@ -12,12 +11,12 @@ use Rattle.getopts.specs.Matches.{Matched, MatchedGroup, matches_of}
 use Rattle.getopts.specs.Names.{AreTexts, Text, texts}
 use Rattle.getopts.specs.Options.{Declared, Grammar, MayBeDeclared, grammar_of}
 use Rattle.getopts.specs.Parse.{Reads}
-use Rattle.getopts.specs.Reading.{AreWellFollowed, EndsOrIsDashed, IsReading, Item, Reading, Tail}
-use Rattle.getopts.specs.Reading.{free_items, line_end, rest, spelled_all, stop, stop_word}
+use Rattle.getopts.specs.Reading.{AreWellFollowed, EndsOrIsDashed, IsReading, Item, Reading, Tail, free_items}
+use Rattle.getopts.specs.Reading.{line_end, rest, spelled_all, stop, stop_word}
 use Rattle.getopts.specs.Results.{made_of, parse_ignoring_counts_result, reading_or_error}
-use Rattle.getopts.proofs.Lists.{AllByRecursion-append}
+use Rattle.std.proofs.Permutation.{every_append}
 use Rattle.getopts.proofs.MainTheorem.Results.{HasResults-declared}
-use Rattle.getopts.proofs.Reading.Readings.{EndsOrIsDashed-spelled, spelled_all-append}
+use Rattle.getopts.proofs.Reading.Readings.{spelled_all-append}
 use Rattle.getopts_shell.specs.Completion.{groups_before_option, groups_at_end}
 use Rattle.getopts_shell.specs.Stored.{is_last_after_stop}
 use Rattle.getopts_shell.proofs.Written.{strings_are_texts}
@@ -40,22 +39,19 @@ groups_found (Some matches) = if is_last_after_stop matches then Some matches.gr
 ends_other : (items : List Item) (xs ys : List Text) → (EndsOrIsDashed xs → EndsOrIsDashed ys)
     → EndsOrIsDashed (spelled_all items xs) → EndsOrIsDashed (spelled_all items ys)
 ends_other [] xs ys may is = may is
-ends_other (item ∷ items) xs ys may is =
-    EndsOrIsDashed-spelled item (spelled_all items xs) (spelled_all items ys) is
+ends_other (item ∷ items) xs ys may is = search rules
 
 followed_other : (items : List Item) (xs ys : List Text) → (EndsOrIsDashed xs → EndsOrIsDashed ys)
     → AreWellFollowed items xs → AreWellFollowed items ys
 followed_other [] xs ys may is = tt
-followed_other (item ∷ items) xs ys may is =
-    (λ bare. ends_other items xs ys may (is.0 bare), followed_other items xs ys may is.1)
+followed_other (item ∷ items) xs ys may is = search (rules, ends_other, followed_other items xs ys may is.1)
 
 -- a reading that ends with the line, with the stop
 stop_reads : (grammar : Grammar) (items : List Item) (words : List Text)
     → IsReading grammar (record { items = items; tail = line_end }) words
     → IsReading grammar (record { items = items; tail = stop ([] ∷ []) }) (with_stop words)
 stop_reads grammar items words is = record {
-  spells = spelled_all-append items [] (stop_word ∷ [] ∷ [])
-      ∙ ap (λ (words : List Text). with_stop words) is.spells;
+  spells = search (rules, spelled_all-append items [] (stop_word ∷ [] ∷ []));
   items = is.items;
   tail = tt;
   followed = followed_other items [] (stop_word ∷ [] ∷ []) (λ ends. refl) is.followed;
@@ -66,10 +62,7 @@ same_front : (xs ys : List Text) (a b c : Text) → xs ++ a ∷ b ∷ [] ≡ ys 
 same_front xs ys a b c same =
     let long : length xs ≡ length ys =
     omega (arith, ap length same, length-append xs (a ∷ b ∷ []), length-append ys (a ∷ c ∷ [])) in
-    sym (take-append_seam xs (a ∷ b ∷ []))
-    ∙ ap (λ (n : ℕ). take n (xs ++ a ∷ b ∷ [])) long
-    ∙ ap (λ (words : List Text). take (length ys) words) same
-    ∙ take-append_seam ys (a ∷ c ∷ [])
+    search (rules, take-append_seam xs (a ∷ b ∷ []), take-append_seam ys (a ∷ c ∷ []))
 
 -- such a reading without the stop
 front_reads : (grammar : Grammar) (items : List Item) (words : List Text) (word : Text)
@@ -86,12 +79,11 @@ front_reads grammar items words word is = record {
 -- other words than one are after the stop
 more_after : (items : List Item) (words : List Text) → length words ≢ 1
     → (length (free_items items ++ words) - length (free_items items) == 1) ≡ false
-more_after items words other = ne_eqb _ _
-    (λ same. other (omega (arith, same, length-append (free_items items) words)))
+more_after items words other = search (rules, length-append)
 
 texts_stopped : (words : List Text) → AreTexts words → AreTexts (with_stop words)
 unfolding lib.Utf8.encode
-texts_stopped words are = AllByRecursion-append IsUtf8 words (stop_word ∷ [] ∷ []) are
+texts_stopped words are = every_append IsUtf8 words (stop_word ∷ [] ∷ []) are
     ((stop_word, (refl, refl)), (([], (refl, refl)), tt))
 
 module _ (options : Declared) (declared : MayBeDeclared options.groups) where
@@ -103,9 +95,7 @@ module _ (options : Declared) (declared : MayBeDeclared options.groups) where
 
   result_of : (words : List Text) → AreTexts words
       → IsReadingOf options words (reading_or_error options words)
-  result_of words are =
-      ((HasResults-declared options declared words are).reading (reading_or_error options words)).1
-      refl
+  result_of words are = search (rules, HasResults-declared options declared words are)
 
   -- no option may follow words that have no such reading
   none_after : (words : List Text) → AreTexts words

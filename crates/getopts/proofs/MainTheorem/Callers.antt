@@ -1,11 +1,12 @@
 -- Lemmas for callers: matches that hold the same, and canonical lines.
 use Rattle.std.proofs.Common.{◌≡◌, ℕ, zero, suc, Bool, true, false, List, [], ◌∷◌, length, nat_lt}
-use Rattle.std.proofs.Common.{Option, Some, None, Ok, refl, ap, sym, subst, ◌∙◌, not}
+use Rattle.std.proofs.Common.{Option, Some, None, Ok, refl, ap, sym, ◌∙◌, not, rules, arith}
 use Rattle.std.specs.List.{filter_map, cons_option, AllByRecursion, list_all}
 use Rattle.std.proofs.lemmas.List.{length-map}
 use Rattle.std.specs.Result.{result_map_both}
 use Rattle.std.specs.Prelude.{IfNone, IsSome}
 use Rattle.std.proofs.lemmas.Bool.{and_parts, not-true}
+use Rattle.std.proofs.lemmas.Grind.{common_steps}
 use Rattle.getopts.specs.Names.{Text, main_name}
 use Rattle.getopts.specs.Options.{Declared, MayBeDeclared, Group}
 use Rattle.getopts.specs.Reading.{Reading, Mention, holds_equals}
@@ -36,43 +37,29 @@ unfolding first_of_values
 first_value-each [] = refl
 first_value-each (found ∷ founds) = refl
 
-each_value-first : (founds others : List GroupOccurrence) → each_value founds ≡ each_value others
-    → first_value founds ≡ first_value others
-each_value-first founds others same = first_value-each founds ∙ ap first_of_values same
-    ∙ sym (first_value-each others)
-
 values_of-each : (founds : List GroupOccurrence)
     → values_of founds ≡ filter_map (λ (value : Option Text). value) (each_value founds)
 values_of-each [] = refl
 values_of-each (found ∷ founds) = ap (cons_option found.value) (values_of-each founds)
-
-each_value-values : (founds others : List GroupOccurrence) → each_value founds ≡ each_value others
-    → values_of founds ≡ values_of others
-each_value-values founds others same =
-    values_of-each founds ∙ ap (filter_map (λ (value : Option Text). value)) same
-    ∙ sym (values_of-each others)
 
 module _ (matches other : Matched) (same : HaveSameValues matches other) where
   -- In matches that hold the same, an option has the same first value.
   pub same_first : (name : Text)
       → first_value (occurrences_of_name other.groups name)
       ≡ first_value (occurrences_of_name matches.groups name)
-  same_first name = each_value-first _ _ (same.values name)
+  same_first name = first_value-each _ ∙ ap first_of_values (same.values name) ∙ sym (first_value-each _)
 
   -- In matches that hold the same, an option has the same values.
   pub same_values : (name : Text)
       → values_of (occurrences_of_name other.groups name)
       ≡ values_of (occurrences_of_name matches.groups name)
-  same_values name = each_value-values _ _ (same.values name)
+  same_values name = search (rules, values_of-each)
 
   -- In matches that hold the same, an option has the same count.
   pub same_count : (name : Text)
       → length (occurrences_of_name other.groups name)
       ≡ length (occurrences_of_name matches.groups name)
-  same_count name =
-      sym (length-map (occurrences_of_name other.groups name) (λ (found : GroupOccurrence). found.value))
-      ∙ ap length (same.values name)
-      ∙ length-map (occurrences_of_name matches.groups name) (λ (found : GroupOccurrence). found.value)
+  same_count name = search (rules, length-map)
 
   -- In matches that hold the same, an option was given in both or in neither.
   pub same_present : (name : Text) → is_present other.groups name ≡ is_present matches.groups name
@@ -123,8 +110,7 @@ all_plain groups plain (m ∷ ms) = (plain_at groups plain m.group, all_plain gr
 pub always_some : {X : Type 0} (line : Option X) (options own : Declared) (words : List Text)
     → options ≡ own → are_mains_plain own.groups ≡ true
     → IfNone line (IsUnwritable options words) → IsSome line
-always_some None options own words is plain none = absurd (none.not_plain (all_plain options.groups
-    (subst (λ (o : Declared). are_mains_plain o.groups ≡ true) (sym is) plain) none.content.mentions))
+always_some None options own words is plain none = search (rules, all_plain)
 always_some (Some line) options own words is plain none = refl
 
 -- The canonical line of a canonical line is that line, in each style and mode.
@@ -138,8 +124,7 @@ canonical_again options declared laws words line written style long_only =
     let reading = canonical_reading options.groups written.content in
     let make : Reading → Option (List Text) =
     λ reading. written_line options.groups (content_of other reading) in
-    let said : make reading ≡ Some line = ap (written_line options.groups) back.same
-    ∙ rw (is_plain-from options.groups _ written.plain, written.line_is) refl in
+    let said : make reading ≡ Some line = grind (arith, common_steps, is_plain-from) in
     ap (made_of make) (accepted_reading-keeps other declared line reading
     (rw (← written.line_is) at back.reads))
     ∙ ap (λ (l : Option (List Text)). Ok l) said

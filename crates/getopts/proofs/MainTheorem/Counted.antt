@@ -1,5 +1,5 @@
 -- The result of words whose matches, with counts ignored, are known.
-use Rattle.std.proofs.Common.{◌≡◌, List, Option, Some, None, Ok, Err, ap, sym, subst, ◌∙◌}
+use Rattle.std.proofs.Common.{◌≡◌, List, Option, Some, None, Ok, Err, rules}
 use Rattle.getopts.specs.Names.{Text}
 use Rattle.getopts.specs.Options.{Declared}
 use Rattle.getopts.specs.Fail.{Fault, IsOutOfMemoryOr}
@@ -16,20 +16,12 @@ module _ (options : Declared) (words : List Text) (matches : Matched)
       × (Spec.parse_result options words ≡ Spec.made_of (matches_of options) (Spec.unless_fault reading fault))
       × (matches_of options reading ≡ matches)
   unfolding Spec.reading_or_error Spec.accepted_reading
-  counted fault first =
-      let made = made_of-ok (matches_of options) (Spec.reading_or_error options words) matches read in
-      let same = subst (λ (m : Matched). Spec.first_count_fault m.groups ≡ fault) (sym made.2) first in (
-        made.0,
-        ap (λ o. Spec.made_of (matches_of options) (Spec.with_counts_kept options o)) made.1
-            ∙ ap (λ f. Spec.made_of (matches_of options) (Spec.unless_fault made.0 f)) same,
-        made.2,
-      )
+  counted fault first = search (rules, made_of-ok)
 
   -- if these matches keep the counts, they are the result
   pub parse_result-kept : Spec.first_count_fault matches.groups ≡ None
       → Spec.parse_result options words ≡ Ok matches
-  parse_result-kept kept =
-      let made = counted None kept in made.1 ∙ ap (λ (m : Matched). Ok m) made.2
+  parse_result-kept kept = search (rules, counted None kept)
 
   -- and otherwise their count error is
   pub parse_result-broken : (fail : Fail)

@@ -1,12 +1,11 @@
 -- Which options words give, and the results of `parse_unless` and `parse_request`.
-use Rattle.std.proofs.Common.{◌≡◌, ◌==◌, ℕ, Bool, true, false, cond, List, [], ◌∷◌, length}
-use Rattle.std.proofs.Common.{map, Option, Some, None, Result, Ok, Err, refl, ap, sym, subst, ◌∙◌}
-use Rattle.std.proofs.Common.{arith, inl}
-use Rattle.std.specs.Prelude.{codes, if◌then◌else◌, nat_lt, ◌||◌}
-use Rattle.std.specs.List.{Any, filter, list_any}
+use Rattle.std.proofs.Common.{◌≡◌, ◌==◌, ℕ, Bool, true, false, List, [], ◌∷◌, length, rules, Option}
+use Rattle.std.proofs.Common.{Some, None, Result, Ok, Err, refl, ap, sym, subst, ◌∙◌, inl}
+use Rattle.std.specs.Prelude.{codes, if◌then◌else◌, nat_lt}
+use Rattle.std.specs.List.{Any, list_any}
 use Rattle.std.specs.Option.{option_map_or}
 use Rattle.std.specs.Result.{result_map_both}
-use Rattle.std.proofs.lemmas.Bool.{eq-eqb, eqb-true, lt-ltb, true≢false}
+use Rattle.std.proofs.lemmas.Bool.{eq-eqb, eqb-true, lt-ltb, true≢false, cases_Bool}
 use Rattle.std.proofs.lemmas.List.Folds.{Any-from_list_any, list_any-from_Any}
 use Rattle.getopts.specs.Only.{IsTheOnly}
 use Rattle.getopts.specs.Names.{Text, resolution}
@@ -14,13 +13,12 @@ use Rattle.getopts.specs.Options.{Declared, names_of, grammar_of}
 use Rattle.getopts.specs.Fail.{Fault}
 use Rattle.getopts.specs.Reading.{Reading, Occurrence, occurrences_of}
 use Rattle.getopts.specs.Matches.{GroupOccurrence, MatchedGroup, Matched, matches_of}
-use Rattle.getopts.specs.Matches.{occurrences_mentioning, without_group}
+use Rattle.getopts.specs.Matches.{occurrences_mentioning}
 use Rattle.getopts.specs.Accessors.{is_present}
 use Rattle.getopts.specs.Parse.{HasReading, HasNoReading}
 use Rattle.getopts.specs.CanonAnswers.{IsParseAnswer}
 use Rattle.getopts.specs.Returns.{IsReadAnswer}
-use Rattle.getopts.specs.Unless.{Gives, IsUnlessAnswer, IsRequestAnswer}
-use Rattle.getopts.specs.Unless.{unless_given, request_of}
+use Rattle.getopts.specs.Unless.{Gives, IsUnlessAnswer, IsRequestAnswer, unless_given, request_of}
 use Rattle.getopts.specs.declared.request.Request.{Request}
 use Rattle.getopts.specs.declared.request.Request.TheVariants.{Help, Version, Parsed}
 use Rattle.getopts.proofs.canon.Answered.{reads_of}
@@ -33,16 +31,7 @@ some_mentioning : (place : ℕ) (occurrences : List Occurrence)
     ≡ list_any (λ o. o.mention.group == place) occurrences
 some_mentioning place [] = refl
 some_mentioning place (o ∷ occurrences) =
-    here (o.mention.group == place) (some_mentioning place occurrences) where
-      here : (is : Bool)
-          → nat_lt 0 (length (occurrences_mentioning place occurrences))
-          ≡ list_any (λ o. o.mention.group == place) occurrences
-          → nat_lt 0 (length (map without_group
-          (cond is (o ∷ filter (λ (o : Occurrence). o.mention.group == place) occurrences)
-          (filter (λ (o : Occurrence). o.mention.group == place) occurrences))))
-          ≡ (is || list_any (λ o. o.mention.group == place) occurrences)
-      here true others = lt-ltb 0 _ (omega arith)
-      here false others = others
+    search (rules, cases_Bool, lt-ltb, some_mentioning place occurrences)
 
 module _ (options : Declared) (reading : Reading) (name : Text) where
   abbrev groups : List MatchedGroup
@@ -72,13 +61,7 @@ module _ (options : Declared) (reading : Reading) (name : Text) where
     by_place None none = absurd (true≢false (sym is ∙ present None none))
     by_place (Some place) resolves =
         let found = Any-from_list_any (λ (o : Occurrence). o.mention.group == place) occurrences
-        (sym (present (Some place) resolves) ∙ is) in (
-          found.0,
-          found.1,
-          found.2,
-          found.3,
-          resolves ∙ ap Some (sym (eqb-true found.1.mention.group place found.4)),
-        )
+        (sym (present (Some place) resolves) ∙ is) in search (rules, eqb-true)
 
   -- and a name that occurs is present
   occurring : Occurs → is_present groups name ≡ true
@@ -100,27 +83,16 @@ module _ (options : Declared) (words : List Text) where
   nothing_given fault none name given = none.no_reading given.reading given.reads
 
   module _ (matches : Matched) (has : HasReading options words matches) (name : Text) where
-    -- words give the names that are present in their matches
-    given : is_present matches.groups name ≡ true → Gives options words name
-    given is = record {
+    -- words give the names that are present in their matches, and no others
+    told : (is : Bool) → is_present matches.groups name ≡ is → Told is (Gives options words name)
+    told true is = record {
       reading = has.reading;
       reads = reads_of options words matches has;
       occurs = occurs options has.reading name
           (ap (λ (m : Matched). is_present m.groups name) (sym has.matches_are) ∙ is);
     }
-
-    -- and no others
-    not_given : is_present matches.groups name ≡ false → ¬ (Gives options words name)
-    not_given isnt gives =
-        true≢false (sym (occurring options gives.reading name gives.occurs)
-        ∙ ap (λ (r : Reading). is_present (matches_of options r).groups name)
-        ((has.only gives.reading).0 gives.reads)
-        ∙ ap (λ (m : Matched). is_present m.groups name) (sym has.matches_are) ∙ isnt)
-
-    -- so a test for the name tells whether they do
-    told : (is : Bool) → is_present matches.groups name ≡ is → Told is (Gives options words name)
-    told true is = given is
-    told false isnt = not_given isnt
+    told false isnt = λ gives.
+        true≢false (search (rules, occurring))
 
   module _ (usual : Result Matched Fault) (parse : IsTheOnly (IsParseAnswer options words) usual)
     where
@@ -155,8 +127,7 @@ module _ (options : Declared) (words : List Text) where
       only_unless flag (Err fault) none = subst (IsTheOnly (IsUnlessAnswer options flag words))
           (ap (result_map_both Some (λ fault. fault)) (sym ((parse (Err fault)).0 (inl none))))
           (unless_told flag false (nothing_given fault none flag))
-      only_unless flag (Ok matches) has =
-          unless_told flag (is_present matches.groups flag) (told matches has flag _ refl)
+      only_unless flag (Ok matches) has = search (rules, unless_told, told)
 
       -- with `help`, it is help; with `version` alone, the version; otherwise the result of `parse`
       request_told : (help version : Bool) → Told help (Gives options words (codes "help"))
@@ -202,6 +173,4 @@ module _ (options : Declared) (words : List Text) where
       only_request (Err fault) none = subst (IsTheOnly (IsRequestAnswer options words))
           (ap (result_map_both Parsed (λ fault. fault)) (sym ((parse (Err fault)).0 (inl none))))
           (request_told false false (nothing_given fault none _) (nothing_given fault none _))
-      only_request (Ok matches) has = request_told (is_present matches.groups (codes "help"))
-          (is_present matches.groups (codes "version")) (told matches has _ _ refl)
-          (told matches has _ _ refl)
+      only_request (Ok matches) has = search (rules, request_told, told)

@@ -1,23 +1,23 @@
 -- The functions that compute results return what the relations describe.
 use Rattle.std.proofs.Common.{◌≡◌, Bool, true, false, List, map, Option, Some, None, Result, Ok}
-use Rattle.std.proofs.Common.{Err, refl, sym, inl, inr}
+use Rattle.std.proofs.Common.{Err, refl, sym, inl, ◌∙◌, rules}
 use Rattle.std.specs.List.{list_all}
-use Rattle.std.specs.Prelude.{MatchOption, MatchResult, not, if◌then◌else◌}
+use Rattle.std.specs.Prelude.{MatchResult, not, if◌then◌else◌}
 use Rattle.getopts.specs.Only.{IsTheOnly}
 use Rattle.getopts.specs.Names.{Text, AreTexts}
 use Rattle.getopts.specs.Options.{Declared, MayBeDeclared, grammar_of}
 use Rattle.getopts.specs.Fail.{Fault}
 use Rattle.getopts.specs.Reading.{Reading, IsReading, holds_equals}
 use Rattle.getopts.specs.Matches.{Matched, matches_of}
-use Rattle.getopts.specs.Parse.{Reads, IsAccepted, IsRefused, HasReading, HasNoReading}
+use Rattle.getopts.specs.Parse.{Reads, IsRefused, HasReading, HasNoReading}
 use Rattle.getopts.specs.Holds.{Accepts}
 use Rattle.getopts.specs.Canon.{Content, content_of, main_at, canonical_line, IsAcceptedWith}
 use Rattle.getopts.specs.Canon.{IsCountKeeping}
-use Rattle.getopts.specs.CanonAnswers.{IsCanonicalAnswer, IsWritten, IsUnwritable, IsOrder}
+use Rattle.getopts.specs.CanonAnswers.{IsCanonicalAnswer, IsOrder}
 use Rattle.getopts.specs.Results as Spec
-use Rattle.getopts.specs.Returns.{IsReadingOf, IsLineOf, HasResults}
-use Rattle.getopts.proofs.canon.Lines.{is_plain-true, is_plain-false, Says-accepted}
-use Rattle.getopts.proofs.canon.Lines.{IsSound-says, HasUnwritable-content}
+use Rattle.getopts.specs.Returns.{IsLineOf, HasResults}
+use Rattle.getopts.proofs.canon.Lines.{is_plain-true, is_plain-from, Says-accepted, IsSound-says}
+use Rattle.getopts.proofs.canon.Lines.{HasUnwritable-content}
 use Rattle.getopts.proofs.canon.Answered as Answered
 use Rattle.getopts.proofs.counts.FirstFault.{HaveFault, first_count_fault-is}
 use Rattle.getopts.proofs.MainTheorem.BeforeFree.{Accepts-accepted}
@@ -26,6 +26,8 @@ use Rattle.getopts.proofs.Only.{IsTheOnly-from}
 use Rattle.getopts.proofs.parse.Parsed.{only_reads, named_here, HasNoReading-fault}
 use Rattle.getopts.proofs.parse.Parsed.{HasReading-reading, IsAccepted-reading}
 use Rattle.getopts.proofs.Reading.Readings.{IsSoundOutcome, read_sound}
+use Rattle.std.proofs.lemmas.Bool.{true≢false}
+use Rattle.std.proofs.lemmas.Result.{MatchResult-weaker}
 pub use Rattle.getopts.proofs.Reading.Readings.{made_of-ok}
 
 -- if at most one value has a property, a value that has it is the only one
@@ -45,18 +47,14 @@ module _ (options : Declared) (declared : MayBeDeclared options.groups) (words :
       → list_all (λ m. not (holds_equals (main_at options.groups m.group))) content.mentions ≡ plain
       → IsCanonicalAnswer options words
       (Ok (if plain then Some (canonical_line options.groups content) else None))
-  written_answer content accepted true plain = record {
-    content = content;
-    accepted = accepted;
-    plain = is_plain-true options.groups content.mentions plain;
-    line_is = refl;
-  }
+  written_answer content accepted true plain = search (rules, is_plain-true)
   written_answer content accepted false some = record {
     content = content;
     accepted = accepted;
     sound = IsSound-says options words content
         (Says-accepted options options.style options.long_only words content accepted);
-    not_plain = is_plain-false options.groups content.mentions some;
+    not_plain = λ plain. true≢false
+        (sym (is_plain-from options.groups content.mentions plain) ∙ some);
     unwritable = HasUnwritable-content options content some;
   }
 
@@ -65,35 +63,19 @@ module _ (options : Declared) (declared : MayBeDeclared options.groups) (words :
       → (fault : Option Fault) → HaveFault (matches_of options reading).groups fault
       → IsLineOf options words (Spec.unless_fault reading fault)
   counted reading reads None kept = record { reads = reads; keeps = kept }
-  counted reading reads (Some fault) breaks = inr (record {
-    matches = matches_of options reading;
-    read = HasReading-reading options declared words reading reads;
-    breaks = breaks;
-  })
+  counted reading reads (Some fault) breaks =
+      search (rules, HasReading-reading options declared words reading reads)
 
   line_answer : AreTexts words → (outcome : Result Reading Fault)
       → IsSoundOutcome (grammar_of options) words outcome
       → IsLineOf options words (Spec.with_counts_kept options outcome)
-  line_answer texts (Ok reading) reads = counted reading reads
-      (Spec.first_count_fault (matches_of options reading).groups)
-      (first_count_fault-is (matches_of options reading).groups)
+  line_answer texts (Ok reading) reads = search (rules, counted, first_count_fault-is)
   line_answer texts (Err fault) fails = inl (HasNoReading-fault options declared words texts fault fails)
-
-  reading_answer : AreTexts words → (outcome : Result Reading Fault)
-      → IsSoundOutcome (grammar_of options) words outcome → IsReadingOf options words outcome
-  reading_answer texts (Ok reading) reads = reads
-  reading_answer texts (Err fault) fails =
-      HasNoReading-fault options declared words texts fault fails
 
   -- the only content of words that are accepted
   with_content : (reading : Reading) → IsCountKeeping options reading words
       → IsAcceptedWith options words (content_of options reading)
-  with_content reading keeps = record {
-    reading = reading;
-    only = only_reads options declared words reading keeps.reads;
-    counts = keeps.keeps;
-    content_is = refl;
-  }
+  with_content reading keeps = search (rules, only_reads)
 
   once : (reading other : Reading) → Reads options words reading → Reads options words other
       → reading ≡ other
@@ -105,31 +87,21 @@ module _ (options : Declared) (declared : MayBeDeclared options.groups) (words :
   HasResults-declared texts =
       let sound = read_sound (grammar_of options)
       (named_here options declared) words texts _ refl in
-      let reading = reading_answer texts (Spec.read (grammar_of options) words) sound in
+      let reading = MatchResult-weaker (Spec.read (grammar_of options) words) sound (λ r reads. reads)
+      (HasNoReading-fault options declared words texts) in
       let line = line_answer texts (Spec.read (grammar_of options) words) sound in
       let parse = the_only (Answered.only_parse_answer options words) (Spec.parse_result options words)
-      (made_of-is (IsAccepted options words) (IsRefused options words) (λ r. IsCountKeeping options r words)
-      (matches_of options) (Spec.accepted_reading options words)
-      (IsAccepted-reading options declared words) line) in
+      (search (rules, made_of-is, IsAccepted-reading)) in
       let matches = made_of-is (HasReading options words) (HasNoReading options words) (Reads options words)
       (matches_of options) (Spec.reading_or_error options words)
       (HasReading-reading options declared words) reading in
       record {
-        reading = the_only (Answered.only_of_reading options words (λ r reads. (r, reads)) once)
-            (Spec.reading_or_error options words) reading;
-        line = the_only (Answered.only_answer options words (λ r keeps. (r, keeps))
-            (λ r other keeps also. once r other keeps.reads also.reads))
-            (Spec.accepted_reading options words) line;
+        reading = search (rules, the_only, Answered.only_of_reading, once);
+        line = search (rules, the_only, Answered.only_answer, once);
         parse = parse;
-        read = the_only (Answered.only_read_answer options words)
-            (Spec.parse_ignoring_counts_result options words) matches;
-        canonical = the_only (Answered.only_canonical_answer options words)
-            (Spec.canonical_result options words)
-            (made_of-is (λ written. MatchOption written (IsUnwritable options words) (IsWritten options words))
-            (IsRefused options words) (λ r. IsCountKeeping options r words)
-            (λ r. Spec.written_line options.groups (content_of options r))
-            (Spec.accepted_reading options words)
-            (λ r keeps. written_answer (content_of options r) (with_content r keeps) _ refl) line);
+        read = search (rules, the_only, Answered.only_read_answer);
+        canonical =
+            search (rules, the_only, Answered.only_canonical_answer, made_of-is, written_answer, with_content);
         order = the_only (Answered.only_order_answer options words) (Spec.parse_in_order_result options words)
             (made_of-is (IsOrder options words) (IsRefused options words) (λ r. IsCountKeeping options r words)
             (λ r. map (λ m. m.group) (content_of options r).mentions)

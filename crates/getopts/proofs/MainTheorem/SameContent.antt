@@ -1,40 +1,22 @@
 -- Lines with the same content: their matches hold the same.
-use Rattle.std.proofs.Common.{◌≡◌, ◌==◌, ℕ, Bool, List, []}
-use Rattle.std.proofs.Common.{map, Option, refl, ap, sym, subst, ◌∙◌}
-use Rattle.std.specs.List.{filter}
+use Rattle.std.proofs.Common.{◌≡◌, Bool, List, [], rules, map, refl, ap, sym, subst, ◌∙◌}
 use Rattle.std.specs.Option.{option_map_or}
-use Rattle.std.proofs.lemmas.Simd.{map-map}
 use Rattle.getopts.specs.Names.{Text, resolution}
-use Rattle.getopts.specs.Options.{Declared, MayBeDeclared, names_of, signatures_of}
-use Rattle.getopts.specs.Options.{grammar_of}
-use Rattle.getopts.specs.Reading.{Reading, Mention, Occurrence, occurrences_of, free_words}
+use Rattle.getopts.specs.Options.{Declared, MayBeDeclared, names_of, signatures_of, grammar_of}
+use Rattle.getopts.specs.Reading.{Reading, Occurrence, free_words}
 use Rattle.getopts.specs.ReadingLaws.{mentions_of}
 use Rattle.getopts.specs.Canon.{Content, content_of, canonical_reading, with_setting}
 use Rattle.getopts.specs.CanonAnswers.{KeepsLineLaws}
-use Rattle.getopts.specs.Matches.{GroupOccurrence, Matched, occurrences_mentioning, without_group}
-use Rattle.getopts.specs.Matches.{matched, matches_of, KeepsCounts}
+use Rattle.getopts.specs.Matches.{Matched, matched, matches_of, KeepsCounts}
 use Rattle.getopts.specs.Accessors.{occurrences_of_name, each_value}
 use Rattle.getopts.specs.Theorem.{AcceptedExactlyWhen, HaveSameValues, OneContentHoldsSame}
 use Rattle.getopts.specs.Theorem.{LinesReadAgain}
 use Rattle.getopts.specs.declared.kinds.ParsingStyle.{ParsingStyle}
-use Rattle.getopts.proofs.Lists.{filter-map}
-use Rattle.getopts.proofs.canon.Lines.{KeepsCounts-mentions}
+use Rattle.getopts.proofs.canon.Lines.{KeepsCounts-mentions, values_at}
+use Rattle.getopts.proofs.canon.Lines.{values-occurrences_mentioning}
 use Rattle.getopts.proofs.canon.Answered.{reads_of}
 use Rattle.getopts.proofs.parse.Holds.{found-named}
 use Rattle.getopts.proofs.parse.Parsed.{IsAccepted-reading}
-
--- the values of a group's occurrences, from the mentions
-abbrev values_at : ℕ → List Mention → List (Option Text)
-values_at place ms = map (λ (m : Mention). m.value) (filter (λ (m : Mention). m.group == place) ms)
-
-values-occurrences_mentioning : (place : ℕ) (os : List Occurrence)
-    → each_value (occurrences_mentioning place os)
-    ≡ values_at place (map (λ (o : Occurrence). o.mention) os)
-values-occurrences_mentioning place os =
-    map-map (λ (found : GroupOccurrence). found.value) without_group _
-    ∙ sym (map-map (λ (m : Mention). m.value) (λ (o : Occurrence). o.mention) _)
-    ∙ ap (map (λ (m : Mention). m.value)) (sym (filter-map (λ (m : Mention). m.group == place)
-    (λ (o : Occurrence). o.mention) os))
 
 -- the values of a name, from the mentions
 values-named : (options : Declared) (os : List Occurrence) (name : Text)
@@ -52,14 +34,8 @@ HaveSameValues-content : (options : Declared) (style : ParsingStyle) (long_only 
     → free_words new ≡ free_words old
     → HaveSameValues (matches_of options old)
     (matches_of (with_setting options style long_only) new)
-HaveSameValues-content options style long_only old new same free = record {
-  values = λ name.
-      values-named options (occurrences_of (grammar_of (with_setting options style long_only)) new) name
-      ∙ ap (λ ms. option_map_or (λ place. values_at place ms)
-      (resolution (names_of options.groups) name) []) same
-      ∙ sym (values-named options (occurrences_of (grammar_of options) old) name);
-  free = free;
-}
+HaveSameValues-content options style long_only old new same free =
+    search (rules, values-named, values_at)
 
 -- words with the content of accepted words are accepted, with matches that hold the same
 pub OneContentHoldsSame_lem : (options : Declared) → AcceptedExactlyWhen options
@@ -74,8 +50,7 @@ OneContentHoldsSame_lem options accepted_when words others old new matches accep
     ap (matches_of options) ((accepted.read.only old).0 reads) ∙ sym accepted.read.matches_are in
     let kept : KeepsCounts (matches_of options old).groups =
     subst (λ (those : Matched). KeepsCounts those.groups) (sym matches_are) accepted.counts in
-    let keeps : KeepsCounts (matches_of options new).groups = KeepsCounts-mentions
-    (signatures_of options.groups) grammar grammar old new (sym told) kept in (
+    let keeps : KeepsCounts (matches_of options new).groups = search (rules, KeepsCounts-mentions) in (
       (accepted_when others (matches_of options new)).1
           (new, record { reads = reads_new; keeps = keeps }, refl),
       subst (λ (those : Matched). HaveSameValues those (matches_of options new)) matches_are

@@ -1,10 +1,10 @@
 -- The main theorem, for options whose names are valid texts.
-use Rattle.std.proofs.Common.{◌⊎◌, List, sym, subst, inl, inr}
+use Rattle.std.proofs.Common.{◌⊎◌, List, sym, subst, inl, inr, rules}
 use Rattle.getopts.specs.Names.{Text, AreTexts}
 use Rattle.getopts.specs.Options.{Declared, MayBeDeclared, grammar_of}
 use Rattle.getopts.specs.Fail.{Fault}
 use Rattle.getopts.specs.Reading.{Reading, IsReading, IsScanFault}
-use Rattle.getopts.specs.Matches.{Matched, matches_of, IsCountFault}
+use Rattle.getopts.specs.Matches.{matches_of, IsCountFault}
 use Rattle.getopts.specs.Parse.{IsAccepted, IsRefused}
 use Rattle.getopts.specs.Theorem.{OneReading, AcceptedExactlyWhen, RefusedExactlyWhen}
 use Rattle.getopts.proofs.canon.Answered.{reads_of, keeps_accepted, not_refused}
@@ -35,23 +35,15 @@ module _ (options : Declared) (declared : MayBeDeclared options.groups) where
 
   first_fault : (words : List Text) (fault : Fault) → IsRefused options words fault
       → IsFirstFault words fault
-  first_fault words fault (inl is) =
-      inl (meets (IsScanFault (grammar_of options) words) fault is.only)
-  first_fault words fault (inr is) = inr (
-    is.read.reading,
-    reads_of options words is.matches is.read,
-    subst (λ (m : Matched). IsCountFault m.groups fault) is.read.matches_are is.breaks,
-  )
+  first_fault words fault (inl is) = search (rules, meets)
+  first_fault words fault (inr is) = search (rules, reads_of options words is.matches is.read)
 
   refused : (words : List Text) (fault : Fault) → AreTexts words → IsFirstFault words fault
       → IsRefused options words fault
   refused words fault texts (inl scan) =
       inl (HasNoReading-fault options declared words texts fault scan)
-  refused words fault texts (inr count) = inr (record {
-    matches = matches_of options count.0;
-    read = HasReading-reading options declared words count.0 count.1;
-    breaks = count.2;
-  })
+  refused words fault texts (inr count) =
+      search (rules, HasReading-reading options declared words count.0 count.1)
 
   -- rejected exactly when none does
   pub RefusedExactlyWhen-options : RefusedExactlyWhen options

@@ -1,29 +1,28 @@
 -- The laws of readings, proved for every grammar.
-use Rattle.std.proofs.Common.{◌≡◌, ◌≢◌, ◌==◌, ℕ, zero, suc, ◌+◌, ◌≤◌, Bool, true, false, List}
-use Rattle.std.proofs.Common.{[], ◌∷◌, ◌++◌, length, map, Some, refl, sym, ap, ◌∙◌, subst}
-use Rattle.std.proofs.Common.{arith, inl, inr}
+use Rattle.std.proofs.Common.{◌≡◌, ◌≢◌, ℕ, zero, suc, ◌+◌, ◌≤◌, true, false, List, [], ◌∷◌, ◌++◌}
+use Rattle.std.proofs.Common.{length, map, Some, refl, sym, ap, ◌∙◌, subst, rules, arith}
 use Rattle.std.specs.Prelude.{⊤}
 use Rattle.std.proofs.lemmas.Bool.{cases_Bool}
 use Rattle.std.proofs.Math.Seq.{drop-append_seam}
 use Rattle.std.specs.List.{AllByRecursion, AllAdjacentBelow, flat_map}
 use Rattle.std.specs.List.Sorted.{IsNonDecreasingBy}
 use Rattle.std.proofs.lemmas.List.{append-nil, append_assoc, length-append}
-use Rattle.std.proofs.lemmas.Grind.{flat_map-append}
+use Rattle.std.proofs.lemmas.Grind.{flat_map-append, common_steps}
 use Rattle.std.proofs.lemmas.List.Sorted.{IsNonDecreasingBy-from_all_adjacent}
 use Rattle.getopts.specs.Names.{Text}
-use Rattle.getopts.specs.Options.{Signature, Grammar}
-use Rattle.getopts.specs.Reading.{dash, item_words, tail_words, Occurrence, at_position, word_count}
-use Rattle.getopts.specs.Reading.{is_dashed, ends_in, dash_text, free_items, tail_frees, free_words}
-use Rattle.getopts.specs.Reading.{begins_with_dash, spelled_all, IsLawfulCluster, occurrences_after}
-use Rattle.getopts.specs.Reading.{Argument, IsLawfulEnd, IsLawfulLong, IsLawfulItem, trailing_after}
-use Rattle.getopts.specs.Reading.{none, attached, separate, end_text, FitsLong, line_end, IsReading}
-use Rattle.getopts.specs.Reading.{Dashes, cluster, FitsEnd, is_bare, Reading, Mention, mentions}
-use Rattle.getopts.specs.Reading.{one, two, End, flags, Item, free, long, Tail, stop, rest}
-use Rattle.getopts.specs.Reading.{MayPrecede, EndsOrIsDashed, AreWellFollowed, occurrences_of}
+use Rattle.getopts.specs.Options.{Signature, Grammar, long_kind}
+use Rattle.getopts.specs.Reading.{item_words, tail_words, Occurrence, at_position, word_count}
+use Rattle.getopts.specs.Reading.{ends_in, free_items, tail_frees, free_words, begins_with_dash}
+use Rattle.getopts.specs.Reading.{spelled_all, occurrences_after, Argument, IsLawfulEnd}
+use Rattle.getopts.specs.Reading.{IsLawfulLong, IsLawfulItem, end_text, FitsLong, line_end}
+use Rattle.getopts.specs.Reading.{IsReading, Dashes, cluster, FitsEnd, is_bare, Reading, Mention}
+use Rattle.getopts.specs.Reading.{mentions, End, flags, Item, free, long, Tail, stop, rest}
+use Rattle.getopts.specs.Reading.{EndsOrIsDashed, AreWellFollowed, occurrences_of}
 use Rattle.getopts.specs.Matches.{GroupOccurrence, matched, occurrences_mentioning}
 use Rattle.getopts.specs.ReadingLaws as Spec
 use Rattle.getopts.specs.declared.kinds.HasArg.TheVariants.{Yes}
-use Rattle.getopts.proofs.Lists.{AllByRecursion-append, AllByRecursion-left, AllByRecursion-right}
+use Rattle.std.proofs.Permutation.{every_append}
+use Rattle.std.proofs.Recursive.{every_back, every_front}
 use Rattle.getopts.proofs.counts.Groups.{AllByRecursion-matched}
 use Rattle.getopts.proofs.Reading.Positions.{mentions_of-items, positions_in-one_higher}
 use Rattle.getopts.proofs.Reading.Readings.{EndsOrIsDashed-spelled, spelled_all-append}
@@ -32,26 +31,6 @@ use Rattle.getopts.proofs.Reading.Steps.{lawful_short}
 use Rattle.getopts.proofs.Reading.Texts.{is_dashed-text}
 
 -- ---- replacing items
-
--- only ordinary mode has bare clusters
-ordinary_from_bare : (grammar : Grammar) (item : Item) → IsLawfulItem grammar item
-    → is_bare item ≡ true → grammar.long_only ≡ false
-ordinary_from_bare grammar (free word) lawful bare = cc bare
-ordinary_from_bare grammar (long dashes name argument) lawful bare = cc bare
-ordinary_from_bare grammar (cluster names end) lawful bare = lawful.ordinary
-
--- in ordinary mode a word in long form is dashed
-is_dashed-long : (grammar : Grammar) (dashes : Dashes) (name text : Text)
-    → MayPrecede grammar.long_only dashes name → grammar.long_only ≡ false
-    → is_dashed (dash_text dashes ++ text) ≡ true
-is_dashed-long grammar one name text before ordinary = cc (before.0, ordinary)
-is_dashed-long grammar two name text before ordinary = refl
-
--- the word of a valid cluster is dashed
-is_dashed-cluster : (grammar : Grammar) (names : List ℕ) (end : End)
-    → IsLawfulCluster grammar names end → is_dashed (dash ∷ (names ++ end_text end)) ≡ true
-is_dashed-cluster grammar names end lawful =
-    is_dashed-text (names ++ end_text end) (lawful_short grammar names end lawful).filled
 
 -- When new items may replace old ones before these words: they are valid and well
 -- followed if the old ones are, and begin with a dashed word in ordinary mode.
@@ -76,11 +55,9 @@ AreWellFollowed-in_place : (grammar : Grammar) (front old new : List Item) (more
     → (AreWellFollowed old more → AreWellFollowed new more) → AreWellFollowed (front ++ old) more
     → AreWellFollowed (front ++ new) more
 AreWellFollowed-in_place grammar [] old new more lawful dashed followed before = followed before
-AreWellFollowed-in_place grammar (item ∷ front) old new more lawful dashed followed before = (
-  λ bare. EndsOrIsDashed-in_place front old new more
-      (dashed (ordinary_from_bare grammar item lawful.0 bare)) (before.0 bare),
-  AreWellFollowed-in_place grammar front old new more lawful.1 dashed followed before.1,
-)
+AreWellFollowed-in_place grammar (item ∷ front) old new more lawful dashed followed before =
+    let rest = AreWellFollowed-in_place grammar front old new more lawful.1 dashed followed before.1 in
+    search (rules, EndsOrIsDashed-in_place, rest)
 
 -- if new items that fit replace old ones, a reading stays a reading of the words that it
 -- spells
@@ -91,12 +68,12 @@ IsReading-in_place : (grammar : Grammar) (front old new : List Item) (tail : Tai
     (spelled_all (front ++ new) (tail_words tail))
 IsReading-in_place grammar front old new tail words fit reads =
     let ahead : AllByRecursion (IsLawfulItem grammar) front =
-    AllByRecursion-left (IsLawfulItem grammar) front old reads.items in
+    every_front (IsLawfulItem grammar) _ front old reads.items refl in
     let lawful : AllByRecursion (IsLawfulItem grammar) new =
-    fit.lawful (AllByRecursion-right (IsLawfulItem grammar) front old reads.items) in
+    fit.lawful (every_back (IsLawfulItem grammar) _ front old reads.items refl) in
     record {
       spells = refl;
-      items = AllByRecursion-append (IsLawfulItem grammar) front new ahead lawful;
+      items = every_append (IsLawfulItem grammar) front new ahead lawful;
       tail = reads.tail;
       followed = AreWellFollowed-in_place grammar front old new (tail_words tail) ahead
           (fit.dashed lawful) fit.followed reads.followed;
@@ -117,29 +94,8 @@ occurrences_after-in_place grammar (item ∷ front) old new same before =
 pub free_items-append : (items others : List Item)
     → free_items (items ++ others) ≡ free_items items ++ free_items others
 free_items-append [] others = refl
-free_items-append (free word ∷ items) others =
-    ap (λ words. word ∷ words) (free_items-append items others)
+free_items-append (free word ∷ items) others = search (rules, free_items-append items others)
 free_items-append (item ∷ items) others = free_items-append items others
-
--- items in front preserve equal free words
-free_items-in_place : (front old new : List Item) → free_items new ≡ free_items old
-    → free_items (front ++ new) ≡ free_items (front ++ old)
-free_items-in_place front old new same =
-    rw (free_items-append front new, same, ← free_items-append front old)
-
--- items in front preserve equal mentions
-mentions_of-in_place : (grammar : Grammar) (front old new : List Item) (tail : Tail)
-    → flat_map (mentions grammar) new ≡ flat_map (mentions grammar) old
-    → Spec.mentions_of grammar (record { items = front ++ new; tail = tail })
-    ≡ Spec.mentions_of grammar (record { items = front ++ old; tail = tail })
-mentions_of-in_place grammar front old new tail same =
-    mentions_of-items grammar (record { items = front ++ new; tail = tail })
-    ∙ rw (
-      flat_map-append (mentions grammar) front new,
-      same,
-      ← flat_map-append (mentions grammar) front old,
-    ) refl
-    ∙ sym (mentions_of-items grammar (record { items = front ++ old; tail = tail }))
 
 -- new items that fit, with the same mentions and free words and like positions, read alike
 ReadsAlike-in_place : (grammar : Grammar) (Alike : List ℕ → List ℕ → Type 0)
@@ -153,15 +109,16 @@ ReadsAlike-in_place : (grammar : Grammar) (Alike : List ℕ → List ℕ → Typ
     → Spec.ReadsAlike grammar Alike (record { items = front ++ old; tail = tail })
     (record { items = front ++ new; tail = tail })
 ReadsAlike-in_place grammar Alike front old new tail words fit same alike same_free reads =
-    let same_words : free_items (front ++ new) ≡ free_items (front ++ old) =
-    free_items-in_place front old new same_free in
-    record {
-      reads = IsReading-in_place grammar front old new tail words fit reads;
-      mentions = mentions_of-in_place grammar front old new tail same;
-      free = ap (λ frees. frees ++ tail_frees tail) same_words;
-      trailing = ap (λ frees. trailing_after (length frees) tail) same_words;
-      positions = alike;
-    }
+    search (
+      rules,
+      free_items-append front new,
+      free_items-append front old,
+      IsReading-in_place grammar front old new tail words fit reads,
+      mentions_of-items grammar (record { items = front ++ new; tail = tail }),
+      flat_map-append (mentions grammar) front new,
+      flat_map-append (mentions grammar) front old,
+      mentions_of-items grammar (record { items = front ++ old; tail = tail }),
+    )
 
 -- Two items with the same mentions and no free word, one of which spells one word more: each may
 -- replace the other if it fits, and the longer one moves later positions up by one.
@@ -169,28 +126,25 @@ module _ (grammar : Grammar) (item longer : Item)
     (same : mentions grammar longer ≡ mentions grammar item)
     (same_free : (back : List Item) → free_items (longer ∷ back) ≡ free_items (item ∷ back))
     (one_more : word_count (longer ∷ []) ≡ word_count (item ∷ []) + 1) where
-  -- replacing the shorter one
-  Respells-longer : ((back : List Item) (more : List Text)
-      → FitInPlace grammar (item ∷ back)
-      (longer ∷ back) more) → Spec.Respells grammar item (longer ∷ []) Spec.AreHigherAfter
-  Respells-longer fit front back tail words reads =
-      ReadsAlike-in_place grammar (Spec.AreHigherAfter (word_count front)) front (item ∷ back)
-      (longer ∷ back) tail words (fit back (tail_words tail))
-      (ap (λ (told : List Mention). told ++ flat_map (mentions grammar) back) same)
-      (positions_in-one_higher grammar item longer back same one_more front tail)
-      (same_free back) reads
-
-  -- replacing the longer one
-  Respells-shorter : ((back : List Item) (more : List Text)
+  AreOneWordApart-fit : ((back : List Item) (more : List Text)
+      → FitInPlace grammar (item ∷ back) (longer ∷ back) more)
+      → ((back : List Item) (more : List Text)
       → FitInPlace grammar (longer ∷ back) (item ∷ back) more)
-      → Spec.Respells grammar longer (item ∷ []) (λ position old new. Spec.AreHigherAfter position new old)
-  Respells-shorter fit front back tail words reads =
-      ReadsAlike-in_place grammar (λ old new. Spec.AreHigherAfter (word_count front) new old) front
-      (longer ∷ back)
-      (item ∷ back) tail words (fit back (tail_words tail))
-      (ap (λ (told : List Mention). told ++ flat_map (mentions grammar) back) (sym same))
-      (positions_in-one_higher grammar item longer back same one_more front tail)
-      (sym (same_free back)) reads
+      → Spec.AreOneWordApart grammar item longer
+  AreOneWordApart-fit fit fit_shorter = record {
+    to_longer = λ front back tail words reads.
+        ReadsAlike-in_place grammar (Spec.AreHigherAfter (word_count front)) front (item ∷ back)
+        (longer ∷ back) tail words (fit back (tail_words tail))
+        (ap (λ (told : List Mention). told ++ flat_map (mentions grammar) back) same)
+        (positions_in-one_higher grammar item longer back same one_more front tail)
+        (same_free back) reads;
+    to_shorter = λ front back tail words reads.
+        ReadsAlike-in_place grammar (λ old new. Spec.AreHigherAfter (word_count front) new old) front
+        (longer ∷ back) (item ∷ back) tail words (fit_shorter back (tail_words tail))
+        (ap (λ (told : List Mention). told ++ flat_map (mentions grammar) back) (sym same))
+        (positions_in-one_higher grammar item longer back same one_more front tail)
+        (sym (same_free back)) reads;
+  }
 
 -- ---- long options
 
@@ -200,42 +154,18 @@ FitInPlace-long : (grammar : Grammar) (dashes other : Dashes) (name : Text)
     → (IsLawfulLong grammar dashes name argument → IsLawfulLong grammar other name new_argument)
     → FitInPlace grammar (long dashes name argument ∷ back)
     (long other name new_argument ∷ back) more
-FitInPlace-long grammar dashes other name argument new_argument back more lawful = record {
-  lawful = λ each. (lawful each.0, each.1);
-  dashed = λ each ordinary. is_dashed-long grammar other name _ each.0.before ordinary;
-  followed = λ each. (λ bare. cc bare, each.1);
-}
+FitInPlace-long grammar dashes other name argument new_argument back more lawful = search rules
 
 -- a valid long item of kind Yes stays valid with another argument that Yes may have
 IsLawfulLong-yes : (grammar : Grammar) (dashes : Dashes) (name : Text)
-    (argument new_argument : Argument) → grammar.kind name ≡ Some Yes → FitsLong Yes new_argument
+    (argument new_argument : Argument) → long_kind grammar name ≡ Some Yes → FitsLong Yes new_argument
     → IsLawfulLong grammar dashes name argument → IsLawfulLong grammar dashes name new_argument
-IsLawfulLong-yes grammar dashes name argument new_argument kind fits lawful = record {
-  before = lawful.before;
-  cut_once = lawful.cut_once;
-  resolves = (Yes, kind, fits);
-}
+IsLawfulLong-yes grammar dashes name argument new_argument kind fits lawful = search rules
 
 -- a long option's argument, attached or separate
 pub LongAttachedOrSeparate_lem : (grammar : Grammar) → Spec.LongAttachedOrSeparate grammar
-LongAttachedOrSeparate_lem grammar = record {
-  either = λ dashes name argument kind. record {
-    to_longer = Respells-longer grammar (long dashes name (attached argument))
-        (long dashes name (separate argument)) refl (λ back. refl) refl
-        (λ back more. FitInPlace-long grammar dashes dashes name _ _ back more
-        (IsLawfulLong-yes grammar dashes name (attached argument) (separate argument) kind tt));
-    to_shorter = Respells-shorter grammar (long dashes name (attached argument))
-        (long dashes name (separate argument)) refl (λ back. refl) refl
-        (λ back more. FitInPlace-long grammar dashes dashes name _ _ back more
-        (IsLawfulLong-yes grammar dashes name (separate argument) (attached argument) kind tt));
-  };
-}
-
--- in long-only mode one dash or two may precede a name that doesn't begin with `-`
-MayPrecede-long_only : (long_only : Bool) (dashes : Dashes) (name : Text) → long_only ≡ true
-    → begins_with_dash name ≡ false → MayPrecede long_only dashes name
-MayPrecede-long_only long_only one name only plain = (only, plain)
-MayPrecede-long_only long_only two name only plain = tt
+LongAttachedOrSeparate_lem grammar =
+    search (rules, FitInPlace-long, IsLawfulLong-yes, AreOneWordApart-fit)
 
 -- one dash or two
 pub OneDashOrTwo_lem : (grammar : Grammar) → Spec.OneDashOrTwo grammar
@@ -243,16 +173,8 @@ OneDashOrTwo_lem grammar = record {
   other_dashes = λ dashes other name argument only plain front back tail words reads.
       ReadsAlike-in_place grammar (λ old new. new ≡ old) front (long dashes name argument ∷ back)
       (long other name argument ∷ back) tail words
-      (FitInPlace-long grammar dashes other name argument argument back (tail_words tail)
-      (λ lawful. record {
-        before = MayPrecede-long_only grammar.long_only other name only plain;
-        cut_once = lawful.cut_once;
-        resolves = lawful.resolves;
-      })) refl
-      (ap (map (λ (o : Occurrence). o.position))
-      (occurrences_after-in_place grammar front (long dashes name argument ∷ back)
-      (long other name argument ∷ back)
-      (λ before. refl) 0))
+      (search (rules, FitInPlace-long)) refl
+      (search (rules, occurrences_after-in_place))
       refl reads;
 }
 
@@ -272,47 +194,20 @@ FitInPlace-cluster : (grammar : Grammar) (names : List ℕ) (option : ℕ)
     → FitInPlace grammar (cluster names (ends_in option argument) ∷ back)
     (cluster names (ends_in option new_argument) ∷ back) more
 FitInPlace-cluster grammar names option argument new_argument back more kind fits filled = record {
-  lawful = λ each. (
-    record {
-      ordinary = each.0.ordinary;
-      short_form = begins_with_dash-argument names option _ _ ∙ each.0.short_form;
-      each = each.0.each;
-      last = (Yes, kind, fits);
-    },
-    each.1,
-  );
-  dashed = λ each ordinary. is_dashed-cluster grammar names (ends_in option new_argument) each.0;
+  lawful = λ each. (search (rules, begins_with_dash-argument));
+  dashed = λ each ordinary. is_dashed-text _
+      (lawful_short grammar names (ends_in option new_argument) each.0).filled;
   followed = λ each. (λ bare. cc (bare, filled), each.1);
 }
 
 -- a short option's argument, attached or separate
 pub ShortAttachedOrSeparate_lem : (grammar : Grammar) → Spec.ShortAttachedOrSeparate grammar
-ShortAttachedOrSeparate_lem grammar = record {
-  either = λ names option argument kind filled. record {
-    to_longer = to_separate names option argument kind;
-    to_shorter = Respells-shorter grammar (cluster names (ends_in option (attached argument)))
-        (cluster names (ends_in option (separate argument))) refl (λ back. refl) refl
-        (λ back more. FitInPlace-cluster grammar names option (separate argument)
-        (attached argument) back more kind filled refl);
-  };
-}
-  where
-    to_separate : (names : List ℕ) (option : ℕ) (argument : Text)
-        → grammar.kind (option ∷ []) ≡ Some Yes
-        → Spec.Respells grammar (cluster names (ends_in option (attached argument)))
-        (cluster names (ends_in option (separate argument)) ∷ []) Spec.AreHigherAfter
-    to_separate names option argument kind =
-        Respells-longer grammar (cluster names (ends_in option (attached argument)))
-        (cluster names (ends_in option (separate argument))) refl (λ back. refl) refl
-        (λ back more. FitInPlace-cluster grammar names option (attached argument)
-        (separate argument) back more kind tt refl)
+ShortAttachedOrSeparate_lem grammar = search (rules, AreOneWordApart-fit, FitInPlace-cluster)
 
 -- a cluster whose rest is bare is bare
 is_bare-rest : (flag : ℕ) (names : List ℕ) (end : End) → is_bare (cluster names end) ≡ true
     → is_bare (cluster (flag ∷ names) end) ≡ true
-is_bare-rest flag names flags bare = bare
-is_bare-rest flag names (ends_in option none) bare = bare
-is_bare-rest flag names (ends_in option argument) bare = bare
+is_bare-rest flag names end bare = search rules
 
 -- the rest of a cluster has a valid end, if it isn't empty
 IsLawfulEnd-rest : (grammar : Grammar) (flag : ℕ) (names : List ℕ) (end : End)
@@ -322,43 +217,13 @@ IsLawfulEnd-rest grammar flag names flags filled lawful = λ nil. filled (append
 IsLawfulEnd-rest grammar flag names (ends_in option argument) filled lawful = lawful
 
 -- a cluster may be split after its first flag
-Respells-split : (grammar : Grammar) (flag : ℕ) (names : List ℕ) (end : End)
-    → names ++ end_text end ≢ [] → begins_with_dash (names ++ end_text end) ≡ false
-    → Spec.Respells grammar (cluster (flag ∷ names) end)
-    (cluster (flag ∷ []) flags ∷ cluster names end ∷ []) (λ position old new. ⊤)
-Respells-split grammar flag names end filled plain front back tail words reads =
-    ReadsAlike-in_place grammar (λ old new. ⊤) front (cluster (flag ∷ names) end ∷ back)
-    (cluster (flag ∷ []) flags ∷ cluster names end ∷ back) tail words fit
-    refl tt refl reads
-  where
-    fit : FitInPlace grammar (cluster (flag ∷ names) end ∷ back)
-        (cluster (flag ∷ []) flags ∷ cluster names end ∷ back) (tail_words tail)
-    fit = record {
-      lawful = λ each. (
-        record {
-          ordinary = each.0.ordinary;
-          short_form = each.0.short_form;
-          each = (each.0.each.0, tt);
-          last = λ nil. cc nil;
-        },
-        (
-          record {
-            ordinary = each.0.ordinary;
-            short_form = plain;
-            each = each.0.each.1;
-            last = IsLawfulEnd-rest grammar flag names end filled each.0.last;
-          },
-          each.1,
-        ),
-      );
-      dashed = λ each ordinary. refl;
-      followed =
-          λ each. (λ bare. cc bare, (λ bare. each.0 (is_bare-rest flag names end bare), each.1));
-    }
-
--- a cluster splits
 pub ClusterSplits_lem : (grammar : Grammar) → Spec.ClusterSplits grammar
-ClusterSplits_lem grammar = record { after_flag = Respells-split grammar }
+ClusterSplits_lem grammar = record {
+  after_flag = λ flag names end filled plain front back tail words reads.
+      ReadsAlike-in_place grammar (λ old new. ⊤) front (cluster (flag ∷ names) end ∷ back)
+      (cluster (flag ∷ []) flags ∷ cluster names end ∷ back) tail words
+      (search (rules, IsLawfulEnd-rest, is_bare-rest)) refl tt refl reads;
+}
 
 -- ---- joined lines, and the trailing start
 
@@ -369,27 +234,23 @@ AreWellFollowed-append : (items others : List Item) (more : List Text) → Spec.
     → AreWellFollowed (items ++ others) more
 AreWellFollowed-append [] others more last before after = after
 AreWellFollowed-append (item ∷ []) others more last before after = (λ bare. cc (last, bare), after)
-AreWellFollowed-append (item ∷ next ∷ items) others more last before after = (
-  λ bare. EndsOrIsDashed-spelled next _ _ (before.0 bare),
-  AreWellFollowed-append (next ∷ items) others more last before.1 after,
-)
+AreWellFollowed-append (item ∷ next ∷ items) others more last before after =
+    search (rules, EndsOrIsDashed-spelled, AreWellFollowed-append (next ∷ items) others more last before.1 after)
 
 -- the concatenation of two readings has the content of both
 HasContentOfBoth-joined : (grammar : Grammar) (first second : Reading) → first.tail ≡ line_end
     → Spec.HasContentOfBoth grammar first second (Spec.joined_reading first second)
-HasContentOfBoth-joined grammar first second ends = record {
-  mentions = rw (
-    mentions_of-items grammar (Spec.joined_reading first second),
-    mentions_of-items grammar first,
-    mentions_of-items grammar second,
-  ) (flat_map-append (mentions grammar) first.items second.items);
-  free = rw (
-    free_items-append first.items second.items,
-    ends,
-    append-nil (free_items first.items),
-    append_assoc (free_items first.items) (free_items second.items) (tail_frees second.tail),
-  ) refl;
-}
+HasContentOfBoth-joined grammar first second ends =
+    search (
+      rules,
+      mentions_of-items grammar (Spec.joined_reading first second),
+      mentions_of-items grammar first,
+      mentions_of-items grammar second,
+      flat_map-append (mentions grammar) first.items second.items,
+      free_items-append first.items second.items,
+      append-nil (free_items first.items),
+      append_assoc (free_items first.items) (free_items second.items) (tail_frees second.tail),
+    )
 
 -- a first line read to its end, and the items and the tail of a second, are read together
 IsReading-joined : (grammar : Grammar) (first second : Reading) (words more : List Text)
@@ -403,11 +264,9 @@ IsReading-joined grammar first second words more reads ends last after = record 
     spelled_all-append first.items [] more,
     rw ends at reads.spells,
   );
-  items = AllByRecursion-append (IsLawfulItem grammar) first.items second.items reads.items
-      after.items;
+  items = search (rules, every_append);
   tail = after.tail;
-  followed = AreWellFollowed-append first.items second.items (tail_words second.tail) last
-      (rw ends at reads.followed) after.followed;
+  followed = search (rules, AreWellFollowed-append);
 }
 
 -- lines compose, if a line has at most one reading
@@ -424,26 +283,9 @@ LinesCompose_lem grammar only = record {
       );
 }
 
--- the trailing start of a tail after this number of free words
-IsAfterStop-tail : (frees : List Text) (items : List Item) (tail : Tail) (start : ℕ)
-    → free_items items ≡ frees → trailing_after (length frees) tail ≡ Some start
-    → Spec.IsAfterStop (record { items = items; tail = tail }) start
-IsAfterStop-tail frees items line_end start are at = cc at
-IsAfterStop-tail frees items (rest words) start are at = cc at
-IsAfterStop-tail frees items (stop []) start are at = cc at
-IsAfterStop-tail frees items (stop (word ∷ words)) start are at =
-    let here : length frees ≡ start = cc at in
-    record {
-      below = rw (are, ← here) (omega (arith, length-append frees (word ∷ words)));
-      tail_is = ap stop (sym (rw (are, ← here) (drop-append_seam frees (word ∷ words))));
-    }
-
 -- the trailing start is after the stop
 pub TrailingStartIsAfterStop_lem : (grammar : Grammar) → Spec.TrailingStartIsAfterStop grammar
-TrailingStartIsAfterStop_lem grammar = record {
-  after_stop = λ reading words start reads at. IsAfterStop-tail
-      (free_items reading.items) reading.items reading.tail start refl at;
-}
+TrailingStartIsAfterStop_lem grammar = grind (arith, common_steps, length-append, drop-append_seam)
 
 -- ---- free words
 
@@ -509,8 +351,7 @@ RiseFrom-adjacent low [] rise k default within = absurd (omega arith)
 RiseFrom-adjacent low (found ∷ []) rise k default within = absurd (omega arith)
 RiseFrom-adjacent low (found ∷ next ∷ founds) rise zero default within = rise.1.0
 RiseFrom-adjacent low (found ∷ next ∷ founds) rise (suc k) default within =
-    let later : suc k + 1 ≡ suc (k + 1) = omega arith in
-    rw later (RiseFrom-adjacent found.position (next ∷ founds) rise.1 k default (omega arith))
+    search (rules, RiseFrom-adjacent found.position (next ∷ founds) rise.1 k default (omega arith))
 
 -- the positions of a group's occurrences never decrease
 abbrev NeverDecrease : List GroupOccurrence → Type 0
@@ -522,22 +363,19 @@ RiseFrom-item : (place position : ℕ) (told : List Mention) (later : List Occur
     → RiseFrom position (occurrences_mentioning place (map (at_position position) told ++ later))
 RiseFrom-item place position [] later rise = rise
 RiseFrom-item place position (first ∷ told) later rise =
-    let after = RiseFrom-item place position told later rise in
-    elim (cases_Bool (first.group == place)) [
-      | inl here ↦ rw here (omega arith, after)
-      | inr other ↦
-          rw other after
-    ]
+    search (rules, cases_Bool, RiseFrom-item place position told later rise)
 
 -- the occurrences of items rise from the first position
 RiseFrom-items : (grammar : Grammar) (place before : ℕ) (items : List Item)
     → RiseFrom before (occurrences_mentioning place (occurrences_after before grammar items))
 RiseFrom-items grammar place before [] = tt
 RiseFrom-items grammar place before (item ∷ items) =
-    RiseFrom-item place before (mentions grammar item)
-    (occurrences_after (before + word_count (item ∷ [])) grammar items)
-    (RiseFrom-lower before (before + word_count (item ∷ [])) _ (omega arith)
-    (RiseFrom-items grammar place (before + word_count (item ∷ [])) items))
+    search (
+      rules,
+      RiseFrom-item,
+      RiseFrom-lower,
+      RiseFrom-items grammar place (before + word_count (item ∷ [])) items,
+    )
 
 -- the positions of each group's occurrences never decrease
 NeverDecrease-reading : (grammar : Grammar) (reading : Reading) (place : ℕ)
@@ -551,6 +389,4 @@ pub HavePositionsInOrder-matched : (grammar : Grammar) (reading : Reading) (plac
     (signatures : List Signature)
     → Spec.HavePositionsInOrder (matched place signatures (occurrences_of grammar reading))
 HavePositionsInOrder-matched grammar reading place signatures =
-    AllByRecursion-matched (λ group. NeverDecrease group.found) place signatures
-    (occurrences_of grammar reading)
-    (λ i signature there. NeverDecrease-reading grammar reading (place + i))
+    search (rules, AllByRecursion-matched, NeverDecrease-reading)

@@ -1,33 +1,31 @@
 -- One word: `step` agrees with the definitions.
-use Rattle.std.proofs.Common.{◌≡◌, ◌≢◌, ◌==◌, ℕ, ◌<◌, Bool, true, false, List, [], ◌∷◌, ◌++◌}
+use Rattle.std.proofs.Common.{◌≡◌, ◌≢◌, ◌==◌, ℕ, ◌<◌, Bool, true, false, List, [], ◌∷◌, ◌++◌, rules}
 use Rattle.std.proofs.Common.{length, Option, Some, None, Ok, refl, sym, ap, ◌∙◌, subst, inl, inr}
 use Rattle.std.proofs.Common.{arith, encode_utf8, unwrap_or, append_assoc, append-nil}
-use Rattle.std.proofs.lemmas.Bool.{cases_Bool, cases_lt, eqb-true, false≢true}
+use Rattle.std.proofs.lemmas.Bool.{cases_Bool, cases_lt, eqb-true, false≢true, true_from_ne_false}
 use Rattle.std.specs.List.{AllByRecursion}
 use Rattle.std.specs.Str.{IsUtf8}
 use Rattle.std.proofs.lemmas.List.{length-append}
 use Rattle.std.proofs.lemmas.Str.{encode_ascii, length-encode, len_utf8_bounds}
-use Rattle.std.proofs.lemmas.Bool.{true_from_ne_false}
 use Rattle.getopts.specs.Names.{Text}
-use Rattle.getopts.specs.Options.{Grammar}
+use Rattle.getopts.specs.Options.{Grammar, long_kind}
 use Rattle.getopts.specs.Fail.{Fault, unrecognized_option}
 use Rattle.getopts.specs.Reading.{dash, Dashes, flags, ends_in, cluster, FitsEnd, IsFlag, is_bare}
 use Rattle.getopts.specs.Reading.{is_dashed, stop_word, attached, long_word, tail_words, IsLongForm}
 use Rattle.getopts.specs.Reading.{holds_equals, one, argument_words, MayPrecede, EndsOrIsDashed}
 use Rattle.getopts.specs.Reading.{Argument, attached_argument, unknown_byte, unwanted_argument}
-use Rattle.getopts.specs.Reading.{none, two, End, Item, free, long, stop}
-use Rattle.getopts.specs.Reading.{separate, end_text, end_words, FitsLong, dash_text, IsFaultAt}
-use Rattle.getopts.specs.Reading.{item_words, IsLawfulEnd, IsLawfulItem, IsLawfulTail, unknown_name}
-use Rattle.getopts.specs.Reading.{wide_character}
-use Rattle.getopts.specs.Reading.{IsLawfulCluster, HasAfterFlags, long_unfinished, short_unfinished}
+use Rattle.getopts.specs.Reading.{none, two, End, Item, free, long, stop, separate, end_text}
+use Rattle.getopts.specs.Reading.{end_words, FitsLong, dash_text, IsFaultAt, item_words}
+use Rattle.getopts.specs.Reading.{IsLawfulEnd, IsLawfulItem, IsLawfulTail, unknown_name}
+use Rattle.getopts.specs.Reading.{wide_character, IsLawfulCluster, HasAfterFlags, long_unfinished}
+use Rattle.getopts.specs.Reading.{short_unfinished}
 use Rattle.getopts.specs.Step.{with_equals, Step, ends, takes, faults, IsInLongForm, IsShortForm}
 use Rattle.getopts.specs.Step.{chosen_long, chosen_end, chosen_step, named_step, cut_at_equals}
 use Rattle.getopts.specs.Step.{long_step, first_char, byte_step, cluster_step}
 use Rattle.getopts.specs.declared.kinds.HasArg.{HasArg}
 use Rattle.getopts.specs.declared.kinds.HasArg.TheVariants.{Yes, No, Maybe}
-use Rattle.getopts.specs.declared.kinds.ParsingStyle.{ParsingStyle}
-use Rattle.getopts.specs.declared.kinds.ParsingStyle.TheVariants.{FloatingFrees, StopAtFirstFree}
-use Rattle.getopts.proofs.Lists.{AllByRecursion-append, filled-append}
+use Rattle.std.proofs.Permutation.{every_append}
+use Rattle.getopts.proofs.Lists.{filled-append}
 use Rattle.getopts.proofs.Reading.Reader.{spelled, IsNamed, free_step, step}
 use Rattle.getopts.proofs.Reading.Texts as Texts
 
@@ -61,40 +59,21 @@ module _ (grammar : Grammar) (dashes : Dashes) (word name : Text)
   long_form : (argument : Option Text)
       → IsInLongForm grammar dashes word (name ++ with_equals argument)
       → IsLongForm grammar word name argument
-  long_form argument form = record {
-    dashes = dashes;
-    before = before_front grammar.long_only dashes name (with_equals argument) form.before;
-    cut_once = plain;
-    word_is = form.word_is;
-    filled = form.filled;
-  }
+  long_form argument form = search (rules, before_front)
 
   -- an argument that its kind may have
   takes_long : (kind : HasArg) (argument : Argument) (more : List Text)
       → IsInLongForm grammar dashes word (name ++ with_equals (attached_argument argument))
-      → grammar.kind name ≡ Some kind → FitsLong kind argument
+      → long_kind grammar name ≡ Some kind → FitsLong kind argument
       → IsSoundStep grammar word (argument_words argument ++ more)
       (takes (long dashes name argument) argument)
-  takes_long kind argument more form resolved fits = (
-    more,
-    refl,
-    record {
-      spells = ap (λ (w : Text). w ∷ (argument_words argument ++ more)) form.word_is;
-      lawful = record {
-        before = before_front grammar.long_only dashes name
-            (with_equals (attached_argument argument)) form.before;
-        cut_once = plain;
-        resolves = (kind, resolved, fits);
-      };
-      followed = λ bare. absurd (false≢true bare);
-    },
-  )
+  takes_long kind argument more form resolved fits = search (rules, before_front, false≢true)
 
   -- each kind, and an unknown name
   named_sound : (kind : Option HasArg) (argument : Option Text) (more : List Text)
       → IsInLongForm grammar dashes word (name ++ with_equals argument)
-      → grammar.kind name ≡ kind
-      → IsSoundStep grammar word more (named_step kind dashes name argument more)
+      → long_kind grammar name ≡ kind
+      → IsSoundStep grammar word more (named_step grammar kind dashes name argument more)
   named_sound None argument more form resolved =
       λ utf8. unknown_name name argument (long_form argument form) resolved
   named_sound (Some No) None more form resolved = takes_long No none more form resolved tt
@@ -102,38 +81,25 @@ module _ (grammar : Grammar) (dashes : Dashes) (word name : Text)
       λ utf8. unwanted_argument name argument (long_form (Some argument) form) resolved
   named_sound (Some Yes) None [] form resolved =
       λ utf8. long_unfinished name (long_form None form) resolved refl
-  named_sound (Some Yes) None (next ∷ others) form resolved =
-      takes_long Yes (separate next) others form resolved tt
+  named_sound (Some Yes) None (next ∷ others) form resolved = search (rules, takes_long)
   named_sound (Some Maybe) None more form resolved = takes_long Maybe none more form resolved tt
-  named_sound (Some kind) (Some argument) more form resolved =
-      takes_long kind (attached argument) more form resolved tt
-
--- a word in long form, by its text
-long_sound : (grammar : Grammar) (dashes : Dashes) (word text : Text) (more : List Text)
-    → IsInLongForm grammar dashes word text
-    → IsSoundStep grammar word more (long_step grammar dashes text more)
-long_sound grammar dashes word text more form =
-    let cut = cut_at_equals text in
-    named_sound grammar dashes word cut.0 (Texts.holds_equals-name text) (grammar.kind cut.0) cut.1 more
-    (subst (IsInLongForm grammar dashes word) (sym (Texts.cut_at_equals-joined text)) form) refl
+  named_sound (Some kind) (Some argument) more form resolved = search (rules, takes_long)
 
 -- ---- sound steps: words in short form
 
--- each flag is ASCII
-flags_ascii : (grammar : Grammar) → IsNamed grammar → (names : List ℕ)
-    → AllByRecursion (IsFlag grammar) names → AllByRecursion (λ byte. byte < 128) names
-flags_ascii grammar named [] each = tt
-flags_ascii grammar named (byte ∷ names) each = (
-  elim (named.ascii byte) [ inl ascii ↦ ascii | inr unknown ↦ cc (each.0, unknown) ],
-  flags_ascii grammar named names each.1,
-)
-
 -- the rest after flags is a text
+IsUtf8-past_flags : (grammar : Grammar) → IsNamed grammar → (bytes text : Text)
+    → AllByRecursion (IsFlag grammar) bytes → IsUtf8 (bytes ++ text) → IsUtf8 text
+IsUtf8-past_flags grammar named [] text each utf8 = utf8
+IsUtf8-past_flags grammar named (byte ∷ bytes) text each utf8 =
+    let ascii : byte < 128 = search rules in
+    IsUtf8-past_flags grammar named bytes text each.1 (Texts.IsUtf8-past_ascii byte (bytes ++ text) ascii utf8)
+
 IsUtf8-after_flags : (grammar : Grammar) → IsNamed grammar → (word : Text) (bytes text : Text)
     → IsShortForm grammar word (bytes ++ text) → AllByRecursion (IsFlag grammar) bytes
     → IsUtf8 word → IsUtf8 text
 IsUtf8-after_flags grammar named word bytes text form each utf8 =
-    Texts.IsUtf8-past_asciis bytes text (flags_ascii grammar named bytes each)
+    IsUtf8-past_flags grammar named bytes text each
     (Texts.IsUtf8-past_ascii dash (bytes ++ text) (omega arith) (subst IsUtf8 form.word_is utf8))
 
 -- Words in short form that begin with these flags.
@@ -143,16 +109,7 @@ module _ (grammar : Grammar) (word : Text) (bytes : List ℕ)
   begins_cluster : (end : End) (more : List Text) → IsShortForm grammar word (bytes ++ end_text end)
       → IsLawfulEnd grammar bytes end → (is_bare (cluster bytes end) ≡ true → EndsOrIsDashed more)
       → BeginsWith grammar (word ∷ (end_words end ++ more)) (cluster bytes end) more
-  begins_cluster end more form last followed = record {
-    spells = ap (λ (w : Text). w ∷ (end_words end ++ more)) form.word_is;
-    lawful = record {
-      ordinary = form.ordinary;
-      short_form = form.second;
-      each = each;
-      last = last;
-    };
-    followed = followed;
-  }
+  begins_cluster end more form last followed = search rules
 
   -- an option that ends it, with an argument that its kind may have
   takes_end : (option : ℕ) (kind : HasArg) (argument : Argument) (more : List Text)
@@ -161,23 +118,12 @@ module _ (grammar : Grammar) (word : Text) (bytes : List ℕ)
       → (is_bare (cluster bytes (ends_in option argument)) ≡ true → EndsOrIsDashed more)
       → IsSoundStep grammar word (argument_words argument ++ more)
       (takes (cluster bytes (ends_in option argument)) argument)
-  takes_end option kind argument more form resolved fits followed = (
-    more,
-    refl,
-    begins_cluster (ends_in option argument) more form
-        (kind, resolved, fits) followed,
-  )
+  takes_end option kind argument more form resolved fits followed = search (rules, begins_cluster)
 
   -- a text that follows the flags
   after_flags : (rest : Text) → IsShortForm grammar word (bytes ++ rest)
       → HasAfterFlags grammar word rest
-  after_flags rest form = record {
-    bytes = bytes;
-    ordinary = form.ordinary;
-    word_is = form.word_is;
-    second = form.second;
-    each = each;
-  }
+  after_flags rest form = search rules
 
   -- a name that doesn't resolve
   unknown_flag : IsNamed grammar → (byte : ℕ) (text : Text) (more : List Text)
@@ -193,8 +139,7 @@ module _ (grammar : Grammar) (word : Text) (bytes : List ℕ)
         | inr wide ↦
             wide_character begins.0 begins.1.rest begins.1.scalar
             (Texts.length-encode-wide begins.0 byte text begins.1.rest begins.1.text_is wide)
-            (after_flags (encode_utf8 begins.0 ++ begins.1.rest)
-            (subst (λ (t : Text). IsShortForm grammar word (bytes ++ t)) begins.1.text_is form))
+            (search (rules, after_flags))
       ])
 
   -- one more byte, by its kind, given the result of one more flag
@@ -203,8 +148,7 @@ module _ (grammar : Grammar) (word : Text) (bytes : List ℕ)
       → grammar.kind (byte ∷ []) ≡ kind
       → (kind ≡ Some No → IsSoundStep grammar word more after)
       → IsSoundStep grammar word more (byte_step kind bytes byte text more after)
-  byte_sound named byte None text more after form resolved flag =
-      unknown_flag named byte text more form resolved
+  byte_sound named byte None text more after form resolved flag = search (rules, unknown_flag)
   byte_sound named byte (Some No) text more after form resolved flag = flag refl
   byte_sound named byte (Some kind) (c ∷ text) more after form resolved flag =
       takes_end byte kind (attached (c ∷ text)) more form resolved (λ e. cc e) (λ bare. cc bare)
@@ -212,16 +156,9 @@ module _ (grammar : Grammar) (word : Text) (bytes : List ℕ)
       λ utf8. short_unfinished byte (after_flags (byte ∷ []) form) resolved refl
   byte_sound named byte (Some Yes) [] (next ∷ others) after form resolved flag =
       takes_end byte Yes (separate next) others form resolved tt (λ bare. cc bare)
-  byte_sound named byte (Some Maybe) [] [] after form resolved flag =
-      takes_end byte Maybe none [] form resolved tt (λ bare. tt)
+  byte_sound named byte (Some Maybe) [] [] after form resolved flag = search (rules, takes_end)
   byte_sound named byte (Some Maybe) [] (next ∷ others) after form resolved flag =
-      elim (cases_Bool (is_dashed next)) [
-        | inl dashed ↦
-            rw dashed (takes_end byte Maybe none (next ∷ others) form resolved tt (λ bare. dashed))
-        | inr plain ↦
-            rw plain (takes_end byte Maybe (separate next) others form resolved plain
-            (λ bare. cc bare))
-      ]
+      search (rules, cases_Bool, takes_end)
 
 -- a cluster, by the flags that were read and the remaining text
 cluster_sound : (grammar : Grammar) → IsNamed grammar
@@ -229,18 +166,14 @@ cluster_sound : (grammar : Grammar) → IsNamed grammar
     → IsShortForm grammar word (bytes ++ text) → AllByRecursion (IsFlag grammar) bytes
     → IsSoundStep grammar word more (cluster_step grammar bytes text more)
 unfolding cluster_step
-cluster_sound grammar named word bytes [] more form each = (
-  more,
-  refl,
-  begins_cluster grammar word bytes each flags more form
-      (λ e. form.filled (rw e refl)) (λ bare. absurd (false≢true bare)),
-)
+cluster_sound grammar named word bytes [] more form each =
+    search (rules, begins_cluster, false≢true)
 cluster_sound grammar named word bytes (byte ∷ text) more form each =
     byte_sound grammar word bytes each named byte (grammar.kind (byte ∷ [])) text more
     (cluster_step grammar (bytes ++ byte ∷ []) text more) form refl
     (λ flag. cluster_sound grammar named word (bytes ++ byte ∷ []) text more
     (subst (IsShortForm grammar word) (sym (append_assoc bytes (byte ∷ []) text)) form)
-    (AllByRecursion-append (IsFlag grammar) bytes (byte ∷ []) each (flag, tt)))
+    (every_append (IsFlag grammar) bytes (byte ∷ []) each (flag, tt)))
 
 -- ---- sound steps: any word
 
@@ -248,9 +181,7 @@ cluster_sound grammar named word bytes (byte ∷ text) more form each =
 pub step_free : (grammar : Grammar) (word : Text) (more : List Text) → is_dashed word ≡ false
     → step grammar word more ≡ free_step grammar.style word more
 unfolding step
-step_free grammar [] more plain = refl
-step_free grammar (c ∷ []) more plain = refl
-step_free grammar (c ∷ d ∷ text) more plain = rw plain refl
+step_free grammar word more plain = search rules
 
 -- the step of `--`
 pub step_stop : (grammar : Grammar) (more : List Text)
@@ -263,11 +194,7 @@ pub step_long : (grammar : Grammar) (dashes : Dashes) (word text : Text) (more :
     → IsInLongForm grammar dashes word text
     → step grammar word more ≡ long_step grammar dashes text more
 unfolding step
-step_long grammar two word [] more form = absurd (form.filled form.word_is)
-step_long grammar two word (c ∷ text) more form = rw form.word_is refl
-step_long grammar one word [] more form = absurd (form.filled form.word_is)
-step_long grammar one word (c ∷ text) more form =
-    rw (form.word_is, form.before.1, form.before.0) refl
+step_long grammar dashes word text more form = search rules
 
 -- the step of a word in short form
 pub step_short : (grammar : Grammar) (word text : Text) (more : List Text)
@@ -276,25 +203,9 @@ unfolding step
 step_short grammar word [] more form = absurd (form.filled refl)
 step_short grammar word (c ∷ text) more form = rw (form.word_is, form.second, form.ordinary) refl
 
--- a word that isn't dashed
-free_sound : (grammar : Grammar) (word : Text) (more : List Text) → is_dashed word ≡ false
-    → (style : ParsingStyle) → grammar.style ≡ style
-    → IsSoundStep grammar word more (free_step style word more)
-free_sound grammar word more plain FloatingFrees style = (
-  more,
-  refl,
-  record {
-    spells = refl;
-    lawful = (plain, style);
-    followed = λ bare. absurd (false≢true bare);
-  },
-)
-free_sound grammar word more plain StopAtFirstFree style = ((plain, style), refl)
-
 plain_sound : (grammar : Grammar) (word : Text) (more : List Text) → is_dashed word ≡ false
     → IsSoundStep grammar word more (step grammar word more)
-plain_sound grammar word more plain =
-    rw (step_free grammar word more plain) (free_sound grammar word more plain grammar.style refl)
+plain_sound grammar word more plain = search (rules, step_free)
 
 -- the first word of a line
 pub step_sound : (grammar : Grammar) → IsNamed grammar → (word : Text) (more : List Text)
@@ -306,11 +217,7 @@ step_sound grammar named (first ∷ second ∷ text) more = elim (cases_Bool (fi
   | inl dashed ↦ rw (eqb-true first dash dashed) (elim (cases_Bool (second == dash)) [
     | inl again ↦ rw (eqb-true second dash again) (two_sound text)
     | inr name ↦ elim (cases_Bool grammar.long_only) [
-      | inl long_only ↦ in_long one (dash ∷ second ∷ text) (second ∷ text) (record {
-        before = (long_only, name);
-        word_is = refl;
-        filled = λ e. cc e;
-      })
+      | inl long_only ↦ in_long one (dash ∷ second ∷ text) (second ∷ text) (search rules)
       | inr ordinary ↦
           let form : IsShortForm grammar (dash ∷ second ∷ text) (second ∷ text) =
           record { ordinary = ordinary; word_is = refl; filled = λ e. cc e; second = name } in
@@ -322,8 +229,9 @@ step_sound grammar named (first ∷ second ∷ text) more = elim (cases_Bool (fi
   in_long : (dashes : Dashes) (word others : Text) → IsInLongForm grammar dashes word others
       → IsSoundStep grammar word more (step grammar word more)
   in_long dashes word others form =
+      let cut = cut_at_equals others in
       rw (step_long grammar dashes word others more form)
-      (long_sound grammar dashes word others more form)
+      (search (rules, named_sound, Texts.holds_equals-name, Texts.cut_at_equals-joined))
 
   two_sound : (others : Text)
       → IsSoundStep grammar (dash ∷ dash ∷ others) more (step grammar (dash ∷ dash ∷ others) more)
@@ -338,9 +246,9 @@ step_sound grammar named (first ∷ second ∷ text) more = elim (cases_Bool (fi
 -- a text in long form, by its name, its kind and its attached argument
 pub long_step_cut : (grammar : Grammar) (dashes : Dashes) (name : Text) (argument : Option Text)
     (more : List Text) (kind : Option HasArg) → holds_equals name ≡ false
-    → grammar.kind name ≡ kind
+    → long_kind grammar name ≡ kind
     → long_step grammar dashes (name ++ with_equals argument) more
-    ≡ named_step kind dashes name argument more
+    ≡ named_step grammar kind dashes name argument more
 long_step_cut grammar dashes name argument more kind plain resolved =
     rw (Texts.cut_at_equals-append name argument plain, resolved) refl
 
@@ -348,32 +256,30 @@ long_step_cut grammar dashes name argument more kind plain resolved =
 before_more : (long_only : Bool) (dashes : Dashes) (name : Text) (argument : Option Text)
     → MayPrecede long_only dashes name
     → MayPrecede long_only dashes (name ++ with_equals argument)
-before_more long_only one name argument before =
-    (before.0, Texts.begins_with_dash-append name argument before.1)
+before_more long_only one name argument before = search (rules, Texts.begins_with_dash-append)
 before_more long_only two name argument before = tt
 
 -- the step of a word in long form, by its name, its kind and its attached argument
 pub long_form_step : (grammar : Grammar) (word name : Text) (argument : Option Text)
     (more : List Text) (kind : Option HasArg) (form : IsLongForm grammar word name argument)
-    → grammar.kind name ≡ kind
-    → step grammar word more ≡ named_step kind form.dashes name argument more
+    → long_kind grammar name ≡ kind
+    → step grammar word more ≡ named_step grammar kind form.dashes name argument more
 long_form_step grammar word name argument more kind form resolved =
-    step_long grammar form.dashes word (name ++ with_equals argument) more (record {
-      before = before_more grammar.long_only form.dashes name argument form.before;
-      word_is = form.word_is;
-      filled = form.filled;
-    }) ∙ long_step_cut grammar form.dashes name argument more kind form.cut_once resolved
+    step_long grammar form.dashes word (name ++ with_equals argument) more
+    (search (rules, before_more))
+    ∙ long_step_cut grammar form.dashes name argument more kind form.cut_once resolved
 
+-- So `--` is only the stop: if the empty name resolved, it would be a long item, too.
 -- the word of a name that resolves is longer than its dashes
 resolved_word : (grammar : Grammar) → IsNamed grammar
     → (dashes : Dashes) (name : Text) (argument : Option Text) (kind : HasArg)
-    → grammar.kind name ≡ Some kind
+    → long_kind grammar name ≡ Some kind
     → long_word dashes name argument ≢ dash_text dashes
-resolved_word grammar named dashes [] argument kind resolved = let empty =
-    named.empty in absurd (cc)
+resolved_word grammar named dashes [] argument kind resolved = search rules
 resolved_word grammar named one (c ∷ name) argument kind resolved = λ e. cc e
 resolved_word grammar named two (c ∷ name) argument kind resolved = λ e. cc e
 
+-- A flag is of kind `No`, and a last option isn't, so only one byte can be the last option.
 -- flags precede the rest
 pub cluster_flags : (grammar : Grammar) (before names : List ℕ) (text : Text) (more : List Text)
     → AllByRecursion (IsFlag grammar) names
@@ -382,8 +288,7 @@ pub cluster_flags : (grammar : Grammar) (before names : List ℕ) (text : Text) 
 unfolding cluster_step
 cluster_flags grammar before [] text more each = rw (append-nil before) refl
 cluster_flags grammar before (byte ∷ names) text more each =
-    let flag : grammar.kind (byte ∷ []) ≡ Some No = each.0 in
-    rw (flag, cluster_flags grammar (before ++ byte ∷ []) names text more each.1, append_assoc)
+    search (rules, append_assoc, cluster_flags grammar (before ++ byte ∷ []) names text more each.1)
 
 -- the step of a word in short form, after its flags
 pub short_step_flags : (grammar : Grammar) (word : Text) (names : List ℕ) (text : Text)
@@ -410,50 +315,31 @@ TakesItem grammar [] item others = ⊥
 TakesItem grammar (word ∷ more) item others = (argument : Argument)
     × (step grammar word more ≡ takes item argument) × (more ≡ argument_words argument ++ others)
 
+-- `FitsLong` leaves no choice: without `=`, only `Yes` takes the next word, and always does. If
+-- `Maybe` could take it, `--color x` would have two readings.
 -- an argument that fits in long form is chosen
 long_chosen : (kind : HasArg) (name : Text) (argument : Argument) (more : List Text)
     → FitsLong kind argument
     → chosen_long kind name (attached_argument argument) (argument_words argument ++ more)
     ≡ Ok argument
-long_chosen No name none more fits = refl
-long_chosen No name argument more fits = absurd fits
-long_chosen Yes name none more fits = absurd fits
-long_chosen Yes name argument more fits = refl
-long_chosen Maybe name (separate next) more fits = absurd fits
-long_chosen Maybe name argument more fits = refl
+long_chosen kind name argument more fits = search rules
 
+-- Each condition excludes a second reading: of `-o x`, if an attached argument could be empty; of
+-- `-c -v`, if a separate argument of `Maybe` could be dashed; of `-c x`, if a word that isn't
+-- dashed could follow a bare cluster.
 -- an argument that fits at the end of a cluster is chosen
 end_chosen : (kind : HasArg) (name : Text) (argument : Argument) (more : List Text)
     → FitsEnd kind argument → (argument ≡ none → EndsOrIsDashed more)
     → chosen_end kind name (unwrap_or (attached_argument argument) [])
     (argument_words argument ++ more)
     ≡ Ok argument
-end_chosen No name argument more fits followed = absurd fits
-end_chosen kind name (attached []) more fits followed = absurd (fits refl)
-end_chosen kind name (attached (c ∷ text)) more fits followed = refl
-end_chosen Yes name none more fits followed = absurd fits
-end_chosen Yes name (separate next) more fits followed = refl
-end_chosen Maybe name none [] fits followed = refl
-end_chosen Maybe name none (next ∷ others) fits followed = rw (followed refl) refl
-end_chosen Maybe name (separate next) more fits followed = rw fits refl
-
--- a cluster with a valid end isn't empty after its dash
-filled_from_lawful : (grammar : Grammar) (names : List ℕ) (end : End)
-    → IsLawfulEnd grammar names end → names ++ end_text end ≢ []
-filled_from_lawful grammar names flags last nil = last (sym (append-nil names) ∙ nil)
-filled_from_lawful grammar names (ends_in option argument) last nil =
-    filled-append names option (unwrap_or (attached_argument argument) []) nil
+end_chosen kind name argument more fits followed = search rules
 
 -- a valid cluster's word is in short form
 pub lawful_short : (grammar : Grammar) (names : List ℕ) (end : End)
     → IsLawfulCluster grammar names end
     → IsShortForm grammar (dash ∷ (names ++ end_text end)) (names ++ end_text end)
-lawful_short grammar names end lawful = record {
-  ordinary = lawful.ordinary;
-  word_is = refl;
-  filled = filled_from_lawful grammar names end lawful.last;
-  second = lawful.short_form;
-}
+lawful_short grammar names end lawful = search (rules, append-nil, filled-append)
 
 -- an option that isn't a flag, by its kind
 pub byte_step-end : (kind : HasArg) (bytes : List ℕ) (byte : ℕ) (text : Text) (more : List Text)
@@ -463,17 +349,14 @@ pub byte_step-end : (kind : HasArg) (bytes : List ℕ) (byte : ℕ) (text : Text
 byte_step-end No bytes byte text more after other = absurd (other refl)
 byte_step-end kind bytes byte text more after other = refl
 
--- the words that a valid item spells
+-- This is why readings are unique: a step is a function of the words, so only one valid item can
+-- begin there.
+-- the step of the words that a valid item spells takes this item, and leaves the words after it
 pub spelled_step : (grammar : Grammar) → IsNamed grammar → (item : Item) (more : List Text)
     → IsLawfulItem grammar item → (is_bare item ≡ true → EndsOrIsDashed more)
     → TakesItem grammar (spelled item more) item more
 unfolding cluster_step
-spelled_step grammar named (free word) more lawful followed = (
-  none,
-  step_free grammar word more lawful.0
-      ∙ ap (λ (style : ParsingStyle). free_step style word more) lawful.1,
-  refl,
-)
+spelled_step grammar named (free word) more lawful followed = search (rules, step_free, free_step)
 spelled_step grammar named (long dashes name argument) more lawful followed =
     let kind = lawful.resolves in
     let text = attached_argument argument in
@@ -481,22 +364,15 @@ spelled_step grammar named (long dashes name argument) more lawful followed =
       argument,
       long_form_step grammar (long_word dashes name text) name text
           (argument_words argument ++ more) (Some kind.0)
-          (record {
-            dashes = dashes;
-            before = lawful.before;
-            cut_once = lawful.cut_once;
-            word_is = refl;
-            filled = word;
-          }) kind.1 ∙ ap (chosen_step (λ a. long dashes name a))
+          (search rules) kind.1 ∙ ap (chosen_step (λ a. long dashes name a))
           (long_chosen kind.0 name argument more kind.2),
       refl,
     )
-spelled_step grammar named (cluster bytes flags) more lawful followed = (
-  none,
-  short_step_flags grammar (dash ∷ (bytes ++ [])) bytes [] more
-      (lawful_short grammar bytes flags lawful) lawful.each,
-  refl,
-)
+spelled_step grammar named (cluster bytes flags) more lawful followed =
+    search (
+      rules,
+      short_step_flags grammar (dash ∷ (bytes ++ [])) bytes [] more (lawful_short grammar bytes flags lawful) lawful.each,
+    )
 spelled_step grammar named (cluster bytes (ends_in option argument)) more lawful followed =
     let kind = lawful.last in
     let text = unwrap_or (attached_argument argument) [] in
@@ -518,12 +394,7 @@ spelled_step grammar named (cluster bytes (ends_in option argument)) more lawful
 wide_unknown : (grammar : Grammar) → IsNamed grammar → (c byte : ℕ) (others text : Text)
     → byte ∷ others ≡ encode_utf8 c ++ text → 1 < length (encode_utf8 c)
     → grammar.kind (byte ∷ []) ≡ None
-wide_unknown grammar named c byte others text e wide = elim (named.ascii byte) [
-  | inr unresolved ↦ unresolved
-  | inl ascii ↦
-      let alone : encode_utf8 c ≡ byte ∷ [] = Texts.encode-ascii_byte c byte others text e ascii in
-      absurd (omega (arith, rw alone at wide))
-]
+wide_unknown grammar named c byte others text e wide = search (rules, Texts.encode-ascii_byte)
 
 -- a word with a wide character after its flags
 wide_step : (grammar : Grammar) → IsNamed grammar
@@ -533,13 +404,7 @@ wide_step : (grammar : Grammar) → IsNamed grammar
     → 1 < length (encode_utf8 c)
     → step grammar word more ≡ faults (unrecognized_option (encode_utf8 c))
 wide_step grammar named word names c text [] more e utf8 form each wide =
-    absurd (omega (
-      arith,
-      ap length e,
-      length-append (encode_utf8 c) text,
-      length-encode c,
-      len_utf8_bounds c,
-    ))
+    absurd (omega (arith, ap length e, length-append (encode_utf8 c) text, length-encode c, len_utf8_bounds c))
 wide_step grammar named word names c text (byte ∷ others) more e utf8 form each wide =
     short_step_byte grammar word names byte others more None form each
     (wide_unknown grammar named c byte others text e wide)
@@ -548,20 +413,13 @@ wide_step grammar named word names c text (byte ∷ others) more e utf8 form eac
 
 -- a text that begins with a character isn't empty
 filled-character : (bytes : List ℕ) (c : ℕ) (text : Text) → bytes ++ (encode_utf8 c ++ text) ≢ []
-filled-character bytes c text nil = absurd (omega (
-  arith,
-  ap length nil,
-  length-append bytes (encode_utf8 c ++ text),
-  length-append (encode_utf8 c) text,
-  length-encode c,
-  len_utf8_bounds c,
-))
+filled-character bytes c text nil =
+    absurd (omega (arith, ap length nil, length-append {A = ℕ}, length-encode c, len_utf8_bounds c))
 
 -- a word with a text after flags is in short form
 short_of : (grammar : Grammar) (word text : Text) (has : HasAfterFlags grammar word text)
     → has.bytes ++ text ≢ [] → IsShortForm grammar word (has.bytes ++ text)
-short_of grammar word text has filled =
-    record { ordinary = has.ordinary; word_is = has.word_is; filled = filled; second = has.second }
+short_of grammar word text has filled = search rules
 
 -- a text that begins with a byte of ASCII begins with that character
 first_byte : (byte : ℕ) (text : Text) → byte < 128 → IsUtf8 (byte ∷ text)
@@ -580,13 +438,11 @@ fault_step grammar named word more fault utf8 (unknown_name name argument form u
 fault_step grammar named word more fault utf8 (unknown_byte byte text ascii has unknown) =
     let form = short_of grammar word _ has (filled-append has.bytes byte text) in
     short_step_byte grammar word has.bytes byte text more None form has.each unknown
-    ∙ ap (λ (t : Text). faults (unrecognized_option t)) (first_byte byte text ascii
-    (IsUtf8-after_flags grammar named word has.bytes (byte ∷ text) form has.each utf8))
+    ∙ ap (λ (t : Text). faults (unrecognized_option t)) (search (rules, first_byte, IsUtf8-after_flags))
 fault_step grammar named word more fault utf8 (wide_character character text scalar wide has) =
     let form = short_of grammar word _ has (filled-character has.bytes character text) in
     wide_step grammar named word has.bytes character text _ more refl
-    (IsUtf8-after_flags grammar named word has.bytes (encode_utf8 character ++ text) form has.each
-    utf8) form has.each wide
+    (search (rules, IsUtf8-after_flags)) form has.each wide
 fault_step grammar named word more fault utf8 (unwanted_argument name argument form kind) =
     long_form_step grammar word name (Some argument) more (Some No) form kind
 fault_step grammar named word more fault utf8 (long_unfinished name form kind ended) =
@@ -598,8 +454,4 @@ fault_step grammar named word more fault utf8 (short_unfinished option has kind 
 -- a word with an error is dashed
 pub faults_dashed : (grammar : Grammar) (word : Text) (more : List Text) (fault : Fault)
     → step grammar word more ≡ faults fault → is_dashed word ≡ true
-faults_dashed grammar word more fault is = true_from_ne_false (is_dashed word)
-    (λ plain. never grammar.style (sym (step_free grammar word more plain) ∙ is)) where
-      never : (style : ParsingStyle) → free_step style word more ≢ faults fault
-      never FloatingFrees e = cc e
-      never StopAtFirstFree e = cc e
+faults_dashed grammar word more fault is = search (rules, true_from_ne_false, step_free, free_step)

@@ -1,34 +1,26 @@
 -- Texts: a text in long form, split at its first `=`.
 use Rattle.std.proofs.Common.{◌≡◌, ◌≢◌, ◌==◌, ℕ, ◌<◌, ◌≤◌, true, false, List, [], ◌∷◌, ◌++◌, length}
-use Rattle.std.proofs.Common.{Option, Some, None, refl, sym, ap, subst, inl, inr, arith}
-use Rattle.std.proofs.Common.{encode_utf8}
+use Rattle.std.proofs.Common.{Option, Some, None, refl, sym, subst, arith, rules, encode_utf8}
 use Rattle.std.proofs.lemmas.Bool.{cases_Bool, cases_lt, eqb-true, or_parts, and_parts}
 use Rattle.getopts.specs.Names.{Text}
 use Rattle.getopts.specs.Reading.{equals_sign, begins_with_dash, holds_equals, dash, is_dashed}
 use Rattle.getopts.specs.Step.{with_equals, cut_at_equals, first_char}
-use Rattle.std.specs.List.{AllByRecursion}
 use Rattle.std.specs.Char.{IsScalar}
 use Rattle.std.specs.Str.{IsUtf8, chars}
 use Rattle.std.proofs.lemmas.Str as Strings
-use Rattle.std.proofs.lemmas.Bool.Decides.{nat_tests}
+use Rattle.std.proofs.lemmas.Grind.{common_steps}
 use lib.Utf8.{scalars, encodes, scalar as scalar_test}
 
 -- a text in long form is its name, followed by `=` and its argument if it has one
 pub cut_at_equals-joined : (text : Text)
     → (cut_at_equals text).0 ++ with_equals (cut_at_equals text).1 ≡ text
 cut_at_equals-joined [] = refl
-cut_at_equals-joined (c ∷ text) = elim (cases_Bool (c == equals_sign)) [
-  | inl here ↦ rw (eqb-true c equals_sign here) refl
-  | inr other ↦ rw other (ap (λ (rest : Text). c ∷ rest) (cut_at_equals-joined text))
-]
+cut_at_equals-joined (c ∷ text) = search (rules, cases_Bool, eqb-true, cut_at_equals-joined text)
 
 -- the name in a text in long form contains no `=`
 pub holds_equals-name : (text : Text) → holds_equals (cut_at_equals text).0 ≡ false
 holds_equals-name [] = refl
-holds_equals-name (c ∷ text) = elim (cases_Bool (c == equals_sign)) [
-  | inl here ↦ rw (eqb-true c equals_sign here) refl
-  | inr other ↦ rw (other, other) (holds_equals-name text)
-]
+holds_equals-name (c ∷ text) = search (rules, cases_Bool, eqb-true, holds_equals-name text)
 
 -- the name is the part before the first `=`, and the argument the part after it
 pub cut_at_equals-append : (name : Text) (argument : Option Text) → holds_equals name ≡ false
@@ -42,9 +34,7 @@ cut_at_equals-append (c ∷ name) argument plain =
 -- a text that begins with a name begins with a dash only if the name does
 pub begins_with_dash-append : (name : Text) (argument : Option Text) → begins_with_dash name ≡ false
     → begins_with_dash (name ++ with_equals argument) ≡ false
-begins_with_dash-append [] None plain = refl
-begins_with_dash-append [] (Some argument) plain = refl
-begins_with_dash-append (c ∷ name) argument plain = plain
+begins_with_dash-append name argument plain = search rules
 
 -- the name begins with a dash only if the text does
 pub begins_with_dash-front : (name more : Text) → begins_with_dash (name ++ more) ≡ false
@@ -61,13 +51,6 @@ is_dashed-text (c ∷ text) filled = refl
 pub IsUtf8-past_ascii : (byte : ℕ) (text : Text) → byte < 128 → IsUtf8 (byte ∷ text) → IsUtf8 text
 IsUtf8-past_ascii byte text ascii utf8 =
     Strings.IsUtf8-past_char (byte ∷ text) text byte utf8 (rw (Strings.encode_ascii byte ascii) refl)
-
--- a text after ASCII bytes
-pub IsUtf8-past_asciis : (bytes text : Text) → AllByRecursion (λ byte. byte < 128) bytes
-    → IsUtf8 (bytes ++ text) → IsUtf8 text
-IsUtf8-past_asciis [] text ascii utf8 = utf8
-IsUtf8-past_asciis (byte ∷ bytes) text ascii utf8 =
-    IsUtf8-past_asciis bytes text ascii.1 (IsUtf8-past_ascii byte (bytes ++ text) ascii.0 utf8)
 
 -- the first character of a text, from its characters
 first_char-chars : (text : Text) (c : ℕ) (cs : List ℕ) → chars text ≡ c ∷ cs
@@ -103,8 +86,7 @@ begins_with_char byte text (cs, spelled) = from_chars cs spelled.0 spelled.1 whe
 pub first_char-append : (c : ℕ) (rest : Text) → IsUtf8 (encode_utf8 c ++ rest)
     → first_char (encode_utf8 c ++ rest) ≡ encode_utf8 c
 first_char-append c rest utf8 =
-    first_char-chars (encode_utf8 c ++ rest) c (chars rest)
-    (Strings.chars_past_char (encode_utf8 c ++ rest) rest c utf8 refl)
+    cc (Strings.chars_past_char (encode_utf8 c ++ rest) rest c utf8 refl)
 
 -- a character whose first byte is ASCII is that byte alone
 pub encode-ascii_byte : (c byte : ℕ) (more rest : Text) → byte ∷ more ≡ encode_utf8 c ++ rest
@@ -116,9 +98,5 @@ encode-ascii_byte c byte more rest e ascii =
 -- a character whose first byte isn't ASCII has more than one byte
 pub length-encode-wide : (c byte : ℕ) (more rest : Text) → byte ∷ more ≡ encode_utf8 c ++ rest
     → 128 ≤ byte → 1 < length (encode_utf8 c)
-length-encode-wide c byte more rest e wide = elim (cases_lt c 128) [
-  | inl ascii ↦
-      let same : byte ≡ c = Strings.byte_from_char (byte ∷ more) rest c e ascii in
-      absurd (omega arith)
-  | inr above ↦ rw (Strings.length-encode c) (grind (arith, nat_tests))
-]
+length-encode-wide c byte more rest e wide =
+    grind (arith, common_steps, cases_lt, Strings.byte_from_char, Strings.length-encode)

@@ -1,16 +1,17 @@
 -- Occurrences: as they are stored, with their values in one text, and those of one group.
-use Rattle.std.proofs.Common.{◌≡◌, ◌<◌, ◌+◌, ℕ, ◌==◌, ◌&&◌, Bool, true, false, List, []}
-use Rattle.std.proofs.Common.{◌∷◌, ◌++◌, map, length, get_or, take, slice_get, Option, Bor, Some, None}
-use Rattle.std.proofs.Common.{refl, ap, sym, ◌∙◌, arith, ◌⊎◌, nat_le, cond, inl, inr, length-append}
+use Rattle.std.proofs.Common.{◌≡◌, ◌<◌, ◌+◌, ℕ, ◌==◌, ◌&&◌, Bool, true, false, List, [], rules, ◌∷◌}
+use Rattle.std.proofs.Common.{◌++◌, map, length, get_or, take, slice_get, Option, Bor, Some, refl}
+use Rattle.std.proofs.Common.{ap, sym, ◌∙◌, arith, length-append}
 use Rattle.std.specs.List.{AllByRecursion}
 use Rattle.std.specs.Cmp.Lexicographic.{pointwise}
-use Rattle.std.specs.Option.{option_copied, option_eq, option_map}
+use Rattle.std.specs.Option.{option_eq, option_map}
 use Rattle.std.proofs.lemmas.List.{length-map}
 use Rattle.std.proofs.lemmas.List.Elements.{filter_map-append}
 use Rattle.std.proofs.lemmas.Option.{slice_get-get_or, slice_get-map}
 use Rattle.std.specs.Str.{IsUtf8}
 use Rattle.std.proofs.lemmas.Bool.{cases_Bool, cond-false, cond-true, le-leb, leb-true}
 use Rattle.std.proofs.lemmas.Str.{IsCharBoundary-end}
+use Rattle.std.proofs.lemmas.Grind.{common_steps}
 use Rattle.getopts.specs.Names.{Text}
 use Rattle.getopts.specs.Matches.{GroupOccurrence, without_group}
 use Rattle.getopts.specs.Accessors.{values_of, pair_of, pairs_of, borrowed_occurrence}
@@ -21,39 +22,19 @@ use Rattle.getopts.specs.Stored.Occurrences.{no_occurrence, occurrences_at_place
 use Rattle.getopts.specs.declared.occurrences.Span.{Span}
 use Rattle.getopts.specs.declared.occurrences.OccurrenceRecord.{OccurrenceRecord}
 use Rattle.getopts.proofs.Lists as Lists
-use Rattle.getopts.proofs.Stored.Texts.{IsCharBoundary-append, between-append, between-added}
+use Rattle.getopts.proofs.Stored.Texts.{IsCharBoundary-append, slice_range-append, slice_range-added}
 
 -- a text is still there with more after it
 span-append : (text more : Text) → IsUtf8 more → (span : Span) → IsSpanOf text span
     → IsSpanOf (text ++ more) span × (text_at (text ++ more) span ≡ text_at text span)
-span-append text more utf8 span of = (
-  λ ordered. (
-    IsCharBoundary-append text more utf8 span.start (of ordered).0,
-    IsCharBoundary-append text more utf8 span.end (of ordered).1,
-  ),
-  same (cases_Bool (nat_le span.start span.end)),
-) where
-  same : (nat_le span.start span.end ≡ true) ⊎ (nat_le span.start span.end ≡ false)
-      → text_at (text ++ more) span ≡ text_at text span
-  same (inl is) =
-      let ordered = leb-true span.start span.end is in
-      ap (λ (part : Text). cond (nat_le span.start span.end) (Some part) None)
-      (between-append text more span.start span.end ordered (of ordered).1.0)
-  same (inr isnt) = cond-false (nat_le span.start span.end) _ None isnt
-      ∙ sym (cond-false (nat_le span.start span.end) _ None isnt)
+span-append text more utf8 span of =
+    grind (arith, common_steps, IsCharBoundary-append, cases_Bool, leb-true, slice_range-append, cond-false)
 
 -- an added text is at the end
 pub stands-added : (text more : Text) → IsUtf8 more → (span : Span) → span.start ≡ length text
     → span.end ≡ length (text ++ more) → IsTextAt (text ++ more) span more
-stands-added text more utf8 span starts ends = rw (starts, ends) (record {
-  span_of = λ _. (
-    IsCharBoundary-append text more utf8 (length text) (IsCharBoundary-end text),
-    IsCharBoundary-end (text ++ more),
-  );
-  is = cond-true (nat_le (length text) (length (text ++ more))) _ None
-      (le-leb (length text) (length (text ++ more)) (omega (arith, length-append text more)))
-      ∙ ap (λ (part : Text). Some part) (between-added text more);
-})
+stands-added text more utf8 span starts ends =
+    search (rules, IsCharBoundary-append, IsCharBoundary-end, cond-true, le-leb, length-append, slice_range-added)
 
 -- with more values, occurrences are held as before, and one more is the last
 pub occurrences-push : (values more : Text) → IsUtf8 more → (records : List OccurrenceRecord)
@@ -66,13 +47,7 @@ occurrences-push values more utf8 records held added last =
     Lists.each_pushed (λ (r : OccurrenceRecord). IsSpanOf values r.value)
     (λ (r : OccurrenceRecord). IsSpanOf (values ++ more) r.value) (occurrence_in values)
     (occurrence_in (values ++ more)) (λ r of.
-    let value = span-append values more utf8 r.value of in (
-      value.0,
-      λ i. record {
-        mention = record { group = r.group; value = value.1 i };
-        position = r.position;
-      },
-    )) added _ last refl records held
+    let value = span-append values more utf8 r.value of in (search rules)) added _ last refl records held
 
 module _ (occurrences : List Occurrence) (places : List ℕ)
     (all : AllByRecursion (λ place. place < length occurrences) places) where
@@ -93,11 +68,7 @@ module _ (occurrences : List Occurrence) (places : List ℕ)
   -- the occurrence at one of the places
   pub founds-at : (i place : ℕ) → slice_get places i ≡ Some place
       → slice_get founds i ≡ option_map without_group (slice_get occurrences place)
-  founds-at i place at =
-      let found : ℕ → GroupOccurrence = λ place. without_group (get_or occurrences place no_occurrence) in
-      slice_get-map found places i ∙ ap (option_map found) at
-      ∙ ap (option_map without_group) (sym (slice_get-get_or occurrences place no_occurrence
-      (Lists.AllByRecursion-at (λ place. place < length occurrences) places i place all at)))
+  founds-at i place at = search (rules, slice_get-map, slice_get-get_or, Lists.AllByRecursion-at)
 
 -- one more occurrence of a prefix: its value, and its position with its value
 module _ (founds : List GroupOccurrence) (i : ℕ) (found : GroupOccurrence)
@@ -122,17 +93,7 @@ same_read =
 same_read-found : (a b : Option (ℕ × Option (Bor Text)))
     → option_eq same_group_occurrence (option_map borrowed_occurrence a)
     (option_map borrowed_occurrence b) ≡ same_read a b
-same_read-found None None = refl
-same_read-found None (Some b) = refl
-same_read-found (Some a) None = refl
-same_read-found (Some a) (Some b) = ap (λ (same : Bool). a.0 == b.0 && same) (values a.1 b.1) where
-  values : (v w : Option (Bor Text))
-      → option_eq (pointwise ◌==◌) (option_copied v) (option_copied w)
-      ≡ option_eq (λ text other. pointwise ◌==◌ text.now other.now) v w
-  values None None = refl
-  values None (Some w) = refl
-  values (Some v) None = refl
-  values (Some v) (Some w) = refl
+same_read-found a b = search rules
 
 module _ (founds others : List GroupOccurrence) (i : ℕ) (a b : Option (ℕ × Option (Bor Text)))
     (is : option_map borrowed_occurrence a ≡ slice_get founds i)
@@ -148,5 +109,4 @@ module _ (founds others : List GroupOccurrence) (i : ℕ) (a b : Option (ℕ × 
   pub founds-same : same_read a b ≡ true
       → pointwise same_group_occurrence (take i founds) (take i others) ≡ true
       → pointwise same_group_occurrence (take (i + 1) founds) (take (i + 1) others) ≡ true
-  founds-same same before =
-      Lists.pointwise-take_more same_group_occurrence founds others i before (here ∙ same)
+  founds-same same before = search (rules, Lists.pointwise-take_more, here)

@@ -1,7 +1,7 @@
 -- Signatures and groups as they are stored: which one is at a place, and what appending one
 -- changes.
 use Rattle.std.proofs.Common.{◌≡◌, ℕ, zero, suc, ◌<◌, List, [], ◌∷◌, map, ◌++◌, length, get_or}
-use Rattle.std.proofs.Common.{slice_get, Some, refl, ap, sym, ◌∙◌, subst, arith}
+use Rattle.std.proofs.Common.{slice_get, Some, refl, ap, sym, ◌∙◌, arith, rules}
 use Rattle.std.specs.List.{AllByRecursion}
 use Rattle.std.specs.Option.{option_map}
 use Rattle.std.specs.Str.{IsUtf8}
@@ -16,8 +16,8 @@ use Rattle.getopts.specs.Options.{Signature, Group, MayBeDeclared, signatures_of
 use Rattle.getopts.specs.Canon.{main_at}
 use Rattle.getopts.specs.Stored.Names.{names_at, HaveNamesOfBytes}
 use Rattle.getopts.specs.Stored.Signatures.{signature_with, names_in, pair_at, AreEndsOf, IsPairAt}
-use Rattle.getopts.specs.Stored.Signatures.{ends_of, signature_in, AreLawfulSignatures, HasKeys}
-use Rattle.getopts.specs.Stored.Signatures.{IsLawfulSignature, IsStored, kinds_of}
+use Rattle.getopts.specs.Stored.Signatures.{ends_of, signature_in, AreLawfulSignatures, IsStored}
+use Rattle.getopts.specs.Stored.Signatures.{kinds_of}
 use Rattle.getopts.specs.Stored.Groups.{group_with, groups_with, groups_view, HoldGroups}
 use Rattle.getopts.specs.declared.groups.Groups.TheInside.{Inside}
 use Rattle.getopts.specs.declared.signatures.PairEnds.{PairEnds}
@@ -37,21 +37,14 @@ pub kind-signatures_of : (groups : List Group) (place : ℕ) (kinds : Kinds)
     → Some kinds ≡ option_map kinds_of (slice_get (signatures_of groups) place)
     → option_map (λ (group : Group). group.signature.kind) (slice_get groups place) ≡ Some kinds.kind
 kind-signatures_of [] place kinds is = cc is
-kind-signatures_of (group ∷ groups) zero kinds is =
-    ap (λ (k : Kinds). Some k.kind) (sym (same_Some kinds (kinds_of group.signature) is))
+kind-signatures_of (group ∷ groups) zero kinds is = search (rules, same_Some)
 kind-signatures_of (group ∷ groups) (suc place) kinds is = kind-signatures_of groups place kinds is
 
 -- the record of an existing signature
 pub record_within : (text : Text) (records : List SignatureRecord) (signatures : List Signature)
     (place : ℕ) → map (signature_in text) records ≡ signatures → place < length signatures
     → place < length records
-record_within text records signatures place are within =
-    omega (
-      arith,
-      within,
-      ap (λ (signatures : List Signature). length signatures) are,
-      length-map records (signature_in text),
-    )
+record_within text records signatures place are within = search (rules, length-map)
 
 -- the record at a place, and the signature there
 pub stored_at : (text : Text) (records : List SignatureRecord) (signatures : List Signature)
@@ -60,12 +53,7 @@ pub stored_at : (text : Text) (records : List SignatureRecord) (signatures : Lis
     → r ≡ get_or records place r
     → IsStored text r × (slice_get signatures place ≡ Some (signature_in text r))
 stored_at text records signatures place r held are within is =
-    let at = slice_get_read records _ place r refl
-    (record_within text records signatures place are within) is in (
-      AllByRecursion-at (IsStored text) records place r held at,
-      rw (← are) (slice_get-map (signature_in text) records place
-          ∙ ap (option_map (signature_in text)) at),
-    )
+    search (rules, slice_get_read, record_within, AllByRecursion-at, slice_get-map)
 
 -- ---- names
 
@@ -76,22 +64,18 @@ pub names_at-signature : (signatures : List Signature) (place : ℕ) (signature 
 names_at-signature signatures place signature is =
     get_or_from_slice_get (names_in signatures) place signature.names
     (record { short = []; long = [] })
-    (slice_get-map (λ (s : Signature). s.names) signatures place
-    ∙ ap (option_map (λ (s : Signature). s.names)) is)
+    (search (rules, slice_get-map))
 
 -- names of valid signatures are valid
 pub lawful_names : (signatures : List Signature) → AreLawfulSignatures signatures
     → AllByRecursion IsLawfullyNamed (names_in signatures)
-lawful_names signatures lawful = AllByRecursion-map IsLawfullyNamed (λ (s : Signature). s.names)
-    signatures (AllByRecursion-follows IsLawfulSignature _ (λ s fits. fits.named) signatures lawful)
+lawful_names signatures lawful = search (rules, AllByRecursion-map, AllByRecursion-follows)
 
 -- and consist of bytes
 pub HaveNamesOfBytes-lawful : (signatures : List Signature) → AreLawfulSignatures signatures
     → HaveNamesOfBytes (names_in signatures)
-HaveNamesOfBytes-lawful [] lawful place =
-    (All-nil (λ byte. byte < 256), All-nil (λ byte. byte < 256))
-HaveNamesOfBytes-lawful (s ∷ more) lawful zero =
-    (IsOfBytes-utf8 s.names.short lawful.0.short, IsOfBytes-utf8 s.names.long lawful.0.long)
+HaveNamesOfBytes-lawful [] lawful place = search (rules, All-nil)
+HaveNamesOfBytes-lawful (s ∷ more) lawful zero = search (rules, IsOfBytes-utf8)
 HaveNamesOfBytes-lawful (s ∷ more) lawful (suc place) = HaveNamesOfBytes-lawful more lawful.1 place
 
 -- ---- one more
@@ -108,14 +92,8 @@ signatures-push text more utf8 records held added last =
     (signature_in (text ++ more)) (λ r held.
     let stand = two-append text more utf8 (ends_of r) held.ends in
     let same : signature_in (text ++ more) r ≡ signature_in text r =
-    ap (λ (names : Text × Text). signature_with r.kinds names.0 names.1) stand.are in (
-      record {
-        ends = stand.ends;
-        keys = subst (λ (s : Signature). HasKeys r s.names) (sym same) held.keys;
-        lawful = subst IsLawfulSignature (sym same) held.lawful;
-      },
-      same,
-    )) added _ last refl records held
+    ap (λ (names : Text × Text). signature_with r.kinds names.0 names.1) stand.are in
+    (search rules)) added _ last refl records held
 
 -- with more text, the two texts of each group are as before, and two more are the last
 pub twos-push : (text more : Text) → IsUtf8 more → (ends : List PairEnds)
@@ -137,8 +115,7 @@ groups_with-push signature texts [] [] as_many = refl
 groups_with-push signature texts [] (two ∷ twos) as_many = absurd (omega (arith, as_many))
 groups_with-push signature texts (first ∷ signatures) [] as_many = absurd (omega (arith, as_many))
 groups_with-push signature texts (first ∷ signatures) (two ∷ twos) as_many =
-    ap (λ more. group_with first two ∷ more)
-    (groups_with-push signature texts signatures twos (omega (arith, as_many)))
+    search (rules, groups_with-push signature texts signatures twos (omega (arith, as_many)))
 
 -- ---- groups
 
@@ -160,17 +137,7 @@ pub signatures_of-with : (signatures : List Signature) (twos : List (Text × Tex
 signatures_of-with [] twos as_many = refl
 signatures_of-with (first ∷ signatures) [] as_many = absurd (omega (arith, as_many))
 signatures_of-with (first ∷ signatures) (two ∷ twos) as_many =
-    ap (λ (more : List Signature). first ∷ more)
-    (signatures_of-with signatures twos (omega (arith, as_many)))
-
--- there are as many groups as signatures
-length-groups_with : (signatures : List Signature) (twos : List (Text × Text))
-    → length twos ≡ length signatures
-    → length (groups_with signatures twos) ≡ length signatures
-length-groups_with signatures twos as_many =
-    sym (length-map (groups_with signatures twos) (λ (g : Group). g.signature))
-    ∙ ap (λ (signatures : List Signature). length signatures)
-    (signatures_of-with signatures twos as_many)
+    search (rules, signatures_of-with signatures twos (omega (arith, as_many)))
 
 -- the signatures that are held are those of the groups
 pub signatures_stored : (inside : Inside) (groups : List Group) → HoldGroups inside
@@ -179,11 +146,9 @@ pub signatures_stored : (inside : Inside) (groups : List Group) → HoldGroups i
 signatures_stored inside groups holds are =
     let twos = map (pair_at (string_bytes inside.texts)) inside.ends.items in
     let as_many = length-map inside.ends.items (pair_at (string_bytes inside.texts))
-    ∙ holds.as_many in (
-      sym (ap signatures_of (sym are) ∙ signatures_of-with inside.signatures twos as_many),
-      ap (λ (groups : List Group). length groups) (sym are)
-          ∙ length-groups_with inside.signatures twos as_many,
-    )
+    ∙ holds.as_many in
+    let same = sym (ap signatures_of (sym are) ∙ signatures_of-with inside.signatures twos as_many) in
+    search (rules, length-map)
 
 -- the main name at a place
 pub main_at-names : (groups : List Group) (place : ℕ)
@@ -195,9 +160,4 @@ main_at-names (group ∷ groups) (suc place) = main_at-names groups place
 -- groups with valid signatures may be declared
 pub MayBeDeclared-lawful : (groups : List Group) → AreLawfulSignatures (signatures_of groups)
     → MayBeDeclared groups
-MayBeDeclared-lawful groups lawful =
-    let each = AllByRecursion-unmap IsLawfulSignature (λ (g : Group). g.signature) groups lawful in
-    record {
-      named = AllByRecursion-follows _ _ (λ g fits. fits.named) groups each;
-      shorts = AllByRecursion-follows _ _ (λ g fits. fits.short) groups each;
-    }
+MayBeDeclared-lawful groups lawful = search (rules, AllByRecursion-unmap, AllByRecursion-follows)

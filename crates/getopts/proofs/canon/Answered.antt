@@ -1,7 +1,7 @@
 -- Words have one result.
-use Rattle.std.proofs.Common.{◌≡◌, ◌==◌, ◌<◌, ℕ, Bool, true, false, List}
-use Rattle.std.proofs.Common.{length, get_or, map, Option, Some, None, Result, Ok, Err}
-use Rattle.std.proofs.Common.{refl, sym, ap, ◌∙◌, subst, inl, inr}
+use Rattle.std.proofs.Common.{◌≡◌, ◌<◌, ℕ, Bool, true, false, List, rules, length, get_or, map}
+use Rattle.std.proofs.Common.{Option, Some, None, Result, Ok, Err, refl, sym, ap, ◌∙◌, subst, inl}
+use Rattle.std.proofs.Common.{inr}
 use Rattle.std.proofs.lemmas.Bool.{true≢false}
 use Rattle.std.proofs.lemmas.List.Folds.{list_any_at}
 use Rattle.getopts.specs.Names.{Text}
@@ -12,12 +12,10 @@ use Rattle.getopts.specs.Matches.{Matched, matches_of, KeepsCounts}
 use Rattle.std.specs.Prelude.{MatchOption, MatchResult}
 use Rattle.getopts.specs.Parse.{Reads, IsAccepted, HasReading, HasNoReading, IsRefused}
 use Rattle.getopts.specs.Returns.{IsReadAnswer}
-use Rattle.getopts.specs.Canon.{Content, IsCountKeeping, content_of, IsPlain}
-use Rattle.getopts.specs.Canon.{canonical_line, IsAcceptedWith}
-use Rattle.getopts.specs.CanonAnswers.{IsWritten, IsUnwritable, IsParseAnswer}
-use Rattle.getopts.specs.CanonAnswers.{IsCanonicalAnswer, IsOrderAnswer, IsOrder, KeepsLineLaws}
+use Rattle.getopts.specs.Canon.{Content, IsCountKeeping, IsPlain, IsAcceptedWith}
+use Rattle.getopts.specs.CanonAnswers.{IsWritten, IsUnwritable, IsParseAnswer, IsCanonicalAnswer}
+use Rattle.getopts.specs.CanonAnswers.{IsOrderAnswer, IsOrder, KeepsLineLaws}
 use Rattle.getopts.proofs.canon.Lines.{HasCanonicalLine-says, Says-accepted}
-use Rattle.getopts.specs.Results.{first_count_fault}
 use Rattle.getopts.proofs.counts.FirstFault.{first_count_fault-kept, first_count_fault-broken}
 use Rattle.getopts.proofs.Only.{meets}
 use Rattle.getopts.proofs.parse.Parsed.{named_here}
@@ -28,17 +26,13 @@ pub holds_equals-found : (text : Text) (found : Bool)
     → (found ≡ true → (k : ℕ) × (k < length text) × (get_or text k 0 ≡ equals_sign))
     → ((k : ℕ) → k < length text → get_or text k 0 ≡ equals_sign → found ≡ true)
     → found ≡ holds_equals text
-holds_equals-found text true there at =
-    let place = there refl in
-    sym (list_any_at (λ c. c == equals_sign) text place.0 0 place.1 (rw place.2 refl))
-holds_equals-found text false there at =
-    sym (holds_equals-none text (λ k within is. true≢false (sym (at k within is))))
+holds_equals-found text true there at = search (rules, list_any_at)
+holds_equals-found text false there at = search (rules, holds_equals-none, true≢false)
 
 -- words are accepted with the content of a reading that keeps the counts
 pub count_keeping : (options : Declared) (words : List Text) (content : Content)
     (is : IsAcceptedWith options words content) → IsCountKeeping options is.reading words
-count_keeping options words content is =
-    record { reads = meets (Reads options words) is.reading is.only; keeps = is.counts }
+count_keeping options words content is = search (rules, meets)
 
 -- answered lines keep their laws
 pub KeepsLineLaws-lawful : (options : Declared) → MayBeDeclared options.groups
@@ -57,8 +51,7 @@ only_result : {X : Type 0} {Is : X → Type 0} (No : Fault → Type 0)
 only_result No apart only_no only (Ok x) (Ok y) is also = ap Ok (only x y is also)
 only_result No apart only_no only (Ok x) (Err fault) is refused = absurd (apart x fault is refused)
 only_result No apart only_no only (Err fault) (Ok x) refused is = absurd (apart x fault is refused)
-only_result No apart only_no only (Err fault) (Err other) refused also =
-    ap Err (only_no fault other refused also)
+only_result No apart only_no only (Err fault) (Err other) refused also = search rules
 
 module _ (options : Declared) (words : List Text) where
   -- words that have a reading have it
@@ -76,9 +69,7 @@ module _ (options : Declared) (words : List Text) where
   -- words have one reading's matches
   pub only_matches : (m n : Matched) → HasReading options words m → HasReading options words n
       → m ≡ n
-  only_matches m n has other =
-      has.matches_are ∙ ap (matches_of options) ((other.only has.reading).0 (reads_of m has))
-      ∙ sym other.matches_are
+  only_matches m n has other = search (rules, reads_of m has)
 
   only_refusal : (fault other : Fault) → IsRefused options words fault
       → IsRefused options words other → fault ≡ other
@@ -86,26 +77,24 @@ module _ (options : Declared) (words : List Text) where
       (is_other.only fault).0 (meets (IsScanFault (grammar_of options) words) fault is.only)
   only_refusal fault other (inl is) (inr is_other) =
       absurd (is.no_reading is_other.read.reading (reads_of is_other.matches is_other.read))
-  only_refusal fault other (inr is) (inl is_other) =
-      absurd (is_other.no_reading is.read.reading (reads_of is.matches is.read))
+  only_refusal fault other (inr is) (inl is_other) = search (rules, reads_of is.matches is.read)
   only_refusal fault other (inr is) (inr is_other) =
-      let same = only_matches is.matches is_other.matches is.read is_other.read in
-      let first = first_count_fault-broken is.matches.groups fault is.breaks in
-      let second = first_count_fault-broken is_other.matches.groups other is_other.breaks in
-      let groups = ap (λ (m : Matched). first_count_fault m.groups) same in
-      cc
+      cc (
+        only_matches is.matches is_other.matches is.read is_other.read,
+        first_count_fault-broken is.matches.groups fault is.breaks,
+        first_count_fault-broken is_other.matches.groups other is_other.breaks,
+      )
 
   -- words with a reading that keeps the counts aren't rejected
   pub not_refused : (reading : Reading) (fault : Fault) → IsCountKeeping options reading words
       → IsRefused options words fault → ⊥
   not_refused reading fault keeps (inl is) = is.no_reading reading keeps.reads
   not_refused reading fault keeps (inr is) =
-      let same : matches_of options reading ≡ is.matches =
-      ap (matches_of options) ((is.read.only reading).0 keeps.reads) ∙ sym is.read.matches_are in
-      let none = first_count_fault-kept (matches_of options reading).groups keeps.keeps in
-      let broken = first_count_fault-broken is.matches.groups fault is.breaks in
-      let groups = ap (λ (m : Matched). first_count_fault m.groups) same in
-      cc
+      search (
+        rules,
+        first_count_fault-kept (matches_of options reading).groups keeps.keeps,
+        first_count_fault-broken is.matches.groups fault is.breaks,
+      )
 
   -- words have one error, and none if something was made of a reading that keeps the counts
   pub only_answer : {X : Type 0} {Is : X → Type 0}
@@ -141,17 +130,12 @@ module _ (options : Declared) (words : List Text) where
   -- words are accepted with one content
   pub only_content : (content other : Content) → IsAcceptedWith options words content
       → IsAcceptedWith options words other → content ≡ other
-  only_content content other is is_other =
-      is.content_is ∙ ap (content_of options)
-      ((is_other.only is.reading).0 (count_keeping options words content is).reads)
-      ∙ sym is_other.content_is
+  only_content content other is is_other = search (rules, count_keeping options words content is)
 
   pub only_line : (line other : List Text) → IsWritten options words line
       → IsWritten options words other → line ≡ other
   only_line line other is is_other =
-      is.line_is ∙ ap (canonical_line options.groups)
-      (only_content is.content is_other.content is.accepted is_other.accepted)
-      ∙ sym is_other.line_is
+      cc (only_content is.content is_other.content is.accepted is_other.accepted)
 
   -- words have one result of `parse_in_order`
   pub only_order_answer : (answer other : Result (List ℕ) Fault)

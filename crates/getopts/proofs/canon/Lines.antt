@@ -1,41 +1,44 @@
 -- The laws of the canonical line.
-use Rattle.std.proofs.Common.{◌≡◌, ◌<◌, ◌≢◌, ◌↔◌, ℕ, zero, suc, ◌+◌, ◌==◌, Bool, true, false}
-use Rattle.std.proofs.Common.{not, List, [], ◌∷◌, ◌++◌, drop, length, map, Option, Some, None, refl, sym}
-use Rattle.std.proofs.Common.{ap, ◌∙◌, subst, inl, inr, arith, append-nil}
-use Rattle.std.proofs.lemmas.Bool.{cases_Bool, and_parts, not-true, not-false, or_cases, or_left, or_right}
-use Rattle.std.proofs.lemmas.Bool.{true≢false}
+use Rattle.std.proofs.Common.{◌≡◌, ◌<◌, ◌≢◌, ◌↔◌, ℕ, suc, ◌+◌, ◌==◌, Bool, true, false, rules, not}
+use Rattle.std.proofs.Common.{List, [], ◌∷◌, ◌++◌, drop, length, map, Option, Some, None, refl, sym}
+use Rattle.std.proofs.Common.{ap, ◌∙◌, inl, inr, arith, append-nil}
+use Rattle.std.proofs.lemmas.Bool.{cases_Bool, and_parts, not-true, not-false, or_cases, or_left}
+use Rattle.std.proofs.lemmas.Bool.{or_right, true≢false}
 use Rattle.std.proofs.lemmas.List.{append_cancel_right, length-map}
 use Rattle.std.proofs.lemmas.Option.{none-some, option_and_then_some, slice_get-get_or}
+use Rattle.std.proofs.lemmas.Option.{slice_get-map, slice_get_within}
+use Rattle.std.proofs.lemmas.Simd.{map-map}
+use Rattle.std.proofs.lemmas.Grind.{common_steps}
 use Rattle.std.specs.Prelude.{slice_get, if◌then◌else◌}
 use Rattle.std.specs.List.{AllByRecursion, Contains, filter, flat_map, list_all}
-use Rattle.std.specs.Option.{option_and_then, option_map, unwrap_or}
+use Rattle.std.specs.Option.{option_map, unwrap_or}
 use Rattle.getopts.specs.Names.{Text, IsLawfullyNamed, resolution}
-use Rattle.getopts.specs.Options.{Signature, Group, Declared, AreLawfullyNamed, names_of}
-use Rattle.getopts.specs.Options.{signatures_of, Grammar, kind_of, grammar_of}
-use Rattle.getopts.specs.Reading.{dash, equals_sign, begins_with_dash, holds_equals, stop_word}
-use Rattle.getopts.specs.Reading.{Argument, none, attached, separate, one, two, flags, ends_in}
-use Rattle.getopts.specs.Reading.{end_text, attached_argument, argument_words, value_of, FitsKind}
-use Rattle.getopts.specs.Step.{with_equals, cut_at_equals}
-use Rattle.getopts.specs.Reading.{Item, free, long, long_word, cluster, spelled_all, FitsLong, FitsEnd, IsFlag}
-use Rattle.getopts.specs.Reading.{IsLawfulItem, AreWellFollowed, Reading, IsReading, Mention}
-use Rattle.getopts.specs.Reading.{mention_of, mentions, Occurrence, occurrences_of, free_items}
+use Rattle.getopts.specs.Options.{Signature, Group, Declared, AreLawfullyNamed, names_of, Grammar}
+use Rattle.getopts.specs.Options.{kind_of, grammar_of}
+use Rattle.getopts.specs.Reading.{holds_equals, stop_word, Argument, separate, flags, ends_in}
+use Rattle.getopts.specs.Reading.{value_of, FitsKind, Item, free, long, cluster, FitsLong, FitsEnd}
+use Rattle.getopts.specs.Reading.{IsFlag, IsLawfulItem, Reading, IsReading, Mention, mention_of}
+use Rattle.getopts.specs.Reading.{mentions, Occurrence, occurrences_of, free_items}
+use Rattle.getopts.specs.Step.{cut_at_equals}
 use Rattle.getopts.specs.ReadingLaws.{mentions_of}
-use Rattle.getopts.specs.Matches.{occurrences_mentioning, matched, fits_count, KeepsCounts}
-use Rattle.getopts.specs.Canon.{Content, content_of, main_at}
-use Rattle.getopts.specs.Canon.{IsPlain, IsSound, canonical_word, canonical_line, attached_value}
-use Rattle.getopts.specs.Canon.{canonical_item, canonical_reading, with_setting, IsAcceptedWith}
-use Rattle.getopts.specs.Canon.{Says, ReadsBack, HasCanonicalLine, HasNoItem, HasUnwritable}
+use Rattle.getopts.specs.Matches.{occurrences_mentioning, matched, KeepsCounts}
+use Rattle.getopts.specs.Canon.{Content, content_of, main_at, IsPlain, IsSound, canonical_word}
+use Rattle.getopts.specs.Canon.{canonical_line, attached_value, canonical_item, canonical_reading}
+use Rattle.getopts.specs.Canon.{with_setting, IsAcceptedWith, Says, ReadsBack, HasCanonicalLine}
+use Rattle.getopts.specs.Canon.{HasNoItem, HasUnwritable}
 use Rattle.getopts.specs.Theorem.{OneLineOneContent}
 use Rattle.getopts.specs.declared.kinds.HasArg.{HasArg}
-use Rattle.getopts.specs.declared.kinds.HasArg.TheVariants.{No, Maybe}
+use Rattle.getopts.specs.declared.kinds.HasArg.TheVariants.{Maybe}
 use Rattle.getopts.specs.declared.kinds.ParsingStyle.{ParsingStyle}
-use Rattle.getopts.proofs.Lists.{AllByRecursion-append, AllByRecursion-follows, AllByRecursion-map}
+use Rattle.getopts.specs.Accessors.{each_value}
+use Rattle.std.proofs.Permutation.{every_append}
+use Rattle.getopts.proofs.Lists.{AllByRecursion-follows, AllByRecursion-map}
 use Rattle.getopts.proofs.Lists.{filter-map}
 use Rattle.getopts.proofs.table.Names.{main_at-Some, resolution-main_name, resolution-nil}
 use Rattle.getopts.proofs.table.Names.{resolution_within}
 use Rattle.getopts.proofs.Reading.Positions.{mentions_of-items}
 use Rattle.getopts.proofs.Reading.Reader.{IsNamed}
-use Rattle.getopts.proofs.Reading.Readings.{only_reading}
+use Rattle.getopts.proofs.Reading.Readings.{only_reading, reading_after_item}
 use Rattle.getopts.proofs.Reading.Texts.{begins_with_dash-append, cut_at_equals-append}
 
 -- ---- the content of a reading
@@ -77,12 +80,7 @@ FitsGroup groups m = (kind : HasArg) × (kind_at groups m.group ≡ Some kind) �
 -- such a group is there
 pub FitsGroup-within : (groups : List Group) (m : Mention) → FitsGroup groups m
     → m.group < length groups
-FitsGroup-within groups m fits = there groups m.group fits.0 fits.1 where
-  there : (groups : List Group) (place : ℕ) (kind : HasArg) → kind_at groups place ≡ Some kind
-      → place < length groups
-  there [] place kind is = cc is
-  there (group ∷ groups) zero kind is = omega arith
-  there (group ∷ groups) (suc place) kind is = omega (arith, there groups place kind is)
+FitsGroup-within groups m fits = search (rules, slice_get-map, slice_get_within, length-map)
 
 -- fitting content: each mentioned group is there, and its kind may have the value
 abbrev pub IsFitting : List Group → Content → Type 0
@@ -105,10 +103,7 @@ IsGood-mention options name kind value signature fits =
       by_place place resolves there =
           let same : unwrap_or (resolution (names_of options.groups) name) 0 ≡ place =
           ap (λ o. unwrap_or o 0) resolves in
-          rw same (record {
-            own = AnswersMain-resolution options.groups name place resolves;
-            fits = (kind, there, fits);
-          })
+          rw same (search (rules, AnswersMain-resolution))
 
 -- a valid argument gives a value that the kind may have
 FitsKind-long : (kind : HasArg) (argument : Argument) → FitsLong kind argument
@@ -118,10 +113,7 @@ FitsKind-long kind argument fits = fits
 
 FitsKind-end : (kind : HasArg) (argument : Argument) → FitsEnd kind argument
     → FitsKind kind (value_of argument)
-FitsKind-end No argument fits = absurd fits
-FitsKind-end kind (attached value) fits = tt
-FitsKind-end Maybe (separate word) fits = tt
-FitsKind-end kind argument fits = fits
+FitsKind-end kind argument fits = search rules
 
 -- the mentions of flags, of a valid item and of valid items
 IsGood-flags : (options : Declared) (names : List ℕ)
@@ -129,132 +121,50 @@ IsGood-flags : (options : Declared) (names : List ℕ)
     → AllByRecursion (IsGood options.groups)
     (map (λ name. mention_of (grammar_of options) (name ∷ []) None) names)
 IsGood-flags options names each =
-    AllByRecursion-map (IsGood options.groups)
-    (λ name. mention_of (grammar_of options) (name ∷ []) None) names
-    (AllByRecursion-follows (IsFlag (grammar_of options)) _
-    (λ name flag. IsGood-mention options (name ∷ []) No None flag tt) names each)
+    search (rules, AllByRecursion-map, AllByRecursion-follows, IsGood-mention)
 
 IsGood-item : (options : Declared) (item : Item) → IsLawfulItem (grammar_of options) item
     → AllByRecursion (IsGood options.groups) (mentions (grammar_of options) item)
 IsGood-item options (free word) lawful = tt
 IsGood-item options (long dashes name argument) lawful =
-    let signature = lawful.resolves in (
-      IsGood-mention options name signature.0 (value_of argument) signature.1
-          (FitsKind-long signature.0 argument signature.2),
-      tt,
-    )
+    search (rules, IsGood-mention, FitsKind-long)
 IsGood-item options (cluster names flags) lawful =
-    AllByRecursion-append (IsGood options.groups) _ [] (IsGood-flags options names lawful.each) tt
+    every_append (IsGood options.groups) _ [] (IsGood-flags options names lawful.each) tt
 IsGood-item options (cluster names (ends_in option argument)) lawful =
-    let signature = lawful.last in
-    AllByRecursion-append (IsGood options.groups) _ _ (IsGood-flags options names lawful.each) (
-      IsGood-mention options (option ∷ []) signature.0 (value_of argument) signature.1
-          (FitsKind-end signature.0 argument signature.2),
-      tt,
-    )
+    search (rules, every_append, IsGood-flags, IsGood-mention, FitsKind-end)
 
 IsGood-items : (options : Declared) (items : List Item)
     → AllByRecursion (IsLawfulItem (grammar_of options)) items
     → AllByRecursion (IsGood options.groups) (flat_map (mentions (grammar_of options)) items)
 IsGood-items options [] lawful = tt
 IsGood-items options (item ∷ items) lawful =
-    AllByRecursion-append (IsGood options.groups) _ _ (IsGood-item options item lawful.0)
-    (IsGood-items options items lawful.1)
+    search (rules, every_append, IsGood-item, IsGood-items options items lawful.1)
 
 IsGood-reading : (options : Declared) (reading : Reading)
     → AllByRecursion (IsLawfulItem (grammar_of options)) reading.items
     → AllByRecursion (IsGood options.groups) (mentions_of (grammar_of options) reading)
-IsGood-reading options reading lawful =
-    rw (mentions_of-items (grammar_of options) reading) (IsGood-items options reading.items lawful)
-
--- the content of any reading is sound
-pub IsSound-reading : (options : Declared) (reading : Reading) (words : List Text)
-    → IsReading (grammar_of options) reading words
-    → IsSound options.groups (content_of options reading)
-IsSound-reading options reading words reads =
-    AllByRecursion-follows (IsGood options.groups) (λ m. AnswersMain options.groups m.group)
-    (λ m good. good.own) _ (IsGood-reading options reading reads.items)
+IsGood-reading options reading lawful = search (rules, mentions_of-items, IsGood-items)
 
 -- the content of any reading is fitting
 pub IsFitting-reading : (options : Declared) (reading : Reading) (words : List Text)
     → IsReading (grammar_of options) reading words
     → IsFitting options.groups (content_of options reading)
 IsFitting-reading options reading words reads =
-    AllByRecursion-follows (IsGood options.groups) (FitsGroup options.groups)
-    (λ m good. good.fits) _ (IsGood-reading options reading reads.items)
+    search (rules, AllByRecursion-follows, IsGood-reading)
 
 -- ---- the canonical reading
-
--- a value as an attached argument
-attached_argument-attached_value : (value : Option Text)
-    → attached_argument (attached_value value) ≡ value
-attached_argument-attached_value None = refl
-attached_argument-attached_value (Some value) = refl
-
-argument_words-attached_value : (value : Option Text) → argument_words (attached_value value) ≡ []
-argument_words-attached_value None = refl
-argument_words-attached_value (Some value) = refl
 
 value_of-attached_value : (value : Option Text) → value_of (attached_value value) ≡ value
 value_of-attached_value None = refl
 value_of-attached_value (Some value) = refl
 
-FitsLong-attached_value : (kind : HasArg) (value : Option Text) → FitsKind kind value
-    → FitsLong kind (attached_value value)
-FitsLong-attached_value Maybe None fits = fits
-FitsLong-attached_value Maybe (Some value) fits = fits
-FitsLong-attached_value kind None fits = fits
-FitsLong-attached_value kind (Some value) fits = fits
-
--- canonical items spell canonical words
-spelled_all-canonical : (groups : List Group) (ms : List Mention) (more : List Text)
-    → spelled_all (map (canonical_item groups) ms) more ≡ map (canonical_word groups) ms ++ more
-spelled_all-canonical groups [] more = refl
-spelled_all-canonical groups (m ∷ ms) more = rw (
-  attached_argument-attached_value m.value,
-  argument_words-attached_value m.value,
-  spelled_all-canonical groups ms more,
-) refl
-
--- a canonical item is valid, if the main name contains no `=`
-IsLawfulItem-canonical : (options : Declared) (m : Mention) → IsGood options.groups m
-    → HasPlainMain options.groups m.group
-    → IsLawfulItem (grammar_of options) (canonical_item options.groups m)
-IsLawfulItem-canonical options m good plain =
-    let signature : kind_of options.groups (main_at options.groups m.group) ≡ Some good.fits.0 =
-    ap (option_and_then (kind_at options.groups)) good.own ∙ good.fits.1 in
-    record {
-      before = tt;
-      cut_once = plain;
-      resolves = (good.fits.0, signature, FitsLong-attached_value good.fits.0 m.value good.fits.2);
-    }
-
-IsLawfulItem-canonical_all : (options : Declared) (ms : List Mention)
-    → AllByRecursion (IsGood options.groups) ms
-    → AllByRecursion (λ m. HasPlainMain options.groups m.group) ms
-    → AllByRecursion (IsLawfulItem (grammar_of options)) (map (canonical_item options.groups) ms)
-IsLawfulItem-canonical_all options [] good plain = tt
-IsLawfulItem-canonical_all options (m ∷ ms) good plain = (
-  IsLawfulItem-canonical options m good.0 plain.0,
-  IsLawfulItem-canonical_all options ms good.1 plain.1,
-)
-
--- a canonical item mentions what it was written for
-mentions-canonical : (options : Declared) (m : Mention) → IsGood options.groups m
-    → mentions (grammar_of options) (canonical_item options.groups m) ≡ m ∷ []
-mentions-canonical options m good =
-    let place : unwrap_or (resolution (names_of options.groups) (main_at options.groups m.group)) 0
-    ≡ m.group = ap (λ o. unwrap_or o 0) good.own in
-    rw (place, value_of-attached_value m.value) refl
-
+-- canonical items mention what they were written for
 mentions-canonical_all : (options : Declared) (ms : List Mention)
     → AllByRecursion (IsGood options.groups) ms
     → flat_map (mentions (grammar_of options)) (map (canonical_item options.groups) ms) ≡ ms
 mentions-canonical_all options [] good = refl
 mentions-canonical_all options (m ∷ ms) good =
-    ap (λ (here : List Mention). here ++ flat_map (mentions (grammar_of options))
-    (map (canonical_item options.groups) ms)) (mentions-canonical options m good.0)
-    ∙ ap (λ (others : List Mention). m ∷ others) (mentions-canonical_all options ms good.1)
+    rw (good.0.own, value_of-attached_value m.value, mentions-canonical_all options ms good.1) refl
 
 -- no canonical item is free
 free_items-canonical : (groups : List Group) (ms : List Mention)
@@ -262,60 +172,48 @@ free_items-canonical : (groups : List Group) (ms : List Mention)
 free_items-canonical groups [] = refl
 free_items-canonical groups (m ∷ ms) = free_items-canonical groups ms
 
--- no canonical item is bare
-AreWellFollowed-canonical : (groups : List Group) (ms : List Mention) (more : List Text)
-    → AreWellFollowed (map (canonical_item groups) ms) more
-AreWellFollowed-canonical groups [] more = tt
-AreWellFollowed-canonical groups (m ∷ ms) more =
-    (λ bare. absurd (true≢false (sym bare)), AreWellFollowed-canonical groups ms more)
-
 -- the canonical reading reads the canonical line
-IsReading-canonical : (options : Declared) (content : Content)
-    → AllByRecursion (IsGood options.groups) content.mentions → IsPlain options.groups content
-    → IsReading (grammar_of options) (canonical_reading options.groups content)
-    (canonical_line options.groups content)
-IsReading-canonical options content good plain = record {
-  spells = spelled_all-canonical options.groups content.mentions (stop_word ∷ content.free);
-  items = IsLawfulItem-canonical_all options content.mentions good plain;
-  tail = tt;
-  followed = AreWellFollowed-canonical options.groups content.mentions (stop_word ∷ content.free);
-}
+IsReading-canonical : (options : Declared) (ms : List Mention) (frees : List Text)
+    → AllByRecursion (IsGood options.groups) ms
+    → AllByRecursion (λ m. HasPlainMain options.groups m.group) ms
+    → IsReading (grammar_of options)
+    (canonical_reading options.groups (record { mentions = ms; free = frees }))
+    (canonical_line options.groups (record { mentions = ms; free = frees }))
+IsReading-canonical options [] frees good plain = record { spells = refl; items = tt; tail = tt; followed = tt }
+IsReading-canonical options (m ∷ ms) frees good plain =
+    search (rules, reading_after_item, IsReading-canonical options ms frees good.1 plain.1)
 
 -- and has the content
 content_of-canonical : (options : Declared) (content : Content)
     → AllByRecursion (IsGood options.groups) content.mentions
     → content_of options (canonical_reading options.groups content) ≡ content
 content_of-canonical options content good =
-    rw (
-      mentions_of-items (grammar_of options) (canonical_reading options.groups content),
-      mentions-canonical_all options content.mentions good,
-      free_items-canonical options.groups content.mentions,
-    ) refl
+    simp (mentions_of-items, mentions-canonical_all, free_items-canonical)
 
 -- ---- counts
 
--- the number of mentions of the group at a place
-abbrev count_at : ℕ → List Mention → ℕ
-count_at place ms = length (filter (λ m. m.group == place) ms)
+-- the values of a group's occurrences, from the mentions
+abbrev pub values_at : ℕ → List Mention → List (Option Text)
+values_at place ms = map (λ (m : Mention). m.value) (filter (λ (m : Mention). m.group == place) ms)
+
+pub values-occurrences_mentioning : (place : ℕ) (os : List Occurrence)
+    → each_value (occurrences_mentioning place os)
+    ≡ values_at place (map (λ (o : Occurrence). o.mention) os)
+values-occurrences_mentioning place os = simp (map-map, filter-map)
 
 -- a group has as many occurrences as mentions
-length-occurrences_mentioning : (place : ℕ) (grammar : Grammar) (reading : Reading)
-    → length (occurrences_mentioning place (occurrences_of grammar reading))
-    ≡ count_at place (mentions_of grammar reading)
-length-occurrences_mentioning place grammar reading =
-    length-map _ _
-    ∙ sym (ap length (filter-map (λ m. m.group == place) (λ (o : Occurrence). o.mention)
-    (occurrences_of grammar reading)) ∙ length-map _ _)
+length-occurrences_mentioning : (place : ℕ) (os : List Occurrence)
+    → length (occurrences_mentioning place os)
+    ≡ length (values_at place (map (λ (o : Occurrence). o.mention) os))
+length-occurrences_mentioning place os = search (rules, length-map, values-occurrences_mentioning)
 
 -- the counts depend on the number of occurrences for each place
 KeepsCounts-numbers : (signatures : List Signature) (place : ℕ) (old new : List Occurrence)
     → ((k : ℕ) → length (occurrences_mentioning k old) ≡ length (occurrences_mentioning k new))
     → KeepsCounts (matched place signatures old) → KeepsCounts (matched place signatures new)
 KeepsCounts-numbers [] place old new same keeps = tt
-KeepsCounts-numbers (signature ∷ signatures) place old new same keeps = (
-  subst (λ (count : ℕ). fits_count signature.occur count ≡ true) (same place) keeps.0,
-  KeepsCounts-numbers signatures (place + 1) old new same keeps.1,
-)
+KeepsCounts-numbers (signature ∷ signatures) place old new same keeps =
+    search (rules, KeepsCounts-numbers signatures (place + 1) old new same keeps.1)
 
 -- readings with equal mentions keep the counts alike
 pub KeepsCounts-mentions : (signatures : List Signature) (grammar other_grammar : Grammar)
@@ -323,9 +221,7 @@ pub KeepsCounts-mentions : (signatures : List Signature) (grammar other_grammar 
     → KeepsCounts (matched 0 signatures (occurrences_of grammar reading))
     → KeepsCounts (matched 0 signatures (occurrences_of other_grammar other))
 KeepsCounts-mentions signatures grammar other_grammar reading other same keeps =
-    KeepsCounts-numbers signatures 0 _ _
-    (λ k. length-occurrences_mentioning k grammar reading ∙ ap (count_at k) same
-    ∙ sym (length-occurrences_mentioning k other_grammar other)) keeps
+    search (rules, KeepsCounts-numbers, length-occurrences_mentioning)
 
 -- words that are accepted with a content, in some style and mode, have this content
 pub Says-accepted : (options : Declared) (style : ParsingStyle) (long_only : Bool)
@@ -346,9 +242,9 @@ Says-accepted options style long_only words content accepted = record {
 pub IsSound-says : (options : Declared) (words : List Text) (content : Content)
     → Says options words content → IsSound options.groups content
 IsSound-says options words content says =
-    rw says.content_is
-    (IsSound-reading (with_setting options says.style says.long_only) says.reading words
-    says.reads.reads)
+    rw says.content_is (AllByRecursion-follows (IsGood options.groups)
+    (λ m. AnswersMain options.groups m.group) (λ m good. good.own) _
+    (IsGood-reading (with_setting options says.style says.long_only) says.reading says.reads.reads.items))
 
 -- the canonical line reads back in both styles and both modes
 abbrev ReadsBackEverywhere : Declared → Content → Type 0
@@ -370,19 +266,11 @@ ReadsBackEverywhere-says options words content says plain style long_only =
     ap (λ c. c.mentions) (sym says.content_is ∙ sym back) in
     record {
       reads = record {
-        reads = IsReading-canonical set content good plain;
-        keeps = KeepsCounts-mentions (signatures_of options.groups) (grammar_of said)
-            (grammar_of set) says.reading (canonical_reading options.groups content) told
-            says.reads.keeps;
+        reads = IsReading-canonical set content.mentions content.free good plain;
+        keeps = search (rules, KeepsCounts-mentions);
       };
       same = back;
     }
-
--- names are texts in both styles and both modes
-IsNamed-with_setting : (options : Declared) (style : ParsingStyle) (long_only : Bool)
-    → IsNamed (grammar_of options) → IsNamed (grammar_of (with_setting options style long_only))
-IsNamed-with_setting options style long_only named =
-    record { empty = named.empty; ascii = named.ascii }
 
 -- a canonical line that reads back says nothing else, since a line has one reading at most
 says_nothing_else-reads_back : (options : Declared) (content : Content)
@@ -392,7 +280,7 @@ says_nothing_else-reads_back options content named back other says =
     let there = back says.style says.long_only in
     let set = with_setting options says.style says.long_only in
     let same = only_reading (grammar_of set)
-    (IsNamed-with_setting options says.style says.long_only named)
+    (record { empty = named.empty; ascii = named.ascii })
     (canonical_line options.groups content) says.reading _
     says.reads.reads there.reads.reads in
     says.content_is ∙ ap (content_of set) same ∙ there.same
@@ -403,12 +291,6 @@ says_nothing_else-reads_back options content named back other says =
 abbrev is_stop : Text → Bool
 is_stop (c ∷ d ∷ []) = true
 is_stop word = false
-
--- the word of a mention isn't `--`, if the main name isn't empty
-is_stop-word : (main : Text) (value : Option Text) → main ≢ []
-    → is_stop (long_word two main value) ≡ false
-is_stop-word [] value filled = absurd (filled refl)
-is_stop-word (c ∷ main) value filled = refl
 
 -- the content of a canonical line
 abbrev content_in : List Group → List Text → Content
@@ -429,25 +311,19 @@ content_in-canonical : (groups : List Group) (ms : List Mention) (frees : List T
     ≡ record { mentions = ms; free = frees }
 content_in-canonical groups [] frees lawful own plain = refl
 content_in-canonical groups (m ∷ ms) frees lawful own plain =
-    rw (
-      is_stop-word (main_at groups m.group) m.value
-          (main_at-filled groups m.group lawful own.0),
-      cut_at_equals-append (main_at groups m.group) m.value plain.0,
-      own.0,
-      content_in-canonical groups ms frees lawful own.1 plain.1,
-    ) refl
+    search (rules, main_at-filled, cut_at_equals-append, content_in-canonical groups ms frees lawful own.1 plain.1)
 
+-- `content_in` gives each content back from its canonical line.
 -- sound and plain contents have equal canonical lines exactly if they are equal
 pub canonical_line-same : (groups : List Group) (content other : Content) → AreLawfullyNamed groups
     → IsSound groups content → IsPlain groups content → IsSound groups other → IsPlain groups other
     → (canonical_line groups content ≡ canonical_line groups other) ↔ (content ≡ other)
 canonical_line-same groups content other lawful sound plain sound_other plain_other =
-    (tells, ap (canonical_line groups)) where
-      tells : canonical_line groups content ≡ canonical_line groups other → content ≡ other
-      tells same =
-          sym (content_in-canonical groups content.mentions content.free lawful sound plain)
-          ∙ ap (content_in groups) same
-          ∙ content_in-canonical groups other.mentions other.free lawful sound_other plain_other
+    search (
+      rules,
+      content_in-canonical groups content.mentions content.free lawful sound plain,
+      content_in-canonical groups other.mentions other.free lawful sound_other plain_other,
+    )
 
 -- the laws of the canonical line of a line's plain content
 pub HasCanonicalLine-says : (options : Declared) (words : List Text) (content : Content)
@@ -471,56 +347,19 @@ HasCanonicalLine-says options words content lawful named says plain =
 pub OneLineOneContent-lawful : (options : Declared) → AreLawfullyNamed options.groups
     → OneLineOneContent options
 OneLineOneContent-lawful options lawful words others content other
-    says plain says_other plain_other =
-    canonical_line-same options.groups content other lawful
-    (IsSound-says options words content says) plain
-    (IsSound-says options others other says_other) plain_other
+    says plain says_other plain_other = search (rules, canonical_line-same, IsSound-says)
 
 -- ---- contents that can't be written
 
 -- a text whose front contains `=` contains it
 holds_equals-append : (a b : Text) → holds_equals a ≡ true → holds_equals (a ++ b) ≡ true
-holds_equals-append [] b holds = cc
-holds_equals-append (c ∷ a) b holds = elim (or_cases (c == equals_sign) (holds_equals a) holds) [
-  | inl here ↦ or_left (c == equals_sign) (holds_equals (a ++ b)) here
-  | inr later ↦ or_right (c == equals_sign) (holds_equals (a ++ b)) (holds_equals-append a b later)
-]
-
--- a name without `=`, with an argument, differs from a main name with `=`, with the same value
-no_name-equals : (name main : Text) (argument : Argument) → holds_equals name ≡ false
-    → holds_equals main ≡ true
-    → name ++ with_equals (attached_argument argument) ≡ main ++ with_equals (value_of argument) → ⊥
-no_name-equals name main none cut_once holds same =
-    true≢false (sym holds ∙ ap holds_equals (sym (append_cancel_right name main [] same))
-    ∙ cut_once)
-no_name-equals name main (attached value) cut_once holds same =
-    true≢false (sym holds
-    ∙ ap holds_equals (sym (append_cancel_right name main (equals_sign ∷ value) same)) ∙ cut_once)
-no_name-equals name main (separate word) cut_once holds same =
-    true≢false (sym (holds_equals-append main (equals_sign ∷ word) holds)
-    ∙ ap holds_equals (sym same ∙ append-nil name) ∙ cut_once)
+holds_equals-append a b holds = grind (arith, common_steps, or_cases, or_left, or_right)
 
 -- if the main name contains `=`, no valid item with this one mention spells the canonical word
 pub HasNoItem-equals : (options : Declared) (m : Mention)
     → holds_equals (main_at options.groups m.group) ≡ true → HasNoItem options m
-HasNoItem-equals options m holds style long_only (free word) lawful just same = absurd cc
-HasNoItem-equals options m holds style long_only (long one name argument) lawful just same =
-    let text : name ++ with_equals (attached_argument argument) ≡ dash
-    ∷ (main_at options.groups m.group ++ with_equals m.value) = cc in
-    true≢false (sym (ap begins_with_dash text)
-    ∙ begins_with_dash-append name (attached_argument argument) lawful.before.1)
-HasNoItem-equals options m holds style long_only (long two name argument) lawful just same =
-    let text : name ++ with_equals (attached_argument argument) ≡ main_at options.groups m.group
-    ++ with_equals m.value = cc in
-    let mentioned : mention_of (grammar_of (with_setting options style long_only)) name
-    (value_of argument) ≡ m = cc in
-    let value : m.value ≡ value_of argument = sym (ap (λ k. k.value) mentioned) in
-    no_name-equals name (main_at options.groups m.group) argument lawful.cut_once holds
-    (text ∙ ap (λ v. main_at options.groups m.group ++ with_equals v) value)
-HasNoItem-equals options m holds style long_only (cluster names end) lawful just same =
-    let text : names ++ end_text end ≡ dash
-    ∷ (main_at options.groups m.group ++ with_equals m.value) = cc in
-    true≢false (sym (ap begins_with_dash text) ∙ lawful.short_form)
+HasNoItem-equals options m holds style long_only item lawful just same =
+    search (rules, true≢false, begins_with_dash-append, append_cancel_right, holds_equals-append, append-nil)
 
 -- if not all pass a test, one fails it
 not_all : {X : Type 0} (p : X → Bool) (xs : List X) → list_all p xs ≡ false
@@ -551,20 +390,9 @@ pub is_plain-from : (groups : List Group) (mentions : List Mention)
 is_plain-from groups [] plain = refl
 is_plain-from groups (m ∷ ms) plain = rw (plain.0) (is_plain-from groups ms plain.1)
 
--- otherwise they aren't
-pub is_plain-false : (groups : List Group) (mentions : List Mention)
-    → is_plain groups mentions ≡ false
-    → ¬ (AllByRecursion (λ m. HasPlainMain groups m.group) mentions)
-is_plain-false groups mentions other =
-    λ plain. true≢false (sym (is_plain-from groups mentions plain) ∙ other)
-
 -- a content that isn't plain has a mention that can't be written
 pub HasUnwritable-content : (options : Declared) (content : Content)
     → is_plain options.groups content.mentions ≡ false → HasUnwritable options content
 HasUnwritable-content options content some =
     let found = not_all (λ m. not (holds_equals (main_at options.groups m.group))) _ some in
-    record {
-      unwritable = found.0;
-      mentioned = found.1;
-      no_item = HasNoItem-equals options found.0 (not-false _ found.2);
-    }
+    search (rules, HasNoItem-equals, not-false)

@@ -1,6 +1,6 @@
 -- The error of the first group that breaks its count, computed.
-use Rattle.std.proofs.Common.{◌≡◌, Bool, true, false, List, [], ◌∷◌, length, ◌++◌, Option, Some, None, MatchOption}
-use Rattle.std.proofs.Common.{refl, ap, sym, ◌∙◌}
+use Rattle.std.proofs.Common.{◌≡◌, Bool, true, false, List, [], ◌∷◌, length, ◌++◌, Option, Some}
+use Rattle.std.proofs.Common.{None, MatchOption, refl, ap, sym, ◌∙◌, rules}
 use Rattle.std.specs.Prelude.{if◌then◌else◌}
 use Rattle.std.proofs.lemmas.Bool.{false≢true, false_from_ne_true}
 use Rattle.getopts.specs.Fail.{Fault}
@@ -35,8 +35,7 @@ first_count_fault-is (group ∷ groups) =
       here : (fits : Bool) → fits_count group.signature.occur (length group.found) ≡ fits
           → HaveFault groups (first_count_fault groups) → HaveFault (group ∷ groups)
           (if fits then first_count_fault groups else Some (broken_count group))
-      here true fits others =
-          HaveFault-more group groups (first_count_fault groups) fits others
+      here true fits others = HaveFault-more group groups (first_count_fault groups) fits others
       here false breaks others = record {
         before = [];
         group = group;
@@ -51,19 +50,16 @@ first_count_fault-is (group ∷ groups) =
 pub first_count_fault-kept : (groups : List MatchedGroup) → KeepsCounts groups
     → first_count_fault groups ≡ None
 first_count_fault-kept [] kept = refl
-first_count_fault-kept (group ∷ groups) kept =
-    rw kept.0 (first_count_fault-kept groups kept.1)
+first_count_fault-kept (group ∷ groups) kept = search (rules, first_count_fault-kept groups kept.1)
 
 first_count_fault-at : (before : List MatchedGroup) (group : MatchedGroup)
     (after : List MatchedGroup) → KeepsCounts before → ¬ (KeepsCount group)
     → first_count_fault (before ++ group ∷ after) ≡ Some (broken_count group)
-first_count_fault-at [] group after kept broken =
-    rw (false_from_ne_true _ broken) refl
+first_count_fault-at [] group after kept broken = cc (false_from_ne_true _ broken)
 first_count_fault-at (first ∷ before) group after kept broken =
     rw kept.0 (first_count_fault-at before group after kept.1 broken)
 
 -- a count error is the computed one
 pub first_count_fault-broken : (groups : List MatchedGroup) (fault : Fault)
     → IsCountFault groups fault → first_count_fault groups ≡ Some fault
-first_count_fault-broken groups fault is = rw (is.groups_are, is.fault_is)
-    (first_count_fault-at is.before is.group is.after is.kept is.broken)
+first_count_fault-broken groups fault is = search (rules, first_count_fault-at)

@@ -1,19 +1,18 @@
 -- Matched groups: what holds for each, and their counts.
-use Rattle.std.proofs.Common.{◌≡◌, ◌==◌, ◌<◌, ◌+◌, ℕ, zero, suc}
-use Rattle.std.proofs.Common.{List, [], ◌∷◌, length, drop, slice_get}
-use Rattle.std.proofs.Common.{Some, option_map, refl, ap, ◌∙◌, sym, arith, add-zero}
+use Rattle.std.proofs.Common.{◌≡◌, ◌<◌, ◌+◌, ℕ, zero, suc, rules, List, [], ◌∷◌, length, drop}
+use Rattle.std.proofs.Common.{slice_get, Some, option_map, refl, ap, arith, add-zero}
 use Rattle.std.specs.Prelude.{if◌then◌else◌}
-use Rattle.std.specs.List.{AllByRecursion, filter}
+use Rattle.std.specs.List.{AllByRecursion}
 use Rattle.std.proofs.lemmas.Bool.{lt-ltb}
 use Rattle.std.proofs.lemmas.List.{length-map}
 use Rattle.getopts.specs.Names.{main_name}
 use Rattle.getopts.specs.Options.{Signature}
 use Rattle.getopts.specs.Reading.{Occurrence}
-use Rattle.getopts.specs.Matches.{MatchedGroup, occurrences_mentioning, matched, fits_count, count_fault}
+use Rattle.getopts.specs.Matches.{MatchedGroup, occurrences_mentioning, matched, fits_count}
+use Rattle.getopts.specs.Matches.{count_fault}
 use Rattle.getopts.specs.Results.{first_count_fault}
 use Rattle.getopts.specs.Stored.Index.{index_of, count_in, first_wrong}
 use Rattle.getopts.specs.Stored.Names.{names_at}
-use Rattle.getopts.specs.Stored.Occurrences.{no_occurrence}
 use Rattle.getopts.specs.Stored.Signatures.{kinds_of, names_in}
 use Rattle.getopts.specs.declared.kinds.Kinds.{Kinds}
 use Rattle.getopts.proofs.Stored.Index.{length-places_of}
@@ -23,10 +22,7 @@ pub length-occurrences_mentioning : (count : ℕ) (occurrences : List Occurrence
     → count_in (index_of count occurrences) i
     ≡ length (occurrences_mentioning i occurrences)
 length-occurrences_mentioning count occurrences i within =
-    let founds : length (occurrences_mentioning i occurrences)
-    ≡ length (filter (λ (o : Occurrence). o.mention.group == i) occurrences) = simp length-map in
-    rw (lt-ltb i count within)
-    (length-places_of (λ (o : Occurrence). o.mention.group) i occurrences no_occurrence ∙ sym founds)
+    search (rules, length-map, lt-ltb, length-places_of)
 
 -- there are as many matched groups as signatures
 pub length-matched : (first : ℕ) (signatures : List Signature) (occurrences : List Occurrence)
@@ -58,11 +54,9 @@ pub first_wrong-at : (signatures : List Signature) (i place : ℕ) (kinds : Kind
     then first_wrong (place + 1) (drop (i + 1) signatures) count
     else Some (count_fault (main_name (names_at (names_in signatures) i)) (count place)))
 first_wrong-at [] i place kinds count there = cc there
-first_wrong-at (signature ∷ signatures) zero place kinds count there =
-    let same : kinds ≡ kinds_of signature = cc there in rw same refl
+first_wrong-at (signature ∷ signatures) zero place kinds count there = search rules
 first_wrong-at (signature ∷ signatures) (suc i) place kinds count there =
-    let later : suc i + 1 ≡ suc (i + 1) = omega arith in
-    rw later (first_wrong-at signatures i place kinds count there)
+    search (rules, first_wrong-at signatures i place kinds count there)
 
 -- by the index of occurrences, it is the error of the matched groups
 pub first_wrong_matched : (place : ℕ) (signatures : List Signature) (occurrences : List Occurrence)
@@ -70,7 +64,9 @@ pub first_wrong_matched : (place : ℕ) (signatures : List Signature) (occurrenc
     → first_wrong place signatures (count_in (index_of count occurrences))
     ≡ first_count_fault (matched place signatures occurrences)
 first_wrong_matched place [] occurrences count all = refl
-first_wrong_matched place (signature ∷ signatures) occurrences count all = rw (
-  length-occurrences_mentioning count occurrences place (omega arith),
-  first_wrong_matched (place + 1) signatures occurrences count (omega arith),
-) refl
+first_wrong_matched place (signature ∷ signatures) occurrences count all =
+    search (
+      rules,
+      length-occurrences_mentioning,
+      first_wrong_matched (place + 1) signatures occurrences count (omega arith),
+    )

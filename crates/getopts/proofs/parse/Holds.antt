@@ -1,25 +1,24 @@
 -- What accepted matches say about the declared names.
-use Rattle.std.proofs.Common.{◌≡◌, ◌==◌, ◌<◌, ℕ, zero, suc, true, List, []}
-use Rattle.std.proofs.Common.{◌∷◌, drop, length, map, slice_get, Option, Some, None, IfSome, IsSome}
-use Rattle.std.proofs.Common.{refl, ap, sym, subst, ◌∙◌, arith, zero-add}
+use Rattle.std.proofs.Common.{◌≡◌, ◌<◌, ℕ, zero, suc, true, List, [], rules, ◌∷◌, drop, length, map}
+use Rattle.std.proofs.Common.{slice_get, Option, Some, None, IfSome, IsSome, refl, ap, sym, subst}
+use Rattle.std.proofs.Common.{◌∙◌, arith, zero-add}
 use Rattle.std.specs.List.{AllByRecursion}
 use Rattle.std.specs.Option.{option_and_then, option_map, option_map_or}
 use Rattle.std.proofs.lemmas.Bool.{eqb-true}
 use Rattle.std.proofs.lemmas.Option.{option_and_then_some, same_Some}
-use Rattle.std.proofs.lemmas.Simd.{map-map}
-use Rattle.getopts.specs.Names.{Text, Names, resolution}
-use Rattle.getopts.specs.Options.{Signature, Group, Declared, names_of, signatures_of}
-use Rattle.getopts.specs.Options.{grammar_of, Declares, kind_of, occur_of}
-use Rattle.getopts.specs.Reading.{Occurrence, spelled_all, tail_words, occurrences_of, Tail, stop}
-use Rattle.getopts.specs.Reading.{FitsKind, stop_word, free_words, IsReading}
+use Rattle.getopts.specs.Names.{Text, resolution}
+use Rattle.getopts.specs.Options.{Signature, Group, Declared, names_of, signatures_of, grammar_of}
+use Rattle.getopts.specs.Options.{kind_of, occur_of}
+use Rattle.getopts.specs.Reading.{Occurrence, spelled_all, occurrences_of, stop, FitsKind}
+use Rattle.getopts.specs.Reading.{free_words, IsReading}
 use Rattle.getopts.specs.Matches.{GroupOccurrence, Matched, MatchedGroup, occurrences_mentioning}
-use Rattle.getopts.specs.Matches.{matched, without_group, fits_count, KeepsCounts}
-use Rattle.getopts.specs.Accessors.{IsDefined, place_of, occurrences_of_name, occurrences_of_group}
+use Rattle.getopts.specs.Matches.{matched, fits_count, KeepsCounts}
+use Rattle.getopts.specs.Accessors.{place_of, occurrences_of_name, occurrences_of_group}
 use Rattle.getopts.specs.Accessors.{first_value}
 use Rattle.getopts.specs.Parse.{IsAccepted, HasReading}
-use Rattle.getopts.specs.Holds.{AreGroupsOf, HaveValuesByKind}
-use Rattle.getopts.specs.Holds.{FitOptions, FitOptionsAndCounts, EndsInTrailing}
-use Rattle.getopts.specs.Stored.Signatures.{names_in}
+use Rattle.getopts.specs.Holds.{AreGroupsOf, HaveValuesByKind, FitOptions, FitOptionsAndCounts}
+use Rattle.getopts.specs.Holds.{EndsInTrailing}
+use Rattle.getopts.specs.Stored.Signatures.{kinds_of}
 use Rattle.getopts.specs.declared.kinds.HasArg.{HasArg}
 use Rattle.getopts.specs.declared.kinds.HasArg.TheVariants.{Yes}
 use Rattle.getopts.specs.declared.kinds.Occur.{Occur}
@@ -27,13 +26,13 @@ use Rattle.getopts.specs.declared.kinds.Occur.TheVariants.{Req}
 use Rattle.getopts.proofs.Lists.{AllByRecursion-filter, AllByRecursion-map, AllByRecursion-unmap}
 use Rattle.getopts.proofs.counts.Groups.{AllByRecursion-matched}
 use Rattle.getopts.proofs.canon.Lines.{kind_at, FitsGroup, IsFitting-reading}
-use Rattle.getopts.proofs.Stored.Matches.{signatures-matched, found-matched}
-use Rattle.getopts.proofs.Reading.Laws.{TrailingStartIsAfterStop_lem}
+use Rattle.getopts.proofs.Stored.Matches.{signatures-matched, found-matched, place_of-signatures}
+use Rattle.getopts.proofs.Reading.Laws.{TrailingStartIsAfterStop_lem, HavePositionsInOrder-matched}
 use Rattle.getopts.proofs.Reading.Readings.{spelled_all-append}
-use Rattle.getopts.proofs.Stored.Signatures.{names-signatures_of}
-use Rattle.getopts.proofs.parse.Parsed.{HavePositionsInOrder-read}
+use Rattle.getopts.proofs.Stored.Signatures.{names-signatures_of, kind-signatures_of}
 use Rattle.getopts.proofs.table.Names.{resolution_within}
 use Rattle.std.proofs.lemmas.List.{length-map}
+use Rattle.std.proofs.lemmas.Grind.{common_steps}
 
 -- each occurrence has a value or none, as this kind of argument requires
 abbrev HaveValuesFor : HasArg → List GroupOccurrence → Type 0
@@ -42,10 +41,7 @@ HaveValuesFor kind founds = AllByRecursion (λ found. FitsKind kind found.value)
 -- a name resolves alike among groups and among the matched groups
 pub place_of-groups : (options : Declared) (groups : List MatchedGroup) → AreGroupsOf options groups
     → (name : Text) → resolution (names_of options.groups) name ≡ place_of groups name
-place_of-groups options groups are name =
-    ap (λ (names : List Names). resolution names name)
-    (sym (names-signatures_of options.groups) ∙ ap names_in (sym are)
-    ∙ map-map (λ (s : Signature). s.names) (λ (group : MatchedGroup). group.signature) groups)
+place_of-groups options groups are name = search (rules, names-signatures_of, place_of-signatures)
 
 -- the occurrences of a name are those that mention the group that it resolves to
 pub found-named : {B : Type 0} (f : List GroupOccurrence → B) (g : ℕ → B) (options : Declared)
@@ -54,30 +50,7 @@ pub found-named : {B : Type 0} (f : List GroupOccurrence → B) (g : ℕ → B) 
     → f (occurrences_of_name (matched 0 (signatures_of options.groups) occurrences) name)
     ≡ option_map_or g (resolution (names_of options.groups) name) (f [])
 found-named f g options occurrences each name =
-    let signatures = signatures_of options.groups in
-    ap (λ (at : Option ℕ). f (option_map_or
-    (occurrences_of_group (matched 0 signatures occurrences)) at []))
-    (sym (place_of-groups options _ (signatures-matched 0 signatures occurrences) name))
-    ∙ here (resolution (names_of options.groups) name) refl where
-      here : (at : Option ℕ) → resolution (names_of options.groups) name ≡ at
-          → f (option_map_or
-          (occurrences_of_group (matched 0 (signatures_of options.groups) occurrences)) at [])
-          ≡ option_map_or g at (f [])
-      here None resolves = refl
-      here (Some place) resolves =
-          let within = resolution_within (names_of options.groups) name place resolves in
-          ap f (found-matched 0 (signatures_of options.groups) occurrences place (omega (
-            arith,
-            within,
-            length-map options.groups (λ (g : Group). g.signature.names),
-            length-map options.groups (λ (g : Group). g.signature),
-          ))) ∙ rw zero-add (each place)
-
--- each declared name is defined
-defined-groups : (options : Declared) (groups : List MatchedGroup) → AreGroupsOf options groups
-    → (name : Text) → Declares options name → IsDefined groups name
-defined-groups options groups are name declares =
-    subst (λ (place : Option ℕ). IsSome place) (place_of-groups options groups are name) declares
+    search (rules, place_of-groups, signatures-matched, resolution_within, found-matched, length-map, zero-add)
 
 -- A fact about each matched group, and what its signature says, holds for the group at a place.
 module _ {X : Type 0} (f : Signature → X) (P : X → List GroupOccurrence → Type 0) where
@@ -89,9 +62,7 @@ module _ {X : Type 0} (f : Signature → X) (P : X → List GroupOccurrence → 
       → P x (occurrences_of_group others place)
   at_place [] others are each place x there = cc there
   at_place (group ∷ groups) [] are each place x there = cc are
-  at_place (group ∷ groups) (first ∷ others) are each zero x there =
-      let same : first.signature ≡ group.signature = cc in
-      subst (λ x. P x first.found) (ap f same ∙ same_Some _ _ there) each.0
+  at_place (group ∷ groups) (first ∷ others) are each zero x there = search (rules, same_Some)
   at_place (group ∷ groups) (first ∷ others) are each (suc place) x there =
       let same : map (λ (group : MatchedGroup). group.signature) others ≡ signatures_of groups = cc in
       at_place groups others same each.1 place x there
@@ -104,10 +75,7 @@ module _ {X : Type 0} (f : Signature → X) (P : X → List GroupOccurrence → 
       (slice_get options.groups place)) (resolution (names_of options.groups) name) ≡ Some x
       → P x (occurrences_of_name groups name)
   at_name options groups are each name x is =
-      option_and_then_some _ (resolution (names_of options.groups) name) x is (λ place resolves there.
-      subst (λ (at : Option ℕ). P x (option_map_or (occurrences_of_group groups) at []))
-      (sym resolves ∙ place_of-groups options groups are name)
-      (at_place options.groups groups are each place x there))
+      search (rules, option_and_then_some, place_of-groups, at_place)
 
 module _ (options : Declared) (groups : List MatchedGroup) (are : AreGroupsOf options groups) where
   -- each option was given as often as its kind of occurrence allows
@@ -121,10 +89,7 @@ module _ (options : Declared) (groups : List MatchedGroup) (are : AreGroupsOf op
   first_there : (founds : List GroupOccurrence) → HaveValuesFor Yes founds → 0 < length founds
       → IsSome (first_value founds)
   first_there [] each some = absurd (omega arith)
-  first_there (found ∷ founds) each some = there found.value each.0 where
-    there : (value : Option Text) → FitsKind Yes value → IsSome value
-    there None fits = absurd fits
-    there (Some text) fits = refl
+  first_there (found ∷ founds) each some = search rules
 
   -- each option that needs an argument and was given has a value
   needed-groups : HaveValuesByKind groups → (name : Text) → kind_of options.groups name ≡ Some Yes
@@ -137,9 +102,7 @@ module _ (options : Declared) (groups : List MatchedGroup) (are : AreGroupsOf op
 FitsKind-place : (groups : List Group) (o : Occurrence) (place : ℕ) (kind : HasArg)
     → kind_at groups place ≡ Some kind → FitsGroup groups o.mention → o.mention.group ≡ place
     → FitsKind kind o.mention.value
-FitsKind-place groups o place kind there fits here =
-    let same : fits.0 ≡ kind = same_Some _ _ (sym fits.1 ∙ ap (kind_at groups) here ∙ there) in
-    subst (λ (k : HasArg). FitsKind k o.mention.value) same fits.2
+FitsKind-place groups o place kind there fits here = search (rules, same_Some, kind_at)
 
 -- the occurrences of one group have values as its kind requires
 HaveValuesFor-occurrences_mentioning : (groups : List Group) (place : ℕ) (kind : HasArg)
@@ -147,19 +110,7 @@ HaveValuesFor-occurrences_mentioning : (groups : List Group) (place : ℕ) (kind
     → AllByRecursion (λ o. FitsGroup groups o.mention) occurrences
     → HaveValuesFor kind (occurrences_mentioning place occurrences)
 HaveValuesFor-occurrences_mentioning groups place kind there occurrences each =
-    AllByRecursion-map (λ found. FitsKind kind found.value) without_group _
-    (AllByRecursion-filter (λ o. o.mention.group == place) (λ o. FitsGroup groups o.mention)
-    (λ o. FitsKind kind o.mention.value)
-    (λ o is fits. FitsKind-place groups o place kind there fits (eqb-true o.mention.group place is))
-    occurrences each)
-
-kind_at-signature : (groups : List Group) (i : ℕ) (signature : Signature)
-    → slice_get (signatures_of groups) i ≡ Some signature → kind_at groups i ≡ Some signature.kind
-kind_at-signature [] i signature there = cc there
-kind_at-signature (group ∷ groups) zero signature there =
-    ap (λ (k : Signature). Some k.kind) (same_Some _ _ there)
-kind_at-signature (group ∷ groups) (suc i) signature there =
-    kind_at-signature groups i signature there
+    search (rules, AllByRecursion-map, AllByRecursion-filter, FitsKind-place, eqb-true)
 
 module _ (options : Declared) (words : List Text) (matches : Matched)
     (has : HasReading options words matches) where
@@ -167,35 +118,32 @@ module _ (options : Declared) (words : List Text) (matches : Matched)
       ≡ matched 0 (signatures_of options.groups) (occurrences_of (grammar_of options) has.reading)
   groups_are = ap (λ (m : Matched). m.groups) has.matches_are
 
-  -- the matches have the groups of the options
-  AreGroupsOf-read : AreGroupsOf options matches.groups
-  AreGroupsOf-read = ap (map (λ (group : MatchedGroup). group.signature)) groups_are
-      ∙ signatures-matched 0 (signatures_of options.groups)
-      (occurrences_of (grammar_of options) has.reading)
-
   -- and values as their kinds require
   HaveValuesByKind-read : HaveValuesByKind matches.groups
   HaveValuesByKind-read =
       let occurrences = occurrences_of (grammar_of options) has.reading in
       let fits = IsFitting-reading options has.reading words ((has.only has.reading).1 refl) in
       let each : AllByRecursion (λ o. FitsGroup options.groups o.mention) occurrences =
-      AllByRecursion-unmap (FitsGroup options.groups)
-      (λ (o : Occurrence). o.mention) occurrences fits in
+      search (rules, AllByRecursion-unmap) in
       subst HaveValuesByKind (sym groups_are)
       (AllByRecursion-matched (λ group. HaveValuesFor group.signature.kind group.found) 0
       (signatures_of options.groups) occurrences (λ i signature there. rw zero-add
       (HaveValuesFor-occurrences_mentioning options.groups i signature.kind
-      (kind_at-signature options.groups i signature there) occurrences each)))
+      (kind-signatures_of options.groups i (kinds_of signature)
+      (sym (ap (option_map kinds_of) there))) occurrences each)))
 
   -- and the declared facts about their groups
   pub FitOptions-read : FitOptions options matches.groups
-  FitOptions-read = record {
-    same_groups = AreGroupsOf-read;
-    positions_in_order = HavePositionsInOrder-read options words matches has;
-    values_fit = HaveValuesByKind-read;
-    defined = defined-groups options matches.groups AreGroupsOf-read;
-    needed = needed-groups options matches.groups AreGroupsOf-read HaveValuesByKind-read;
-  }
+  FitOptions-read =
+      search (
+        rules,
+        groups_are,
+        HavePositionsInOrder-matched,
+        HaveValuesByKind-read,
+        needed-groups,
+        signatures-matched,
+        place_of-groups,
+      )
 
 -- accepted matches also keep the counts
 pub FitOptionsAndCounts-accepted : (options : Declared) (words : List Text) (matches : Matched)
@@ -229,7 +177,5 @@ EndsInTrailing-read options words matches has = here matches.trailing_start refl
       record {
         below = rw free at at.below;
         before = spelled_all has.reading.items [];
-        words_are = sym reads.spells
-            ∙ ap (λ (tail : Tail). spelled_all has.reading.items (tail_words tail)) tail_is
-            ∙ spelled_all-append has.reading.items [] (stop_word ∷ drop start matches.free);
+        words_are = grind (arith, common_steps, spelled_all-append);
       }

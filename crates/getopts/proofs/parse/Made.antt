@@ -1,14 +1,14 @@
 -- What is made of a line that was read.
-use Rattle.std.proofs.Common.{◌≡◌, ◌<◌, Bool, not, List, length, map, Option, Some, None, Result, Ok}
-use Rattle.std.proofs.Common.{refl, sym, ◌∙◌, arith}
+use Rattle.std.proofs.Common.{◌≡◌, ◌<◌, Bool, not, List, length, map, Option, Some, None, Result}
+use Rattle.std.proofs.Common.{Ok, refl, sym, arith, rules}
 use Rattle.std.specs.List.{AllByRecursion, list_all}
 use Rattle.std.specs.Prelude.{if◌then◌else◌}
 use Rattle.std.specs.String.{string_bytes}
 use Rattle.std.proofs.lemmas.List.Folds.{list_all-map}
 use Rattle.getopts.specs.Names.{Text}
-use Rattle.getopts.specs.Options.{Declared, signatures_of, grammar_of}
+use Rattle.getopts.specs.Options.{Declared, signatures_of}
 use Rattle.getopts.specs.Fail.{Fault}
-use Rattle.getopts.specs.Reading.{Reading, Occurrence, occurrences_of, holds_equals}
+use Rattle.getopts.specs.Reading.{Reading, holds_equals}
 use Rattle.getopts.specs.Matches.{matched, matches_of}
 use Rattle.getopts.specs.Canon.{Content, content_of, main_at, canonical_line}
 use Rattle.getopts.specs.Results.{made_of, accepted_reading, with_counts_kept, unless_fault}
@@ -18,7 +18,7 @@ use Rattle.getopts.specs.Stored.Index.{count_in, first_wrong, places_in}
 use Rattle.getopts.specs.Stored.Matches.{IsReadLine}
 use Rattle.getopts.specs.Stored.Scan.{line_content}
 use Rattle.getopts.specs.declared.matches.ReadLine.{ReadLine}
-use Rattle.getopts.proofs.canon.Lines.{FitsGroup, FitsGroup-within, IsFitting-reading}
+use Rattle.getopts.proofs.canon.Lines.{FitsGroup-within, IsFitting-reading}
 use Rattle.getopts.proofs.counts.Groups.{first_wrong_matched}
 use Rattle.getopts.proofs.Lists.{AllByRecursion-follows, AllByRecursion-unmap}
 
@@ -45,12 +45,7 @@ module _ {options : Declared} {outcome : Result Reading Fault} {read : ReadLine}
       ≡ plain
       → made_of (λ reading. written_line options.groups (content_of options reading)) outcome
       ≡ Ok (if plain then Some (canonical_line options.groups (line_content read.line)) else None)
-  made_of-written plain tests = made_of-content (written_line options.groups)
-      ∙ rw (
-        list_all-map (λ m. not (holds_equals (main_at options.groups m.group)))
-            (λ (o : Occurrence). o.mention) read.line.found,
-        tests,
-      ) refl
+  made_of-written plain tests = search (rules, made_of-content, list_all-map)
 
   -- the outcome with its counts checked
   pub with_counts_kept-line : (fault : Option Fault)
@@ -74,9 +69,4 @@ groups_within {options} {words} results is =
     let reading = is.gives.reading in
     let reads = ((results.line (Ok reading)).1 (sym is.gives.outcome_is)).reads in
     rw is.gives.occurrences
-    (AllByRecursion-follows (λ o. FitsGroup options.groups o.mention)
-    (λ o. o.mention.group < length options.groups)
-    (λ o fits. FitsGroup-within options.groups o.mention fits)
-    (occurrences_of (grammar_of options) reading)
-    (AllByRecursion-unmap (FitsGroup options.groups) (λ (o : Occurrence). o.mention)
-    (occurrences_of (grammar_of options) reading) (IsFitting-reading options reading words reads)))
+    (search (rules, AllByRecursion-follows, FitsGroup-within, AllByRecursion-unmap, IsFitting-reading))

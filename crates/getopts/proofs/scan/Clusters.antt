@@ -1,13 +1,13 @@
 -- The result of a cluster, by the flags that were read and the remaining text.
 use Rattle.std.proofs.Common.{◌≡◌, ◌≢◌, ◌<◌, ◌≤◌, ◌+◌, ℕ, List, [], ◌∷◌, ◌++◌, length, map, take}
-use Rattle.std.proofs.Common.{drop, slice_index, Option, Some, None, refl, ap, ◌∙◌, sym}
-use Rattle.std.proofs.Common.{append_assoc, add-one, drop-cons}
+use Rattle.std.proofs.Common.{drop, slice_index, Option, Some, None, refl, ◌∙◌, rules, append_assoc}
+use Rattle.std.proofs.Common.{add-one, drop-cons}
 use Rattle.std.specs.Str.{IsCharBoundary, IsUtf8}
 use Rattle.std.proofs.lemmas.List.{take_more, append-nil, map-append, take_all, drop_all}
 use Rattle.std.proofs.lemmas.Str.{IsCharBoundary-start, IsCharBoundary-after_ascii}
 use Rattle.getopts.specs.Names.{Text}
 use Rattle.getopts.specs.Options.{Grammar}
-use Rattle.getopts.specs.Reading.{none, flags, ends_in, cluster, IsFlag, Occurrence, at_position}
+use Rattle.getopts.specs.Reading.{flags, ends_in, cluster, IsFlag, Occurrence, at_position}
 use Rattle.getopts.specs.Reading.{mention_of, mentions}
 use Rattle.getopts.specs.Step.{chosen_end, chosen_step, byte_step, cluster_step, Chooses, AddsItem}
 use Rattle.getopts.specs.declared.kinds.HasArg.{HasArg}
@@ -37,27 +37,14 @@ module _ {grammar : Grammar} {position : ℕ} {text : Text} {after : List Text} 
   -- before the first byte nothing was read
   pub FlagsRead-none : (old : List Occurrence) → IsUtf8 text
       → FlagsRead grammar position text after 0 old old
-  FlagsRead-none old utf8 = record {
-    step_is = refl;
-    boundary = IsCharBoundary-start text utf8;
-    added = sym (append-nil old);
-  }
+  FlagsRead-none old utf8 = search (rules, IsCharBoundary-start, append-nil)
 
   -- flags to the end of the word
   pub AddsItem-flags : {at : ℕ} {old new : List Occurrence} → length text ≤ at
       → FlagsRead grammar position text after at old new
       → AddsItem grammar (cluster_step grammar [] text after) position 0 old new
   unfolding cluster_step
-  AddsItem-flags {at} {old} past before = record {
-    item = cluster text flags;
-    argument = none;
-    step_is = before.step_is ∙ rw (take_all at text past, drop_all at text past) refl;
-    used_is = refl;
-    counted = refl;
-    no_free = refl;
-    added = before.added ∙ ap (λ bytes. old ++ flag_occurrences grammar position bytes)
-        (take_all at text past);
-  }
+  AddsItem-flags {at} {old} past before = search (rules, take_all, drop_all)
 
   module _ {at : ℕ} {old new : List Occurrence} (within : at < length text)
       (before : FlagsRead grammar position text after at old new) where
@@ -68,12 +55,7 @@ module _ {grammar : Grammar} {position : ℕ} {text : Text} {after : List Text} 
         ≡ byte_step kind (take at text) (slice_index text at) (drop (at + 1) text) after
         (cluster_step grammar (take at text ++ slice_index text at ∷ []) (drop (at + 1) text) after)
     unfolding cluster_step
-    cluster_step-byte kind kind_is = before.step_is
-        ∙ ap (λ (t : Text). cluster_step grammar (take at text) t after) (text_from text at within)
-        ∙ ap (λ (k : Option HasArg). byte_step k (take at text) (slice_index text at)
-        (drop (at + 1) text) after
-        (cluster_step grammar (take at text ++ slice_index text at ∷ [])
-        (drop (at + 1) text) after)) kind_is
+    cluster_step-byte kind kind_is = search (rules, text_from)
 
     -- flags, and an option that ends the cluster
     pub cluster_step-ends : (kind : HasArg) → kind ≢ No
@@ -101,14 +83,15 @@ module _ {grammar : Grammar} {position : ℕ} {text : Text} {after : List Text} 
         → newer ≡ new ++ at_position position (record { group = group; value = None }) ∷ []
         → FlagsRead grammar position text after (at + 1) old newer
     FlagsRead-more group newer utf8 ascii place flag pushed =
-        let more : take (at + 1) text ≡ take at text ++ slice_index text at ∷ [] =
-        take_more text at 0 within in
-        record {
-          step_is = cluster_step-byte (Some No) flag ∙ rw more refl;
-          boundary = IsCharBoundary-after_ascii text at utf8 within ascii;
-          added = occurrences_more newer group None place pushed
-              ∙ rw more (simp (append-nil, map-append));
-        }
+        search (
+          rules,
+          take_more text,
+          cluster_step-byte (Some No) flag,
+          IsCharBoundary-after_ascii text,
+          occurrences_more newer group None place pushed,
+          append-nil,
+          map-append,
+        )
 
     -- flags, and an option that ends the cluster, after its occurrence was added
     pub AddsItem-ends : (group : ℕ) (kind : HasArg) (value : Option Text) (used : ℕ)
@@ -117,14 +100,10 @@ module _ {grammar : Grammar} {position : ℕ} {text : Text} {after : List Text} 
         → Chooses (chosen_end kind (slice_index text at ∷ []) (drop (at + 1) text) after) value used
         → newer ≡ new ++ at_position position (record { group = group; value = value }) ∷ []
         → AddsItem grammar (cluster_step grammar [] text after) position used old newer
-    AddsItem-ends group kind value used newer place other kind_is chooses pushed = record {
-      item = cluster (take at text) (ends_in (slice_index text at) chooses.argument);
-      argument = chooses.argument;
-      step_is = cluster_step-ends kind other kind_is
-          ∙ ap (chosen_step (λ a. cluster (take at text) (ends_in (slice_index text at) a)))
-          chooses.chosen_is;
-      used_is = chooses.used_is;
-      counted = rw chooses.used_is (length-argument [] chooses.argument);
-      no_free = refl;
-      added = occurrences_more newer group value place pushed ∙ rw chooses.value_is refl;
-    }
+    AddsItem-ends group kind value used newer place other kind_is chooses pushed =
+        search (
+          rules,
+          cluster_step-ends kind other kind_is,
+          length-argument [] chooses.argument,
+          occurrences_more newer group value place pushed,
+        )

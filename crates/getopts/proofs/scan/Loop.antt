@@ -1,18 +1,17 @@
 -- A line that was read up to a place: what it has so far, one more item, and all ways in which it
 -- ends.
-use Rattle.std.proofs.Common.{Err, ◌≡◌, ◌+◌, ◌-◌, ◌<◌, ℕ, List, [], ◌∷◌, ◌++◌, length}
-use Rattle.std.proofs.Common.{map, drop, refl, ap, ◌∙◌, sym, append_assoc, arith, take, get_or}
-use Rattle.std.proofs.Common.{false, add-zero, suc, not, eqb, Ok, Option, Result}
+use Rattle.std.proofs.Common.{Err, ◌≡◌, ◌+◌, ◌-◌, ◌<◌, ℕ, List, [], ◌∷◌, ◌++◌, length, rules, map}
+use Rattle.std.proofs.Common.{drop, refl, ◌∙◌, sym, append_assoc, take, get_or, false, add-zero}
+use Rattle.std.proofs.Common.{not, eqb, Ok, Option, Result}
 use Rattle.std.specs.Bool.{then_some}
 use Rattle.std.specs.String.{string_bytes}
 use Rattle.std.proofs.lemmas.List.{drop-map, append-nil, drop_more, take_rest}
-use Rattle.std.proofs.lemmas.Bool.Decides.{nat_tests}
 use Rattle.getopts.specs.Names.{Text}
 use Rattle.getopts.specs.Options.{Grammar}
 use Rattle.getopts.specs.Fail.{Fault}
 use Rattle.getopts.specs.Reading as Spec
 use Rattle.getopts.specs.Results.{made_of}
-use Rattle.getopts.specs.Step.{Step, ends, takes, faults, AddsItem}
+use Rattle.getopts.specs.Step.{Step, takes, faults, AddsItem}
 use Rattle.getopts.specs.Stored.Scan.{GivesLine}
 use Rattle.getopts.specs.declared.scan.Line.{Line}
 use Rattle.getopts.specs.declared.kinds.ParsingStyle.TheVariants.{FloatingFrees, StopAtFirstFree}
@@ -20,7 +19,6 @@ use Rattle.getopts.proofs.Lists.{drop_past}
 use Rattle.getopts.proofs.Reading.Laws.{free_items-append}
 use Rattle.getopts.proofs.Reading.Reader.{step, with_items, read}
 use Rattle.getopts.proofs.Reading.Readings.{read_item, read_step, made_of-ok}
-use Rattle.getopts.proofs.Reading.Readings.{made_of-err}
 use Rattle.getopts.proofs.Reading.Steps.{step_free, step_stop}
 
 -- what a line has: its occurrences, its free words, and where those after a stop begin
@@ -58,29 +56,20 @@ with_reading-item : (grammar : Grammar) (at : ℕ) (found : List Spec.Occurrence
     (found ++ map (Spec.at_position at) (Spec.mentions grammar item)) (frees ++ Spec.free_items (item ∷ [])))
     outcome
 with_reading-item grammar at found frees item (Err fault) = refl
-with_reading-item grammar at found frees item (Ok reading) =
-    let founds = sym (append_assoc found (map (Spec.at_position at) (Spec.mentions grammar item))
-    (Spec.occurrences_after (at + Spec.word_count (item ∷ [])) grammar reading.items)) in
-    let freed = ap (λ (fs : List Text). frees ++ fs) (free_items-append (item ∷ []) reading.items)
-    ∙ sym (append_assoc frees (Spec.free_items (item ∷ [])) (Spec.free_items reading.items)) in
-    λ i. Ok (with_tail (founds i) (freed i) reading.tail)
+with_reading-item grammar at found frees item (Ok reading) = simp (append_assoc, free_items-append)
 
 -- the rest of borrowed words from a place on is the word there, and the slice of the others
 pub texts_from : {X : Type 0} (text : X → Text) (words : List X) (at : ℕ) (here : X) (word : Text)
     → at < length words → here ≡ get_or words at here → word ≡ text here
     → drop at (map text words)
     ≡ word ∷ map text (take (length words - (at + 1)) (drop (at + 1) words))
-texts_from text words at here word within there is = rw (is, take_rest words (at + 1))
-    (drop-map text at words ∙ ap (map text) (drop_more words at here within)
-    ∙ ap (λ x. text x ∷ map text (drop (at + 1) words)) (sym there))
+texts_from text words at here word within there is = search (rules, take_rest, drop-map, drop_more)
 
 -- the start of the words after a stop
 pub trailing_after-stop : {X : Type 0} (text : X → Text) (start : ℕ) (words : List X)
     → then_some (not (eqb (length words) 0)) start ≡ Spec.trailing_after start (Spec.stop (map text words))
 trailing_after-stop text start [] = refl
-trailing_after-stop text start (word ∷ words) =
-    let some : eqb (suc (length words)) 0 ≡ false = grind (arith, nat_tests) in
-    rw some refl
+trailing_after-stop text start (word ∷ words) = search rules
 
 -- A line that was read up to a place.
 module _ {grammar : Grammar} {words : List Text} {at : ℕ} {found : List Spec.Occurrence}
@@ -91,18 +80,7 @@ module _ {grammar : Grammar} {words : List Text} {at : ℕ} {found : List Spec.O
       → line.found ≡ found → map string_bytes line.free.items ≡ frees ++ Spec.tail_frees tail
       → line.trailing_start ≡ Spec.trailing_after (length frees) tail
       → GivesLine grammar (read grammar words) line
-  GivesLine-tail line tail left founds freed trailing =
-      let made = made_of-ok (with_reading grammar 0 [] []) (read grammar words)
-      (with_tail found frees tail)
-      (before.left ∙ ap (made_of (with_reading grammar at found frees)) left
-      ∙ rw (append-nil found, append-nil frees) refl) in
-      record {
-        reading = made.0;
-        outcome_is = made.1;
-        occurrences = founds ∙ ap (λ (p : Parts). p.found) (sym made.2);
-        free = freed ∙ ap (λ (p : Parts). p.free) (sym made.2);
-        trailing = trailing ∙ ap (λ (p : Parts). p.trailing_start) (sym made.2);
-      }
+  GivesLine-tail line tail left founds freed trailing = search (rules, made_of-ok, read, append-nil)
 
   -- There is a word.
   module _ (word : Text) (after : List Text) (left : drop at words ≡ word ∷ after) where
@@ -113,14 +91,14 @@ module _ {grammar : Grammar} {words : List Text} {at : ℕ} {found : List Spec.O
         → newer ≡ found ++ map (Spec.at_position at) (Spec.mentions grammar item)
         → new_frees ≡ frees ++ Spec.free_items (item ∷ [])
         → ReadSoFar grammar words (at + 1 + used) newer new_frees
-    ReadSoFar-item item argument used newer new_frees said used_is counted added freed = record {
-      left = before.left
-          ∙ ap (made_of (with_reading grammar at found frees))
-          (ap (read grammar) left ∙ read_item grammar word after item argument said)
-          ∙ with_reading-item grammar at found frees item _
-          ∙ (let place : at + Spec.word_count (item ∷ []) ≡ at + 1 + used = omega (arith, counted) in
-          rw (place, ← used_is, ← added, ← freed, drop_past words after word at used left) refl);
-    }
+    ReadSoFar-item item argument used newer new_frees said used_is counted added freed =
+        search (
+          rules,
+          read grammar,
+          read_item grammar word after item argument said,
+          with_reading-item grammar,
+          drop_past words after word,
+        )
 
     -- a free word
     pub ReadSoFar-free : (new_frees : List Text) → Spec.is_dashed word ≡ false
@@ -135,26 +113,19 @@ module _ {grammar : Grammar} {words : List Text} {at : ℕ} {found : List Spec.O
     pub ReadSoFar-added : (said : Step) (used : ℕ) (newer : List Spec.Occurrence)
         → step grammar word after ≡ said → AddsItem grammar said at used found newer
         → ReadSoFar grammar words (at + 1 + used) newer frees
-    ReadSoFar-added said used newer is adds =
-        ReadSoFar-item adds.item adds.argument used newer frees (is ∙ adds.step_is) adds.used_is
-        adds.counted adds.added
-        (sym (append-nil frees) ∙ ap (λ (ws : List Text). frees ++ ws) (sym adds.no_free))
+    ReadSoFar-added said used newer is adds = search (rules, ReadSoFar-item, append-nil)
 
     -- the rest, from a free word on
     pub read-rest : Spec.is_dashed word ≡ false → grammar.style ≡ StopAtFirstFree
         → read grammar (drop at words) ≡ Ok (record { items = []; tail = Spec.rest (drop at words) })
-    read-rest plain stops = rw left (read_step grammar word after (ends (Spec.rest (word ∷ after)))
-        (step_free grammar word after plain ∙ rw stops refl))
+    read-rest plain stops = search (rules, read_step, step_free)
 
     -- the stop, and the words after it
     pub read-stop : word ≡ Spec.stop_word
         → read grammar (drop at words) ≡ Ok (record { items = []; tail = Spec.stop after })
-    read-stop stops = ap (read grammar) left ∙ read_step grammar word after (ends (Spec.stop after))
-        (ap (λ (w : Text). step grammar w after) stops ∙ step_stop grammar after)
+    read-stop stops = search (rules, read, read_step, step, step_stop)
 
     -- an error
     pub read-fault : (said : Step) → step grammar word after ≡ said → (fault : Fault)
         → said ≡ faults fault → read grammar words ≡ Err fault
-    read-fault said is fault fails = made_of-err _ (read grammar words) fault
-        (before.left ∙ ap (made_of (with_reading grammar at found frees))
-        (ap (read grammar) left ∙ read_step grammar word after (faults fault) (is ∙ fails)))
+    read-fault said is fault fails = search (rules, read, read_step)

@@ -1,17 +1,18 @@
 -- Breakings of a line's words: filling rows from the left gives the one tight breaking, and no
 -- fitting breaking has fewer runs.
-use Rattle.std.proofs.Common.{◌≡◌, ℕ, ◌<◌, ◌≤◌, true, false, List, [], ◌∷◌, ◌++◌}
-use Rattle.std.proofs.Common.{length, sym, refl, ap, ◌∙◌, subst, inl, inr, ⊎_elim, append_assoc}
+use Rattle.std.proofs.Common.{◌≡◌, ℕ, ◌<◌, ◌≤◌, true, false, List, [], ◌∷◌, ◌++◌, rules, length}
+use Rattle.std.proofs.Common.{sym, refl, ap, ◌∙◌, subst, inl, inr, ⊎_elim, append_assoc, append-nil}
+use Rattle.std.proofs.Common.{arith, length-append}
 use Rattle.std.specs.Prelude.{All}
-use Rattle.std.proofs.Common.{append-nil, arith, length-append}
 use Rattle.std.specs.List.{flat_map}
 use Rattle.std.proofs.lemmas.Bool.{cases_Bool, cond-true, cond-false, leb-true, le-leb}
+use Rattle.std.proofs.lemmas.Bool.{false_from_ne_true}
 use Rattle.std.proofs.lemmas.List.Elements.{All-nil, All-cons, All-head, All-tail}
 use Rattle.std.proofs.lemmas.List.Sums.{sum_by-append}
-use Rattle.std.proofs.lemmas.Bool.{false_from_ne_true}
+use Rattle.std.proofs.lemmas.Grind.{common_steps}
 use Rattle.getopts.specs.Names.{Text}
-use Rattle.getopts.specs.Wrap.{Run, width_of, columns_of, FitsIn, IsFittingBreaking, NoneTakesMore}
-use Rattle.getopts.specs.Wrap.{IsTightBreaking, IsFewestBreaking}
+use Rattle.getopts.specs.Wrap.{Run, FitsIn, IsFittingBreaking, NoneTakesMore, IsTightBreaking}
+use Rattle.getopts.specs.Wrap.{IsFewestBreaking}
 use Rattle.getopts.specs.UsageResults.{has_room, runs_from, runs_of}
 use Rattle.getopts.proofs.Lists.{Within, cuts}
 
@@ -30,25 +31,9 @@ runs_from-refused limit run word words e = cond-false (has_room limit run word) 
 
 -- ---- a run within a fitting run fits
 
-columns_of-inside : (front run back : Run) → columns_of run ≤ columns_of (front ++ (run ++ back))
-columns_of-inside front run back = omega (
-  arith,
-  sum_by-append width_of front (run ++ back),
-  sum_by-append width_of run back,
-  length-append front (run ++ back),
-  length-append run back,
-)
-
 pub FitsIn-inside : (limit : ℕ) (front run back : Run) → 0 < length run
     → FitsIn limit (front ++ (run ++ back)) → FitsIn limit run
-FitsIn-inside limit front run back has_word fits =
-    ⊎_elim
-    (λ (one : length (front ++ (run ++ back)) ≡ 1). let alone : length run ≡ 1 =
-    omega (arith, length-append front (run ++ back), length-append run back) in inl alone)
-    (λ (within : columns_of (front ++ (run ++ back)) ≤ limit).
-    let narrower : columns_of run ≤ limit =
-    omega (arith, columns_of-inside front run back) in inr narrower)
-    fits
+FitsIn-inside limit front run back has_word fits = search (rules, length-append, sum_by-append)
 
 -- ---- filling gives a tight breaking
 
@@ -57,47 +42,20 @@ tight-cons : (limit : ℕ) (run : Run) (word : Text) (words : List Text) (runs :
     → 0 < length run → FitsIn limit run → ¬ FitsIn limit (run ++ word ∷ [])
     → IsTightBreaking limit (word ∷ words) runs
     → IsTightBreaking limit (run ++ word ∷ words) (run ∷ runs)
-tight-cons limit run word words [] has_word fits long is =
-    absurd (let none = is.fitting.all_words in cc)
-tight-cons limit run word words ([] ∷ runs) has_word fits long is =
-    absurd (omega (arith, All-head (λ run. 0 < length run) [] runs is.fitting.nonempty))
-tight-cons limit run word words ((first ∷ more) ∷ runs) has_word fits long is =
-    let same : first ≡ word = (let all = is.fitting.all_words in cc) in
-    record {
-      fitting = record {
-        all_words = ap (λ (rest : List Text). run ++ rest) is.fitting.all_words;
-        nonempty = All-cons (λ run. 0 < length run) run
-            ((first ∷ more) ∷ runs) has_word is.fitting.nonempty;
-        fits = All-cons (FitsIn limit) run ((first ∷ more) ∷ runs) fits is.fitting.fits;
-      };
-      tight = (rw same long, is.tight);
-    }
+tight-cons limit run word words runs has_word fits long is = search (rules, All-head, All-cons)
 
 -- a run with a word more that fits had room for the word
 room_if_fits : (limit : ℕ) (run : Run) (word : Text) → 0 < length run
     → FitsIn limit (run ++ word ∷ []) → has_room limit run word ≡ true
-room_if_fits limit run word has_word fits =
-    ⊎_elim
-    (λ (one : length (run ++ word ∷ []) ≡ 1).
-    absurd (omega (arith, length-append run (word ∷ []))))
-    (λ (within : columns_of (run ++ word ∷ []) ≤ limit). le-leb _ _ within)
-    fits
+room_if_fits limit run word has_word fits = search (rules, length-append, le-leb)
 
 refused_does_not_fit : (limit : ℕ) (run : Run) (word : Text) → 0 < length run
     → has_room limit run word ≡ false → ¬ FitsIn limit (run ++ word ∷ [])
-refused_does_not_fit limit run word has_word refused fits =
-    let taken = room_if_fits limit run word has_word fits in cc
+refused_does_not_fit limit run word has_word refused fits = search (rules, room_if_fits)
 
 runs_from-tight : (limit : ℕ) (run : Run) (words : List Text) → 0 < length run → FitsIn limit run
     → IsTightBreaking limit (run ++ words) (runs_from limit run words)
-runs_from-tight limit run [] has_word fits = record {
-  fitting = record {
-    all_words = refl;
-    nonempty = All-cons (λ run. 0 < length run) run [] has_word (All-nil (λ run. 0 < length run));
-    fits = All-cons (FitsIn limit) run [] fits (All-nil (FitsIn limit));
-  };
-  tight = tt;
-}
+runs_from-tight limit run [] has_word fits = search (rules, All-cons, All-nil)
 runs_from-tight limit run (word ∷ words) has_word fits =
     elim (cases_Bool (has_room limit run word)) [
       | inl taken ↦
@@ -107,22 +65,13 @@ runs_from-tight limit run (word ∷ words) has_word fits =
           (inr (leb-true _ _ taken)) in
           rw (runs_from-taken limit run word words taken) (rw append_assoc at rest)
       | inr refused ↦
-          rw (runs_from-refused limit run word words refused)
-          (tight-cons limit run word words _ has_word fits
-          (refused_does_not_fit limit run word has_word refused)
-          (runs_from-tight limit (word ∷ []) words (omega arith) (inl refl)))
+          let rest = runs_from-tight limit (word ∷ []) words (omega arith) (inl refl) in
+          search (rules, runs_from-refused, tight-cons, refused_does_not_fit, rest)
     ]
 
 pub runs_of-tight : (limit : ℕ) (words : List Text)
     → IsTightBreaking limit words (runs_of limit words)
-runs_of-tight limit [] = record {
-  fitting = record {
-    all_words = refl;
-    nonempty = All-nil (λ run. 0 < length run);
-    fits = All-nil (FitsIn limit);
-  };
-  tight = tt;
-}
+runs_of-tight limit [] = search (rules, All-nil)
 runs_of-tight limit (word ∷ words) =
     runs_from-tight limit (word ∷ []) words (omega arith) (inl refl)
 
@@ -138,8 +87,7 @@ filled : (limit : ℕ) (run more : Run) (runs : List Run) → 0 < length run
     → All (λ run. 0 < length run) runs → All (FitsIn limit) runs
     → (run ++ more) ∷ runs ≡ runs_from limit run (more ++ words_in runs)
 filled limit run [] [] has_word fit tight nonempty fits = ap (λ run. run ∷ []) (append-nil run)
-filled limit run [] ([] ∷ runs) has_word fit tight nonempty fits =
-    absurd (omega (arith, All-head (λ run. 0 < length run) [] runs nonempty))
+filled limit run [] ([] ∷ runs) has_word fit tight nonempty fits = search (rules, All-head)
 filled limit run [] ((word ∷ more) ∷ runs) has_word fit tight nonempty fits =
     let long : ¬ FitsIn limit (run ++ word ∷ []) = rw append-nil at tight.0 in
     let refused : has_room limit run word ≡ false =
@@ -147,9 +95,7 @@ filled limit run [] ((word ∷ more) ∷ runs) has_word fit tight nonempty fits 
     let others = filled limit (word ∷ []) more runs (omega arith)
     (All-head (FitsIn limit) (word ∷ more) runs fits) tight.1
     (All-tail (λ run. 0 < length run) (word ∷ more) runs nonempty)
-    (All-tail (FitsIn limit) (word ∷ more) runs fits) in
-    (λ i. append-nil run i ∷ others i)
-    ∙ sym (runs_from-refused limit run word (more ++ words_in runs) refused)
+    (All-tail (FitsIn limit) (word ∷ more) runs fits) in search (rules, append-nil, runs_from-refused)
 filled limit run (word ∷ more) runs has_word fit tight nonempty fits =
     let longer : 0 < length (run ++ word ∷ []) = omega (arith, length-append run (word ∷ [])) in
     let joined : run ++ word ∷ more ≡ (run ++ word ∷ []) ++ more =
@@ -166,8 +112,7 @@ filled limit run (word ∷ more) runs has_word fit tight nonempty fits =
 pub runs_of-only : (limit : ℕ) (words : List Text) (others : List Run)
     → IsTightBreaking limit words others → others ≡ runs_of limit words
 runs_of-only limit words [] tight = ap (runs_of limit) tight.fitting.all_words
-runs_of-only limit words ([] ∷ runs) tight =
-    absurd (omega (arith, All-head (λ run. 0 < length run) [] runs tight.fitting.nonempty))
+runs_of-only limit words ([] ∷ runs) tight = search (rules, All-head)
 runs_of-only limit words ((word ∷ more) ∷ runs) tight =
     filled limit (word ∷ []) more runs (omega arith)
     (All-head (FitsIn limit) (word ∷ more) runs tight.fitting.fits) tight.tight
@@ -175,16 +120,15 @@ runs_of-only limit words ((word ∷ more) ∷ runs) tight =
     (All-tail (FitsIn limit) (word ∷ more) runs tight.fitting.fits)
     ∙ ap (runs_of limit) tight.fitting.all_words
 
+-- By induction on the words. If the run has no room for the next word, the first of the other runs
+-- can't contain the run and this word (`FitsIn-inside`). So it ends before the word, and the next
+-- one begins there or earlier.
 -- filling gives no more runs than any fitting runs, even of words that begin earlier
 few_runs : (limit : ℕ) (run : Run) (words front : List Text) (others : List Run)
     → 0 < length run → words_in others ≡ front ++ (run ++ words) → All (FitsIn limit) others
     → length (runs_from limit run words) ≤ length others
-few_runs limit run words front [] has_word joined fits = absurd (omega (
-  arith,
-  ap length joined,
-  length-append front (run ++ words),
-  length-append run words,
-))
+few_runs limit run words front [] has_word joined fits =
+    search (rules, length-append front (run ++ words), length-append run words)
 few_runs limit run [] front (other ∷ others) has_word joined fits = omega arith
 few_runs limit run (word ∷ words) front (other ∷ others) has_word joined fits =
     let later : (front : List Text) → words_in others ≡ front ++ (word ∷ words)
@@ -203,8 +147,7 @@ few_runs limit run (word ∷ words) front (other ∷ others) has_word joined fit
           omega (arith, later w.0 w.2))
           (λ (w : Within (front ++ run) (word ∷ words) other (words_in others)).
           omega (arith, past later refused w.0 w.1 w.2))
-          (cuts other (words_in others) (front ++ run) (word ∷ words)
-          (joined ∙ sym (append_assoc front run (word ∷ words)))))
+          (search (rules, cuts, append_assoc)))
     ] where
       -- it ends with the run, since it doesn't fit with the word
       past : ((front : List Text) → words_in others ≡ front ++ (word ∷ words)
@@ -215,12 +158,7 @@ few_runs limit run (word ∷ words) front (other ∷ others) has_word joined fit
       past later refused [] is rest = later [] (sym rest)
       past later refused (next ∷ middle) is rest =
           let same : word ≡ next = cc in
-          absurd (refused_does_not_fit limit run word has_word refused
-          (FitsIn-inside limit front (run ++ word ∷ []) middle
-          (omega (arith, length-append run (word ∷ [])))
-          (subst (FitsIn limit) (is ∙ ap (λ w. (front ++ run) ++ w ∷ middle) (sym same)
-          ∙ simp append_assoc)
-          (All-head (FitsIn limit) other others fits))))
+          grind (arith, common_steps, refused_does_not_fit, FitsIn-inside, length-append, append_assoc, All-head)
 
 fewest_runs : (limit : ℕ) (words : List Text) (others : List Run)
     → IsFittingBreaking limit words others → length (runs_of limit words) ≤ length others
@@ -230,5 +168,4 @@ fewest_runs limit (word ∷ words) others fitting =
 
 pub runs_of-is_fewest : (limit : ℕ) (words : List Text)
     → IsFewestBreaking limit words (runs_of limit words)
-runs_of-is_fewest limit words =
-    record { tight = runs_of-tight limit words; fewest = fewest_runs limit words }
+runs_of-is_fewest limit words = search (rules, runs_of-tight, fewest_runs)

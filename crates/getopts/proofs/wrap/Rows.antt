@@ -1,6 +1,6 @@
 -- The rows of a line, while they are filled word after word.
-use Rattle.std.proofs.Common.{◌≡◌, ℕ, ◌+◌, ◌<◌, ◌≤◌, true, false, List, [], ◌∷◌, ◌++◌, length, map}
-use Rattle.std.proofs.Common.{refl, sym, ap, ◌∙◌, append_assoc, append-nil, arith, length-append}
+use Rattle.std.proofs.Common.{◌≡◌, ℕ, ◌+◌, ◌<◌, ◌≤◌, false, List, [], ◌∷◌, ◌++◌, length, map, refl}
+use Rattle.std.proofs.Common.{sym, ap, append_assoc, append-nil, arith, length-append, rules}
 use Rattle.std.specs.Str.{IsUtf8}
 use Rattle.std.proofs.lemmas.Bool.{le-leb, lt-leb}
 use Rattle.std.proofs.lemmas.List.Sums.{sum_by-append, sum_by-cons}
@@ -20,8 +20,7 @@ text_of-push : (run : Run) (word : Text) → 0 < length run
 text_of-push [] word has_word = absurd (omega arith)
 text_of-push (first ∷ []) word has_word = sym (append_assoc first (32 ∷ []) word)
 text_of-push (first ∷ second ∷ run) word has_word =
-    ap (λ (more : Text). first ++ 32 ∷ more) (text_of-push (second ∷ run) word (omega arith))
-    ∙ simp append_assoc
+    search (rules, append_assoc, text_of-push (second ∷ run) word (omega arith))
 
 -- The rows so far, the current row, and the rows of the words to come are the rows before, and
 -- those of the line.
@@ -38,8 +37,7 @@ pub record RowsSoFar (limit : ℕ) (line : Text) (before rows : List Text) (row 
 -- a line without words adds nothing
 pub adds_none : (limit : ℕ) (line : Text) (rows : List Text) → words_of line ≡ []
     → rows ≡ rows ++ map text_of (runs_of limit (words_of line))
-adds_none limit line rows none =
-    sym (append-nil rows) ∙ ap (λ words. rows ++ map text_of (runs_of limit words)) (sym none)
+adds_none limit line rows none = cc (append-nil rows)
 
 -- the first word begins a row
 pub rows_begin : (limit : ℕ) (line : Text) (rows : List Text) (row word : Text) (columns : ℕ)
@@ -61,20 +59,7 @@ module _ {limit : ℕ} {line : Text} {before rows : List Text} {row : Text} {col
   pub rows_take : columns + (1 + width_of word) ≤ limit
       → RowsSoFar limit line before rows ((row ++ 32 ∷ []) ++ word) (columns + (1 + width_of word)) after
   rows_take fits =
-      let run = so_far.run in
-      let pushed = columns_of-push run word so_far.has_word in
-      let taken : has_room limit run word ≡ true = le-leb _ _ (omega (arith, so_far.columns_are)) in
-      record {
-        run = run ++ word ∷ [];
-        has_word = omega (arith, length-append run (word ∷ []));
-        row_is = ap (λ (row : Text). (row ++ 32 ∷ []) ++ word) so_far.row_is
-            ∙ sym (text_of-push run word so_far.has_word);
-        columns_are = omega (arith, so_far.columns_are);
-        utf8 = next.0;
-        to_come = ap (λ (runs : List Run). rows ++ map text_of runs)
-            (sym (ap (runs_from limit run) next.1 ∙ runs_from-taken limit run word (words_of after) taken))
-            ∙ so_far.to_come;
-      }
+      search (rules, columns_of-push, le-leb, length-append, text_of-push, runs_from-taken)
 
   -- a word that doesn't fit ends the current row and begins a new one
   pub rows_end : limit < columns + (1 + width_of word)
@@ -89,21 +74,11 @@ module _ {limit : ℕ} {line : Text} {before rows : List Text} {row : Text} {col
         row_is = refl;
         columns_are = omega (arith, sum_by-cons width_of word []);
         utf8 = next.0;
-        to_come =
-            ap (λ (row : Text). (rows ++ row ∷ []) ++ map text_of (runs_from limit (word ∷ []) (words_of after)))
-            so_far.row_is
-            ∙ append_assoc rows (text_of run ∷ []) (map text_of (runs_from limit (word ∷ []) (words_of after)))
-            ∙ ap (λ (runs : List Run). rows ++ map text_of runs)
-            (sym (ap (runs_from limit run) next.1
-            ∙ runs_from-refused limit run word (words_of after) refused))
-            ∙ so_far.to_come;
+        to_come = search (rules, append_assoc, runs_from-refused);
       }
 
 -- with no words left, the current row is the last
 pub rows_finish : (limit : ℕ) (line : Text) (before rows : List Text) (row : Text) (columns : ℕ)
     (rest : Text) → RowsSoFar limit line before rows row columns rest → words_of rest ≡ []
     → rows ++ row ∷ [] ≡ before ++ map text_of (runs_of limit (words_of line))
-rows_finish limit line before rows row columns rest so_far none =
-    ap (λ (row : Text). rows ++ row ∷ []) so_far.row_is
-    ∙ ap (λ (words : List Text). rows ++ map text_of (runs_from limit so_far.run words)) (sym none)
-    ∙ so_far.to_come
+rows_finish limit line before rows row columns rest so_far none = search rules

@@ -1,6 +1,6 @@
 -- The words of a line, one after the other, as `split_whitespace` returns them.
-use Rattle.std.proofs.Common.{◌≡◌, ℕ, ◌<◌, Bool, true, false, List, [], ◌∷◌, ◌++◌, length, map}
-use Rattle.std.proofs.Common.{Some, sym, refl, ap, ◌∙◌, subst, append_assoc, append-nil, arith}
+use Rattle.std.proofs.Common.{◌≡◌, ℕ, ◌<◌, Bool, true, false, List, [], ◌∷◌, ◌++◌, length, Some}
+use Rattle.std.proofs.Common.{sym, refl, ap, ◌∙◌, subst, append_assoc, append-nil, arith, rules}
 use Rattle.std.specs.Prelude.{nat_lt, filter, chars, encode_utf8, encode_utf8_all, not}
 use Rattle.std.specs.Borrow.{Bor}
 use Rattle.std.specs.Char.{is_whitespace, is_not_whitespace}
@@ -23,8 +23,7 @@ parts_by-gap : (p : ℕ → Bool) (gap cs : List ℕ) → NonePass (λ c. not (p
     → parts_by p (gap ++ cs) ≡ parts_by p cs
 parts_by-gap p [] cs none = refl
 parts_by-gap p (c ∷ gap) cs none =
-    ap (filter (λ part. nat_lt 0 (length part)))
-    (slice_split-cons_yes p c (gap ++ cs) (not-false (p c) none.0)) ∙ parts_by-gap p gap cs none.1
+    search (rules, slice_split-cons_yes, not-false, parts_by-gap p gap cs none.1)
 
 all_from_none : (p : ℕ → Bool) (cs : List ℕ) → NonePass p cs → All (λ c. p c ≡ false) cs
 all_from_none p [] none = All-nil (λ c. p c ≡ false)
@@ -33,23 +32,17 @@ all_from_none p (c ∷ cs) none = All-cons (λ c. p c ≡ false) c cs none.0 (al
 nonempty : (part : List ℕ) (parts : List (List ℕ)) → 0 < length part
     → filter (λ part. nat_lt 0 (length part)) (part ∷ parts)
     ≡ part ∷ filter (λ part. nat_lt 0 (length part)) parts
-nonempty part parts not_empty =
-    cond-true (nat_lt 0 (length part)) _ _ (lt-ltb 0 (length part) not_empty)
+nonempty part parts not_empty = search (rules, cond-true, lt-ltb)
 
 -- a part at the end, or before a character that passes, is the first part
 parts_by-last : (p : ℕ → Bool) (part : List ℕ) → 0 < length part → NonePass p part
     → parts_by p part ≡ part ∷ []
-parts_by-last p part not_empty none = ap (filter (λ part. nat_lt 0 (length part)))
-    (slice_split_none p part (all_from_none p part none)) ∙ nonempty part [] not_empty
+parts_by-last p part not_empty none = search (rules, slice_split_none, all_from_none, nonempty)
 
 parts_by-first : (p : ℕ → Bool) (part : List ℕ) (c : ℕ) (cs : List ℕ) → 0 < length part
     → NonePass p part → p c ≡ true → parts_by p (part ++ c ∷ cs) ≡ part ∷ parts_by p (c ∷ cs)
 parts_by-first p part c cs not_empty none passes =
-    ap (filter (λ part. nat_lt 0 (length part)))
-    (slice_split_at p part c cs (all_from_none p part none) passes)
-    ∙ nonempty part (slice_split p cs) not_empty
-    ∙ ap (λ (parts : List (List ℕ)). part ∷ filter (λ part. nat_lt 0 (length part)) parts)
-    (sym (slice_split-cons_yes p c cs passes))
+    search (rules, slice_split_at, all_from_none, nonempty, slice_split-cons_yes)
 
 -- ---- a text that begins with the text of given characters
 
@@ -57,14 +50,9 @@ past_chars : (front bs rest : List ℕ) → IsUtf8 bs → bs ≡ encode_utf8_all
     → IsUtf8 rest × (chars bs ≡ front ++ chars rest)
 past_chars [] bs rest utf8 e = (subst IsUtf8 e utf8, ap chars e)
 past_chars (c ∷ front) bs rest utf8 e =
-    let split : bs ≡ encode_utf8 c ++ (encode_utf8_all front ++ rest) = e
-    ∙ append_assoc (encode_utf8 c) (encode_utf8_all front) rest in
+    let split : bs ≡ encode_utf8 c ++ (encode_utf8_all front ++ rest) = search (rules, append_assoc) in
     let after = past_chars front (encode_utf8_all front ++ rest) rest
-    (IsUtf8-past_char bs (encode_utf8_all front ++ rest) c utf8 split) refl in (
-      after.0,
-      chars_past_char bs (encode_utf8_all front ++ rest) c utf8 split
-          ∙ ap (λ (cs : List ℕ). c ∷ cs) after.1,
-    )
+    (IsUtf8-past_char bs (encode_utf8_all front ++ rest) c utf8 split) refl in search (rules, chars_past_char)
 
 some_chars : (cs : List ℕ) → 0 < length (encode_utf8_all cs) → 0 < length cs
 some_chars [] not_empty = not_empty
@@ -81,20 +69,14 @@ parts_by-next part [] more utf8 not_empty solid next =
 parts_by-next part (b ∷ rest) more utf8 not_empty solid next =
     let white = next (omega arith) in
     let begins : chars (b ∷ rest) ≡ white.0 ∷ chars more =
-    chars_past_char (b ∷ rest) more white.0 utf8 white.2 in
-    subst (λ (cs : List ℕ). parts_by is_whitespace (part ++ cs) ≡ part ∷ parts_by is_whitespace cs)
-    (sym begins)
-    (parts_by-first is_whitespace part white.0 (chars more) not_empty solid white.1)
+    chars_past_char (b ∷ rest) more white.0 utf8 white.2 in search (rules, parts_by-first)
 
 -- no words are left
 pub words_of-none : (bs : List ℕ) → IsUtf8 bs → NoCharPasses is_not_whitespace bs → words_of bs ≡ []
 words_of-none bs utf8 none =
     let split : bs ≡ encode_utf8_all none.0 ++ [] =
     sym (append-nil (encode_utf8_all none.0) ∙ none.1) in
-    let all_white : chars bs ≡ none.0 ++ [] = (past_chars none.0 bs [] utf8 split).1
-    ∙ ap (λ (cs : List ℕ). none.0 ++ cs) chars-nil in
-    ap (λ (cs : List ℕ). map encode_utf8_all (parts_by is_whitespace cs)) all_white
-    ∙ ap (map encode_utf8_all) (parts_by-gap is_whitespace none.0 [] none.2)
+    let all_white : chars bs ≡ none.0 ++ [] = search (rules, past_chars, chars-nil) in search (rules, parts_by-gap)
 
 -- a word was removed from the front
 pub words_of-step : (s t : SplitWhitespace) (word : Bor (List ℕ)) → IsUtf8 (split_whitespace_rest s)
@@ -108,15 +90,10 @@ words_of-step s t word utf8 (gap, split, not_empty, blank, solid, next) =
     (subst (λ (gap : List ℕ). bs ≡ gap ++ (word.now ++ rest)) (sym blank.1) split) in
     let after_word = past_chars solid.0 (word.now ++ rest) rest after_gap.0
     (ap (λ (word : List ℕ). word ++ rest) (sym solid.1)) in
-    let characters : chars bs ≡ blank.0 ++ (solid.0 ++ chars rest) = after_gap.1
-    ∙ ap (λ (cs : List ℕ). blank.0 ++ cs) after_word.1 in
+    let characters : chars bs ≡ blank.0 ++ (solid.0 ++ chars rest) = search rules in
     let has_some : 0 < length solid.0 =
     some_chars solid.0 (subst (λ (word : List ℕ). 0 < length word) (sym solid.1) not_empty) in
     let parts : parts_by is_whitespace (chars bs) ≡ solid.0 ∷ parts_by is_whitespace (chars rest) =
     ap (parts_by is_whitespace) characters
     ∙ parts_by-gap is_whitespace blank.0 (solid.0 ++ chars rest) blank.2
-    ∙ parts_by-next solid.0 rest next.0 after_word.0 has_some solid.2 next.1 in (
-      after_word.0,
-      ap (map encode_utf8_all) parts
-          ∙ ap (λ (word : List ℕ). word ∷ words_of rest) solid.1,
-    )
+    ∙ parts_by-next solid.0 rest next.0 after_word.0 has_some solid.2 next.1 in search rules

@@ -1,13 +1,12 @@
 -- The occurrences of a command line, and those of one group, as they are stored.
 use Rattle.std.specs.Prelude.{◌≡◌, ◌<◌, ◌≤◌, if◌then◌else◌, nat_le, ℕ, List, length, map, get_or}
-use Rattle.std.specs.Prelude.{Option, Some, None}
+use Rattle.std.specs.Prelude.{Option, Some, None, slice_range}
 use Rattle.std.specs.List.{AllByRecursion}
 use Rattle.std.specs.Str.{IsCharBoundary}
 use Rattle.std.specs.String.{string_bytes}
 use Rattle.getopts.specs.Names.{Text}
 use Rattle.getopts.specs.Matches.{GroupOccurrence, without_group}
 use Rattle.getopts.specs.Reading.{Occurrence}
-use Rattle.getopts.specs.Stored.Texts.{between}
 use Rattle.getopts.specs.declared.occurrences.Span.{Span}
 use Rattle.getopts.specs.declared.occurrences.OccurrenceRecord.{OccurrenceRecord}
 use Rattle.getopts.specs.declared.occurrences.LineOccurrences.TheInside.{Inside}
@@ -15,7 +14,7 @@ use Rattle.getopts.specs.declared.occurrences.LineOccurrences.TheInside.{Inside}
 -- the text at this place, or none if the place ends before it starts
 abbrev pub text_at : Text → Span → Option Text
 text_at text span =
-    if nat_le span.start span.end then Some (between text span.start span.end) else None
+    if nat_le span.start span.end then Some (slice_range text span.start span.end) else None
 
 -- If there is a text at this place, it is between characters.
 abbrev pub IsSpanOf : Text → Span → Type 0

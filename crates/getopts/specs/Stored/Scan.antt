@@ -1,5 +1,5 @@
 -- What the functions of `scan` find in the words that they are given.
-use Rattle.std.specs.Prelude.{◌≡◌, false, None, Some, [], map, Result, Ok}
+use Rattle.std.specs.Prelude.{◌≡◌, false, None, Some, [], map, Result, Ok, Option, ℕ}
 use Rattle.std.specs.String.{string_bytes}
 use Rattle.getopts.specs.Names.{Text}
 use Rattle.getopts.specs.Options.{Grammar, MayBeDeclared, names_of, grammar_of}
@@ -9,6 +9,7 @@ use Rattle.getopts.specs.Fail.{Fault}
 use Rattle.getopts.specs.Reading.{Dashes, is_dashed, stop_word, Reading}
 use Rattle.getopts.specs.Reading.{occurrences_of, free_words, trailing_start}
 use Rattle.getopts.specs.Step.{IsInLongForm, IsShortForm}
+use Rattle.getopts.specs.declared.kinds.HasArg.{HasArg}
 use Rattle.getopts.specs.declared.scan.Line.{Line}
 use Rattle.getopts.specs.declared.scan.Resolved.{Resolved}
 use Rattle.getopts.specs.declared.scan.Scanner.{Scanner}
@@ -24,10 +25,10 @@ pub record IsLawfulScanner (scanner : Scanner) : Type 0 where
   pub declared : MayBeDeclared scanner.options.now.groups
   pub table : IsTableOf (names_of scanner.options.now.groups) scanner.table.now
 
--- The name resolves to this option.
-pub record IsNamedBy (grammar : Grammar) (name : Text) (option : Resolved) : Type 0 where
-  pub place : grammar.place name ≡ Some option.place
-  pub kind : grammar.kind name ≡ Some option.kind
+-- This is the place and this the kind of an option.
+pub record IsNamedBy (group : Option ℕ) (takes : Option HasArg) (option : Resolved) : Type 0 where
+  pub place : group ≡ Some option.place
+  pub kind : takes ≡ Some option.kind
 
 -- The word is read in this way.
 abbrev pub HasShape : Grammar → Text → Shape → Type 0

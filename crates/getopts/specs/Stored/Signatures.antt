@@ -1,5 +1,5 @@
 -- The names and kinds of groups, as they are stored or borrowed.
-use Rattle.std.specs.Prelude.{◌≡◌, ◌==◌, ◌≤◌, ◌-◌, Bool, not, cond, List, [], map}
+use Rattle.std.specs.Prelude.{◌≡◌, ◌==◌, ◌≤◌, ◌-◌, Bool, not, cond, List, [], map, slice_range}
 use Rattle.std.specs.List.{AllByRecursion}
 use Rattle.std.specs.Ordering.{on, eq_of_both}
 use Rattle.std.specs.Str.{IsUtf8, IsCharBoundary}
@@ -7,7 +7,6 @@ use Rattle.std.specs.String.{string_bytes}
 use Rattle.getopts.specs.Names.{Text, Names, IsLawfullyNamed, is_empty, main_name}
 use Rattle.getopts.specs.Options.{Signature}
 use Rattle.getopts.specs.Same.{same_signature}
-use Rattle.getopts.specs.Stored.Texts.{between}
 use Rattle.getopts.specs.Stored.Names.{key_of, short_code}
 use Rattle.getopts.specs.declared.names.NamesView.{NamesView}
 use Rattle.getopts.specs.declared.kinds.Kinds.{Kinds}
@@ -56,7 +55,7 @@ same_record = eq_of_both (on (λ group. group.long) ◌==◌)
 
 -- the two texts at these places
 abbrev pub pair_at : Text → PairEnds → Text × Text
-pair_at text e = (between text e.start e.first, between text e.first e.second)
+pair_at text e = (slice_range text e.start e.first, slice_range text e.first e.second)
 
 -- The places are in order, and between characters.
 pub record AreEndsOf (text : Text) (e : PairEnds) : Type 0 where

@@ -18,10 +18,4 @@ returns-then-not-fits_count-clause-err c =
     c.loop-place.invariant
     ∙ first_wrong-at c.args.signatures.now c.loop-place.place _ c.record.result.kinds
     (count_in (places_in c.args.index.now)) c.record.ensures.kinds
-    ∙ rw (
-      ← c.count-count.ensures,
-      ← c.fits_count.ensures,
-      c.if-not-fits_count.true,
-      told,
-      c.main.ensures,
-    ) refl)
+    ∙ rw (← c.count-count.ensures, ← c.fits_count.ensures, c.if-not-fits_count.true, told, c.main.ensures) refl)

@@ -2,7 +2,7 @@ use Rattle.std.proofs.Common.{◌<◌, [], arith, length, take}
 use Rattle.std.proofs.lemmas.Grind.{common_steps}
 use Rattle.std.proofs.lemmas.List.{take_more}
 use Rattle.std.specs.Str.{IsUtf8}
-use Rattle.getopts.proofs.Lists.{AllByRecursion-append}
+use Rattle.std.proofs.Permutation.{every_append}
 use Rattle.getopts_shell.specs.Variables.{founds_of, texts_found}
 use Rattle.getopts_shell.proofs.Assignments.{length_texts, quoted_words_more}
 use Rattle.getopts_shell.proofs.variables.push_texts.Goals as goal
@@ -15,6 +15,6 @@ loop-nth-preserved c =
     omega (arith, length_texts (founds_of c.args.given), c.count-nth-end.ensures) in (
       grind (arith, common_steps, quoted_words_more texts nth below),
       rw (take_more texts nth [] below)
-          (AllByRecursion-append IsUtf8 (take nth texts) _ c.loop-nth.invariant.1
+          (every_append IsUtf8 (take nth texts) _ c.loop-nth.invariant.1
           (rw c.text_at.ensures at c.text_at.utf8, tt)),
     )

@@ -1,6 +1,6 @@
 use Rattle.std.proofs.Common.{ap, append-nil, take, ◌∙◌}
 use Rattle.std.proofs.lemmas.List.Concat.{flat_map-append}
-use Rattle.getopts.proofs.Lists.{AllByRecursion-append}
+use Rattle.std.proofs.Permutation.{every_append}
 use Rattle.getopts.specs.Matches.{Matched}
 use Rattle.getopts_shell.specs.Stored.{entries_of}
 use Rattle.getopts_shell.specs.Variables.{AreTextValues, Given, given_from, holds_all}
@@ -21,7 +21,7 @@ loop-place-preserved c =
     (holds_all option.entry.frequency) option.found in (
       c.in_ok-push_option.ensures.text
           ∙ simp (c.loop-place.invariant.0, more, flat_map-append, append-nil),
-      rw more (AllByRecursion-append texts (given_from 0 (entries_of (take place rows)) held) _
+      rw more (every_append texts (given_from 0 (entries_of (take place rows)) held) _
           c.loop-place.invariant.1 (c.in_ok-push_option.ensures.values, tt)),
     )
 

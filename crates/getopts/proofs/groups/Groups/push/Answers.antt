@@ -1,6 +1,6 @@
 -- The appended group has its signature, and its texts at the end of the common text.
-use Rattle.std.proofs.Common.{◌≡◌, ◌+◌, List, [], ◌∷◌, ◌++◌, map, length, ap, ◌∙◌, sym, arith}
-use Rattle.std.proofs.Common.{refl, length-append}
+use Rattle.std.proofs.Common.{◌≡◌, ◌+◌, List, [], ◌∷◌, ◌++◌, map, length, ap, ◌∙◌, sym, arith, refl}
+use Rattle.std.proofs.Common.{length-append}
 use Rattle.std.proofs.lemmas.Grind.{common_steps}
 use Rattle.std.proofs.lemmas.List.{length-map}
 use Rattle.std.proofs.lemmas.Str.{IsUtf8-append}
@@ -11,7 +11,7 @@ use Rattle.getopts.specs.Options.{Signature}
 use Rattle.getopts.specs.Stored.Signatures.{signature_with, pair_at, AreEndsOf, IsLawfulSignature}
 use Rattle.getopts.specs.Stored.Groups.{group_with, groups_with}
 use Rattle.getopts.specs.declared.signatures.PairEnds.{PairEnds}
-use Rattle.getopts.proofs.Lists.{AllByRecursion-append}
+use Rattle.std.proofs.Permutation.{every_append}
 use Rattle.getopts.proofs.Stored.Signatures.{groups_with-push, twos-push}
 use Rattle.getopts.proofs.groups.Groups.push.Goals as goal
 
@@ -61,7 +61,7 @@ invariant_of-self-2 c = record {
       ∙ ap (λ n. n + 1) c.self.invariant.as_many
       ∙ sym (length-append c.self.inside.signatures (added c ∷ []))
       ∙ sym (ap (λ (ss : List Signature). length ss) (signatures c));
-  lawful = rw (signatures c) (AllByRecursion-append IsLawfulSignature _ (added c ∷ [])
+  lawful = rw (signatures c) (every_append IsLawfulSignature _ (added c ∷ [])
       c.self.invariant.lawful
       (record { named = c.requires; short = c.utf8.short; long = c.utf8.long }, tt));
 }

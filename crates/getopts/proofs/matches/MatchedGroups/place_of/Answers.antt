@@ -2,19 +2,22 @@
 -- names are valid.
 use Rattle.getopts.specs.Names.{IsLawfullyNamed}
 use Rattle.getopts.specs.Options.{Signature}
+use Rattle.getopts.specs.Matches.{MatchedGroup}
 use Rattle.getopts.proofs.Lists.{AllByRecursion-unmap}
-use Rattle.getopts.proofs.Stored.Matches.{HaveLawfulNames-matched, place_of-matched}
+use Rattle.getopts.proofs.Stored.Matches.{signatures-matched, place_of-signatures}
 use Rattle.getopts.proofs.matches.MatchedGroups.place_of.Goals as goal
 
 pub returns-clause-place : goal.returns-clause-place
 returns-clause-place c =
     rw (
       ← c.self.view_is,
-      ← place_of-matched c.self.inside.signatures c.self.inside.found c.args.name.now,
+      ← place_of-signatures _ _ (signatures-matched 0 c.self.inside.signatures c.self.inside.found) c.args.name.now,
     ) c.resolve.ensures
 
 pub returns-clause-lawful : goal.returns-clause-lawful
 returns-clause-lawful c =
-    rw (← c.self.view_is) (HaveLawfulNames-matched 0 c.self.inside.signatures c.self.inside.found
+    rw (← c.self.view_is) (AllByRecursion-unmap (λ (s : Signature). IsLawfullyNamed s.names)
+    (λ (group : MatchedGroup). group.signature) _
+    (rw (signatures-matched 0 c.self.inside.signatures c.self.inside.found)
     (AllByRecursion-unmap IsLawfullyNamed (λ (signature : Signature). signature.names)
-    c.self.inside.signatures c.self.invariant.table.are_words.valid))
+    c.self.inside.signatures c.self.invariant.table.are_words.valid)))

@@ -1,9 +1,11 @@
 -- The texts of the pairs are the values.
-use Rattle.std.proofs.Common.{◌≡◌, ◌∙◌, ℕ, Vec, String, Global, ap}
+use Rattle.std.proofs.Common.{◌≡◌, ◌∙◌, ℕ, Vec, String, Global, ap, sym, map}
 use Rattle.std.proofs.lemmas.Result.{IfOk-weaker}
-use Rattle.getopts.specs.Accessors.{occurrences_of_name, values_of}
+use Rattle.std.proofs.lemmas.Simd.{map-map}
+use Rattle.getopts.specs.Accessors.{occurrences_of_name, values_of, pair_view}
 use Rattle.getopts.specs.Matches.{Matched}
-use Rattle.getopts.proofs.Stored.Matches.{texts_of_held_pairs}
+use Rattle.getopts.specs.Names.{Text}
+use Rattle.getopts.proofs.Stored.Matches.{texts_of_pairs}
 use Rattle.getopts.proofs.matches.Matches.opt_strs_pos.Goals as goal
 
 pub returns-clause-texts : goal.returns-clause-texts
@@ -13,5 +15,7 @@ returns-clause-texts c =
     ∙ ap (λ (matches : Matched). occurrences_of_name matches.groups c.args.name.now) c.self.view_is in
     IfOk-weaker _ _ _
     (λ (pairs : Vec (ℕ × String Global) Global) same.
-    texts_of_held_pairs pairs.items c.occurrences_of.result same ∙ ap values_of found)
+    sym (map-map (λ (pair : ℕ × Text). pair.1) pair_view pairs.items)
+    ∙ ap (map (λ (pair : ℕ × Text). pair.1)) same ∙ texts_of_pairs c.occurrences_of.result
+    ∙ ap values_of found)
     c.pairs.ensures

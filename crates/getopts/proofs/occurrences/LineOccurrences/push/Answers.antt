@@ -34,12 +34,7 @@ pushed c =
           let both = occurrences-push old w.in-Some.text.now w.push_value.ensures.utf8
           c.self.inside.records.items c.self.invariant (added c.match-value.value)
           (rw (w.value-is, ← ok.0) ok.1.span_of) in
-          rw (
-            c.push_reserved.ensures.items,
-            w.self-inside-is,
-            w.in-Some.is,
-            c.in_ok-reserve.ensures.items,
-          )
+          rw (c.push_reserved.ensures.items, w.self-inside-is, w.in-Some.is, c.in_ok-reserve.ensures.items)
           (let grown = rw (← ok.0) at both in
           let value = ap (text_at (string_bytes w.push_value.new.values)) w.value-is ∙ ok.1.is in (
             grown.0,

@@ -1,14 +1,15 @@
 -- The collected words are those of the iterator.
 use Rattle.std.proofs.Common.{◌∙◌}
 use Rattle.std.proofs.lemmas.Result.{IfOk-weaker, IfErr-weaker, MatchResult-weaker}
-use Rattle.getopts.proofs.Weaker.{IfSome-weaker, IfNone-weaker, IsOutOfMemoryOr-weaker}
+use Rattle.std.proofs.lemmas.Option.{IfSome_then}
+use Rattle.getopts.proofs.Weaker.{IfNone-weaker, IsOutOfMemoryOr-weaker}
 use Rattle.getopts.proofs.options.Options.canonical.Goals as goal
 
 pub returns-clause-written : goal.returns-clause-written
 returns-clause-written g c =
     let run = c.in_ok-words.ensures in
     IfOk-weaker c.canonical_words.result _ _
-    (λ answer. IfSome-weaker answer _ _ (λ line is. (run.0, run.1, run.2, is)))
+    (λ answer found. IfSome_then answer found (λ line is. (run.0, run.1, run.2, is)))
     (rw (c.deref.ensures.value ∙ run.3) at c.canonical_words.ensures.written)
 
 pub returns-clause-unwritable : goal.returns-clause-unwritable

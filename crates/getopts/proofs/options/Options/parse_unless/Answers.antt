@@ -28,11 +28,7 @@ returns-clause-parsed g c =
 
 pub returns-clause-result : goal.returns-clause-result
 returns-clause-result g c =
-    rw (
-      c.in_ok-read.ensures.result,
-      sym c.has.ensures ∙ c.if-has.false,
-      returns-clause-parsed g c,
-    ) refl
+    rw (c.in_ok-read.ensures.result, sym c.has.ensures ∙ c.if-has.false, returns-clause-parsed g c) refl
 
 pub returns-clause-accepted : goal.returns-clause-accepted
 returns-clause-accepted g c =

@@ -38,8 +38,7 @@ pub range-name-requires-clause-end_boundary : goal.range-name-requires-clause-en
 range-name-requires-clause-end_boundary g c = after g c
 
 pub range_from-requires-in-Some : goal.range_from-requires-in-Some
-range_from-requires-in-Some g c =
-    λ _. after g (goal.at.range_from-requires-in-Some g c).In-Some
+range_from-requires-in-Some g c = λ _. after g (goal.at.range_from-requires-in-Some g c).In-Some
 
 pub returns-in-Some-clause-ok : goal.returns-in-Some-clause-ok
 returns-in-Some-clause-ok g c =

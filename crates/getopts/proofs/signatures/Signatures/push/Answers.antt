@@ -1,6 +1,6 @@
 -- The appended group has its names at the end of the common text.
-use Rattle.std.proofs.Common.{rules, ◌≡◌, ℕ, ◌+◌, ◌-◌, ◌<◌, ◌≤◌, ◌==◌, cond, not, List, [], ◌∷◌, ◌++◌, length, map, ap, sym}
-use Rattle.std.proofs.Common.{◌∙◌, subst, arith}
+use Rattle.std.proofs.Common.{rules, ◌≡◌, ℕ, ◌+◌, ◌-◌, ◌<◌, ◌≤◌, ◌==◌, cond, not, List, [], ◌∷◌}
+use Rattle.std.proofs.Common.{◌++◌, length, map, ap, sym, ◌∙◌, subst, arith}
 use Rattle.std.proofs.lemmas.Bool.{ne_eqb}
 use Rattle.std.proofs.lemmas.List.Elements.{All-head}
 use Rattle.std.proofs.lemmas.Grind.{common_steps}
@@ -9,8 +9,8 @@ use Rattle.std.specs.List.{AllByRecursion}
 use Rattle.std.specs.String.{string_bytes}
 use Rattle.getopts.specs.Names.{Text, main_name}
 use Rattle.getopts.specs.Options.{Signature}
-use Rattle.getopts.specs.Stored.Signatures.{signature_with, signature_in, HasKeys, IsStored, ends_of}
-use Rattle.getopts.specs.Stored.Signatures.{IsLawfulSignature, pair_at, AreEndsOf}
+use Rattle.getopts.specs.Stored.Signatures.{signature_with, signature_in, HasKeys, IsStored}
+use Rattle.getopts.specs.Stored.Signatures.{ends_of, IsLawfulSignature, pair_at, AreEndsOf}
 use Rattle.getopts.specs.Stored.Names.{key_of, short_code}
 use Rattle.getopts.specs.Stored.Texts.{IsOfBytes}
 use Rattle.getopts.specs.declared.signatures.SignatureRecord.{SignatureRecord}

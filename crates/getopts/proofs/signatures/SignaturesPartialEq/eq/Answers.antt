@@ -3,7 +3,7 @@ use Rattle.std.proofs.Common.{sym, ◌∙◌, ◌≡◌, ◌-◌, true, cond, ma
 use Rattle.std.specs.Cmp.Lexicographic.{pointwise}
 use Rattle.getopts.specs.Names.{Text}
 use Rattle.getopts.specs.Stored.Signatures.{signature_in, same_record, same_kinds, pair_at, ends_of}
-use Rattle.getopts.specs.Stored.Texts.{between}
+use Rattle.std.specs.List.{slice_range}
 use Rattle.std.proofs.lemmas.Slice.Eq.{bytes_eq-Decides}
 use Rattle.std.specs.Str.{bytes_eq}
 use Rattle.std.specs.String.{string_bytes}
@@ -41,8 +41,8 @@ one text r q same =
     let s : (ends_of r).start ≡ (ends_of q).start = λ i. cond (b i == 256) (f i) (f i - 1) in
     let names = and_from (bytes_eq (pair_at text (ends_of r)).0 (pair_at text (ends_of q)).0)
     (bytes_eq (pair_at text (ends_of r)).1 (pair_at text (ends_of q)).1)
-    ((bytes_eq-Decides _ _).1 (λ i. between text (s i) (f i)))
-    ((bytes_eq-Decides _ _).1 (λ i. between text (f i) (e i))) in
+    ((bytes_eq-Decides _ _).1 (λ i. slice_range text (s i) (f i)))
+    ((bytes_eq-Decides _ _).1 (λ i. slice_range text (f i) (e i))) in
     and_from _ (same_kinds r.kinds q.kinds) names short.1
 
 all : (text : Text) (rs qs : List SignatureRecord) → pointwise same_record rs qs ≡ true
