@@ -1,13 +1,15 @@
 -- Computing with literal options, command lines and help texts, and ten command lines as examples.
-use Rattle.std.proofs.Common.{◌≡◌, ℕ, zero, suc, Bool, true, false, nat_lt, List, [], ◌∷◌, Option}
-use Rattle.std.proofs.Common.{Some, None, Result, Ok, Err, codes, refl, ap, subst, arith, ◌==◌, ◌≤◌}
-use Rattle.std.proofs.Common.{◌+◌, ◌&&◌, not, length}
+use Rattle.std.proofs.Common.{◌≡◌, ℕ, Bool, true, false, nat_lt, List, [], ◌∷◌, Option, Some, None}
+use Rattle.std.proofs.Common.{Result, Ok, Err, codes, refl, subst, arith, ◌==◌, ◌≤◌, ◌+◌, ◌&&◌, not}
+use Rattle.std.proofs.Common.{length, rules}
 use Rattle.std.specs.Prelude.{⊤}
+use Rattle.std.specs.Char.{encode_utf8}
 use Rattle.std.specs.List.{list_all}
-use Rattle.std.specs.Str.{IsAscii}
+use Rattle.std.specs.Str.{IsAscii, chars}
 use Rattle.std.proofs.lemmas.Bool.{and_parts, ltb-true}
-use Rattle.std.proofs.lemmas.Str.{IsUtf8-from_ascii, chars-IsAscii, encode_ascii}
-use Rattle.std.proofs.lemmas.Bool.Decides.{nat_tests}
+use Rattle.std.proofs.lemmas.Str.{IsUtf8-from_ascii}
+use Rattle.std.proofs.lemmas.Str.Ascii.{IsAscii-cons}
+use Rattle.std.proofs.lemmas.Grind.{common_steps}
 use Rattle.getopts.specs.Names.{Text, Names, IsLawfullyNamed, AreTexts}
 use Rattle.getopts.specs.Options.{Group, MayBeDeclared, Declared, group_of}
 use Rattle.getopts.specs.Only.{IsTheOnly}
@@ -17,7 +19,7 @@ use Rattle.getopts.specs.Reading.{attached, separate, Tail, line_end, stop, Ment
 use Rattle.getopts.specs.Canon.{content_of}
 use Rattle.getopts.specs.Results.{step, read_both, read, reading_or_error, accepted_reading}
 use Rattle.getopts.specs.Returns.{IsLineOf}
-use Rattle.getopts.specs.Step.{cluster_step, first_char}
+use Rattle.getopts.specs.Step.{cluster_step}
 use Rattle.getopts.specs.Wrap.{width_of}
 use Rattle.getopts.specs.declared.kinds.HasArg.TheVariants.{Yes, No, Maybe}
 use Rattle.getopts.specs.declared.kinds.Occur.TheVariants.{Optional, Multi}
@@ -29,7 +31,7 @@ use Rattle.getopts.proofs.MainTheorem.Results.{HasResults-declared}
 
 -- What a proof unfolds to compute readings, results and matches of a literal line.
 unfoldable pub getopts_on_literals : ⊤
-unfolding step read_both read reading_or_error accepted_reading cluster_step
+unfolding step read_both read reading_or_error accepted_reading cluster_step chars encode_utf8
 getopts_on_literals = tt
 
 -- What a proof unfolds to compute a literal help text.
@@ -51,28 +53,19 @@ are_plain_names names =
     is_plain_short names.short && (not (length names.long == 1) && nat_lt 0
     (length names.short + length names.long))
 
-short_length : (short : Text) → is_plain_short short ≡ true → length short ≤ 1
-short_length [] plain = omega arith
-short_length (byte ∷ []) plain = omega arith
-short_length (byte ∷ other ∷ more) plain = cc
+-- whether all bytes of a text are ASCII
+abbrev pub is_plain_text : Text → Bool
+is_plain_text text = list_all (λ byte. nat_lt byte 128) text
 
-short_ascii : (short : Text) → is_plain_short short ≡ true → IsAscii short
-short_ascii [] plain i = omega arith
-short_ascii (byte ∷ []) plain zero = ltb-true byte 128 plain
-short_ascii (byte ∷ []) plain (suc i) = omega arith
-short_ascii (byte ∷ other ∷ more) plain i = cc
+text_ascii : (text : Text) → is_plain_text text ≡ true → IsAscii text
+text_ascii [] plain = λ i. omega arith
+text_ascii (byte ∷ text) plain = grind (arith, common_steps, and_parts, IsAscii-cons, ltb-true)
+
+short_told : (short : Text) → is_plain_short short ≡ true → (length short ≤ 1) × IsAscii short
+short_told short plain = search (rules, text_ascii)
 
 plain_lawful : (names : Names) → are_plain_names names ≡ true → IsLawfullyNamed names
-plain_lawful names plain =
-    let parts = and_parts (is_plain_short names.short)
-    (not (length names.long == 1) && nat_lt 0 (length names.short + length names.long)) plain in
-    let more = and_parts (not (length names.long == 1))
-    (nat_lt 0 (length names.short + length names.long)) parts.1 in
-    record {
-      short_fits = short_length names.short parts.0;
-      long_fits = grind (arith, nat_tests);
-      named = ltb-true 0 (length names.short + length names.long) more.1;
-    }
+plain_lawful names plain = search (rules, and_parts, short_told, ltb-true)
 
 -- whether all options have such names
 abbrev pub are_plain : List Group → Bool
@@ -85,27 +78,12 @@ lawful_groups (group ∷ groups) plain =
     let parts = and_parts (are_plain_names group.signature.names) (are_plain groups) plain in
     let short = and_parts (is_plain_short names.short)
     (not (length names.long == 1) && nat_lt 0 (length names.short + length names.long)) parts.0 in
-    let others = lawful_groups groups parts.1 in
-    record {
-      named = (plain_lawful names parts.0, others.named);
-      shorts = (IsUtf8-from_ascii names.short (short_ascii names.short short.0), others.shorts);
-    }
+    let others = lawful_groups groups parts.1 in search (rules, plain_lawful, IsUtf8-from_ascii, short_told)
 
 -- literal options may be declared if their names pass this test
 pub MayBeDeclared-plain : (options : Declared) → are_plain options.groups ≡ true
     → MayBeDeclared options.groups
 MayBeDeclared-plain options plain = lawful_groups options.groups plain
-
--- whether all bytes of a text are ASCII
-abbrev pub is_plain_text : Text → Bool
-is_plain_text text = list_all (λ byte. nat_lt byte 128) text
-
-text_ascii : (text : Text) → is_plain_text text ≡ true → IsAscii text
-text_ascii [] plain i = omega arith
-text_ascii (byte ∷ text) plain zero =
-    ltb-true byte 128 (and_parts (nat_lt byte 128) (is_plain_text text) plain).0
-text_ascii (byte ∷ text) plain (suc i) =
-    text_ascii text (and_parts (nat_lt byte 128) (is_plain_text text) plain).1 i
 
 -- literal words are texts if they pass this test
 pub AreTexts-plain : (words : List Text) → list_all is_plain_text words ≡ true → AreTexts words
@@ -113,14 +91,6 @@ AreTexts-plain [] plain = tt
 AreTexts-plain (word ∷ words) plain =
     let parts = and_parts (is_plain_text word) (list_all is_plain_text words) plain in
     (IsUtf8-from_ascii word (text_ascii word parts.0), AreTexts-plain words parts.1)
-
--- The checker can't compute the first character of a text.
--- the first character of an ASCII text is its first byte
-pub first_char-plain : (byte : ℕ) (text : Text) → is_plain_text (byte ∷ text) ≡ true
-    → first_char (byte ∷ text) ≡ byte ∷ []
-first_char-plain byte text plain =
-    rw (chars-IsAscii (byte ∷ text) (text_ascii (byte ∷ text) plain))
-    (encode_ascii byte (text_ascii (byte ∷ text) plain 0))
 
 -- ---- ten command lines
 
@@ -235,11 +205,7 @@ words_after_the_stop = record { only = computed _ _ refl refl; content = refl }
 -- `-vx`: no option is called `x`
 pub unknown_option : IsRejectedWith (codes "-vx" ∷ []) (unrecognized_option (codes "x"))
 unfolding getopts_on_literals
-unknown_option =
-    let line = codes "-vx" ∷ [] in
-    let gives : accepted_reading sample line ≡ Err (unrecognized_option (codes "x")) =
-    ap (λ (name : Text). Err (unrecognized_option name)) (first_char-plain 120 [] refl) in
-    computed line _ refl gives
+unknown_option = computed _ _ refl refl
 
 -- `-oa -ob`: `output` may occur once
 pub option_given_twice : IsRejectedWith (codes "-oa" ∷ codes "-ob" ∷ [])

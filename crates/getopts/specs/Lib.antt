@@ -10,6 +10,8 @@ pub mod Only
 pub mod Names
 -- groups, options, and what parsing uses of them
 pub mod Options
+-- short forms for literal options
+pub mod Declaring
 -- what options end as after a call that returns a reference to them
 pub mod Borrows
 -- errors and their printed texts

@@ -1,8 +1,12 @@
 -- The definitions that most callers import, in one module. Types and variants that Rust declares,
 -- such as `HasArg` and `Yes`, have to be imported from their own modules.
-pub use Rattle.getopts.specs.Names.{Text}
+pub use Rattle.getopts.specs.Names.{Text, texts}
 pub use Rattle.getopts.specs.Options.{Declared, Declares, Group, group_of, with_groups}
+pub use Rattle.getopts.specs.Declaring.{optflag, optflagmulti, optflagopt, optmulti, optopt}
+pub use Rattle.getopts.specs.Declaring.{options_of, reqopt}
 pub use Rattle.getopts.specs.Fail.{Fault, IsOutOfMemoryOr, fail_text, fault_of}
+pub use Rattle.getopts.specs.Fail.{argument_missing, unrecognized_option, option_missing}
+pub use Rattle.getopts.specs.Fail.{option_duplicated, unexpected_argument}
 pub use Rattle.getopts.specs.Matches.{Matched}
 pub use Rattle.getopts.specs.Accessors.{IsDefined, IsParsedAs, first_value, first_value_or}
 pub use Rattle.getopts.specs.Accessors.{occurrences_of_name}

@@ -1,17 +1,14 @@
 -- The greeter's options, and what a command line asks for.
-use Rattle.std.specs.Prelude.{◌≡◌, ⊤, ℕ, false, [], ◌∷◌, ◌++◌, codes}
+use Rattle.std.specs.Prelude.{◌≡◌, ⊤, ℕ, [], ◌∷◌, ◌++◌, codes}
 use Rattle.std.specs.Prelude.{Some, Result, Ok, Err}
 use Rattle.std.specs.Option.{option_map}
 use Rattle.std.specs.Str.Parse.{ParsesUnsigned}
 use Rattle.std.specs.String.{string_bytes}
 use Rattle.std.specs.declared.num.ParseIntError.{ParseIntError}
 use Rattle.getopts.specs.Prelude.{Declared, Fault, IsParsedAs, Matched, Text, fault_of, first_value}
-use Rattle.getopts.specs.Prelude.{group_of, occurrences_of_name}
+use Rattle.getopts.specs.Prelude.{occurrences_of_name, optflag, options_of, optopt, reqopt}
 use Rattle.getopts.specs.declared.fail.Fail.{Fail}
 use Rattle.getopts.specs.declared.fail.Fail.TheVariants as fail
-use Rattle.getopts.specs.declared.kinds.HasArg.TheVariants.{No, Yes}
-use Rattle.getopts.specs.declared.kinds.Occur.TheVariants.{Optional, Req}
-use Rattle.getopts.specs.declared.kinds.ParsingStyle.TheVariants.{FloatingFrees}
 use Rattle.getopts.specs.declared.request.Request.{Request}
 use Rattle.getopts.specs.declared.request.Request.TheVariants.{Help, Parsed, Version}
 use Rattle.getopts_greet.specs.declared.greeting.Greeting.{Greeting}
@@ -20,16 +17,12 @@ use Rattle.getopts_greet.specs.declared.greeting.Refusal.TheVariants.{Line, Numb
 
 -- the greeter's options
 abbrev pub greeter_options : Declared
-greeter_options = record {
-  groups =
-      group_of (codes "n") (codes "name") (codes "greet NAME") (codes "NAME") Yes Req
-      ∷ group_of (codes "t") (codes "times") (codes "greet NUMBER times") (codes "NUMBER") Yes Optional
-      ∷ group_of (codes "h") (codes "help") (codes "print this help") [] No Optional
-      ∷ group_of (codes "V") (codes "version") (codes "print the version") [] No Optional
-      ∷ [];
-  style = FloatingFrees;
-  long_only = false;
-}
+greeter_options = options_of (
+    reqopt (codes "n") (codes "name") (codes "greet NAME") (codes "NAME")
+    ∷ optopt (codes "t") (codes "times") (codes "greet NUMBER times") (codes "NUMBER")
+    ∷ optflag (codes "h") (codes "help") (codes "print this help")
+    ∷ optflag (codes "V") (codes "version") (codes "print the version")
+    ∷ [])
 
 -- the greeter's help, written out
 abbrev pub greeter_help : Text

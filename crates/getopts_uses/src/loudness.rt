@@ -1,10 +1,11 @@
 //! Help, a value, and flags of which the last one wins: how much to print, by `-q` and `-v` in the
 //! order in which they were typed.
 
-ghost use Rattle.std.specs.Prelude.{◌≡◌, [], ◌∷◌, codes, map, Err, IfErr, IfOk, Ok};
+ghost use Rattle.std.specs.Prelude.{◌≡◌, List, [], ◌∷◌, ◌++◌, codes, map, Err, IfErr, IfOk, Ok};
 ghost use Rattle.std.specs.Result.{result_map_both};
-ghost use Rattle.getopts.specs.Prelude.{FitOptionsAndCounts, IsOutOfMemoryOr};
+ghost use Rattle.getopts.specs.Prelude.{FitOptionsAndCounts, IsOutOfMemoryOr, Text};
 ghost use Rattle.getopts.specs.Prelude.{parse_in_order_result, parse_request_result, parse_result};
+ghost use Rattle.getopts.specs.Prelude.{unrecognized_option};
 ghost use Rattle.getopts.specs.declared.request.Request.TheVariants.{Help};
 ghost use Rattle.getopts_uses.specs.Loudness.{IsAskedOrError, IsLoudnessOrError, IsReportOf, after};
 ghost use Rattle.getopts_uses.specs.Loudness.{loudness_at, report_options};
@@ -43,7 +44,8 @@ fn options(alloc: Global) -> Result<Options, AllocError>
     Ok(options)
 }
 
-/// Three command lines written out: the last flag wins, even within a word, and help wins over all.
+/// Command lines written out: the last flag wins, even within a word, and help wins over all. `-5`
+/// is an error, whatever follows.
 #[tactic(auto, unfolding(getopts::proofs::OnLiterals::getopts_on_literals))]
 fn lines_written_out()
     ensures verbose { result_map_both (after Normal) (λ fault. fault) (parse_in_order_result
@@ -51,6 +53,8 @@ fn lines_written_out()
     ensures quiet { result_map_both (after Normal) (λ fault. fault) (parse_in_order_result
         report_options (codes "-vq" ∷ codes "-o" ∷ codes "-v" ∷ [])) ≡ Ok Quiet }
     ensures help { parse_request_result report_options (codes "-vh" ∷ codes "-ox" ∷ []) ≡ Ok Help }
+    ensures number { (text : Text) (words : List Text) → parse_result report_options
+        ((codes "-5" ++ text) ∷ words) ≡ Err (unrecognized_option (codes "5")) }
 {}
 
 /// What a command line asks for: help, or a report. The words are parsed twice. By the clauses
