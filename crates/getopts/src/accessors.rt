@@ -1,6 +1,6 @@
 //! What matches return for an option's name.
 
-ghost use Rattle.std.specs.Prelude.{◌≡◌, ◌↔◌, Some, Ok, IsTrue, map, length, vec_len, ◌<◌, IfOk};
+ghost use Rattle.std.specs.Prelude.{◌≡◌, ◌↔◌, Some, None, Ok, IsTrue, map, length, vec_len, ◌<◌, IfOk};
 ghost use Rattle.std.specs.Prelude.{MatchOption, OnErr, OnOk};
 ghost use Rattle.std.specs.List.{list_any};
 ghost use Rattle.std.specs.Option.{option_copied, option_map};
@@ -20,7 +20,8 @@ use std::str::FromStr;
 
 /// A copy of a text, if there is one.
 fn copied(alloc: Global, text: Option<&str>) -> Result<Option<String>, AllocError>
-    ensures { IfOk result (λ copy. option_map string_bytes copy ≡ option_copied text.entry) }
+    ensures copy { IfOk result (λ copy. option_map string_bytes copy ≡ option_copied text.entry) }
+    ensures absent { option_copied text.entry ≡ None → result ≡ Ok None }
 {
     match text {
         Some(text) => Ok(Some(String::from_str(alloc, text)?)),
@@ -154,6 +155,8 @@ impl Matches {
         requires { IsDefined self.now.groups name.now }
         ensures value { IfOk result (λ value. option_map string_bytes value
             ≡ first_value (occurrences_of_name self.now.groups name.now)) }
+        ensures absent { first_value (occurrences_of_name self.now.groups name.now) ≡ None
+            → result ≡ Ok None }
     {
         copied(alloc, self.held.occurrences_of(name).first_value())
     }
@@ -172,6 +175,8 @@ impl Matches {
         requires { IsDefined self.now.groups name.now }
         ensures value { IfOk result (λ value. option_map string_bytes value
             ≡ first_value_or (occurrences_of_name self.now.groups name.now) def.now) }
+        ensures absent { first_value_or (occurrences_of_name self.now.groups name.now) def.now ≡ None
+            → result ≡ Ok None }
     {
         copied(alloc, self.held.occurrences_of(name).first_value_or(def))
     }
@@ -282,6 +287,8 @@ impl Matches {
         requires { AreDefined self.now.groups (map string_bytes names.now) }
         ensures value { IfOk result (λ value. option_map string_bytes value
             ≡ first_value_among self.now.groups (map string_bytes names.now)) }
+        ensures absent { first_value_among self.now.groups (map string_bytes names.now) ≡ None
+            → result ≡ Ok None }
     {
         copied(alloc, self.first_among(names))
     }
@@ -300,6 +307,8 @@ impl Matches {
         requires { AreDefined self.now.groups (texts names.now) }
         ensures value { IfOk result (λ value. option_map string_bytes value
             ≡ first_value_among self.now.groups (texts names.now)) }
+        ensures absent { first_value_among self.now.groups (texts names.now) ≡ None
+            → result ≡ Ok None }
     {
         copied(alloc, self.first_among(names))
     }
