@@ -360,6 +360,15 @@ def test_definitions_are_explained():
     assert_none(missing)
 
 
+def test_errors_are_listed():
+    """The model, GRAMMAR with its text, and C's header list each error of the library."""
+    faults = re.findall(r"^  (\w+) : Text → Fault$", read("crates/getopts/specs/Fail.antt"), re.M)
+    texts = {fault: TEXTS[fault.title().replace("_", "")].decode() % "NAME" for fault in faults}
+    assert len(faults) == len(TEXTS)
+    assert_none(fault for fault in faults if f"- `{fault}`: `{texts[fault]}`\n" not in read("docs/GRAMMAR.md"))
+    assert_none(fault for fault in faults if f" GETOPTS_{fault.upper()}" not in read("bindings/c/getopts.h"))
+
+
 # Names of the toolchain, of Rust, of glibc and of shells.
 OTHERS = """Send Sync unicode-width x86-64-v2 POSIXLY_CORRECT optind IFS BASH_ENV copied-
     InvalidValue red"""
