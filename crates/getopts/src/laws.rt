@@ -81,6 +81,15 @@ pub fn declared_options_keep_laws()
         → KeepsLineLaws options }
     ensures holds_same { (options : Declared) → MayBeDeclared options.groups
         → OneContentHoldsSame options }
+
+    // The clauses of the main theorem about readings.
+    ensures one_reading { (options : Declared) → MayBeDeclared options.groups → OneReading options }
+    ensures accepted { (options : Declared) → MayBeDeclared options.groups
+        → AcceptedExactlyWhen options }
+    ensures refused { (options : Declared) → MayBeDeclared options.groups
+        → RefusedExactlyWhen options }
+    ensures one_line_one_content { (options : Declared) → MayBeDeclared options.groups
+        → OneLineOneContent options }
 {}
 
 /// Three facts about how the names of options resolve, and that the options may be declared. This
