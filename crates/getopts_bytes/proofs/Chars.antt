@@ -1,14 +1,13 @@
 -- Characters, and texts without marks.
-use Rattle.std.proofs.Common.{◌≡◌, ℕ, suc, ◌+◌, ◌-◌, ◌/◌, ◌%◌, ◌<◌, ◌≤◌, Bool, true, false, ltb}
-use Rattle.std.proofs.Common.{List, [], ◌∷◌, ◌++◌, length, refl, sym, ap, ◌∙◌, append-nil, arith}
+use Rattle.std.proofs.Common.{◌≡◌, ℕ, suc, ◌+◌, ◌-◌, ◌/◌, ◌%◌, ◌<◌, ◌≤◌, Bool, true, false, ltb, List, [], ◌∷◌}
+use Rattle.std.proofs.Common.{length, refl, sym, ap, ◌∙◌, append-nil, arith, rules}
 use Rattle.std.proofs.Math.Utf8.{encode, encodes}
-use Rattle.std.proofs.lemmas.Bool.{false≢true}
 use Rattle.std.proofs.lemmas.Bool.Decides.{nat_tests}
 use Rattle.std.proofs.lemmas.Str.{IsUtf8-from_is_utf8, is_utf8-from_IsUtf8, chars-encodes, encodes-chars}
 use Rattle.std.proofs.lemmas.Str.{chars-IsAscii, IsUtf8-from_ascii}
 use Rattle.std.specs.Char.{IsScalar}
 use Rattle.std.specs.List.{AllByRecursion, flat_map, list_any}
-use Rattle.std.specs.Str.{IsAscii, IsUtf8, chars, continuation_len, is_utf8}
+use Rattle.std.specs.Str.{IsAscii, IsUtf8, chars, continuation_len}
 use Rattle.getopts_bytes.specs.Marks.{is_mark, is_plain, written, mark_of}
 
 -- none of these bytes is ASCII
@@ -63,12 +62,7 @@ ascii_no_marks bytes ascii = ap (list_any is_mark) (chars-IsAscii bytes ascii) �
 -- characters without marks are written as themselves
 pub unmarked_written : (cs : List ℕ) → list_any is_mark cs ≡ false → flat_map written cs ≡ encodes cs
 unmarked_written [] none = refl
-unmarked_written (c ∷ cs) none = by (unmarked_written cs) (is_mark c) refl
-  where
-    by : (list_any is_mark cs ≡ false → flat_map written cs ≡ encodes cs)
-        → (mark : Bool) → is_mark c ≡ mark → flat_map written (c ∷ cs) ≡ encodes (c ∷ cs)
-    by rest true is = absurd (false≢true (sym none ∙ simp is refl))
-    by rest false is = simp is (ap (λ (l : List ℕ). encode c ++ l) (rest (sym (simp is refl) ∙ none)))
+unmarked_written (c ∷ cs) none = search (rules, unmarked_written cs)
 
 -- ---- texts without marks
 
@@ -78,29 +72,16 @@ pub record Plain (bytes : List ℕ) : Type 0 where
   pub unmarked : list_any is_mark (chars bytes) ≡ false
 
 pub plain : (bytes : List ℕ) → is_plain bytes ≡ true → Plain bytes
-plain bytes is = by (is_utf8 bytes) (list_any is_mark (chars bytes)) refl refl
-  where
-    by : (utf8 marked : Bool) → is_utf8 bytes ≡ utf8 → list_any is_mark (chars bytes) ≡ marked → Plain bytes
-    by true false utf8 unmarked = record { utf8 = IsUtf8-from_is_utf8 bytes utf8; unmarked = unmarked }
-    by true true utf8 marked = absurd (false≢true (sym (simp (utf8, marked) refl) ∙ is))
-    by false marked utf8 _ = absurd (false≢true (sym (simp utf8 refl) ∙ is))
+plain bytes is = search (rules, IsUtf8-from_is_utf8)
 
 pub is_plain_of : (bytes : List ℕ) → IsUtf8 bytes → list_any is_mark (chars bytes) ≡ false → is_plain bytes ≡ true
 is_plain_of bytes utf8 unmarked = simp (is_utf8-from_IsUtf8 bytes utf8, unmarked) refl
 
 pub marked_not_plain : (bytes : List ℕ) → list_any is_mark (chars bytes) ≡ true → is_plain bytes ≡ false
-marked_not_plain bytes marked = by (is_utf8 bytes) refl
-  where
-    by : (utf8 : Bool) → is_utf8 bytes ≡ utf8 → is_plain bytes ≡ false
-    by true is = simp (is, marked) refl
-    by false is = simp is refl
+marked_not_plain bytes marked = search rules
 
 pub not_utf8_not_plain : (bytes : List ℕ) → ¬ (IsUtf8 bytes) → is_plain bytes ≡ false
-not_utf8_not_plain bytes not_utf8 = by (is_utf8 bytes) refl
-  where
-    by : (utf8 : Bool) → is_utf8 bytes ≡ utf8 → is_plain bytes ≡ false
-    by true is = absurd (not_utf8 (IsUtf8-from_is_utf8 bytes is))
-    by false is = simp is refl
+not_utf8_not_plain bytes not_utf8 = search (rules, IsUtf8-from_is_utf8)
 
 -- ASCII is plain
 pub ascii_plain : (bytes : List ℕ) → IsAscii bytes → is_plain bytes ≡ true
@@ -121,7 +102,4 @@ mark_chars byte small =
     ∙ chars-encodes (mark_of byte ∷ []) (simp (mark_scalar byte small) refl)
 
 pub mark_written : (byte : ℕ) → 128 ≤ byte → written (mark_of byte) ≡ byte ∷ []
-mark_written byte large =
-    let mark : is_mark (mark_of byte) ≡ true = grind (arith, nat_tests) in
-    let same : mark_of byte - 0x10_FF00 ≡ byte = omega arith in
-    simp (mark, same) refl
+mark_written byte large = search rules

@@ -1,11 +1,9 @@
 -- Where the text of a word can be cut.
-use Rattle.std.proofs.Common.{◌≡◌, ℕ, zero, suc, ◌<◌, ◌≤◌, inl, inr, Bool, true, false}
-use Rattle.std.proofs.Common.{List, [], ◌∷◌, ◌++◌, length, take, drop, refl, sym, ap, subst, ◌∙◌, arith}
-use Rattle.std.proofs.Common.{append_assoc, append-nil}
+use Rattle.std.proofs.Common.{◌≡◌, ℕ, zero, suc, ◌<◌, ◌≤◌, inl, inr, Bool, true, false, List, [], ◌∷◌, ◌++◌, length}
+use Rattle.std.proofs.Common.{take, drop, refl, sym, ap, subst, ◌∙◌, arith, append_assoc, append-nil, rules}
 use Rattle.std.proofs.Math.Seq.{take-append_seam, drop-append_seam}
 use Rattle.std.proofs.Math.Utf8.{encode, encodes}
-use Rattle.std.proofs.lemmas.Bool.{cases_lt, false_from_ne_true}
-use Rattle.std.proofs.lemmas.Bool.Decides.{nat_tests}
+use Rattle.std.proofs.lemmas.Bool.{cases_lt}
 use Rattle.std.proofs.lemmas.List.{length-append, length-take, nil_from_length, take-append-drop, take-append-le}
 use Rattle.std.proofs.lemmas.List.{drop_at, take_at}
 use Rattle.std.proofs.lemmas.Str.{encodes-chars}
@@ -14,6 +12,7 @@ use Rattle.getopts_bytes.specs.Laws.{AreCutAlike}
 use Rattle.getopts_bytes.specs.Marks.{begins_char, is_plain, mark_of, text_from, text_of}
 use Rattle.getopts_bytes.proofs.Chars.{ArePastAscii, lead_of, plain}
 use Rattle.getopts_bytes.proofs.Texts.{begins_ascii, text_char, text_mark}
+use Rattle.std.proofs.lemmas.Grind.{common_steps}
 
 -- ---- one character
 
@@ -36,11 +35,7 @@ record IsWhole (byte : ℕ) (tail : List ℕ) : Type 0 where
 same_whole : (byte other : ℕ) (tail more rest left : List ℕ) → length tail ≡ continuation_len byte
     → length more ≡ continuation_len other → byte ∷ (tail ++ rest) ≡ other ∷ (more ++ left)
     → (byte ≡ other) × (tail ≡ more) × (rest ≡ left)
-same_whole byte other tail more rest left size also same =
-    let first : byte ≡ other = cc in
-    let behind : tail ++ rest ≡ more ++ left = cc in
-    let both = same_front tail more rest left behind (size ∙ ap continuation_len first ∙ sym also) in
-    (first, both.0, both.1)
+same_whole byte other tail more rest left size also same = search (rules, same_front)
 
 -- a text without marks that is no longer than its first byte announces is one character
 one_char : (byte : ℕ) (tail : List ℕ) → is_plain (byte ∷ tail) ≡ true → length tail ≤ continuation_len byte
@@ -66,9 +61,7 @@ one_char byte tail is fits =
 -- what begins a character has that many bytes after it
 whole_of : (byte : ℕ) (bytes : List ℕ) → begins_char byte bytes ≡ true
     → IsWhole byte (take (continuation_len byte) bytes)
-whole_of byte bytes is =
-    one_char byte (take (continuation_len byte) bytes) is
-    (omega (arith, length-take (continuation_len byte) bytes))
+whole_of byte bytes is = search (rules, one_char)
 
 enough : (byte : ℕ) (bytes : List ℕ) → begins_char byte bytes ≡ true → continuation_len byte ≤ length bytes
 enough byte bytes is =
@@ -77,8 +70,7 @@ enough byte bytes is =
 -- so with fewer bytes no character begins
 short_begins_not : (byte : ℕ) (bytes : List ℕ) → length bytes < continuation_len byte
     → begins_char byte bytes ≡ false
-short_begins_not byte bytes short =
-    false_from_ne_true (begins_char byte bytes) (λ is. absurd (omega (arith, short, enough byte bytes is)))
+short_begins_not byte bytes short = search (rules, enough)
 
 -- nor does one that would reach past an ASCII byte
 past_reached : (n : ℕ) (front : List ℕ) (byte : ℕ) (back : List ℕ) → length front < n
@@ -90,27 +82,13 @@ past_reached (suc n) (b ∷ front) byte back short past = past_reached n front b
 -- so an ASCII byte after these changes nothing
 begins_before_ascii : (b : ℕ) (front : List ℕ) (byte : ℕ) (back : List ℕ) → byte < 128
     → begins_char b (front ++ byte ∷ back) ≡ begins_char b front
-begins_before_ascii b front byte back small = elim (cases_lt (length front) (continuation_len b)) [
-  | inl short ↦
-      false_from_ne_true (begins_char b (front ++ byte ∷ back))
-      (λ is. absurd (omega (
-        arith,
-        small,
-        past_reached (continuation_len b) front byte back short
-            (whole_of b (front ++ byte ∷ back) is).past,
-      )))
-      ∙ sym (short_begins_not b front short)
-  | inr long ↦ ap (λ (l : List ℕ). is_plain (b ∷ l)) (take-append-le (continuation_len b) front (byte ∷ back) long)
-]
+begins_before_ascii b front byte back small = grind (arith, common_steps, whole_of)
 
 -- ---- at an ASCII byte
 
 -- ASCII is its own text
 text_ascii : (byte : ℕ) (bytes : List ℕ) → byte < 128 → text_of (byte ∷ bytes) ≡ byte ∷ text_of bytes
-text_ascii byte bytes small =
-    let none : continuation_len byte ≡ 0 = grind (arith, nat_tests) in
-    text_char byte bytes (begins_ascii byte bytes small)
-    ∙ ap (λ (n : ℕ). take (suc n) (byte ∷ bytes) ++ text_of (drop (suc n) (byte ∷ bytes))) none
+text_ascii byte bytes small = search (rules, begins_ascii)
 
 -- what precedes it and what follows it have their own texts
 ascii_from : (n : ℕ) (front : List ℕ) (byte : ℕ) (back : List ℕ) → byte < 128 → n ≤ length front
@@ -130,8 +108,7 @@ ascii_from zero (b ∷ front) byte back small fits =
         rw (begins_before_ascii b front byte back small, is)
         (ap (λ (l : List ℕ). encode (mark_of b) ++ l) (rest 0 (omega arith))
         ∙ sym (append_assoc (encode (mark_of b)) (text_of front) (byte ∷ text_of back)))
-ascii_from (suc n) (b ∷ front) byte back small fits =
-    ap (λ (l : List ℕ). b ∷ l) (ascii_from n front byte back small (omega (arith, fits)))
+ascii_from (suc n) (b ∷ front) byte back small fits = simp (ascii_from n front byte back small (omega (arith, fits)))
 
 pub ascii_stays : (front back : List ℕ) (byte : ℕ) → byte < 128
     → text_of (front ++ byte ∷ back) ≡ text_of front ++ byte ∷ text_of back
@@ -141,14 +118,8 @@ ascii_stays front back byte small = ascii_from 0 front byte back small (omega ar
 
 -- characters that begin the text of a word are the text of its front
 chars_cut : (cs word back : List ℕ) → encodes cs ++ back ≡ text_of word → AreCutAlike word (encodes cs) back
-chars_cut [] word back same =
-    record { first = []; second = word; word_is = refl; front_is = refl; back_is = sym same }
-chars_cut (c ∷ cs) [] back same =
-    let lead = lead_of c in
-    let none : lead.0 ∷ (lead.1 ++ (encodes cs ++ back)) ≡ [] =
-    ap (λ (l : List ℕ). l ++ (encodes cs ++ back)) (sym lead.2)
-    ∙ sym (append_assoc (encode c) (encodes cs) back) ∙ same in
-    absurd cc
+chars_cut [] word back same = search rules
+chars_cut (c ∷ cs) [] back same = search (rules, lead_of c)
 chars_cut (c ∷ cs) (byte ∷ bytes) back same = by (chars_cut cs) (begins_char byte bytes) refl
   where
     -- the text, by its first character
@@ -212,6 +183,4 @@ chars_cut (c ∷ cs) (byte ∷ bytes) back same = by (chars_cut cs) (begins_char
 
 pub cut_alike : (word front back : List ℕ) → text_of word ≡ front ++ back → IsUtf8 front
     → AreCutAlike word front back
-cut_alike word front back same utf8 =
-    subst (λ (l : List ℕ). AreCutAlike word l back) utf8.1.1
-    (chars_cut utf8.0 word back (ap (λ (l : List ℕ). l ++ back) utf8.1.1 ∙ sym same))
+cut_alike word front back same utf8 = search (rules, chars_cut)

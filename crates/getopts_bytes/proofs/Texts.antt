@@ -1,20 +1,18 @@
 -- The text of a word, and the bytes of a text.
-use Rattle.std.proofs.Common.{◌≡◌, ℕ, zero, suc, ◌<◌, ◌≤◌, inl, inr, Bool, true, false}
-use Rattle.std.proofs.Common.{List, [], ◌∷◌, ◌++◌, length, get_or, take, drop, refl, sym, ap, subst, ◌∙◌, arith}
-use Rattle.std.proofs.Common.{append-nil}
+use Rattle.std.proofs.Common.{◌≡◌, ℕ, zero, suc, ◌<◌, ◌≤◌, inl, inr, Bool, true, false, List, [], ◌∷◌, ◌++◌, length}
+use Rattle.std.proofs.Common.{take, drop, refl, sym, ap, subst, ◌∙◌, arith, append-nil, rules}
 use Rattle.std.proofs.Math.Utf8.{encode, encodes, scalar, scalars}
 use Rattle.std.proofs.lemmas.Bool.{cases_lt, false≢true}
-use Rattle.std.proofs.lemmas.Bool.Decides.{nat_tests}
 use Rattle.std.proofs.lemmas.Grind.{flat_map-append}
 use Rattle.std.proofs.lemmas.List.{take-append-drop, take_at, drop_at, length-drop}
 use Rattle.std.proofs.lemmas.Str.{IsUtf8-append, IsUtf8-encode, IsUtf8-nil, chars-append, chars-encodes, chars-nil}
 use Rattle.std.proofs.lemmas.Str.{encodes-chars, scalars-chars}
 use Rattle.std.specs.List.{flat_map, list_any}
-use Rattle.std.specs.Str.{IsAscii, IsUtf8, chars, continuation_len}
+use Rattle.std.specs.Str.{IsUtf8, chars, continuation_len}
 use Rattle.getopts_bytes.specs.Laws.{ComesBack}
-use Rattle.getopts_bytes.specs.Marks.{AreBytes, begins_char, bytes_of, is_mark, is_plain, mark_of, text_from, text_of, written}
-use Rattle.getopts_bytes.proofs.Chars.{Plain, ascii_plain, is_plain_of, lead_of, mark_chars, mark_scalar, mark_written}
-use Rattle.getopts_bytes.proofs.Chars.{plain, plain_bytes}
+use Rattle.getopts_bytes.specs.Marks.{AreBytes, begins_char, bytes_of, is_mark, mark_of, text_from, text_of, written}
+use Rattle.getopts_bytes.proofs.Chars.{Plain, ascii_plain, is_plain_of, lead_of, mark_chars, mark_scalar}
+use Rattle.getopts_bytes.proofs.Chars.{mark_written, plain, plain_bytes}
 
 -- ---- one character more
 
@@ -35,37 +33,15 @@ pub text_mark : (byte : ℕ) (bytes : List ℕ) → begins_char byte bytes ≡ f
     → text_of (byte ∷ bytes) ≡ encode (mark_of byte) ++ text_of bytes
 text_mark byte bytes is = simp is refl
 
--- the same for a word that isn't empty
-pub first_char : (word : List ℕ) → 0 < length word
-    → is_plain (take (suc (continuation_len (get_or word 0 0))) word) ≡ true
-    → text_of word ≡ take (suc (continuation_len (get_or word 0 0))) word
-    ++ text_of (drop (suc (continuation_len (get_or word 0 0))) word)
-first_char [] some is = absurd (omega arith)
-first_char (byte ∷ bytes) some is = text_char byte bytes is
-
-pub first_mark : (word : List ℕ) → 0 < length word
-    → is_plain (take (suc (continuation_len (get_or word 0 0))) word) ≡ false
-    → text_of word ≡ encode (mark_of (get_or word 0 0)) ++ text_of (drop 1 word)
-first_mark [] some is = absurd (omega arith)
-first_mark (byte ∷ bytes) some is = text_mark byte bytes is
-
 -- ---- a word comes back
 
 -- the bytes of two texts
 pub bytes_append : (text more : List ℕ) → IsUtf8 text → bytes_of (text ++ more) ≡ bytes_of text ++ bytes_of more
-bytes_append text more utf8 =
-    ap (flat_map written) (chars-append text more utf8) ∙ flat_map-append written (chars text) (chars more)
+bytes_append text more utf8 = simp (chars-append, flat_map-append)
 
 -- ASCII begins a character
 pub begins_ascii : (byte : ℕ) (bytes : List ℕ) → byte < 128 → begins_char byte bytes ≡ true
-begins_ascii byte bytes small =
-    let none : continuation_len byte ≡ 0 = grind (arith, nat_tests) in
-    subst (λ (n : ℕ). is_plain (take (suc n) (byte ∷ bytes)) ≡ true) (sym none)
-    (ascii_plain (byte ∷ []) only)
-  where
-    only : IsAscii (byte ∷ [])
-    only zero = small
-    only (suc i) = omega arith
+begins_ascii byte bytes small = search (rules, ascii_plain)
 
 bytes_drop : (n : ℕ) (word : List ℕ) → AreBytes word → AreBytes (drop n word)
 bytes_drop zero word bytes = bytes
@@ -99,10 +75,7 @@ comes_back (suc n) (byte ∷ bytes) fits are = by (comes_back n) (begins_char by
         let mark_utf8 = IsUtf8-encode (mark_of byte) (mark_scalar byte are.0) in
         record {
           utf8 = subst IsUtf8 (sym text) (IsUtf8-append (encode (mark_of byte)) (text_of bytes) mark_utf8 rec.utf8);
-          same = ap bytes_of text ∙ bytes_append (encode (mark_of byte)) (text_of bytes) mark_utf8
-              ∙ ap (λ (l : List ℕ). flat_map written l ++ bytes_of (text_of bytes)) (mark_chars byte are.0)
-              ∙ ap (λ (l : List ℕ). (l ++ []) ++ bytes_of (text_of bytes)) (mark_written byte (large marked))
-              ∙ ap (λ (l : List ℕ). byte ∷ l) rec.same;
+          same = search (rules, bytes_append, mark_chars, mark_written, large);
         }
       where
         large : begins_char byte bytes ≡ false → 128 ≤ byte
@@ -123,24 +96,11 @@ text_past_char c more is unmarked =
     let rest = drop_at (lead.0 ∷ lead.1) more (suc (continuation_len lead.0)) len in
     let chars_are : chars (encode c) ≡ c ∷ [] =
     ap chars (sym (append-nil (encode c))) ∙ chars-encodes (c ∷ []) (simp is refl) in
-    let plain_is = is_plain_of (encode c) (IsUtf8-encode c is) (ap (list_any is_mark) chars_are ∙ simp unmarked refl) in
-    ap (λ (l : List ℕ). text_of (l ++ more)) lead.2
-    ∙ text_char lead.0 (lead.1 ++ more) (ap is_plain (front ∙ sym lead.2) ∙ plain_is)
-    ∙ ap (λ (l : List ℕ). l ++ text_of (drop (suc (continuation_len lead.0)) (lead.0 ∷ (lead.1 ++ more)))) (front ∙ sym lead.2)
-    ∙ ap (λ (l : List ℕ). encode c ++ text_of l) rest
+    search (rules, is_plain_of, IsUtf8-encode)
 
 chars_stay : (cs : List ℕ) → scalars cs ≡ true → list_any is_mark cs ≡ false → text_of (encodes cs) ≡ encodes cs
 chars_stay [] are unmarked = refl
-chars_stay (c ∷ cs) are unmarked = by (chars_stay cs) (scalar c) (is_mark c) refl refl
-  where
-    by : (scalars cs ≡ true → list_any is_mark cs ≡ false → text_of (encodes cs) ≡ encodes cs)
-        → (is mark : Bool) → scalar c ≡ is → is_mark c ≡ mark → text_of (encodes (c ∷ cs)) ≡ encodes (c ∷ cs)
-    by rest false mark is _ = absurd (false≢true (sym (simp is refl) ∙ are))
-    by rest true true is mark = absurd (false≢true (sym unmarked ∙ simp mark refl))
-    by rest true false is not_mark =
-        text_past_char c (encodes cs) is not_mark
-        ∙ ap (λ (l : List ℕ). encode c ++ l)
-        (rest (sym (simp is refl) ∙ are) (sym (simp not_mark refl) ∙ unmarked))
+chars_stay (c ∷ cs) are unmarked = search (rules, text_past_char, chars_stay cs)
 
 pub plain_stays : (text : List ℕ) → Plain text → text_of text ≡ text
 plain_stays text is =

@@ -1,7 +1,7 @@
 -- The code that sets variables, as it is written, and the errors of their names.
-use Rattle.std.proofs.Common.{◌≡◌, ◌≢◌, ℕ, Bool, true, false, cond, eqb, List, [], ◌∷◌, ◌++◌}
-use Rattle.std.proofs.Common.{Option, Some, None, refl, sym, ap, ◌∙◌, suc, zero, length, take, drop}
-use Rattle.std.proofs.Common.{map, append_assoc, append-nil, add-one, arith, get_or, ◌+◌, ◌-◌, ◌<◌}
+use Rattle.std.proofs.Common.{◌≡◌, ◌≢◌, ℕ, Bool, true, false, cond, List, [], ◌∷◌, ◌++◌, Option, Some, None, refl, ap}
+use Rattle.std.proofs.Common.{◌∙◌, suc, zero, length, take, drop, map, append_assoc, append-nil, add-one, arith}
+use Rattle.std.proofs.Common.{get_or, ◌+◌, ◌-◌, ◌<◌, rules}
 use Rattle.std.specs.Prelude.{nat_lt, not, slice_get, ◌&&◌}
 use Rattle.std.specs.Char.{is_ascii_digit}
 use Rattle.std.specs.List.{AllByRecursion, find, flat_map, last_or, list_all}
@@ -9,21 +9,21 @@ use Rattle.std.specs.Option.{option_map_or, option_or, unwrap_or}
 use Rattle.std.specs.Str.{bytes_eq}
 use Rattle.std.proofs.lemmas.Bool.{eq-eqb}
 use Rattle.std.proofs.lemmas.Bool.Decides.{nat_tests}
-use Rattle.std.proofs.lemmas.List.{length-map, map-append, take_more}
+use Rattle.std.proofs.lemmas.List.{length-map, take_more}
 use Rattle.std.proofs.lemmas.List.Concat.{flat_map-append}
 use Rattle.std.proofs.lemmas.List.Folds.{list_all-append, list_all-map}
-use Rattle.getopts.specs.Accessors.{each_value, occurrences_of_group}
+use Rattle.getopts.specs.Accessors.{occurrences_of_group}
 use Rattle.getopts.specs.Matches.{GroupOccurrence, MatchedGroup}
 use Rattle.getopts.specs.Names.{Text, main_name}
 use Rattle.getopts.specs.Wrap.{parting}
 use Rattle.getopts_shell.specs.Quote.{quoted, quoted_words, replaced, spaced}
 use Rattle.getopts_shell.specs.Stored.{entries_of, entry_of_row}
 use Rattle.getopts_shell.specs.Table.{Entry}
-use Rattle.getopts_shell.specs.Variables.{first_fault, given_from, is_variable, with_same_variable}
-use Rattle.getopts_shell.specs.Variables.{is_variable_byte, texts_found, variable, variable_byte}
-use Rattle.getopts_shell.specs.Variables.{variable_fault, VariableFault, variable_of}
+use Rattle.getopts_shell.specs.Variables.{first_fault, given_from, is_variable, with_same_variable, is_variable_byte}
+use Rattle.getopts_shell.specs.Variables.{texts_found, variable, variable_byte, variable_fault, VariableFault}
+use Rattle.getopts_shell.specs.Variables.{variable_of}
 use Rattle.getopts_shell.specs.declared.row.Row.{Row}
-use Rattle.getopts_shell.proofs.First.{elements_from}
+use Rattle.std.proofs.lemmas.Grind.{common_steps}
 
 some_lt : (n : ℕ) → true ≡ nat_lt 0 (suc n)
 some_lt n = grind (arith, nat_tests)
@@ -33,13 +33,7 @@ some_lt n = grind (arith, nat_tests)
 -- each byte of a name, as it is in a variable's name
 pub name_written : (name : Text) → flat_map (replaced 45 (95 ∷ [])) name ≡ map variable_byte name
 name_written [] = refl
-name_written (byte ∷ name) = rw (name_written name) (by_test (eqb byte 45))
-  where
-    by_test : (test : Bool)
-        → cond test (95 ∷ []) (byte ∷ []) ++ map variable_byte name
-        ≡ cond test 95 byte ∷ map variable_byte name
-    by_test true = refl
-    by_test false = refl
+name_written (byte ∷ name) = search (rules, name_written name)
 
 -- ---- values
 
@@ -53,15 +47,13 @@ text_of (first ∷ founds) (suc nth) = text_of founds nth
 
 -- there is one text for each occurrence
 pub length_texts : (founds : List GroupOccurrence) → length (texts_found founds) ≡ length founds
-length_texts founds =
-    length-map (each_value founds) (λ (value : Option Text). unwrap_or value [])
-    ∙ length-map founds (λ (found : GroupOccurrence). found.value)
+length_texts founds = simp length-map
 
 -- one more word after a space
 spaced_last : (front : Text) (words : List Text) (word : Text)
     → front ++ flat_map spaced (words ++ word ∷ [])
     ≡ (front ++ flat_map spaced words) ++ (32 ∷ quoted word)
-spaced_last front words word = rw flat_map-append (simp (append-nil, append_assoc))
+spaced_last front words word = rw flat_map-append (simp append_assoc)
 
 -- one more word in quotes
 pub quoted_words_more : (texts : List Text) (nth : ℕ) → nth < length texts
@@ -87,16 +79,12 @@ pub last_text : (texts : List Text) (before : Option Text) → 0 < length texts
     → last_or before texts ≡ Some (get_or texts (length texts - 1) [])
 last_text [] before some = absurd (omega arith)
 last_text (text ∷ []) before some = refl
-last_text (text ∷ other ∷ texts) before some =
-    let next : suc (length (other ∷ texts) - 1) ≡ length (text ∷ other ∷ texts) - 1 = omega arith in
-    rw (← next) (last_text (other ∷ texts) (Some text) (omega arith))
+last_text (text ∷ other ∷ texts) before some = search (rules, last_text (other ∷ texts) (Some text) (omega arith))
 
 -- the value of the last occurrence
 pub last_found : (founds : List GroupOccurrence) (count : ℕ) → count ≡ length founds → count ≢ 0
     → last_or None (texts_found founds) ≡ Some (get_or (texts_found founds) (count - 1) [])
-last_found founds count is some =
-    last_text (texts_found founds) None (omega (arith, length_texts founds))
-    ∙ ap (λ (n : ℕ). Some (get_or (texts_found founds) (n - 1) [])) (length_texts founds ∙ sym is)
+last_found founds count is some = search (rules, last_text, length_texts)
 
 -- one more option
 pub given_more : (place : ℕ) (rows : List Row) (held : List MatchedGroup) (row : Row)
@@ -115,10 +103,7 @@ given_more place rows held row found below is found_is =
         ≡ given_from from (entries_of (take before rows)) held
         ++ record { entry = entry_of_row row; found = occurrences_of_group held place } ∷ []
     by_place from before [] below is here = absurd (omega arith)
-    by_place from zero (other ∷ rows) below is here =
-        let same : other ≡ row = sym is in
-        let at : from ≡ place = omega arith in
-        rw (same, at) refl
+    by_place from zero (other ∷ rows) below is here = search rules
     by_place from (suc before) (other ∷ rows) below is here =
         rw (by_place (from + 1) before rows (omega arith) is (omega arith)) refl
 
@@ -142,8 +127,7 @@ variable_parts prefix name =
 same_front : (front name other : Text)
     → bytes_eq (front ++ name) (front ++ other) ≡ bytes_eq name other
 same_front [] name other = refl
-same_front (byte ∷ front) name other =
-    rw (eq-eqb byte byte refl) (same_front front name other)
+same_front (byte ∷ front) name other = simp (eq-eqb, same_front front name other)
 
 -- the first row that makes the variable of an entry
 pub found_variable : (prefix : Text) (rows : List Row) (entry : Entry)
@@ -151,11 +135,7 @@ pub found_variable : (prefix : Text) (rows : List Row) (entry : Entry)
     ≡ find (λ (other : Entry). bytes_eq (map variable_byte (main_name other.names))
     (map variable_byte (main_name entry.names))) (entries_of rows)
 found_variable prefix [] entry = refl
-found_variable prefix (row ∷ rows) entry =
-    rw (
-      same_front prefix _ (map variable_byte (main_name entry.names)),
-      found_variable prefix rows entry,
-    ) refl
+found_variable prefix (row ∷ rows) entry = simp (same_front, found_variable prefix rows entry)
 
 -- the error from a row on: its own, or else the error from the next row on
 pub fault_from : (prefix : Text) (rows : List Row) (place : ℕ) (row : Row) → place < length rows
@@ -164,11 +144,7 @@ pub fault_from : (prefix : Text) (rows : List Row) (place : ℕ) (row : Row) →
     ≡ option_or (variable_fault prefix (entries_of (take place rows)) (entry_of_row row))
     (first_fault prefix (entries_of (take (place + 1) rows))
     (entries_of (drop (place + 1) rows)))
-fault_from prefix rows place row below row_is =
-    let more : entries_of (take (place + 1) rows)
-    ≡ entries_of (take place rows) ++ entry_of_row row ∷ [] =
-    rw (take_more rows place row below, ← row_is) (simp map-append) in
-    rw (elements_from rows place row row below row_is, more) refl
+fault_from prefix rows place row below row_is = grind (arith, common_steps)
 
 -- an entry without an error makes a variable
 no_fault : (made : Bool) (more : Option VariableFault) (one : VariableFault)

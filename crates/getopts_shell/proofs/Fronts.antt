@@ -1,7 +1,6 @@
 -- What was written of bytes is a prefix of them.
-use Rattle.std.proofs.Common.{◌≡◌, ◌≢◌, ℕ, ◌-◌, zero, suc, List, [], ◌++◌, length, take, drop}
-use Rattle.std.proofs.Common.{Option, Some, None, Result, Ok, Err, inl, inr, ◌∙◌, ap, append-nil}
-use Rattle.std.proofs.Common.{append_assoc, arith, refl, sym}
+use Rattle.std.proofs.Common.{◌≡◌, ◌≢◌, ℕ, ◌-◌, zero, suc, List, [], ◌++◌, length, take, drop, Option, Some, None}
+use Rattle.std.proofs.Common.{Result, Ok, Err, inl, inr, ◌∙◌, append-nil, append_assoc, arith, refl, sym, rules}
 use Rattle.std.specs.Prelude.{OnOk, ◌⊎◌}
 use Rattle.std.specs.Io.KnownBytes.{Appends, Keeps}
 use Rattle.std.proofs.lemmas.List.{take-append-drop, take_rest}
@@ -27,21 +26,17 @@ pub appends_more : (old new again : Option (List ℕ)) (bytes more : List ℕ) �
 appends_more None new again bytes more is also = tt
 appends_more (Some held) None again bytes more is also = absurd is
 appends_more (Some held) (Some now) None bytes more is also = absurd also
-appends_more (Some held) (Some now) (Some then) bytes more is also =
-    also ∙ ap (λ (l : List ℕ). l ++ more) is ∙ append_assoc held bytes more
+appends_more (Some held) (Some now) (Some then) bytes more is also = search (rules, append_assoc)
 
 -- one more piece of the rest
 pub one_more_piece : (all done rest : List ℕ) (count : ℕ) → all ≡ done ++ rest
     → all ≡ (done ++ take count rest) ++ drop count rest
-one_more_piece all done rest count is =
-    is ∙ ap (λ (l : List ℕ). done ++ l) (sym (take-append-drop count rest))
-    ∙ sym (append_assoc done (take count rest) (drop count rest))
+one_more_piece all done rest count is = search (rules, take-append-drop, append_assoc)
 
 -- the same, if a slice cuts the rest
 pub cut_piece : (all done rest : List ℕ) (count : ℕ) → all ≡ done ++ rest
     → all ≡ (done ++ take count rest) ++ take (length rest - count) (drop count rest)
-cut_piece all done rest count is = one_more_piece all done rest count is
-    ∙ ap (λ (l : List ℕ). (done ++ take count rest) ++ l) (sym (take_rest rest count))
+cut_piece all done rest count is = search (rules, one_more_piece, take_rest)
 
 -- a prefix on one of two writers, by the status, and a prefix of the report
 pub shows_front : {Kept : Type 0} (out out_now err err_now err_end : Option (List ℕ))

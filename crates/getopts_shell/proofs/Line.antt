@@ -1,6 +1,5 @@
 -- The canonical line of a script's words.
-use Rattle.std.proofs.Common.{◌≡◌, ◌≢◌, ℕ, zero, suc, false, List, [], ◌∷◌, ◌++◌, Some, None, refl}
-use Rattle.std.proofs.Common.{sym, ◌∙◌}
+use Rattle.std.proofs.Common.{◌≡◌, ◌≢◌, ℕ, zero, suc, false, List, [], ◌∷◌, ◌++◌, Some, None, refl, sym, ◌∙◌, rules}
 use Rattle.std.specs.List.{AllByRecursion}
 use Rattle.std.specs.Option.{option_map_or}
 use Rattle.getopts.specs.Canon.{canonical_word, main_at}
@@ -24,16 +23,12 @@ plain_at (group ∷ groups) plain (suc place) = plain_at groups plain.1 place
 always_plain : (groups : List Group) → ArePlainlyNamed groups → (mentioned : List Mention)
     → AllByRecursion (λ (m : Mention). holds_equals (main_at groups m.group) ≡ false) mentioned
 always_plain groups plain [] = tt
-always_plain groups plain (m ∷ mentioned) = (
-  plain_at groups plain m.group,
-  always_plain groups plain mentioned,
-)
+always_plain groups plain (m ∷ mentioned) = search (rules, plain_at, always_plain groups plain mentioned)
 
 -- there are no words whose content can't be written
 pub never_unwritable : (options : Declared) (words : List Text) → ArePlainlyNamed options.groups
     → IsUnwritable options words → ⊥
-never_unwritable options words plain is = is.not_plain (always_plain options.groups plain
-    is.content.mentions)
+never_unwritable options words plain is = search (rules, always_plain)
 
 -- the canonical word of a main name isn't the stop
 main_no_stop : (groups : List Group) → EmptyResolvesNot (names_of groups) → (m : Mention)
@@ -52,8 +47,7 @@ no_stops : (groups : List Group) → EmptyResolvesNot (names_of groups) → (men
     ≡ Some m.group) mentioned
     → AllByRecursion (λ (m : Mention). canonical_word groups m ≢ stop_word) mentioned
 no_stops groups empty [] sound = tt
-no_stops groups empty (m ∷ mentioned) sound =
-    (main_no_stop groups empty m sound.0, no_stops groups empty mentioned sound.1)
+no_stops groups empty (m ∷ mentioned) sound = search (rules, main_no_stop, no_stops groups empty mentioned sound.1)
 
 -- the facts about a canonical line
 pub tells_words : (options : Declared) (words line : List Text) → AreTexts line

@@ -1,12 +1,11 @@
 -- Lines of a table.
-use Rattle.std.proofs.Common.{◌≡◌, ℕ, ◌<◌, ◌+◌, Bool, true, false, List, [], ◌∷◌, ◌++◌, length}
-use Rattle.std.proofs.Common.{take, drop, get_or, map, refl, sym, ap, ◌∙◌, arith, append-nil}
-use Rattle.std.proofs.Common.{append_assoc, subst, length-append}
-use Rattle.std.specs.Prelude.{◌&&◌, if◌then◌else◌, not, OnOk, Result, Ok, Err, ◌||◌, ◌==◌, IfSome}
-use Rattle.std.specs.Prelude.{Option, Some, None, slice_index, min, ◌-◌, ◌^◌}
+use Rattle.std.proofs.Common.{◌≡◌, ℕ, ◌<◌, ◌+◌, Bool, true, false, List, [], ◌∷◌, ◌++◌, length, take, drop, get_or}
+use Rattle.std.proofs.Common.{map, refl, sym, ap, ◌∙◌, arith, append-nil, append_assoc, subst, length-append, rules}
+use Rattle.std.specs.Prelude.{◌&&◌, OnOk, Result, Ok, Err, ◌||◌, ◌==◌, IfSome, Option, Some, None, slice_index, min}
+use Rattle.std.specs.Prelude.{◌-◌, ◌^◌}
 use Rattle.std.specs.List.{list_any}
 use Rattle.std.specs.Option.{option_to_list}
-use Rattle.std.proofs.lemmas.List.{take-append-drop, at_drop_more, take_more}
+use Rattle.std.proofs.lemmas.List.{at_drop_more, take_more}
 use Rattle.std.proofs.lemmas.List.Concat.{flat_map-append}
 use Rattle.getopts.specs.Names.{Names, Text, is_empty}
 use Rattle.getopts.specs.declared.kinds.HasArg.{HasArg}
@@ -16,14 +15,13 @@ use Rattle.getopts_shell.specs.declared.table.TableError.{TableError}
 use Rattle.getopts_shell.specs.declared.table.TableError.TheVariants as error
 use Rattle.std.specs.Str.{IsTrimAscii}
 use Rattle.std.proofs.lemmas.Str.Ascii.{trim_ascii_is}
-use Rattle.getopts_shell.specs.Table.{after_blanks, trimmed, before_gap, from_gap, Entry, declares_no_option}
-use Rattle.getopts_shell.specs.Table.{IsItem, DeclaresEntry, Declares, Operand, is_operand}
-use Rattle.getopts_shell.specs.Table.{is_skipped, item_of, operand_at, operands_among}
-use Rattle.getopts_shell.specs.Table.{DeclareEntries, DeclareOptions, EachAfter, IsLineFault}
-use Rattle.getopts_shell.specs.Table.{front_after, gap_after, is_gap}
-use Rattle.getopts_shell.specs.Table.{IsTableFault, TableFault, conflicting_operand, line_number, name_again}
-use Rattle.getopts_shell.specs.Table.{no_option, none}
+use Rattle.getopts_shell.specs.Table.{after_blanks, trimmed, before_gap, from_gap, Entry, declares_no_option, IsItem}
+use Rattle.getopts_shell.specs.Table.{DeclaresEntry, Declares, Operand, is_operand, item_of, operand_at}
+use Rattle.getopts_shell.specs.Table.{operands_among, DeclareEntries, DeclareOptions, EachAfter, IsLineFault}
+use Rattle.getopts_shell.specs.Table.{front_after, gap_after, is_gap, IsTableFault, TableFault, conflicting_operand}
+use Rattle.getopts_shell.specs.Table.{line_number, name_again, no_option, none}
 use Rattle.getopts_shell.specs.declared.row.Frequency.{Frequency}
+use Rattle.std.proofs.lemmas.Grind.{common_steps}
 
 -- a test of what is made of elements
 pub list_any_map : {X Y : Type 0} (p : Y → Bool) (f : X → Y) (xs : List X)
@@ -40,10 +38,7 @@ trimmed_is text other is = trim_ascii_is text other (after_blanks text) refl is
 past : (before : Text) (byte : ℕ) (more : Text) → is_gap before (byte ∷ more) ≡ false
     → (front_after before (byte ∷ more) ≡ byte ∷ front_after (before ++ byte ∷ []) more)
     × (gap_after before (byte ∷ more) ≡ gap_after (before ++ byte ∷ []) more)
-past before byte more is = (
-  ap (λ (b : Bool). if b then [] else byte ∷ front_after (before ++ byte ∷ []) more) is,
-  ap (λ (b : Bool). if b then byte ∷ more else gap_after (before ++ byte ∷ []) more) is,
-)
+past before byte more is = search rules
 
 -- no gap begins with a byte that isn't blank
 pub no_blank : (text : Text) (at : ℕ) → at < length text
@@ -65,15 +60,7 @@ pub no_gap : (text : Text) (at : ℕ) → at < length text → is_gap (take at t
     ≡ take (at + 1) text ++ front_after (take (at + 1) text) (drop (at + 1) text))
     × (gap_after (take at text) (drop at text) ≡ gap_after (take (at + 1) text) (drop (at + 1) text))
 no_gap text at below is =
-    let more = at_drop_more (λ (t : Text). t) text at 0 below in
-    let front = take_more text at 0 below in
-    let step = past (take at text) (get_or text at 0) (drop (at + 1) text)
-    (sym (ap (is_gap (take at text)) more) ∙ is) in (
-      ap (λ (t : Text). take at text ++ front_after (take at text) t) more
-          ∙ ap (λ (t : Text). take at text ++ t) step.0 ∙ rw front (simp append_assoc),
-      ap (gap_after (take at text)) more ∙ step.1
-          ∙ ap (λ (t : Text). gap_after t (drop (at + 1) text)) (sym front),
-    )
+    let more = at_drop_more (λ (t : Text). t) text at 0 below in search (rules, take_more, append_assoc)
 
 -- ---- what a line declares
 
@@ -81,32 +68,15 @@ no_gap text at below is =
 abbrev skips : Text → Bool
 skips text = is_empty text || (slice_index text 0 == 35)
 
--- a line that declares something other than an operand isn't passed over
-declares_option : (line text item : Text) → text ≡ trimmed line → skips text ≡ false
-    → item ≡ trimmed (before_gap text) → is_operand item ≡ false → declares_no_option line ≡ false
-declares_option line text item text_is there item_is plain =
-    ap (λ (b : Bool). b || is_operand (item_of line)) (rw text_is at there)
-    ∙ rw (item_is, text_is) at plain
-
 -- the operand that a line would declare
 abbrev operand_made : Text → Operand
 operand_made line =
     record { item = item_of line; description = trimmed (from_gap (trimmed line)) }
 
--- what a line declares by these tests
-operand_by : (line : Text) (skipped operand : Bool) → is_skipped line ≡ skipped
-    → is_operand (item_of line) ≡ operand
-    → operand_at line ≡ (if not skipped && operand then Some (operand_made line) else None)
-operand_by line skipped operand skipped_is is =
-    ap (λ (b : Bool). if not b && is_operand (item_of line) then Some (operand_made line)
-    else None) skipped_is
-    ∙ ap (λ (b : Bool). if not skipped && b then Some (operand_made line) else None) is
-
 -- such a line declares no operand
 pub no_operand_at : (line text item : Text) → text ≡ trimmed line → skips text ≡ false
     → item ≡ trimmed (before_gap text) → is_operand item ≡ false → operand_at line ≡ None
-no_operand_at line text item text_is there item_is plain =
-    operand_by line false false (rw text_is at there) (rw (item_is, text_is) at plain)
+no_operand_at line text item text_is there item_is plain = search rules
 
 -- a line of an operand
 pub declares_operand : (line text item rest description : Text) → text ≡ trimmed line
@@ -115,20 +85,13 @@ pub declares_operand : (line text item rest description : Text) → text ≡ tri
     → (declares_no_option line ≡ true)
     × (operand_at line ≡ Some (record { item = item; description = description }))
 declares_operand line text item rest description text_is there item_is rest_is description_is
-    operand =
-    let skipped : is_skipped line ≡ false = rw text_is at there in
-    let is : is_operand (item_of line) ≡ true = rw (item_is, text_is) at operand in (
-      ap (λ (b : Bool). b || is_operand (item_of line)) skipped ∙ is,
-      operand_by line false true skipped is
-          ∙ rw (description_is, rest_is, item_is, text_is) refl,
-    )
+    operand = search rules
 
 -- the operands of a line among lines
 pub operands_around : (lines : List Text) (line : Text) (more : List Text)
     → operands_among (lines ++ line ∷ more)
     ≡ operands_among lines ++ (option_to_list (operand_at line) ++ operands_among more)
-operands_around lines line more =
-    flat_map-append (λ (line : Text). option_to_list (operand_at line)) lines (line ∷ more)
+operands_around lines line more = simp flat_map-append
 
 -- a line that isn't passed over and has an option declares it
 pub declares_entry : (number : ℕ) (line text item rest description : Text) (entry : Entry)
@@ -139,13 +102,7 @@ pub declares_entry : (number : ℕ) (line text item rest description : Text) (en
     → IsItem item entry.names entry.kind entry.frequency entry.hint
     → DeclaresEntry number line entry
 declares_entry number line text item rest description entry number_is text_is there item_is plain
-    rest_is description_is is of_item =
-    record {
-      number_is = number_is;
-      there = declares_option line text item text_is there item_is plain;
-      item = rw (item_is, text_is) at of_item;
-      description = is ∙ description_is ∙ rw (rest_is, text_is) refl;
-    }
+    rest_is description_is is of_item = search rules
 
 -- a line that isn't passed over and has no option has an error
 pub faulty_line : (line text item : Text) (number : ℕ) (entries : List Entry)
@@ -158,8 +115,7 @@ faulty_line line text item number entries operands text_is there item_is plain n
     rw (item_is, text_is) (none declares_not)
   where
     declares_not : (declared : Option Entry) → ¬ (Declares number line declared)
-    declares_not None is = let both : true ≡ false =
-        sym is ∙ declares_option line text item text_is there item_is plain in cc
+    declares_not None is = search rules
     declares_not (Some entry) is = none_of entry.names entry.kind entry.frequency entry.hint
         (rw (item_is, text_is) is.item)
 
@@ -190,21 +146,7 @@ places (first ∷ before) (other ∷ others) after rest x y same =
 -- with one more element that has the property
 each_push : {X : Type 0} (Is : List X → X → Type 0) (xs : List X) (x : X) → EachAfter Is xs
     → Is xs x → EachAfter Is (xs ++ x ∷ [])
-each_push {X} Is xs x each is before after other parts =
-    by_place (places xs before [] after x other parts)
-  where
-    by_place : Places xs before x other → Is before other
-    by_place (here before_is other_is) = rw (before_is, other_is) is
-    by_place (later more before_is) =
-        absurd (omega (
-          arith,
-          ap length parts,
-          ap length before_is,
-          length-append xs (x ∷ []),
-          length-append before (other ∷ after),
-          length-append xs (x ∷ more),
-        ))
-    by_place (earlier more xs_are) = each before more other xs_are
+each_push {X} Is xs x each is before after other parts = grind (arith, common_steps, places)
 
 -- and with what one more line declares
 each_append : {X : Type 0} (Is : List X → X → Type 0) (xs : List X) (declared : Option X)
@@ -218,21 +160,13 @@ one_more_line : (before : ℕ) (lines : List Text) (line : Text) (number : ℕ) 
     (declared : Option Entry) → DeclareEntries before lines entries
     → number ≡ line_number (before + length lines) → Declares number line declared
     → DeclareEntries before (lines ++ line ∷ []) (entries ++ option_to_list declared)
-one_more_line before [] line number entries declared is_none number_is is = (
-  declared,
-  [],
-  subst (λ (n : ℕ). Declares n line declared) (number_is ∙ omega arith) is,
-  refl,
-  rw is_none (sym (append-nil (option_to_list declared))),
-)
-one_more_line before (first ∷ lines) line number entries declared so_far number_is is = (
-  so_far.0,
-  so_far.1 ++ option_to_list declared,
-  so_far.2,
-  one_more_line (before + 1) lines line number so_far.1 declared so_far.3
-      (number_is ∙ omega arith) is,
-  rw so_far.4 (append_assoc (option_to_list so_far.0) so_far.1 (option_to_list declared)),
-)
+one_more_line before [] line number entries declared is_none number_is is =
+    search (rules, append-nil (option_to_list declared))
+one_more_line before (first ∷ lines) line number entries declared so_far number_is is =
+    search (
+      rules,
+      one_more_line (before + 1) lines line number so_far.1 declared so_far.3 (number_is ∙ omega arith) is,
+    )
 
 -- The lines so far, their number, and what they declare.
 pub record LinesSoFar (lines : List Text) (number : ℕ) (entries : List Entry) : Type 0 where
@@ -241,28 +175,16 @@ pub record LinesSoFar (lines : List Text) (number : ℕ) (entries : List Entry) 
 
 -- before the first line
 each_none : {X : Type 0} (Is : List X → X → Type 0) → EachAfter Is []
-each_none Is before after x is =
-    absurd (omega (arith, ap length is, length-append before (x ∷ after)))
+each_none Is before after x is = search (rules, length-append before (x ∷ after))
 
 pub no_lines : LinesSoFar [] 0 []
-no_lines = record {
-  number_is = omega arith;
-  declared = record {
-    declared = refl;
-    once = each_none (λ before entry. name_again before entry ≡ None);
-    in_order = each_none (λ before operand. conflicting_operand before operand ≡ None);
-  };
-}
+no_lines = search (rules, each_none)
 
 -- the operands of the lines so far and of one more
 pub next_operands : (lines : List Text) (line : Text) (operands more : List Operand)
     → more ≡ operands ++ option_to_list (operand_at line) → operands ≡ operands_among lines
     → more ≡ operands_among (lines ++ line ∷ [])
-next_operands lines line operands more more_is is =
-    more_is ∙ ap (λ (o : List Operand). o ++ option_to_list (operand_at line)) is
-    ∙ ap (λ (o : List Operand). operands_among lines ++ o)
-    (sym (append-nil (option_to_list (operand_at line))))
-    ∙ sym (operands_around lines line [])
+next_operands lines line operands more more_is is = search (rules, operands_around)
 
 -- the lines so far, with one more
 pub next_line : (lines : List Text) (line : Text) (number next : ℕ) (entries more : List Entry)
@@ -277,8 +199,7 @@ next_line lines line number next entries more operands declared so_far next_is i
     operands_are follows = record {
       number_is = omega (arith, so_far.number_is, length-append lines (line ∷ []));
       declared = rw more_is (record {
-        declared = one_more_line 0 lines line next entries declared so_far.declared.declared
-            (omega (arith, next_is, so_far.number_is)) is;
+        declared = search (rules, one_more_line);
         once = each_append (λ before entry. name_again before entry ≡ None) entries declared
             so_far.declared.once new;
         in_order = subst (EachAfter (λ before operand. conflicting_operand before operand ≡ None))
@@ -291,9 +212,7 @@ next_line lines line number next entries more operands declared so_far next_is i
 -- a list in three parts
 in_parts : (all : List Text) (n : ℕ) (x : Text) → n < length all → x ≡ get_or all n x
     → all ≡ take n all ++ x ∷ drop (n + 1) all
-in_parts all n x below is =
-    sym (take-append-drop n all)
-    ∙ rw (at_drop_more (λ (t : List Text). t) all n x below, ← is) refl
+in_parts all n x below is = grind (arith, common_steps)
 
 -- the error of a line is the table's
 pub table_fault : (table : Text) (lines : List Text) (line : Text) (number next : ℕ)
@@ -305,18 +224,7 @@ pub table_fault : (table : Text) (lines : List Text) (line : Text) (number next 
     → operands ≡ operands_among lines → IsLineFault next entries operands line fault
     → IsTableFault table fault
 table_fault table lines line number next entries operands fault so_far_are below line_is so_far
-    next_is operands_are is =
-    record {
-      before = lines;
-      line = line;
-      after = drop (length lines + 1) (lines_of table);
-      lines_are = in_parts (lines_of table) (length lines) line below line_is
-          ∙ rw (← so_far_are) refl;
-      entries = entries;
-      declared = so_far.declared;
-      fault_at = subst (λ (n : ℕ). IsLineFault n entries (operands_among lines) line fault)
-          (next_is ∙ omega (arith, so_far.number_is)) (rw operands_are at is);
-    }
+    next_is operands_are is = search (rules, in_parts (lines_of table) (length lines) line below line_is)
 
 -- two facts of what succeeds give a third
 pub ok_of_both : {T E P Q R : Type 0} (r : Result T E) → OnOk r P → OnOk r Q → (P → Q → R)

@@ -1,26 +1,20 @@
 -- Words have one answer, with a status of 0, 2 or 5.
-use Rattle.std.proofs.Common.{◌≡◌, ◌≢◌, ◌≤◌, ℕ, Bool, true, false, Result, Ok, Err, List, [], ◌∷◌}
-use Rattle.std.proofs.Common.{Option, Some, None, arith, ap, refl, subst, sym, ◌∙◌}
+use Rattle.std.proofs.Common.{◌≡◌, ◌≢◌, ◌≤◌, ℕ, Bool, true, false, Result, Ok, Err, List, [], ◌∷◌, Option, Some, None}
+use Rattle.std.proofs.Common.{ap, refl, subst, sym, ◌∙◌, rules}
 use Rattle.std.specs.Prelude.{MatchOption, MatchResult, codes}
 use Rattle.std.specs.Bool.{MatchBool}
 use Rattle.std.specs.Option.{option_map_or}
-use Rattle.std.specs.List.{find}
 use Rattle.getopts.specs.Matches.{Matched}
 use Rattle.getopts.specs.Names.{Text}
 use Rattle.getopts.specs.Only.{IsTheOnly}
-use Rattle.getopts.specs.Results.{canonical_result, parse_ignoring_counts_result, parse_result}
-use Rattle.getopts_shell.specs.Completion.{functions, stub}
-use Rattle.getopts_shell.specs.Program.{Answer, AnswersAlone, AnswersCounted, AnswersDeclared}
-use Rattle.getopts_shell.specs.Program.{AnswersFree, AnswersLine, AnswersOffer, AnswersOwn}
-use Rattle.getopts_shell.specs.Program.{AnswersAccepted, AnswersRead, AnswersScript, AnswersTable}
-use Rattle.getopts_shell.specs.Program.{free_fault, AnswersWords, Asked, IsAnswer, IsHelp, IsOutput, IsStatus}
-use Rattle.getopts_shell.specs.Program.{IsVariablesCode, OneAnswer, PrintsHelp, Script, asked_by}
-use Rattle.getopts_shell.specs.Program.{asked_fault, asks_help, brief_text, declared, done, faulty}
-use Rattle.getopts_shell.specs.Program.{help_front, shown_options, help_code, is_alone, is_given}
-use Rattle.getopts_shell.specs.Program.{misused, no_completion, own_options, read_options, sets_nothing}
-use Rattle.getopts_shell.specs.Program.{table_fault_line}
+use Rattle.getopts.specs.Results.{parse_result}
+use Rattle.getopts_shell.specs.Program.{Answer, AnswersAlone, AnswersCounted, AnswersDeclared, AnswersFree}
+use Rattle.getopts_shell.specs.Program.{AnswersOffer, AnswersOwn, AnswersRead, AnswersScript, AnswersTable}
+use Rattle.getopts_shell.specs.Program.{AnswersWords, Asked, IsAnswer, IsHelp, IsOutput, IsStatus, OneAnswer}
+use Rattle.getopts_shell.specs.Program.{PrintsHelp, Script, asked_by, brief_text, declared, done, faulty, help_front}
+use Rattle.getopts_shell.specs.Program.{shown_options, help_code, is_given, misused, own_options, sets_nothing}
 use Rattle.getopts.specs.Usage.{IsUsageText}
-use Rattle.getopts_shell.specs.Table.{Entry, TableFault, is_word, operands_in}
+use Rattle.getopts_shell.specs.Table.{Entry, is_word, operands_in}
 use Rattle.getopts_shell.proofs.Only.{one_table, one_fault, no_fault}
 
 -- ---- statuses
@@ -35,16 +29,13 @@ by_status : (status : ℕ) → status ≤ 5 → status ≢ 1 → status ≢ 3 �
 by_status status low one three four = record { known = (low, one); memory = three; written = four }
 
 is_done : AnswersBy 0
-is_done = by_status 0 (omega arith) (λ is. absurd (omega arith)) (λ is. absurd (omega arith))
-    (λ is. absurd (omega arith))
+is_done = search rules
 
 is_refused : AnswersBy 2
-is_refused = by_status 2 (omega arith) (λ is. absurd (omega arith)) (λ is. absurd (omega arith))
-    (λ is. absurd (omega arith))
+is_refused = search rules
 
 is_misused : AnswersBy 5
-is_misused = by_status 5 (omega arith) (λ is. absurd (omega arith)) (λ is. absurd (omega arith))
-    (λ is. absurd (omega arith))
+is_misused = search rules
 
 -- ---- at most one answer
 
@@ -57,15 +48,6 @@ one_equal : (answer : Answer) → AnswersBy answer.status → IsOne (λ other. o
 one_equal answer by = record {
   only = λ one other is also. also ∙ sym is;
   by = λ other is. subst (λ (a : Answer). AnswersBy a.status) (sym is) by;
-}
-
-one_never : IsOne (λ answer. ⊥)
-one_never = record { only = λ one other is also. absurd is; by = λ answer is. absurd is }
-
-one_with : {Fact : Type 0} {Is : Answer → Type 0} → IsOne Is → IsOne (λ answer. Fact × Is answer)
-one_with one = record {
-  only = λ answer other is also. one.only answer other is.1 also.1;
-  by = λ answer is. one.by answer is.1;
 }
 
 one_bool : (test : Bool) {Then Else : Answer → Type 0} → IsOne Then → IsOne Else
@@ -109,32 +91,11 @@ one_help script {Is} one = record {
   by = λ answer is. (one is.0).by answer is.2;
 }
 
-one_tells : (script : Script) (prefix : Text) (options : List _) (free : List Text)
-    → IsOne (IsVariablesCode script prefix options free)
-one_tells script prefix options free = record {
-  only = λ answer other is also. also.answer_is ∙ sym is.answer_is;
-  by = λ answer is. subst (λ (a : Answer). AnswersBy a.status) (sym is.answer_is) is_done;
-}
-
 one_alone : (script : Script) (entry : Entry) → IsOne (AnswersAlone script entry)
-one_alone script entry = one_option script.asked.variables (one_with (one_equal _ is_done))
-    (λ prefix. one_tells script prefix _ [])
-
-one_line : (script : Script) (words : List Text) → IsOne (AnswersLine script words)
-one_line script words = one_result (canonical_result (read_options script) words)
-    (λ written. one_option written one_never (λ line. one_with (one_equal _ is_done)))
-    (λ fault. one_equal _ is_refused)
-
-one_accepted : (script : Script) (words : List Text) (matches : Matched)
-    → IsOne (AnswersAccepted script words matches)
-one_accepted script words matches = one_option script.asked.variables (one_line script words)
-    (λ prefix. one_tells script prefix _ matches.free)
+one_alone script entry = search rules
 
 one_counted : (script : Script) (words : List Text) → IsOne (AnswersCounted script words)
-one_counted script words = one_result (parse_result (read_options script) words)
-    (λ matches. one_option (free_fault script.operands matches.free)
-    (one_accepted script words matches) (λ fault. one_equal _ is_refused))
-    (λ fault. one_equal _ is_refused)
+one_counted script words = search rules
 
 one_printed : (script : Script) → IsOne (PrintsHelp script)
 one_printed script = record {
@@ -151,23 +112,17 @@ one_uncounted script words alone = one_option alone (one_counted script words) (
 
 one_read : (script : Script) (words : List Text) (matches : Matched)
     → IsOne (AnswersRead script words matches)
-one_read script words matches = one_bool (asks_help script.entries matches) (one_printed script)
-    (one_uncounted script words (find (is_alone matches) script.entries))
+one_read script words matches = search (rules, one_bool, one_printed, one_uncounted)
 
 one_words : (script : Script) (words : List Text) → IsOne (AnswersWords script words)
-one_words script words = one_result (parse_ignoring_counts_result (read_options script) words)
-    (one_read script words) (λ fault. one_equal _ is_refused)
+one_words script words = search (rules, one_result, one_read, one_equal, is_refused)
 
 one_at_word : (script : Script) (shell : Text) (words : List Text)
     → IsOne (AnswersOffer script shell words)
-one_at_word script shell words = one_option (functions shell) (one_equal _ is_misused)
-    (λ functions. one_equal _ is_done)
+one_at_word script shell words = search rules
 
 one_script : (script : Script) (words : List Text) → IsOne (AnswersScript script words)
-one_script script words = one_bool script.asked.usage
-    (one_help script (λ help. one_equal _ is_done))
-    (one_option script.asked.complete_words (one_words script words)
-    (λ shell. one_at_word script shell words))
+one_script script words = search (rules, one_bool, one_help, one_equal, is_done, one_option, one_words, one_at_word)
 
 by_completion : (fault : Text) (code : Option Text)
     → AnswersBy (option_map_or done code (misused fault)).status
@@ -176,11 +131,7 @@ by_completion fault None = is_misused
 
 one_declared : (script : Script) (table : Text) (words : List Text)
     → IsOne (AnswersDeclared script table words)
-one_declared script table words = one_option script.asked.complete
-    (one_option (asked_fault script.asked script.entries)
-    (one_script script words) (λ fault. one_equal _ is_misused))
-    (λ shell. one_equal _ (by_completion (no_completion shell).text
-    (stub shell script.asked.stop script.asked.long_only script.name table)))
+one_declared script table words = search (rules, one_option, one_script, one_equal, is_misused, by_completion)
 
 one_of_table : (asked : Asked) (name table : Text) (words : List Text)
     → IsOne (AnswersTable asked name table words)
@@ -197,9 +148,7 @@ one_of_table asked name table words = record { only = only; by = by }
     only : (answer other : Answer) → AnswersTable asked name table words answer
         → AnswersTable asked name table words other → other ≡ answer
     only answer other (faulty fault is said) (faulty another also again) =
-        again ∙ ap (λ (f : TableFault). misused (table_fault_line f)) (one_fault table fault another
-        is also)
-        ∙ sym said
+        search (rules, one_fault table fault another is also)
     only answer other (faulty fault is said) (declared entries are answers) =
         absurd (no_fault table entries fault are is)
     only answer other (declared entries are answers) (faulty fault is said) =

@@ -1,20 +1,18 @@
 -- A table declares at most one list of options, or has only one error.
-use Rattle.std.proofs.Common.{◌≡◌, ℕ, true, false, List, [], ◌∷◌, ◌++◌, length, Option, Some, None}
-use Rattle.std.proofs.Common.{refl, sym, ap, subst, ◌∙◌, append_assoc, arith, ◌+◌, Bool}
-use Rattle.std.specs.Prelude.{◌||◌, ◌&&◌, if◌then◌else◌, not}
+use Rattle.std.proofs.Common.{◌≡◌, ℕ, true, false, List, [], ◌∷◌, ◌++◌, length, Option, Some, None, refl, sym, ap}
+use Rattle.std.proofs.Common.{subst, ◌∙◌, append_assoc, arith, ◌+◌, rules}
 use Rattle.std.specs.Option.{option_to_list}
 use Rattle.getopts.specs.Names.{Names, Text}
 use Rattle.getopts.specs.declared.kinds.HasArg.{HasArg}
 use Rattle.getopts.specs.Wrap.{lines_of}
-use Rattle.getopts_shell.specs.Table.{AreNames, Entry, IsItem, HasParts, IsArgument, is_operand}
-use Rattle.getopts_shell.specs.Table.{declares_no_option, is_skipped, item_of, Declares, DeclareEntries}
-use Rattle.getopts_shell.specs.Table.{DeclaresOptions, OneTableOneList, DeclareOptions, name_again}
-use Rattle.getopts_shell.specs.Table.{TableFault, name_twice, IsLineFault, IsTableFault, Operand}
-use Rattle.getopts_shell.specs.Table.{conflicting_operand, late, line_number, late_operand, none, operand_at}
+use Rattle.getopts_shell.specs.Table.{Entry, IsItem, HasParts, declares_no_option, Declares, DeclareEntries}
+use Rattle.getopts_shell.specs.Table.{DeclaresOptions, OneTableOneList, DeclareOptions, name_again, TableFault}
+use Rattle.getopts_shell.specs.Table.{IsLineFault, IsTableFault, Operand, late, line_number, none, operand_at}
 use Rattle.getopts_shell.specs.Table.{operands_among, twice}
 use Rattle.getopts_shell.specs.declared.row.Frequency.{Frequency}
-use Rattle.getopts_shell.proofs.Lines.{Places, here, later, earlier, operands_around, places}
-use Rattle.getopts_shell.proofs.Items.{one_bracketed, one_pair, one_names, one_argument}
+use Rattle.getopts_shell.proofs.Lines.{operands_around, places}
+use Rattle.getopts_shell.proofs.Items.{one_bracketed, one_pair}
+use Rattle.std.proofs.lemmas.Grind.{common_steps}
 
 -- an item has only one meaning
 one_item : (text : Text) (own others : Names) (kind other : HasArg) (frequency another : Frequency)
@@ -24,11 +22,7 @@ one_item text own others kind other frequency another hint behind is also =
     let same = one_bracketed text is.inside also.inside frequency another is.brackets also.brackets in
     let pair = one_pair is.inside is.names also.names is.argument also.argument is.parts
     (subst (λ (t : Text). HasParts t also.names also.argument) same.0 also.parts) in
-    let names = one_names own others is.names is.names_are
-    (subst (AreNames others) pair.0 also.names_are) in
-    let argument = one_argument kind other hint behind is.argument is.argument_is
-    (subst (λ (a : Option Text). IsArgument other behind a) pair.1 also.argument_is) in
-    (names, argument.0, same.1, argument.1)
+    grind (arith, common_steps)
 
 -- an entry with these parts
 abbrev made : ℕ → Names → HasArg → Frequency → Text → Text → Entry
@@ -45,10 +39,8 @@ made line names kind frequency hint description = record {
 one_declared : (number : ℕ) (line : Text) (declared other : Option Entry)
     → Declares number line declared → Declares number line other → other ≡ declared
 one_declared number line None None is also = refl
-one_declared number line None (Some entry) is also =
-    let both : true ≡ false = sym is ∙ also.there in cc
-one_declared number line (Some entry) None is also =
-    let both : true ≡ false = sym also ∙ is.there in cc
+one_declared number line None (Some entry) is also = search rules
+one_declared number line (Some entry) None is also = search rules
 one_declared number line (Some entry) (Some other) is also =
     let same = one_item _ entry.names other.names entry.kind other.kind entry.frequency other.frequency
     entry.hint other.hint is.item also.item in
@@ -58,32 +50,19 @@ one_declared number line (Some entry) (Some other) is also =
     one_entry : (entry other : Entry) → other.line ≡ entry.line → other.names ≡ entry.names
         → other.kind ≡ entry.kind → other.frequency ≡ entry.frequency → other.hint ≡ entry.hint
         → other.description ≡ entry.description → other ≡ entry
-    one_entry entry other line names kind frequency hint description =
-        ap (λ (l : ℕ). made l other.names other.kind other.frequency other.hint other.description) line
-        ∙ ap (λ (n : Names). made entry.line n other.kind other.frequency other.hint other.description)
-        names
-        ∙ ap (λ (k : HasArg). made entry.line entry.names k other.frequency other.hint
-        other.description) kind
-        ∙ ap (λ (o : Frequency). made entry.line entry.names entry.kind o other.hint other.description)
-        frequency
-        ∙ ap (λ (h : Text). made entry.line entry.names entry.kind entry.frequency h other.description)
-        hint
-        ∙ ap (made entry.line entry.names entry.kind entry.frequency entry.hint) description
+    one_entry entry other line names kind frequency hint description = search rules
 
 -- lines declare only one list of entries
 one_entries : (before : ℕ) (lines : List Text) (entries others : List Entry)
     → DeclareEntries before lines entries → DeclareEntries before lines others → others ≡ entries
 one_entries before [] entries others is also = also ∙ sym is
 one_entries before (line ∷ lines) entries others is also =
-    let first = one_declared (line_number before) line is.0 also.0 is.2 also.2 in
-    let rest = one_entries (before + 1) lines is.1 also.1 is.3 also.3 in
-    also.4 ∙ rw (first, rest) (sym is.4)
+    search (rules, one_declared, one_entries (before + 1) lines is.1 also.1 is.3 also.3)
 
 -- lines declare at most one list of options
 one_list : (lines : List Text) (entries others : List Entry) → DeclareOptions lines entries
     → DeclareOptions lines others → others ≡ entries
-one_list lines entries others is also =
-    one_entries 0 lines entries others is.declared also.declared
+one_list lines entries others is also = search (rules, one_entries)
 
 -- and so does a table
 pub one_table : OneTableOneList
@@ -135,31 +114,18 @@ no_fault_at before after line entries all fault so_far whole =
         let entry_is : entry ≡ other = cc in
         let both : Some name ≡ None = sym again ∙ ap (name_again entries) entry_is
         ∙ whole.once entries others other all_is in cc
-    by_line _ (late operand blocking is conflicts) =
-        let both : Some blocking ≡ None = sym conflicts ∙ whole.in_order (operands_among before)
-        (operands_among after) operand (operands_around before line after
-        ∙ ap (λ (declared : Option Operand). operands_among before
-        ++ (option_to_list declared ++ operands_among after)) is) in cc
+    by_line _ (late operand blocking is conflicts) = search (rules, operands_around before line after)
 
 -- a table that declares options has no error
 pub no_fault : (table : Text) (entries : List Entry) (fault : TableFault)
     → DeclaresOptions table entries
     → ¬ (IsTableFault table fault)
-no_fault table entries fault declares is =
-    no_fault_at is.before is.after is.line is.entries entries fault is.declared
-    (rw is.lines_are at declares) is.fault_at
+no_fault table entries fault declares is = search (rules, no_fault_at)
 
 -- the line of an operand declares no option
 operand_declares_no_option : (line : Text) (operand : Operand)
     → operand_at line ≡ Some operand → declares_no_option line ≡ true
-operand_declares_no_option line operand is = by_tests _ (is_skipped line) (is_operand (item_of line)) is
-  where
-    by_tests : (there : Operand) (skipped of_operand : Bool)
-        → (if not skipped && of_operand then Some there else None) ≡ Some operand
-        → (skipped || of_operand) ≡ true
-    by_tests there true of_operand is = refl
-    by_tests there false true is = refl
-    by_tests there false false is = absurd cc
+operand_declares_no_option line operand is = search rules
 
 -- a line has at most one error
 one_line_fault : (number : ℕ) (entries : List Entry) (operands : List Operand) (line : Text)
@@ -171,50 +137,20 @@ one_line_fault number entries operands line fault other (none is) (twice entry n
 one_line_fault number entries operands line fault other (twice entry name of again) (none is) =
     absurd (is (Some entry) of)
 one_line_fault number entries operands line fault other (twice entry name of again)
-    (twice also another of_also again_also) =
-    let same = one_declared number line (Some entry) (Some also) of of_also in
-    let entry_is : also ≡ entry = cc in
-    let names : Some another ≡ Some name = sym again_also ∙ ap (name_again entries) entry_is
-    ∙ again in
-    let name_is : another ≡ name = cc in
-    ap (name_twice number) name_is
+    (twice also another of_also again_also) = cc (one_declared number line (Some entry) (Some also) of of_also)
 one_line_fault number entries operands line fault other (late operand blocking is conflicts)
-    (late also another at_also conflicts_also) =
-    let same : Some also ≡ Some operand = sym at_also ∙ is in
-    let operand_is : also ≡ operand = cc in
-    let found : Some another ≡ Some blocking = sym conflicts_also
-    ∙ ap (conflicting_operand operands) operand_is ∙ conflicts in
-    let other_is : another ≡ blocking = cc in
-    ap (late_operand number also) other_is
-    ∙ ap (λ (o : Operand). late_operand number o blocking) operand_is
+    (late also another at_also conflicts_also) = search rules
 one_line_fault number entries operands line fault other (late operand blocking is conflicts) (none also) =
     absurd (also None (operand_declares_no_option line operand is))
 one_line_fault number entries operands line fault other (none is) (late operand blocking at conflicts) =
     absurd (is None (operand_declares_no_option line operand at))
 one_line_fault number entries operands line fault other (late operand blocking is conflicts)
-    (twice entry name of again) =
-    let both : true ≡ false = sym (operand_declares_no_option line operand is) ∙ of.there in cc
+    (twice entry name of again) = search rules
 one_line_fault number entries operands line fault other (twice entry name of again)
-    (late operand blocking at conflicts) =
-    let both : true ≡ false = sym (operand_declares_no_option line operand at) ∙ of.there in cc
+    (late operand blocking at conflicts) = search rules
 
 -- a table has at most one error
 pub one_fault : (table : Text) (fault other : TableFault) → IsTableFault table fault
     → IsTableFault table other
     → other ≡ fault
-one_fault table fault other is also =
-    by_place (places is.before also.before is.after also.after is.line also.line
-    (sym is.lines_are ∙ also.lines_are))
-  where
-    by_place : Places is.before also.before is.line also.line → other ≡ fault
-    by_place (here before_is line_is) =
-        let entries_are = one_list is.before is.entries also.entries is.declared
-        (rw before_is at also.declared) in
-        one_line_fault (line_number (length is.before)) is.entries (operands_among is.before)
-        is.line fault other is.fault_at (rw (before_is, entries_are, line_is) at also.fault_at)
-    by_place (later more others_are) =
-        absurd (no_fault_at is.before more is.line is.entries also.entries fault is.declared
-        (rw others_are at also.declared) is.fault_at)
-    by_place (earlier more before_is) =
-        absurd (no_fault_at also.before more also.line also.entries is.entries other also.declared
-        (rw before_is at is.declared) also.fault_at)
+one_fault table fault other is also = search (rules, places, one_list, one_line_fault, no_fault_at)

@@ -1,8 +1,6 @@
 -- Operands, one after the other.
-use Rattle.std.proofs.Common.{◌≡◌, ℕ, ◌<◌, ◌≤◌, ◌+◌, Bool, true, false, List, [], ◌∷◌, ◌++◌, length}
-use Rattle.std.proofs.Common.{drop, get_or, map, take, Some, None, refl, ap, ◌∙◌, arith, ◌-◌, suc}
-use Rattle.std.proofs.Common.{zero}
-use Rattle.std.proofs.Math.ListN.{drop_of_length-le}
+use Rattle.std.proofs.Common.{◌≡◌, ℕ, ◌<◌, ◌≤◌, ◌+◌, Bool, List, [], ◌∷◌, ◌++◌, length, drop, get_or, map, take, Some}
+use Rattle.std.proofs.Common.{None, refl, ap, ◌∙◌, arith, ◌-◌, suc, zero, rules}
 use Rattle.std.specs.Prelude.{◌||◌, codes, if◌then◌else◌, nat_lt}
 use Rattle.std.specs.List.{AllZip}
 use Rattle.getopts.specs.Only.{IsTheOnly}
@@ -12,8 +10,8 @@ use Rattle.std.proofs.lemmas.List.{at_drop_more}
 use Rattle.std.proofs.lemmas.Grind.{common_steps}
 use Rattle.getopts.specs.Wrap.{IsDescriptionRows, joined, parting}
 use Rattle.getopts.specs.Names.{Text}
-use Rattle.getopts_shell.specs.Program.{IsOperandRow, free_fault, operand_fault, operand_head}
-use Rattle.getopts_shell.specs.Program.{continued, help_front, unexpected}
+use Rattle.getopts_shell.specs.Program.{IsOperandRow, free_fault, operand_fault, operand_head, continued, help_front}
+use Rattle.getopts_shell.specs.Program.{unexpected}
 use Rattle.getopts_shell.specs.Stored.{operand_of, operands_of}
 use Rattle.getopts_shell.specs.Table.{Operand, may_repeat}
 use Rattle.getopts_shell.specs.declared.operand.Operand.{Operand as StoredOperand}
@@ -23,17 +21,6 @@ pub fault_of_some : (operands : List StoredOperand) (free : List Text) → 0 < l
     → free_fault (operands_of operands) free ≡ operand_fault (operands_of operands) free
 fault_of_some [] free some = absurd (omega arith)
 fault_of_some (operand ∷ operands) free some = refl
-
--- if no word is left for an operand, it decides
-pub fault_at_end : (operands : List StoredOperand) (free : List Text) (at : ℕ) (d : StoredOperand)
-    → at < length operands → length free ≤ at
-    → operand_fault (operands_of (drop at operands)) (drop at free)
-    ≡ operand_fault (operand_of (get_or operands at d) ∷ []) []
-fault_at_end operands free at d below past =
-    ap (λ (more : List StoredOperand). operand_fault (operands_of more) (drop at free))
-    (at_drop_more (λ (t : List StoredOperand). t) operands at d below)
-    ∙ ap (operand_fault (operands_of (get_or operands at d ∷ drop (at + 1) operands)))
-    (drop_of_length-le free past)
 
 -- a word is the operand's, or all from there on are
 pub fault_from : (operands : List StoredOperand) (free : List Text) (at : ℕ) (d : StoredOperand)
@@ -56,27 +43,7 @@ pub fault_past : (operands : List StoredOperand) (free : List Text) (at : ℕ)
     → length operands ≤ at → at < length free
     → operand_fault (operands_of (drop at operands)) (drop at free)
     ≡ Some (unexpected (get_or free at []))
-fault_past operands free at past more =
-    ap (λ (none : List StoredOperand). operand_fault (operands_of none) (drop at free))
-    (drop_of_length-le operands past)
-    ∙ ap (operand_fault []) (at_drop_more (λ (t : List Text). t) free at [] more)
-
--- and if there is no next word, none is
-pub fault_none : (operands : List StoredOperand) (free : List Text) (at : ℕ)
-    → length operands ≤ at → length free ≤ at
-    → operand_fault (operands_of (drop at operands)) (drop at free) ≡ None
-fault_none operands free at past end =
-    ap (λ (none : List StoredOperand). operand_fault (operands_of none) (drop at free))
-    (drop_of_length-le operands past)
-    ∙ ap (operand_fault []) (drop_of_length-le free end)
-
--- a text after the last one
-pub continued_push : (begun : Bool) (separator : Text) (texts : List Text) (text : Text)
-    → continued begun separator (texts ++ text ∷ [])
-    ≡ continued begun separator texts
-    ++ (parting (begun || nat_lt 0 (length texts)) separator ++ text)
-continued_push true separator texts text = grind (arith, common_steps)
-continued_push false separator texts text = grind (arith, common_steps)
+fault_past operands free at past more = grind (arith, common_steps)
 
 -- the items of operands
 abbrev pub items_of : List StoredOperand → List Text
@@ -95,8 +62,7 @@ pub items_push : (begun parted : Bool) (operands : List StoredOperand) (at : ℕ
     → text ≡ old ++ continued begun (codes " ") (items_of (take at operands))
     → (text ++ parting parted (codes " ")) ++ (get_or operands at d).item.now
     ≡ old ++ continued begun (codes " ") (items_of (take (at + 1) operands))
-items_push begun parted operands at d old text below parted_is text_is =
-    grind (arith, common_steps, continued_push)
+items_push begun parted operands at d old text below parted_is text_is = grind (arith, common_steps)
 
 -- ---- rows
 
@@ -108,10 +74,7 @@ drop_spaces (suc m) n (suc total) e = drop_spaces m n total (omega arith)
 -- the padding of a short item is the end of the next row
 pub padding_short : (columns : ℕ) → columns < margin - 4 → drop (5 + columns) next_row
     ≡ spaces (margin - 4 - columns)
-padding_short columns short =
-    let past_line_end : 5 + columns ≡ suc (4 + columns) = omega arith in
-    ap (λ (skipped : ℕ). drop skipped next_row) past_line_end
-    ∙ drop_spaces (4 + columns) (margin - 4 - columns) margin (omega arith)
+padding_short columns short = search (rules, drop_spaces (4 + columns) (margin - 4 - columns) margin (omega arith))
 
 -- a row made of the only description rows is the only row
 pub row_made : (operand : Operand) (description : List Text) (row : Text)

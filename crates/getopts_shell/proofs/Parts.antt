@@ -1,8 +1,7 @@
 -- Texts that are cut at a byte, and written with another text in its place.
-use Rattle.std.proofs.Common.{◌≡◌, ℕ, ◌<◌, Bool, true, false, eqb, List, [], ◌∷◌, ◌++◌, length, map}
-use Rattle.std.proofs.Common.{refl, sym, ap, ◌∙◌, append_assoc, arith}
+use Rattle.std.proofs.Common.{◌≡◌, ℕ, ◌<◌, Bool, true, false, eqb, List, [], ◌∷◌, ◌++◌, length, map, refl, sym, ap}
+use Rattle.std.proofs.Common.{◌∙◌, append_assoc, arith, rules}
 use Rattle.std.specs.List.{flat_map, onto_first, slice_split}
-use Rattle.std.proofs.lemmas.Bool.{eqb-true}
 use Rattle.std.proofs.lemmas.Bool.Decides.{nat_tests}
 use Rattle.std.proofs.lemmas.List.{map-id}
 use Rattle.std.proofs.lemmas.List.Splits.{length-slice_split}
@@ -11,6 +10,7 @@ use Rattle.getopts.specs.Names.{Text}
 use Rattle.getopts.specs.Wrap.{joined}
 use Rattle.getopts_shell.specs.Completion.{stub_byte, stub_quoted}
 use Rattle.getopts_shell.specs.Quote.{quoted_byte, replaced}
+use Rattle.std.proofs.lemmas.Grind.{common_steps}
 
 -- The parts of a word, each as it is written, with a text between each two, are the bytes of the
 -- word, each as it is written.
@@ -24,21 +24,7 @@ module _ (one : ℕ) (other : Text) (write : Text → Text) (write_byte : ℕ �
       → joined other (map write (onto_first byte parts)) ≡ write_byte byte
       ++ joined other (map write parts)
   onto_part byte [] some apart = absurd (omega arith)
-  onto_part byte (part ∷ parts) some apart =
-      ap (λ (text : Text). text ++ flat_map (λ (text : Text). other ++ text) (map write parts))
-      (more byte part apart)
-      ∙ append_assoc (write_byte byte) (write part)
-      (flat_map (λ (text : Text). other ++ text) (map write parts))
-
-  -- an empty part before all parts is the other text
-  after_part : (parts : List Text) → 0 < length parts
-      → joined other (map write ([] ∷ parts)) ≡ other ++ joined other (map write parts)
-  after_part [] some = absurd (omega arith)
-  after_part (part ∷ parts) some =
-      ap (λ (text : Text). text
-      ++ flat_map (λ (text : Text). other ++ text) (map write (part ∷ parts))) nothing
-      ∙ append_assoc other (write part)
-      (flat_map (λ (text : Text). other ++ text) (map write parts))
+  onto_part byte (part ∷ parts) some apart = search (rules, append_assoc)
 
   -- the parts, as they are written, are the word as it is written
   pub parts_written : (word : Text)
@@ -55,10 +41,7 @@ module _ (one : ℕ) (other : Text) (write : Text → Text) (write_byte : ℕ �
           → joined other (map write (slice_split (λ b. eqb b one) (byte ∷ word)))
           ≡ flat_map write_byte (byte ∷ word)
       by_test rest true is =
-          simp is (after_part (slice_split (λ b. eqb b one) word) some
-          ∙ ap (λ (text : Text). other ++ text) rest
-          ∙ ap (λ (text : Text). text ++ flat_map write_byte word)
-          (sym at ∙ ap write_byte (sym (eqb-true byte one is))))
+          simp is (grind (arith, common_steps, some))
       by_test rest false is =
           simp is (onto_part byte (slice_split (λ b. eqb b one) word) some is
           ∙ ap (λ (text : Text). write_byte byte ++ text) rest)

@@ -1,12 +1,12 @@
 -- A shell turns the bytes of quoted words into the bytes of the words.
-use Rattle.std.proofs.Common.{◌≡◌, ℕ, zero, suc, ◌<◌, ◌≤◌, Bool, true, false, eqb, ltb, List, []}
-use Rattle.std.proofs.Common.{◌∷◌, ◌++◌, Some, length, map, refl, sym, ap, ◌∙◌, append-nil, arith}
+use Rattle.std.proofs.Common.{◌≡◌, ℕ, zero, suc, ◌<◌, ◌≤◌, Bool, true, false, List, [], ◌∷◌, ◌++◌, Some, length, map}
+use Rattle.std.proofs.Common.{refl, arith, rules}
 use Rattle.std.proofs.Math.Utf8.{encode, encodes, scalar, scalars}
 use Rattle.std.proofs.lemmas.Bool.{and_parts, or_parts}
 use Rattle.std.proofs.lemmas.Bool.Decides.{nat_tests}
 use Rattle.std.proofs.lemmas.Grind.{flat_map-append}
-use Rattle.std.proofs.lemmas.Str.{IsUtf8-append, IsUtf8-encode, IsUtf8-from_ascii, chars-encodes}
-use Rattle.std.proofs.lemmas.Str.{encodes-chars, encode_ascii, scalars-chars}
+use Rattle.std.proofs.lemmas.Str.{IsUtf8-append, IsUtf8-encode, IsUtf8-from_ascii, chars-encodes, encodes-chars}
+use Rattle.std.proofs.lemmas.Str.{encode_ascii, scalars-chars}
 use Rattle.std.specs.Prelude.{codes}
 use Rattle.std.specs.Char.{is_ascii}
 use Rattle.std.specs.List.{AllByRecursion, flat_map, list_all, list_any}
@@ -26,41 +26,24 @@ pub record Gives (text bytes : List ℕ) : Type 0 where
 -- texts one after the other have their bytes one after the other
 pub append_gives : {text more bytes others : List ℕ} → Gives text bytes → Gives more others
     → Gives (text ++ more) (bytes ++ others)
-append_gives {text} {more} {bytes} {others} is also = record {
-  utf8 = IsUtf8-append text more is.utf8 also.utf8;
-  bytes_are = bytes_append text more is.utf8
-      ∙ ap (λ (l : List ℕ). l ++ bytes_of more) is.bytes_are
-      ∙ ap (λ (l : List ℕ). bytes ++ l) also.bytes_are;
-}
+append_gives {text} {more} {bytes} {others} is also = search (rules, IsUtf8-append, bytes_append)
 
 -- a text whose bytes pass the test for ASCII is ASCII
 are_ascii : (text : List ℕ) → list_all is_ascii text ≡ true → IsAscii text
 are_ascii [] are i = omega arith
-are_ascii (byte ∷ text) are zero =
-    let first : is_ascii byte ≡ true = (and_parts (is_ascii byte) (list_all is_ascii text) are).0 in
-    grind (arith, nat_tests)
+are_ascii (byte ∷ text) are zero = search rules
 are_ascii (byte ∷ text) are (suc i) =
     are_ascii text (and_parts (is_ascii byte) (list_all is_ascii text) are).1 i
 
 -- the bytes of an ASCII text are the text
 pub ascii_gives : (text : List ℕ) → list_all is_ascii text ≡ true → Gives text text
-ascii_gives text are =
-    let ascii = are_ascii text are in
-    let utf8 = IsUtf8-from_ascii text ascii in
-    record {
-      utf8 = utf8;
-      bytes_are =
-          plain_bytes text (record { utf8 = utf8; unmarked = ascii_no_marks text ascii });
-    }
+ascii_gives text are = search (rules, are_ascii, IsUtf8-from_ascii, plain_bytes, ascii_no_marks)
 
 -- a character has the bytes that it is written by
 char_gives : (c : ℕ) → scalar c ≡ true → Gives (encode c) (written c)
 char_gives c is = record {
   utf8 = IsUtf8-encode c is;
-  bytes_are =
-      ap (flat_map written)
-      (ap chars (sym (append-nil (encode c))) ∙ chars-encodes (c ∷ []) (simp is refl))
-      ∙ append-nil (written c);
+  bytes_are = search (rules, chars-encodes (c ∷ []) (simp is refl));
 }
 
 -- ---- non-ASCII bytes are the same in quotes
@@ -69,42 +52,23 @@ char_gives c is = record {
 past_stays : (bytes : List ℕ) → list_any is_ascii bytes ≡ false → flat_map quoted_byte bytes ≡ bytes
 past_stays [] past = refl
 past_stays (byte ∷ bytes) past =
-    let each = or_parts (is_ascii byte) (list_any is_ascii bytes) past in
-    let first : is_ascii byte ≡ false = each.0 in
-    let other : eqb byte 39 ≡ false = grind (arith, nat_tests) in
-    simp other (ap (λ (l : List ℕ). byte ∷ l) (past_stays bytes each.1))
+    let each = or_parts (is_ascii byte) (list_any is_ascii bytes) past in search (rules, past_stays bytes each.1)
 
 -- the bytes of a non-ASCII character are non-ASCII
 encode_past : (c : ℕ) → 128 ≤ c → list_any is_ascii (encode c) ≡ false
 unfolding encode
-encode_past c large = by (ltb c 128) (ltb c 2048) (ltb c 65536) refl refl refl
-  where
-    by : (one two three : Bool) → ltb c 128 ≡ one → ltb c 2048 ≡ two → ltb c 65536 ≡ three
-        → list_any is_ascii (encode c) ≡ false
-    by true two three is _ _ = absurd (grind (arith, nat_tests))
-    by false true three is also _ = simp (is, also) (grind (arith, nat_tests))
-    by false false true is also too = simp (is, also, too) (grind (arith, nat_tests))
-    by false false false is also too = simp (is, also, too) (grind (arith, nat_tests))
+encode_past c large = search rules
 
 -- so are those by which it is written
 written_past : (c : ℕ) → 128 ≤ c → list_any is_ascii (written c) ≡ false
-written_past c large = by (is_mark c) refl
-  where
-    by : (mark : Bool) → is_mark c ≡ mark → list_any is_ascii (written c) ≡ false
-    by true is = simp is (grind (arith, nat_tests))
-    by false is = simp is (encode_past c large)
+written_past c large = search (rules, encode_past)
 
 -- ---- words in quotes
 
 -- an ASCII byte in quotes
 quoted_ascii : (c : ℕ) → is_ascii c ≡ true
     → list_all is_ascii (flat_map quoted_byte (c ∷ [])) ≡ true
-quoted_ascii c ascii = by (eqb c 39) refl
-  where
-    by : (quote : Bool) → eqb c 39 ≡ quote
-        → list_all is_ascii (flat_map quoted_byte (c ∷ [])) ≡ true
-    by true is = simp is refl
-    by false is = simp (is, ascii) refl
+quoted_ascii c ascii = search rules
 
 -- a character in quotes
 quoted_char : (c : ℕ) → scalar c ≡ true
@@ -118,12 +82,7 @@ quoted_char c is = by (is_ascii c) refl
         let unmarked : is_mark c ≡ false = grind (arith, nat_tests) in
         simp (unmarked, encode_ascii c ascii)
         (ascii_gives (flat_map quoted_byte (c ∷ [])) (quoted_ascii c small))
-    by false large =
-        let past : 128 ≤ c = grind (arith, nat_tests) in
-        simp (
-          past_stays (encode c) (encode_past c past),
-          past_stays (written c) (written_past c past),
-        ) (char_gives c is)
+    by false large = search (rules, past_stays, encode_past, written_past, char_gives)
 
 -- characters in quotes
 quoted_chars : (cs : List ℕ) → scalars cs ≡ true
@@ -167,23 +126,16 @@ words_give (word ∷ words) are =
 -- a shell turns the bytes of quoted words into the bytes of the words
 pub bytes_same : (words : List Text) → AreTexts words
     → shell_words (bytes_of (quoted_words words)) ≡ Some (map bytes_of words)
-bytes_same words are =
-    ap shell_words (words_give words are).bytes_are ∙ words_same (map bytes_of words)
+bytes_same words are = search (rules, words_give, words_same)
 
 -- the texts of words have the words as their bytes
 texts_back : (words : List (List ℕ)) → AllByRecursion AreBytes words
     → AreTexts (map text_of words) × (map bytes_of (map text_of words) ≡ words)
 texts_back [] are = (tt, refl)
 texts_back (word ∷ words) are =
-    let first = comes_back (length word) word (omega arith) are.0 in
-    let others = texts_back words are.1 in (
-      (first.utf8, others.0),
-      ap (λ (w : List ℕ). w ∷ map bytes_of (map text_of words)) first.same
-          ∙ ap (λ (l : List (List ℕ)). word ∷ l) others.1,
-    )
+    search (rules, comes_back (length word) word (omega arith) are.0, texts_back words are.1)
 
 -- a shell turns words in quotes, read as texts and written as bytes, into the same words
 pub words_given : (words : List (List ℕ)) → AllByRecursion AreBytes words
     → shell_words (bytes_of (quoted_words (map text_of words))) ≡ Some words
-words_given words are =
-    let back = texts_back words are in bytes_same (map text_of words) back.0 ∙ ap Some back.1
+words_given words are = search (rules, texts_back, bytes_same)

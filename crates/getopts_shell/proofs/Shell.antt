@@ -1,19 +1,15 @@
 -- A shell that runs the code for options holds their values.
-use Rattle.std.proofs.Common.{◌≡◌, Bool, true, false, cond, List, [], ◌∷◌, ◌++◌, Option, Some, None}
-use Rattle.std.proofs.Common.{refl, sym, ap, subst, append_assoc, map}
-use mathlib.Core.Path.{fun_ext}
+use Rattle.std.proofs.Common.{◌≡◌, Bool, true, false, List, [], ◌∷◌, ◌++◌, Option, Some, None, refl, subst}
+use Rattle.std.proofs.Common.{append_assoc, map, rules}
 use Rattle.std.specs.Prelude.{codes}
 use Rattle.std.specs.List.{AllByRecursion, flat_map}
-use Rattle.std.specs.Str.{bytes_eq}
 use Rattle.std.proofs.lemmas.Slice.Eq.{bytes_eq-Decides}
 use Rattle.getopts.specs.Names.{Text}
 use Rattle.getopts_shell.specs.Quote.{quoted, quoted_words, shell_words}
-use Rattle.getopts_shell.specs.Variables.{array_front, array_words, assigns, Given, is_variable}
-use Rattle.getopts_shell.specs.Variables.{command_line, last_command, line_code, many, no_command}
-use Rattle.getopts_shell.specs.Variables.{one, option_code, own_value, Runs, RunsCommand, RunsText}
-use Rattle.getopts_shell.specs.Variables.{sets, Shell, texts_found, unsets, value_line, variable_of}
-use Rattle.getopts_shell.specs.Variables.{Value, variables_code, with_options, with_variable}
-use Rattle.getopts_shell.specs.Variables.{one_word}
+use Rattle.getopts_shell.specs.Variables.{array_front, array_words, assigns, Given, is_variable, command_line}
+use Rattle.getopts_shell.specs.Variables.{last_command, line_code, many, no_command, one, option_code, own_value}
+use Rattle.getopts_shell.specs.Variables.{Runs, RunsCommand, RunsText, sets, Shell, texts_found, unsets, value_line}
+use Rattle.getopts_shell.specs.Variables.{variable_of, Value, variables_code, with_options, with_variable, one_word}
 use Rattle.getopts_shell.proofs.Quoting.{word_same, words_same}
 
 -- what precedes the words of `set`, and the name of `unset`
@@ -39,22 +35,14 @@ unset_value shell name = rw ((bytes_eq-Decides name name).1 refl) refl
 -- a variable that is unset first holds its new value all the same
 set_again : (shell : Shell) (name : Text) (value : Option Value)
     → with_variable (with_variable shell name None) name value ≡ with_variable shell name value
-set_again shell name value =
-    ap (λ (values : Text → Option Value). record shell { value = values })
-    (fun_ext (λ other. by_test other (bytes_eq other name)))
-  where
-    by_test : (other : Text) (test : Bool)
-        → cond test value (cond test None (shell.value other)) ≡ cond test value (shell.value other)
-    by_test other true = refl
-    by_test other false = refl
+set_again shell name value = search rules
 
 -- the line that gives a value to a variable that is unset, if it has one
 after_value_line : (shell after : Shell) (name : Text) (value : Option Value) (more : Text)
     → is_variable name ≡ true
     → RunsText (with_variable (with_variable shell name None) name value) more after
     → RunsText (with_variable shell name None) (value_line name value ++ more) after
-after_value_line shell after name None more is runs =
-    subst (λ (s : Shell). RunsText s more after) (set_again shell name None) runs
+after_value_line shell after name None more is runs = search (rules, set_again shell name None)
 after_value_line shell after name (Some (one text)) more is runs =
     line_then _ _ after (name ++ 61 ∷ quoted text) more _
     (assigns name (quoted text) (one text) is (unset_value shell name)
@@ -77,8 +65,7 @@ after_option prefix arrays shell after option more is runs =
     line_then shell (with_variable shell name None) after (unset_front ++ name)
     (value_line name value ++ more) _
     (unsets name is)
-    (after_value_line shell after name value more is
-    (subst (λ (s : Shell). RunsText s more after) (sym (set_again shell name value)) runs))
+    (search (rules, after_value_line, set_again))
     (simp append_assoc refl)
 
 -- ---- all commands
@@ -96,10 +83,7 @@ after_codes prefix arrays shell (option ∷ options) free more make last =
     let code = option_code prefix arrays in
     let name = variable_of prefix option.entry in
     let next = with_variable shell name (own_value arrays option) in
-    subst (λ (t : Text). RunsText shell t (with_options prefix arrays options free next))
-    (sym (append_assoc (code option) (flat_map code options) more))
-    (after_option prefix arrays shell _ option (flat_map code options ++ more) make.0
-    (after_codes prefix arrays next options free more make.1 last))
+    search (rules, append_assoc, after_option, after_codes prefix arrays next options free more make.1 last)
 
 -- a shell that runs the code holds the options' values, also if the last line end is missing
 pub code_runs : (prefix : Text) (arrays : Bool) (options : List Given) (free : List Text)

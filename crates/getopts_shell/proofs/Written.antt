@@ -1,14 +1,13 @@
 -- What a shell makes of the bytes that are written.
-use Rattle.std.proofs.Common.{◌≡◌, ℕ, ◌%◌, ◌/◌, zero, suc, Bool, true, false, cond, eqb, List, []}
-use Rattle.std.proofs.Common.{◌∷◌, Option, Some, None, refl, sym, ap, subst, length, map}
-use Rattle.std.proofs.Common.{string_bytes, arith}
+use Rattle.std.proofs.Common.{◌≡◌, ℕ, ◌%◌, ◌/◌, zero, suc, Bool, true, false, cond, eqb, List, [], ◌∷◌, Option, Some}
+use Rattle.std.proofs.Common.{None, refl, sym, subst, map, string_bytes, arith, rules}
 use Rattle.std.specs.Prelude.{MatchOption, codes, decimal, not, ⊤}
 use Rattle.std.specs.Char.{is_ascii, is_ascii_digit}
 use Rattle.std.specs.declared.alloc.Global.{Global}
 use Rattle.std.specs.declared.string.String.{String}
 use Rattle.std.specs.Fmt.{digits, digits_onto, digit_glyph}
 use Rattle.std.specs.List.{AllByRecursion, flat_map, last_or, list_all}
-use Rattle.std.specs.Option.{option_map, unwrap_or}
+use Rattle.std.specs.Option.{option_map}
 use Rattle.std.specs.Str.{IsUtf8}
 use Rattle.std.proofs.lemmas.Bool.{and_from, and_parts, cond_both}
 use Rattle.std.proofs.lemmas.Bool.Decides.{nat_tests}
@@ -21,15 +20,13 @@ use Rattle.getopts.specs.declared.kinds.HasArg.TheVariants.{Yes, No, Maybe}
 use Rattle.getopts_bytes.specs.Marks.{bytes_of}
 use Rattle.getopts_shell.specs.Program.{IsOneWord}
 use Rattle.getopts_shell.specs.Table.{Entry}
-use Rattle.getopts_shell.specs.Variables.{AreTextValues, CodeSetsVariables, found_in_bytes, Given}
-use Rattle.getopts_shell.specs.Variables.{count_text, given_alone, HaveOwnVariables, held_value}
-use Rattle.getopts_shell.specs.Variables.{holds_all, HoldTexts, in_bytes, is_variable, is_variable_byte}
-use Rattle.getopts_shell.specs.Variables.{line_code, many, once, one, option_code, SetsVariables}
-use Rattle.getopts_shell.specs.Variables.{SetsWords, texts_found, Value, value_line, variable_of}
+use Rattle.getopts_shell.specs.Variables.{AreTextValues, CodeSetsVariables, found_in_bytes, Given, count_text}
+use Rattle.getopts_shell.specs.Variables.{given_alone, HaveOwnVariables, held_value, holds_all, HoldTexts, in_bytes}
+use Rattle.getopts_shell.specs.Variables.{is_variable, is_variable_byte, line_code, many, once, one, option_code}
+use Rattle.getopts_shell.specs.Variables.{SetsVariables, SetsWords, texts_found, Value, value_line, variable_of}
 use Rattle.getopts_shell.proofs.Assignments.{each_makes}
 use Rattle.getopts_shell.proofs.Quoting.{word_same}
-use Rattle.getopts_shell.proofs.QuotedBytes.{append_gives, ascii_gives, Gives, quoted_gives}
-use Rattle.getopts_shell.proofs.QuotedBytes.{text_gives, words_give}
+use Rattle.getopts_shell.proofs.QuotedBytes.{append_gives, ascii_gives, Gives, quoted_gives, text_gives, words_give}
 use Rattle.getopts_shell.proofs.Shell.{code_runs, line_runs, once_more}
 
 -- ---- ASCII
@@ -84,14 +81,7 @@ count_gives count = by_test (eqb count 0)
 texts_in_bytes : (founds : List GroupOccurrence)
     → texts_found (map found_in_bytes founds) ≡ map bytes_of (texts_found founds)
 texts_in_bytes [] = refl
-texts_in_bytes (found ∷ founds) = by_value found.value (texts_in_bytes founds)
-  where
-    by_value : (value : Option Text)
-        → texts_found (map found_in_bytes founds) ≡ map bytes_of (texts_found founds)
-        → unwrap_or (option_map bytes_of value) [] ∷ texts_found (map found_in_bytes founds)
-        ≡ map bytes_of (unwrap_or value [] ∷ texts_found founds)
-    by_value None others = rw ((ascii_gives [] refl).bytes_are, others) refl
-    by_value (Some text) others = rw others refl
+texts_in_bytes (found ∷ founds) = search (rules, ascii_gives, texts_in_bytes founds)
 
 -- so is the last value
 last_in_bytes : (texts : List Text) (before : Option Text)
@@ -103,9 +93,7 @@ last_in_bytes (text ∷ texts) before = last_in_bytes texts (Some text)
 -- the line that gives a variable one word
 one_gives : (name text bytes : Text) → Gives name name → Gives text bytes
     → Gives (value_line name (Some (one text))) (value_line name (Some (one bytes)))
-one_gives name text bytes named is =
-    append_gives named (append_gives (ascii_gives (codes "=") refl)
-    (append_gives (quoted_gives is) (ascii_gives (codes "\n") refl)))
+one_gives name text bytes named is = search (rules, append_gives, ascii_gives, quoted_gives)
 
 -- the line that gives a variable many words
 many_give : (name : Text) (texts : List Text) → Gives name name → AreTexts texts
@@ -122,10 +110,8 @@ argument_gives : (name : Text) (arrays all : Bool) (founds : List GroupOccurrenc
     → AreTextValues Yes all founds
     → Gives (value_line name (held_value arrays Yes all founds))
     (value_line name (held_value arrays Yes all (map found_in_bytes founds)))
-argument_gives name true true founds named are =
-    rw (texts_in_bytes founds) (many_give name (texts_found founds) named are)
-argument_gives name false true founds named are =
-    rw (texts_in_bytes founds) (one_gives name _ _ named (words_give (texts_found founds) are))
+argument_gives name true true founds named are = search (rules, texts_in_bytes, many_give)
+argument_gives name false true founds named are = search (rules, texts_in_bytes, one_gives, words_give)
 argument_gives name arrays false founds named are =
     rw (texts_in_bytes founds, last_in_bytes (texts_found founds) None)
     (by_last (last_or None (texts_found founds)) are)
@@ -142,8 +128,7 @@ value_gives : (name : Text) (arrays all : Bool) (kind : HasArg) (founds : List G
     → AreTextValues kind all founds
     → Gives (value_line name (held_value arrays kind all founds))
     (value_line name (held_value arrays kind all (map found_in_bytes founds)))
-value_gives name arrays all No founds named are =
-    rw (length-map founds found_in_bytes) (one_gives name _ _ named (count_gives (length founds)))
+value_gives name arrays all No founds named are = search (rules, length-map, one_gives, count_gives)
 value_gives name arrays all Yes founds named are = argument_gives name arrays all founds named are
 value_gives name arrays all Maybe founds named are = argument_gives name arrays all founds named are
 
@@ -152,9 +137,7 @@ value_gives name arrays all Maybe founds named are = argument_gives name arrays 
 -- the command that sets the words
 line_code_gives : (words : List Text) → AreTexts words
     → Gives (line_code words) (line_code (map bytes_of words))
-line_code_gives words are =
-    append_gives (ascii_gives (codes "\\set -- ") refl)
-    (append_gives (words_give words are) (ascii_gives (codes "\n") refl))
+line_code_gives words are = search (rules, append_gives, ascii_gives, words_give)
 
 -- the commands for all options
 codes_give : (prefix : Text) (arrays : Bool) (options : List Given)
@@ -178,8 +161,7 @@ entries_kept : (options : List Given)
     → map (λ (option : Given). option.entry) (map in_bytes options)
     ≡ map (λ (option : Given). option.entry) options
 entries_kept [] = refl
-entries_kept (option ∷ options) =
-    ap (λ (entries : List Entry). option.entry ∷ entries) (entries_kept options)
+entries_kept (option ∷ options) = simp (entries_kept options)
 
 -- ---- what a shell makes of it
 
@@ -215,33 +197,22 @@ argument_texts true false = tt
 argument_texts false true = (ascii_gives [] refl).utf8
 argument_texts false false = tt
 
-bare_texts : (kind : HasArg) (all given : Bool) → AreTextValues kind all (cond given once [])
-bare_texts No all given = tt
-bare_texts Yes all given = argument_texts all given
-bare_texts Maybe all given = argument_texts all given
-
 -- what the variables hold is UTF-8 if only one option was given
 pub alone_holds_texts : (entries : List Entry) (alone : Entry)
     → HoldTexts (given_alone entries alone)
 alone_holds_texts [] alone = tt
-alone_holds_texts (entry ∷ entries) alone = (
-  bare_texts entry.kind (holds_all entry.frequency) _,
-  alone_holds_texts entries alone,
-)
+alone_holds_texts (entry ∷ entries) alone = search (rules, alone_holds_texts entries alone)
 
 -- the entries of these options are the table's
 alone_entries : (entries : List Entry) (alone : Entry)
     → map (λ (option : Given). option.entry) (given_alone entries alone) ≡ entries
 alone_entries [] alone = refl
-alone_entries (entry ∷ entries) alone =
-    ap (λ (others : List Entry). entry ∷ others) (alone_entries entries alone)
+alone_entries (entry ∷ entries) alone = simp (alone_entries entries alone)
 
 -- so the code for it sets variables if the table's options make them
 pub alone_sets : (prefix : Text) (arrays : Bool) (entries : List Entry) (alone : Entry)
     → HaveOwnVariables prefix entries → SetsVariables prefix arrays (given_alone entries alone) []
-alone_sets prefix arrays entries alone own =
-    code_sets prefix arrays (given_alone entries alone) []
-    (subst (HaveOwnVariables prefix) (sym (alone_entries entries alone)) own)
+alone_sets prefix arrays entries alone own = search (rules, code_sets, alone_entries)
 
 -- ---- words
 

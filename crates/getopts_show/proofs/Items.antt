@@ -1,10 +1,8 @@
 -- What holds for the items of `words.iter().copied()` holds for the words.
-use Rattle.std.proofs.Common.{◌≡◌, ◌∙◌, ap, subst, List, Option, Some, None, MatchOption, IfNone}
-use Rattle.std.proofs.Common.{Result, Ok, Err}
-use Rattle.std.specs.Prelude.{⊤}
+use Rattle.std.proofs.Common.{◌≡◌, List, Option, Some, None, IfNone, Result, Ok, Err, rules}
 use Rattle.std.specs.Borrow.{Bor}
 use Rattle.std.specs.Iterator.Runs.{EachRunFrom, IsCopiedRun, SomeRun, WholeRun, YieldsRefsInOrder}
-use Rattle.getopts.specs.Fail.{Fault, fault_of}
+use Rattle.getopts.specs.Fail.{Fault}
 use Rattle.getopts.specs.Returns.{ReturnsConverted}
 use Rattle.getopts.specs.declared.fail.Fail.{Fail}
 
@@ -13,17 +11,7 @@ module _ {S T A : Type 0} {steps : S → Option (Bor A) → S → Type 0}
     (yields : YieldsRefsInOrder steps rest) (rest_is : rest iter ≡ words)
     (copies : EachRunFrom copied copy (λ p. SomeRun steps iter (λ q. IsCopiedRun p q (λ y. y.now)))) where
   pub of_run : (P : List A → Type 0) → WholeRun copied copy (λ run. P run.items) → P words
-  of_run P (run, from, whole, holds) =
-      let (source, is, copied_is) = copies run run.seen from in
-      let items = copied_is.2 ∙ (yields source source.seen).4 (copied_is.0 ∙ whole) in
-      subst P (items ∙ ap rest is ∙ rest_is) holds
-
-  -- the same for an error, if there is one
-  error_of_run : (P : List A → Fault → Type 0) (error : Option Fault)
-      → MatchOption error ⊤ (λ fault. WholeRun copied copy (λ run. P run.items fault))
-      → MatchOption error ⊤ (P words)
-  error_of_run P None is = tt
-  error_of_run P (Some fault) is = of_run (λ xs. P xs fault) is
+  of_run P (run, from, whole, holds) = search rules
 
   -- the same if there is no value
   pub none_of_run : {X : Type 0} (P : List A → Type 0) (answer : Option X)
@@ -37,5 +25,4 @@ module _ {S T A : Type 0} {steps : S → Option (Bor A) → S → Type 0}
       → ReturnsConverted convert answer (λ r. WholeRun copied copy (λ run. result run.items ≡ r))
       → ReturnsConverted convert answer (λ r. result words ≡ r)
   result_of_run convert result (Ok value) is = of_run (λ xs. result xs ≡ Ok (convert value)) is
-  result_of_run convert result (Err fail) is =
-      error_of_run (λ xs fault. result xs ≡ Err fault) (fault_of fail) is
+  result_of_run convert result (Err fail) is = search rules

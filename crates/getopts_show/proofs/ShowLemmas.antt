@@ -1,20 +1,18 @@
 -- What the program shows for its names and groups.
-use Rattle.std.proofs.Common.{◌≡◌, ℕ, Bool, zero, suc, ◌<◌, List, [], ◌∷◌, length}
-use Rattle.std.proofs.Common.{get_or, map, refl, ap, ◌∙◌, sym, subst, arith, Result, Ok, Err}
+use Rattle.std.proofs.Common.{◌≡◌, ℕ, Bool, zero, suc, ◌<◌, List, [], ◌∷◌, length, get_or, map, refl, arith, Result}
+use Rattle.std.proofs.Common.{Ok, Err, rules}
 use Rattle.std.specs.Borrow.{Bor}
 use Rattle.std.specs.List.{AllByRecursion, flat_map}
 use Rattle.getopts.specs.Results.{accepted_reading, made_of, parse_result}
 use Rattle.getopts.specs.Fail.{Fault}
 use Rattle.getopts.specs.Matches.{Matched, MatchedGroup, matches_of}
 use Rattle.getopts.specs.Names.{Text, main_name, texts}
-use Rattle.getopts.specs.Options.{Group, grammar_of}
-use Rattle.getopts.specs.Reading.{Reading, occurrences_of}
+use Rattle.getopts.specs.Options.{Group}
+use Rattle.getopts.specs.Reading.{Reading}
 use Rattle.getopts.specs.Only.{IsTheOnly}
 use Rattle.getopts.specs.Returns.{IsLineOf}
-use Rattle.getopts_show.specs.Program.{HasProgramGroups, IsProgramText, IsReadingText}
-use Rattle.getopts_show.specs.Program.{IsResultText, asks_help}
-use Rattle.getopts_show.specs.Program.{group_lines, named_lines, program_groups}
-use Rattle.getopts_show.specs.Program.{program_options}
+use Rattle.getopts_show.specs.Program.{HasProgramGroups, IsProgramText, IsReadingText, IsResultText, asks_help}
+use Rattle.getopts_show.specs.Program.{group_lines, named_lines, program_groups, program_options}
 
 -- what holds of each text holds of the text at a place
 pub text_at : (P : Text → Type 0) (words : List (Bor Text)) → AllByRecursion P (texts words)
@@ -30,8 +28,7 @@ main_names = map (λ (group : Group). main_name group.signature.names) program_g
 -- the lines of the program's main names are the lines of its groups
 pub lines_of_names : (groups : List MatchedGroup) → HasProgramGroups groups
     → flat_map (named_lines groups) main_names ≡ flat_map group_lines groups
-lines_of_names groups (occurrences, is) = subst
-    (λ (gs : List MatchedGroup). flat_map (named_lines gs) main_names ≡ flat_map group_lines gs) (sym is) refl
+lines_of_names groups (occurrences, is) = search rules
 
 -- the text of the only result of the words
 pub of_the_only : (words : List Text) (text : Text) (status : ℕ)
@@ -50,22 +47,14 @@ of_reading (Err fault) matches is = cc
 -- the matches and the text of accepted words
 module _ (words : List Text) (matches : Matched) (is : parse_result program_options words ≡ Ok matches) where
   pub program_groups_of : HasProgramGroups matches.groups
-  program_groups_of =
-      let made = of_reading (accepted_reading program_options words) matches is in
-      (occurrences_of (grammar_of program_options) made.0, ap (λ (m : Matched). m.groups) (sym made.2))
+  program_groups_of = search rules
 
   pub are_accepted : (reading : Reading) × (accepted_reading program_options words ≡ Ok reading)
-  are_accepted =
-      let made = of_reading (accepted_reading program_options words) matches is in
-      (made.0, made.1)
+  are_accepted = search rules
 
   -- a text of the reading is theirs
   pub text_of_reading : (asks : Bool) (text : Text) → asks_help matches ≡ asks
       → ((reading : Reading) → accepted_reading program_options words ≡ Ok reading
       → matches_of program_options reading ≡ matches → IsReadingText asks reading text)
       → IsResultText (accepted_reading program_options words) text 0
-  text_of_reading asks text asked says =
-      let made = of_reading (accepted_reading program_options words) matches is in
-      let asks_it : asks_help (matches_of program_options made.0) ≡ asks = ap asks_help made.2 ∙ asked in
-      subst (λ (r : Result Reading Fault). IsResultText r text 0) (sym made.1)
-      (subst (λ (b : Bool). IsReadingText b made.0 text) (sym asks_it) (says made.0 made.1 made.2), refl)
+  text_of_reading asks text asked says = search rules
