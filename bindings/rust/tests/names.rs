@@ -133,7 +133,17 @@ mod of_the_crate {
         for (short, long) in VALID {
             options.optflag(short, long, "");
         }
-        assert_eq!(options.usage("").lines().count(), 3 + VALID.len());
+        let usage = options.usage("");
+        let rows: Vec<_> = usage.lines().skip(3).collect();
+        assert_eq!(rows.len(), VALID.len());
+        for (row, (short, _)) in rows.iter().zip(VALID) {
+            let name = if short.is_empty() { " ".repeat(8) } else { format!("    -{short}") };
+            assert!(row.starts_with(&name), "{row:?}");
+        }
+        let mut narrow = Options::new();
+        narrow.optflag("\t", "", "").optflag("", "two", "");
+        assert!(narrow.usage("").contains("\n        --two "));
+        assert!(options.parse(["-\0= \t-"]).unwrap().opt_present("\0"));
         let matches = options.parse(["--é", "--", "--é"]).unwrap();
         assert!(matches.opt_present("\0") && !matches.opts_present(&["nope".to_string()]));
     }

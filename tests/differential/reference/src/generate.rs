@@ -97,11 +97,27 @@ fn declared(random: &mut Random, most: usize) -> Declared {
     Declared { groups, stop: random.one_in(4), long_only: random.one_in(4) }
 }
 
+/// Many options with similar long names, some of them declared twice.
+fn similar(random: &mut Random) -> Declared {
+    let mut declared = declared(random, 60);
+    for place in 0..declared.groups.len() {
+        let other = declared.groups[random.below(place + 1)].long.clone();
+        let group = &mut declared.groups[place];
+        if !group.long.is_empty() {
+            let again = random.one_in(5) && !other.is_empty();
+            group.long = if again { other } else { texts::similar_name(random) };
+        }
+        (group.call, group.occur) = ("opt", "multi");
+    }
+    declared
+}
+
 /// A group's name, or a random one.
 fn name(random: &mut Random, declared: &Declared) -> String {
     if declared.groups.is_empty() || random.one_in(14) {
-        return match random.below(5) {
+        return match random.below(6) {
             0 => texts::short_name(random),
+            5 => texts::similar_name(random),
             1 => texts::long_name(random),
             2 => texts::noise(random),
             3 => "é".to_string(),
@@ -185,7 +201,7 @@ fn ask(random: &mut Random, making: &mut Making, words: &[String], most: usize) 
 /// A line of words for a few options.
 fn line(random: &mut Random, number: usize) -> Making {
     let mut making = Making::begin("line", number);
-    let declared = declared(random, 4);
+    let declared = if random.one_in(12) { similar(random) } else { declared(random, 4) };
     making.declare(&declared);
     let words = words(random, &declared, 4);
     if making.words(&words) || random.one_in(40) {

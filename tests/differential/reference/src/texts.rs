@@ -5,37 +5,41 @@
 use crate::random::Random;
 
 #[rustfmt::skip]
-const SHORT_NAMES: [&str; 16] = [
-    "a", "b", "c", "v", "a", "b", "c", "o", "t", "L", "-", "=", " ", "1", "?", "h",
+const SHORT_NAMES: [&str; 21] = [
+    "a", "b", "c", "v", "a", "b", "c", "o", "t", "L", "-", "=", " ", "1", "?", "h", "B", "l", ":",
+    "\"", "~",
 ];
 
 #[rustfmt::skip]
-const LONG_NAMES: [&str; 26] = [
+const LONG_NAMES: [&str; 33] = [
     "apple", "banana", "verbose", "ab", "abc", "no", "aa", "apple", "ab", "color", "é", "日", "日本",
     "naïve", "a=b", "=x", "x=", "--", "-a", "-apple", "two words", "\u{301}", "ab-c", "hi",
-    "e\u{301}a", "a-very-long-name-of-an-option",
+    "e\u{301}a", "a-very-long-name-of-an-option", "a-very-long-name-of-an-optiom", "Apple", "ab_c",
+    "a:b", "no-apple", "appl", "𠀀",
 ];
 
 #[rustfmt::skip]
-const VALUES: [&str; 32] = [
+const VALUES: [&str; 44] = [
     "", "-", "--", "x", "y", "1", "7", "-3", "+5", "-a", "-b", "--ab", "-ab", "--apple", "=", "a=b",
     "=5", "true", "false", "free word", "é", "日本", "a\tb", "line\nend", "back\\slash", "\r", "-1",
-    "---", "9223372036854775807", "9223372036854775808", "-9223372036854775808", "abc",
+    "---", "9223372036854775807", "9223372036854775808", "-9223372036854775808", "abc", " 7", "7 ",
+    "-B", "a:b", "\"a b\"", "'x'", "end\n", "a=", "𠀀", "-𠀀", "True",
+    "1_000",
 ];
 
 #[rustfmt::skip]
-const WORDS: [&str; 30] = [
+const WORDS: [&str; 34] = [
     "a", "an", "the", "of", "with", "set", "file", "name", "output", "option", "argument",
     "whenever", "directory", "description", "characteristics", "日本語", "テスト", "naïve",
     "e\u{301}te\u{301}", "“quoted”", "0.51€", "ＡＢＣ", "한국어", "русский", "ελληνικά", "\u{301}", "x,",
-    "(y)", "misunderstandings;",
+    "(y)", "misunderstandings;", "well-known", "pre-", "and..", "𠀀𠀁",
     "HereWeNeedOneSingleWordThatIsLongerThanTheWrappingLengthAndThisIsIt",
 ];
 
 #[rustfmt::skip]
-const SPACES: [&str; 16] = [
+const SPACES: [&str; 24] = [
     " ", " ", " ", " ", " ", " ", " ", " ", "  ", "\t", "\n", "\n\n", " \n ", "\u{3000}", "\u{a0}",
-    "\r\n",
+    "\r\n", "\r", "\u{b}", "\u{c}", "\u{85}", "\u{2003}", "\u{2028}", "\u{202f}", "\u{1680}",
 ];
 
 #[rustfmt::skip]
@@ -52,6 +56,19 @@ pub fn long_name(random: &mut Random) -> String {
     random.of(&LONG_NAMES).to_string()
 }
 
+/// One of many names that share their first bytes.
+pub fn similar_name(random: &mut Random) -> String {
+    const CHARS: [char; 10] =
+        ['a', 'a', 'b', '\u{0}', '\u{1}', '\u{8}', '\u{7f}', 'é', 'ÿ', '\u{10ffff}'];
+    let first = random.of(&['a', 'a', '\u{0}', 'é']);
+    let mut letters = vec![first; 2 + random.below(18)];
+    for _ in 0..random.below(3) {
+        let place = random.below(letters.len());
+        letters[place] = random.of(&CHARS);
+    }
+    letters.into_iter().collect()
+}
+
 pub fn hint(random: &mut Random) -> String {
     random.of(&HINTS).to_string()
 }
@@ -65,7 +82,8 @@ pub fn value(random: &mut Random) -> String {
 
 /// A few characters that occur in lines.
 pub fn noise(random: &mut Random) -> String {
-    const CHARS: [char; 12] = ['-', '-', '=', 'a', 'b', 'c', 'v', ' ', 'é', '1', 'L', 'h'];
+    const CHARS: [char; 14] =
+        ['-', '-', '=', 'a', 'b', 'c', 'v', ' ', 'é', '1', 'L', 'h', 'B', '𠀀'];
     (0..random.below(6)).map(|_| random.of(&CHARS)).collect()
 }
 
