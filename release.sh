@@ -28,7 +28,9 @@ if [ -z "${TESTED:-}" ]; then
     unchanged
 fi
 rm -rf "$out" && mkdir -p "$out/target"
-git -c tar.tar.gz.command='gzip -9n' archive --format=tar.gz --prefix="$name/" -o "$out/$name.tar.gz" HEAD
+# The same bytes for all settings of git.
+git -c core.autocrlf=false -c tar.umask=0002 -c tar.tar.gz.command='gzip -9n' \
+    archive --format=tar.gz --prefix="$name/" -o "$out/$name.tar.gz" HEAD
 cargo package --quiet --no-verify --exclude-lockfile --manifest-path bindings/rust/Cargo.toml --target-dir "$out/target"
 mv "$out"/target/package/*.crate "$out" && rm -rf "$out/target"
 for machine in x86_64 aarch64; do cp "bindings/shell/$machine/getopts_shell" "$out/getopts_shell-$version-$machine"; done

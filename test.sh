@@ -28,6 +28,13 @@ cache=${XDG_CACHE_HOME:-${HOME:-}/.cache}/proved-getopts
 own=$cache/venv rust=$cache/rust
 [ ! -d "${1:-}" ] || set -- "$(cd "$1" && pwd)"
 cd "$(dirname "$0")" || exit
+# Cargo and rustup read configurations, and toolchains, in all folders above.
+above=$PWD
+while [ "$above" ]; do
+    above=${above%/*}
+    [ -z "$(find "${above:-/}" -maxdepth 0 -perm -o+w)" ] ||
+        stop "other users can put programs into $above: clone the repository into a folder where only you can write"
+done
 command -v rt >/dev/null || [ ${#quick[@]} = 1 ] || [ "${1:-}" = -k ] ||
     stop "rt not found: put the toolchain's bin folder on the path, or run 'test.sh --quick', which doesn't need it"
 [ $# = 0 ] || [ "$1" = -k ] || [ -f "$1/Cargo.toml" ] ||

@@ -3,6 +3,7 @@ sources and the toolchain; and the erased Rust, which is generated again, and ha
 
 import hashlib
 import importlib.util
+from pathlib import Path
 
 import pytest
 from conftest import ROOT, answer, copy_tree, kit, need_rustfmt, other_version, run
@@ -28,6 +29,35 @@ def test_binaries_match_source():
     assert run(ROOT / BUILD, "--check", "shell") == UP_TO_DATE
 
 
+def module_of(copy):
+    """build.py of a copy of the repository, as a module."""
+    spec = importlib.util.spec_from_file_location("build", copy / BUILD)
+    build = importlib.util.module_from_spec(spec)
+    spec.loader.exec_module(build)
+    return build
+
+
+@pytest.mark.rt
+def test_rebuilt_binaries(tmp_path, monkeypatch, capsys):
+    """After a change, both binaries are replaced by what was built and linked for their processors, with their checksums."""
+    copy = copy_tree(tmp_path / "copy")
+    build, folder = module_of(copy), copy / "bindings/shell"
+    with open(folder / "start.c", "a") as changed:
+        changed.write("int more;\n")
+    monkeypatch.setattr(build, "build", lambda processor, to: Path(to).write_text(f"object for {processor}\n"))
+    monkeypatch.setattr(build, "link", lambda processor, to, of: Path(to).write_text(Path(of).read_text() + processor))
+    build.shell(False)
+    for processor in ("x86_64", "aarch64"):
+        binary = folder / processor / "getopts_shell"
+        assert binary.read_text() == f"object for {processor}\n{processor}" and binary.stat().st_mode & 0o777 == 0o755
+        of_it = hashlib.sha256(binary.read_bytes()).hexdigest()
+        assert (folder / processor / "getopts_shell.sha256").read_text() == f"{of_it}  getopts_shell\n"
+    assert run(copy / BUILD, "--check", "shell") == UP_TO_DATE
+    capsys.readouterr()
+    build.shell(False)
+    assert capsys.readouterr().out == UP_TO_DATE[0]
+
+
 @pytest.mark.rt
 @pytest.mark.parametrize("file, text, found", [
     ("crates/getopts/src/scan.rt", "\n", True), ("crates/getopts/src/scan.rt", "    // A comment.\n", False),
@@ -36,9 +66,7 @@ def test_binaries_match_source():
 def test_change_is_found(file, text, found, tmp_path):
     """A change of anything but comments requires a new build. Changes of other files make no difference here."""
     copy = copy_tree(tmp_path / "copy")
-    spec = importlib.util.spec_from_file_location("build", copy / BUILD)
-    build = importlib.util.module_from_spec(spec)
-    spec.loader.exec_module(build)
+    build = module_of(copy)
     version, *others = build.sums()
     (copy / "bindings/shell/proved.sha256").write_text("\n".join([version, *others]) + "\n")
     (copy / file).write_bytes(text.encode() + (copy / file).read_bytes())

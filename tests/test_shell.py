@@ -169,8 +169,8 @@ def test_random_code_matches_other_program(program, in_shells, cases, way):
 @pytest.mark.full
 @pytest.mark.xdist_group("getopts_shell by wine")
 def test_arguments_on_windows(by_wine, for_windows):
-    """The test in host.rs, of arguments that aren't Unicode."""
-    assert passed(for_windows[1]("test")) == [1]
+    """The tests in host.rs, one of them of arguments that aren't Unicode."""
+    assert passed(for_windows[1]("test")) == [2]
 
 
 @HERE
@@ -453,6 +453,8 @@ def test_install(checked_in, tmp_path):
     for name in named:
         there = tmp_path / "a prefix/share/doc/getopts_shell" / name
         assert there.read_bytes() == (SHELL / name).read_bytes() and os.access(there, os.X_OK)
+    for path in (tmp_path / "a prefix").rglob("*"):
+        assert path.is_dir() or path.stat().st_mode & 0o777 == (0o755 if path.parent.name in ("bin", "examples") else 0o644), path
     (tmp_path / "a prefix/share/doc/getopts_shell/examples/own").write_text("others'")
     for machine in ("x86_64", "aarch64"):
         install("/usr", DESTDIR="stage", MACHINE=machine)
@@ -464,8 +466,9 @@ def test_install(checked_in, tmp_path):
     (tmp_path / "page").write_text("others'")
     (tmp_path / "a prefix/share/man/man1/getopts_shell.1").unlink()
     (tmp_path / "a prefix/share/man/man1/getopts_shell.1").symlink_to(tmp_path / "page")
+    (tmp_path / "a prefix/bin/getopts_shell.new").symlink_to(tmp_path / "page")
     install("a prefix")
-    assert (tmp_path / "page").read_text() == "others'"
+    assert (tmp_path / "page").read_text() == "others'" and not (tmp_path / "a prefix/bin/getopts_shell").is_symlink()
     (tmp_path / "page").unlink()
     (tmp_path / "to/bin/getopts_shell").mkdir(parents=True)
     assert "to/bin/getopts_shell is a folder" in install("to", status=1)
@@ -486,8 +489,12 @@ def test_install(checked_in, tmp_path):
     (tmp_path / "link").symlink_to(SHELL / "install.sh")
     assert "through a symbolic link" in run("sh", tmp_path / "link", "other", status=1)[1]
     (tmp_path / "link").unlink()
-    install("--uninstall", "a prefix")
+    assert install("--uninstall", "a prefix") == ""
     (tmp_path / "a prefix/share/doc/getopts_shell/examples/own").unlink()
+    # If another folder of CDPATH has a folder of the script's name, cd would prefer it.
+    (tmp_path / "others/shell").mkdir(parents=True)
+    run("sh", "shell/install.sh", tmp_path / "third", cwd=SHELL.parent, env={"CDPATH": str(tmp_path / "others")})
+    install("--uninstall", "third")
     install("--uninstall", "/usr", DESTDIR="stage/")
     assert not [path for path in tmp_path.rglob("*") if not path.is_dir()]
 

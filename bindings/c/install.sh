@@ -143,6 +143,11 @@ put() {
     cp "$1" "$to/$2"
     chmod "${3:-644}" "$to/$2"
 }
+# link FILE PLACE: makes PLACE a link to FILE. A link at PLACE is replaced, also one to a folder.
+link() {
+    rm -f "$to/$2"
+    ln -s "$1" "$to/$2"
+}
 # describe LIBS: prints a file for pkg-config.
 describe() {
     cat <<END
@@ -181,8 +186,8 @@ case $($cc -dumpmachine) in
     $cc -shared ${CFLAGS:-} ${LDFLAGS:-} -Wl,-soname,"$soname" -Wl,-z,defs -Wl,-z,text "$room/getopts.o" \
         -o "$room/$shared"
     put "$room/$shared" "$lib/$shared" 755
-    ln -sf "$shared" "$to/$lib/$soname"
-    ln -sf "$soname" "$to/$lib/libgetopts.so"
+    link "$shared" "$lib/$soname"
+    link "$soname" "$lib/libgetopts.so"
     # shellcheck disable=SC2016
     describe '"-L${libdir}" -lgetopts' >"$room/getopts.pc"
     put "$room/getopts.pc" "$lib/pkgconfig/getopts.pc"
@@ -193,7 +198,7 @@ esac
 describe '"-L${libdir}" -lgetopts-static' >"$room/getopts-static.pc"
 echo '.so man3/getopts.3' >"$room/page.3"
 put "$built" "$lib/libgetopts.a"
-ln -sf libgetopts.a "$to/$lib/libgetopts-static.a"
+link libgetopts.a "$lib/libgetopts-static.a"
 put "$room/getopts-static.pc" "$lib/pkgconfig/getopts-static.pc"
 put "$here/getopts.h" include/getopts.h
 put "$room/getopts.3" share/man/man3/getopts.3

@@ -61,9 +61,11 @@ else
         fail "$source is damaged: run 'git checkout -- $machine' in $PWD, or clone the repository again"
 fi
 mkdir -p "$to/bin" "$to/share/man/man1" "$papers/examples"
-# put FILE PLACE MODE: replaces a file only once the new one is complete. FILE may be - for standard input.
+# put FILE PLACE MODE: replaces a file only once the new one is complete. FILE may be - for standard input. Links at PLACE
+# and PLACE.new are replaced, but not what they point to.
 put() {
     [ ! -d "$2" ] || fail "$2 is a folder"
+    rm -f "$2.new"
     if ! { cat "$1" >"$2.new" && chmod "$3" "$2.new" && mv -f "$2.new" "$2"; }; then
         rm -f "$2.new"
         fail "can't write $2"

@@ -13,30 +13,35 @@ if [ $# -lt 2 ] || [ $# -gt 3 ] || [[ ! $1 =~ ^(compare|promises|shell|c)$ ]]; t
     exit 2
 fi
 mkdir -p "$2"
-target=$1 out=$(cd "$2" && pwd) host=$(rustc -vV | sed -n 's/^host: //p')
+target=$1 out=$(cd "$2" && pwd) here=$(cd "$(dirname "$0")" && pwd)
 read -r -a flags <<<"${CARGO_FLAGS:-}"
 [ -z "${3:-}" ] || flags+=(--config "patch.crates-io.getopts.path = '$(cd "$3" && pwd)'")
 registry=/usr/share/cargo/registry
 if { [ "${3:-}" ] || [ "$target" = c ]; } && compgen -G "$registry/unicode-width-*" >/dev/null; then
     flags+=(--offline --config 'source.crates-io.replace-with="debian"' --config "source.debian.directory='$registry'")
 fi
-cd "$(dirname "$0")"
+# Cargo looks for configurations above the current folder, and other users may put some into /tmp.
+cd /
+host=$(rustc -vV | sed -n 's/^host: //p') package=$here
 RUSTFLAGS='-Cpasses=sancov-module'
 for flag in level=4 inline-8bit-counters pc-table trace-compares; do
     RUSTFLAGS+=" -Cllvm-args=-sanitizer-coverage-$flag"
 done
 # Stable compilers accept these flags, too.
 export RUSTFLAGS RUSTC_BOOTSTRAP=1
-build() { cargo build --release --quiet --target "$host" --target-dir "$out/$target.build" "${flags[@]}" "$@"; }
+build() {
+    cargo build --release --quiet --manifest-path "$package/Cargo.toml" --target "$host" \
+        --target-dir "$out/$target.build" "${flags[@]}" "$@"
+}
 built=$out/$target.build/$host/release
 if [ "$target" = c ]; then
-    cd ../../bindings/c
+    package=$here/../../bindings/c
     export CARGO_PROFILE_RELEASE_{LTO=off,DEBUG_ASSERTIONS=true,OVERFLOW_CHECKS=true}
     RUSTFLAGS+=' -Zsanitizer=address' build
     # The program's own functions make allocations fail.
     objcopy --redefine-sym malloc=fuzz_malloc --redefine-sym realloc=fuzz_realloc "$built/libgetopts.a" "$out/libgetopts.a"
-    clang -g -O1 -Wall -Wextra -fsanitize=fuzzer,address,undefined -fno-sanitize-recover=undefined -I. \
-        ../../tests/fuzz/c.c "$out/libgetopts.a" -o "$out/c"
+    clang -g -O1 -Wall -Wextra -fsanitize=fuzzer,address,undefined -fno-sanitize-recover=undefined -I "$package" \
+        "$here/c.c" "$out/libgetopts.a" -o "$out/c"
 else
     [ "$target" = compare ] || flags+=(--features proved)
     RUSTFLAGS+=" -Clink-arg=$(clang -print-runtime-dir)/libclang_rt.fuzzer-${host%%-*}.a -Clink-arg=-lstdc++"

@@ -52,6 +52,7 @@ static void wrong_rows_are_reported(void) {
         { { LEN_38 "\U0001f600", NULL, NULL, NULL, GETOPTS_NO }, "table[1]: short name '" LEN_38 "" NOT_SHORT },
         { { LEN_37 "\U0001f600", NULL, NULL, NULL, GETOPTS_NO }, "table[1]: short name '" LEN_37 "" NOT_SHORT },
         { { LEN_38 "xxyy", NULL, NULL, NULL, GETOPTS_NO }, "table[1]: short name '" LEN_38 "xx" NOT_SHORT },
+        { { LEN_37 "\x80\x80\x80\x80", NULL, NULL, NULL, GETOPTS_NO }, "table[1]: short name '" LEN_37 NOT_SHORT },
         { { "\xc3\xa9", NULL, NULL, NULL, GETOPTS_NO }, "table[1]: short name '\u00e9" NOT_SHORT },
         { { "\xff", NULL, NULL, NULL, GETOPTS_NO }, "table[1]: the short name" NO_TEXT },
         { { "a", "\xff\xff", NULL, NULL, GETOPTS_NO }, "table[1]: the long name" NO_TEXT },
@@ -92,7 +93,7 @@ static void wrong_rows_are_reported(void) {
     }
 }
 
-/* Among 200 similar names, only equal ones are reported. */
+/* Among 200 similar names, only equal ones are reported; and each short name that is repeated. */
 static void repeated_names_are_found(void) {
     enum { ROWS = 200 };
     static char names[ROWS][16];
@@ -109,6 +110,17 @@ static void repeated_names_are_found(void) {
         struct getopts *options = getopts_new(table, GETOPTS_ORDINARY);
         expect(strcmp(getopts_message(options), wanted) == 0, wanted);
         table[nth].long_name = names[nth];
+        getopts_delete(options);
+    }
+    for (char name = 1; name > 0 && name < 127; name++) {
+        const char text[] = { name, '\0' };
+        const struct getopts_option twice[] = {
+            { text, NULL, NULL, NULL, GETOPTS_NO }, { text, NULL, NULL, NULL, GETOPTS_NO }, { NULL, NULL, NULL, NULL, GETOPTS_NO },
+        };
+        char wanted[80];
+        snprintf(wanted, sizeof wanted, "table[1]: short name '%s' is also in table[0]: rename one", text);
+        struct getopts *options = getopts_new(twice, GETOPTS_ORDINARY);
+        expect(name == '-' || strcmp(getopts_message(options), wanted) == 0, wanted);
         getopts_delete(options);
     }
 }

@@ -128,6 +128,14 @@ mod of_the_crate {
     }
 
     #[test]
+    fn names_after_the_first_given_one_are_not_looked_up() {
+        let mut options = Options::new();
+        let matches = options.optopt("o", "output", "", "").parse(["-o", "x"]).unwrap();
+        assert!(matches.opts_present_any(["o", "nope"]));
+        assert_eq!(matches.opts_str_first(["o", "nope"]).unwrap(), "x");
+    }
+
+    #[test]
     fn unusual_names_are_shown() {
         let mut options = Options::new();
         for (short, long) in VALID {

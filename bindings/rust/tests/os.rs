@@ -129,6 +129,8 @@ fn errors_have_text() {
             Fail::UnrecognizedOption(name) => assert!(name.contains('\u{FFFD}') || name.is_empty()),
             fail => panic!("{fail}"),
         }
+        let fail = options().parse([word]).unwrap_err();
+        assert_eq!(fail, Fail::UnrecognizedOption(format!("{word:?}")));
         let fail = options().parse_os_ignoring_counts([word.clone(), joined("-x", word)]);
         assert_eq!(fail.unwrap_err(), Fail::UnrecognizedOption("x".into()));
     }
@@ -203,6 +205,10 @@ fn parse_takes_any_iterator() {
     assert_eq!(options().parse_os(large()).unwrap().free, ["xxx"; 20]);
     assert_eq!(options().parse(Promised(large())).unwrap().free, ["xxx"; 20]);
     assert_eq!(options().canonical(large()).unwrap().unwrap().len(), 21);
+    // An iterator that goes on after its end.
+    let mut words = ["x", "", "y"].iter();
+    let ends = std::iter::from_fn(|| words.next().filter(|word| !word.is_empty()));
+    assert_eq!(options().parse(ends).unwrap().free, ["x"]);
 }
 
 #[test]

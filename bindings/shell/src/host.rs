@@ -150,13 +150,20 @@ macro_rules! add_line {
 #[allow(unused_imports)]
 pub(crate) use {add, add_line, text};
 
-#[cfg(all(test, windows))]
+#[cfg(test)]
 mod tests {
+    #[cfg(windows)]
     #[test]
     fn lone_surrogates_become_three_bytes() {
         let units = [0xD83D, 0xDE00, 0xD83D, 0x61, 0xDFFF];
         let word: std::ffi::OsString = std::os::windows::ffi::OsStringExt::from_wide(&units);
         let bytes = super::bytes_of(&word).unwrap();
         assert_eq!(*bytes, *b"\xF0\x9F\x98\x80\xED\xA0\xBDa\xED\xBF\xBF");
+    }
+
+    #[test]
+    fn lists_that_are_too_long_are_errors() {
+        use super::TryExtend;
+        assert!(Vec::new().try_resize(usize::MAX, 0_u8).is_err());
     }
 }

@@ -1,0 +1,179 @@
+"""test.sh and release.sh, with other programs in the place of those that take long."""
+
+import hashlib
+import re
+import tarfile
+
+import pytest
+from conftest import ROOT, answer, copy_tree, need, run, script, tracked
+from targets import commit_repository
+
+VERSION = re.search(r'^version = "(.*)"', (ROOT / "bindings/rust/Cargo.toml").read_text(), re.M)[1]
+# Logs how a program is called. Its status is 1 if the variable FAIL names one of its arguments, or the program.
+LOGS = '#!/bin/sh\nline="{name} $*"\necho "$line" >>"{log}"\ncase $line in *${{FAIL:-nothing}}*) exit 1 ;; esac\n'
+
+
+# ---- test.sh
+
+@pytest.fixture
+def test_sh(tmp_path):
+    """test_sh(WORD.., FAIL=.., status=..) runs a copy of test.sh: its output, its errors, and the calls of rt and pytest."""
+    for name in ("test.sh", "tests/packages.txt"):
+        (tmp_path / "copy" / name).parent.mkdir(parents=True, exist_ok=True)
+        (tmp_path / "copy" / name).write_bytes((ROOT / name).read_bytes())
+    (tmp_path / "bin").mkdir()
+    (tmp_path / "crate").mkdir()
+    (tmp_path / "crate/Cargo.toml").write_text("")
+    log = tmp_path / "log"
+    for name in ("rt", "python3"):
+        # To find pytest, test.sh tries to import it.
+        text = LOGS.format(name=name, log=log).replace("line=", '[ "$1" != -c ] || exit 0\n[ -f test.sh ] || exit 9\nline=', 1)
+        script(tmp_path / "bin" / name, text)
+
+    def called(*words, FAIL="", status=0):
+        log.write_text("")
+        said, errors = run("bash", tmp_path / "copy/test.sh", *words, status=status, cwd=tmp_path,
+                           env={"PATH": f"{tmp_path}/bin:/usr/bin:/bin", "XDG_CACHE_HOME": str(tmp_path / "cache"), "FAIL": FAIL})
+        return said, errors, sorted(re.sub(" --durations.*", "", line) for line in log.read_text().splitlines())
+
+    return called
+
+
+@pytest.mark.parametrize("fail, parts", [
+    ("rt ci", "proofs"), ("-m not built", "tests"), ("-m built", "tests of what is built"),
+    ("pytest", "tests; tests of what is built"), (" ", "proofs; tests; tests of what is built")])
+def test_failed_parts_are_reported(test_sh, fail, parts):
+    said, _, _ = test_sh("--no-install", FAIL=fail, status=1)
+    assert said.splitlines()[-1] == f"failed: {parts}" and "all passed" not in said
+    assert re.findall("^== (.*): status 1", said, re.M) == parts.split("; ")
+
+
+def test_all_parts_are_run(test_sh):
+    said, errors, calls = test_sh("--no-install", "crate")
+    assert re.search(r"\nall passed after \d+ s; ", said) and errors == "" and len(calls) == 3
+    assert [line.partition(": status 0 ")[0] for line in re.findall("^== .*", said, re.M)] == [
+        "== proofs", "== tests", "== tests of what is built"]
+    said, _, calls = test_sh("--no-install", "--quick")
+    assert "Nothing was proved" in said and "all passed" in said and len(calls) == 1 and "pytest tests" in calls[0]
+    said, _, _ = test_sh("--no-install", "--quick", FAIL="pytest", status=1)
+    assert said.splitlines()[-1] == "failed: tests"
+
+
+def test_flags_reach_pytest(test_sh, tmp_path):
+    assert test_sh("--no-install", "--quick", "-k", "a or b", "-x")[2] == ["python3 -m pytest tests --quick -k a or b -x"]
+    test_sh("--no-install", "-k", "a", FAIL="pytest", status=1)
+    run("bash", tmp_path / "copy/test.sh", "--no-install", "crate", cwd=tmp_path, env={"PATH": f"{tmp_path}/bin:/usr/bin:/bin"})
+    assert len(re.findall(f"pytest .*--getopts={tmp_path}/crate( |$)", (tmp_path / "log").read_text(), re.M)) == 2
+
+
+def test_clone_in_shared_folder(test_sh, tmp_path):
+    """Cargo and rustup would read what other users put beside the clone."""
+    tmp_path.chmod(0o1777)
+    _, errors, calls = test_sh("--no-install", "--quick", status=2)
+    assert errors.startswith(f"test.sh: other users can put programs into {tmp_path}: ") and calls == []
+
+
+def test_wrong_arguments_of_test_sh(test_sh, tmp_path):
+    assert "doesn't contain the crate getopts" in test_sh("--no-install", "bin", status=2)[1]
+    (tmp_path / "bin/rt").unlink()
+    assert "rt not found: put the toolchain's bin folder on the path" in test_sh("--no-install", status=2)[1]
+    assert "rt not found: tests that need it are left out" in test_sh("--no-install", "--quick")[0]
+
+
+def test_missing_packages_are_installed(test_sh, tmp_path):
+    """As root, before the tests, those of tests/packages.txt that are missing, and that this release of Debian has. The
+    others aren't looked for again."""
+    listed = re.sub("#.*|^unpack:.*", "", (ROOT / "tests/packages.txt").read_text(), flags=re.M).split()
+    others = "".join(f"installed {name}\\n" for name in listed if name not in ("zsh", "fish"))
+    for name, text in {
+        "id": "echo 0", "rustc": "echo rustc 1.95.0", "apt-cache": "printf 'zsh\\nmore\\n'",
+        "dpkg-query": f"printf '{others}'; [ ! -e '{tmp_path}/zsh' ] || echo installed zsh",
+        "apt-get": f"echo \"apt-get $*\" >>'{tmp_path}/log'; case $* in *'install -y'*) touch '{tmp_path}/zsh' ;; esac",
+    }.items():
+        script(tmp_path / "bin" / name, f"#!/bin/sh\n{text}\n")
+    said, errors, (update, install, tests) = test_sh("--quick")
+    assert said.startswith("test.sh: about to install (--no-install leaves this out): the Debian packages zsh fish\n")
+    assert errors == "" and update.endswith(" update") and install.endswith("--no-install-recommends zsh")
+    assert "pytest" in tests and "all passed" in said
+    said, _, calls = test_sh("--quick")
+    assert "about to install" not in said and len(calls) == 1
+
+
+# ---- release.sh
+
+@pytest.fixture(scope="module")
+def clone(tmp_path_factory):
+    """A clean clone in which test.sh, tests/fresh.sh and build.py only log how they are called."""
+    need("git", "cargo", "gzip")
+    if answer("cargo", "package", "--exclude-lockfile", "--help")[1]:
+        pytest.skip("cargo is older than 1.84: install a newer one from https://rustup.rs")
+    room = tmp_path_factory.mktemp("release")
+    clone = copy_tree(room / "clone")
+    for name in ("test.sh", "tests/fresh.sh", "bindings/build.py"):
+        script(clone / name, LOGS.format(name=name.split("/")[-1], log=room / "log"))
+    page = (clone / "CHANGELOG.md").read_text()
+    (clone / "CHANGELOG.md").write_text(re.sub("^## .*", f"## {VERSION}, 2026-11-28", page, count=1, flags=re.M))
+    commit_repository(clone)
+    return clone
+
+
+CHECKS = ["test.sh --quick --no-install -k versions -q", "build.py --check"]
+
+
+def release(clone, *words, status=0, **env):
+    """Runs release.sh: its errors, and the calls that it logs."""
+    (clone.parent / "log").write_text("")
+    env = {"TESTED": "1", "FAIL": "nothing", **env}
+    return run(clone / "release.sh", *words, status=status, env=env)[1], (clone.parent / "log").read_text().splitlines()
+
+
+def test_files_of_a_release(clone):
+    (clone / "tests/out/release").mkdir(parents=True)
+    (clone / "tests/out/release/old").write_text("")
+    assert release(clone, VERSION) == ("", CHECKS)
+    out, name = clone / "tests/out/release", f"getopts-{VERSION}"
+    binaries = {f"getopts_shell-{VERSION}-{machine}": machine for machine in ("x86_64", "aarch64")}
+    files = {f"{name}.tar.gz", f"proved-getopts-{VERSION}.crate", *binaries}
+    assert {path.name for path in out.iterdir()} == {"SHA256SUMS", *files}
+    sums = dict(line.split("  ")[::-1] for line in (out / "SHA256SUMS").read_text().splitlines())
+    assert sums == {file: hashlib.sha256((out / file).read_bytes()).hexdigest() for file in files}
+    for file, machine in binaries.items():
+        assert (out / file).read_bytes() == (ROOT / f"bindings/shell/{machine}/getopts_shell").read_bytes()
+    with tarfile.open(out / f"{name}.tar.gz") as archive:
+        modes = {it.name.removeprefix(f"{name}/"): it.mode for it in archive if it.isfile()}
+    assert sorted(modes) == sorted(tracked()) and modes["release.sh"] & 0o777 == 0o775
+    with tarfile.open(out / f"proved-getopts-{VERSION}.crate") as archive:
+        packed = {it.name.partition("/")[2] for it in archive}
+    assert {"LICENSE-MIT", "LICENSE-APACHE", "NOTICE", "src/proved/mod.rs", "Cargo.toml"} <= packed and "Cargo.lock" not in packed
+    settings = clone.parent / "settings"
+    settings.write_text("[core]\nautocrlf = true\n[tar]\numask = 0077\n")
+    release(clone, VERSION, GIT_CONFIG_GLOBAL=str(settings))
+    assert sums == dict(line.split("  ")[::-1] for line in (out / "SHA256SUMS").read_text().splitlines())
+
+
+def test_release_runs_all_tests(clone, tmp_path):
+    whole = [*CHECKS, f"test.sh {tmp_path}", "test.sh -k rejected --release -n 3", "fresh.sh "]
+    assert release(clone, VERSION, tmp_path, TESTED="")[1] == whole
+    for at, call in enumerate(whole):
+        calls = release(clone, VERSION, tmp_path, status=1, TESTED="", FAIL=call)[1]
+        assert calls == whole[:at + 1]
+
+
+def test_wrong_releases(clone):
+    def error(version=VERSION):
+        return release(clone, version, status=1)[0]
+
+    assert error("9.9.9") == f"release.sh: CHANGELOG.md begins with '## {VERSION}, 2026-11-28', not '## 9.9.9, DATE'\n"
+    assert error("--tested") == error("") == "release.sh: usage: release.sh VERSION [CRATE]\n"
+    (clone / "more").write_text("")
+    assert error() == "release.sh: there are uncommitted changes: release a clean clone\n"
+    (clone / "more").unlink()
+    run("git", "tag", VERSION, cwd=clone)
+    assert error() == f"release.sh: the tag {VERSION} exists\n"
+    run("git", "tag", "-d", VERSION, cwd=clone)
+    page = (clone / "CHANGELOG.md").read_text()
+    for heading in ("## Unreleased", f"## {VERSION}", f"## {VERSION}, soon"):
+        (clone / "CHANGELOG.md").write_text(re.sub("^## .*", heading, page, count=1, flags=re.M))
+        run("git", "-c", "user.name=a", "-c", "user.email=a@b", "commit", "-q", "-a", "-m", "a", cwd=clone)
+        assert error() == f"release.sh: CHANGELOG.md begins with '{heading}', not '## {VERSION}, DATE'\n"
+        run("git", "reset", "-q", "--hard", "HEAD~", cwd=clone)
