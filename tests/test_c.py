@@ -182,7 +182,8 @@ def answers(modes, columns, rows, names, words):
     line = [] if fault else options.canonical(read) or []
     read = options.parse(words, with_counts=False) if fault.startswith("Option") else read
     occurrences, free, start = read if len(read) == 3 else ([], [], None)
-    yield from [b"", *map(int, defined), STATUSES.index(fault), model.TEXTS[fault] % name if fault else b""]
+    yield from [b"", *map(int, defined), STATUSES.index(fault), model.TEXTS[fault] % name if fault else b"",
+                name if fault else b""]
     for name, is_defined in zip(names, defined):
         place = options.resolve(name)
         given = [(at, value) for mine, at, value in occurrences if mine == place]
@@ -199,7 +200,7 @@ def answers_if_wrong(place, names):
     """The answers if a row is wrong. The message begins with its place."""
     wrong = b"table[%d]: " % place
     nothing = [one for _ in names for one in said_of_option(False, [])]
-    return [wrong, *(0 for _ in names), BAD, wrong, *nothing, -1, None, 0, None, -1, BAD, None, None, None, None]
+    return [wrong, *(0 for _ in names), BAD, wrong, b"", *nothing, -1, None, 0, None, -1, BAD, None, None, None, None]
 
 
 @functools.cache

@@ -29,6 +29,7 @@
 
 #include <stdbool.h>
 #include <stddef.h>
+#include <stdint.h>
 
 /* The version of this header. A program compiled with it can run with this version of the library,
  * and with later versions that have the same major number. */
@@ -119,7 +120,8 @@ struct getopts;
  * have a hint. To give an option another name, add a row, as order.c does. */
 struct getopts *getopts_new(const struct getopts_option *table, enum getopts_modes modes);
 
-/* Reads `count` words, such as argc - 1 and argv + 1. Returns GETOPTS_OK or an error:
+/* Reads `count` words, such as argc - 1 and argv + 1; none if `count` is negative, as argc - 1 may
+ * be. Returns GETOPTS_OK or an error:
  *
  * - GETOPTS_OPTION_MISSING, GETOPTS_OPTION_DUPLICATED: a required option is missing, or an option
  *   was given too often. Except for getopts_nth, the functions below return what was read, so that
@@ -136,12 +138,17 @@ int getopts_read(struct getopts *options, int count, char *const *words);
  * the first byte. */
 const char *getopts_message(const struct getopts *options);
 
+/* The option's name in getopts_message, such as "x", for a message in another language: the result
+ * of getopts_read says what is wrong. Returns "" if the message names no option. Valid until the
+ * next getopts_read. */
+const char *getopts_message_name(const struct getopts *options);
+
 /* In the next functions, `name` is the short or long name of an option, and nth counts from 0. If
  * nothing was read, if the name is unknown or NULL (see GETOPTS_STRICT), or if nth is out of range,
  * getopts_values returns an empty list, getopts_long_value true, and the others 0, -1 or NULL. */
 
 /* Pass this as nth for the last occurrence. */
-#define GETOPTS_LAST ((size_t)-1)
+#define GETOPTS_LAST SIZE_MAX
 
 /* Whether an option of the table has this name, also if nothing was read. False if the options are
  * NULL or the table is invalid. */

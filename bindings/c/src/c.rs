@@ -3,7 +3,7 @@
 #![allow(unsafe_code)]
 #![deny(unsafe_op_in_unsafe_fn)]
 
-use crate::options::{Getopts, OUT_OF_MEMORY};
+use crate::options::{Getopts, NOTHING, OUT_OF_MEMORY};
 use crate::reading::{Given, Reading, none};
 use crate::{AllocResult, Error, NO_MEMORY, OK, Status};
 use core::alloc::{GlobalAlloc, Layout};
@@ -278,6 +278,11 @@ unsafe extern "C" fn getopts_canonical(
 #[no_mangle]
 extern "C" fn getopts_message(options: Option<&Getopts>) -> Text {
     options.map_or(OUT_OF_MEMORY.as_ptr(), |options| options.message)
+}
+
+#[no_mangle]
+extern "C" fn getopts_message_name(options: Option<&Getopts>) -> Text {
+    options.map_or(NOTHING.as_ptr(), |options| options.name)
 }
 
 // SAFETY: its pointers point to its own texts, which don't change until it is dropped.

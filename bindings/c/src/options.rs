@@ -21,10 +21,12 @@ pub struct Getopts {
     /// What `getopts_message` returns: a constant below, what is wrong with the table, or the
     /// reading's message.
     pub message: Text,
+    /// The option's name in a reading's message, or `NOTHING`.
+    pub name: Text,
     pub reading: Reading,
 }
 
-const NOTHING: &str = "\0";
+pub const NOTHING: &str = "\0";
 const NULL_WORD: &str = "a word is NULL\0";
 pub const OUT_OF_MEMORY: &str = "Out of memory\0";
 
@@ -38,7 +40,7 @@ impl Getopts {
         let table = table::declare(&mut options, rows, modes)?;
         let message = table.wrong.as_ref().map_or(NOTHING.as_ptr(), |wrong| wrong.as_ptr());
         let (order, reading) = (Vec::new(), Reading::nothing());
-        Ok(Getopts { options, table, modes, order, message, reading })
+        Ok(Getopts { options, table, modes, order, message, name: NOTHING.as_ptr(), reading })
     }
 
     /// Whether a reading keeps the order of options.
@@ -81,9 +83,13 @@ impl Getopts {
 
     /// Stores what was read, and returns its status.
     pub fn keep(&mut self, read: Result<(Reading, Status), Error>) -> Status {
+        self.name = NOTHING.as_ptr();
         let error = match read {
             Ok((reading, status)) => {
-                self.message = if status == OK { NOTHING.as_ptr() } else { reading.message() };
+                self.message = NOTHING.as_ptr();
+                if status != OK {
+                    (self.message, self.name) = (reading.message(), reading.message_name());
+                }
                 self.reading = reading;
                 return status;
             }

@@ -13,8 +13,11 @@ use library::proved::{Fail, Matches};
 /// The result of reading words: empty if they couldn't be read.
 pub struct Reading {
     matches: Option<Matches>,
-    /// The message, if there is one, the values and the free words, each followed by a zero byte.
+    /// The message and its name, if there is one, the values and the free words, each followed by a
+    /// zero byte.
     texts: Vec<u8>,
+    /// The index in `texts` of the message's name.
+    name: usize,
     /// For each option, the values of its occurrences and then NULL; an occurrence without a value
     /// is NULL too. After all options the free words, then NULL.
     lists: Vec<Text>,
@@ -64,7 +67,7 @@ impl Given<'_> {
 
 impl Reading {
     pub const fn nothing() -> Reading {
-        Reading { matches: None, texts: Vec::new(), lists: Vec::new(), starts: Vec::new() }
+        Reading { matches: None, texts: Vec::new(), name: 0, lists: Vec::new(), starts: Vec::new() }
     }
 
     /// The result of reading words with this number of options, and the message of an error.
@@ -76,10 +79,13 @@ impl Reading {
     ) -> AllocResult<Reading> {
         let mut reading = Reading::nothing();
         let parts = fail.map_or([""; 3], parts_of);
-        let message = parts.map(str::len).iter().sum::<usize>() + 1;
+        let message = parts.map(str::len).iter().sum::<usize>() + parts[1].len() + 2;
         reading.texts.try_grow_exact(of.bytes.saturating_add(message))?;
         if fail.is_some() {
             parts.iter().try_for_each(|part| push_bytes(&mut reading.texts, part))?;
+            reading.texts.try_push(0)?;
+            reading.name = reading.texts.len();
+            push_bytes(&mut reading.texts, parts[1])?;
             reading.texts.try_push(0)?;
         }
         if let Some(mut matches) = matches {
@@ -140,6 +146,11 @@ impl Reading {
     /// The message, if the words were rejected.
     pub fn message(&self) -> Text {
         self.texts.as_ptr()
+    }
+
+    /// The name in the message, if the words were rejected.
+    pub fn message_name(&self) -> Text {
+        self.texts[self.name..].as_ptr()
     }
 
     /// What was given of an option, if words were read and it is declared.

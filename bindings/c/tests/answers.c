@@ -91,6 +91,7 @@ static void answer(struct getopts *options) {
     getopts_read(options, count / 2, words);
     say_number(getopts_read(options, count, words));
     say(getopts_message(options));
+    say(getopts_message_name(options));
     say_reading(options);
     say_number(getopts_canonical(options, count, words, &line));
     for (size_t nth = 0; line != NULL && line[nth] != NULL; nth++)

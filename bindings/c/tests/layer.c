@@ -197,6 +197,8 @@ static void needed_options_are_looked_for(void) {
             int status = getopts_read(options, count, words);
             const char *message = repeats ? rows[nth].repeated : rows[nth].message;
             expect(strcmp(getopts_message(options), message) == 0, rows[nth].words);
+            const char *name = getopts_message_name(options), *quote = strchr(message, '\'');
+            expect(quote == NULL ? *name == '\0' : strncmp(quote + 1, name, strcspn(quote + 1, "'")) == 0, "the name in its message");
             expect((status == GETOPTS_OK) == (*message == '\0'), "the status of these words");
             expect(getopts_canonical(options, count, words, &line) == status, "the same status");
             free(line);
@@ -220,7 +222,7 @@ static void null_is_rejected(void) {
     expect((usage = getopts_usage(none, "brief")) == NULL && !getopts_defined(none, "v"), "usage without a table");
     expect(getopts_read(options, 1, words) == GETOPTS_OK, "words before a NULL");
     expect(getopts_read(options, 3, words) == GETOPTS_BAD, "a NULL word");
-    expect(strcmp(getopts_message(options), "a word is NULL") == 0, "its message");
+    expect(strcmp(getopts_message(options), "a word is NULL") == 0 && *getopts_message_name(options) == '\0', "its message");
     expect(getopts_count(options, "v") == 1 && getopts_nth(options, 0, NULL) == 0, "what was read before");
     expect(getopts_canonical(options, 3, words, &line) == GETOPTS_BAD && line == NULL, "a line with a NULL word");
     expect(!getopts_defined(options, NULL) && getopts_count(options, NULL) == 0, "a NULL name");
@@ -243,7 +245,7 @@ static void null_options_mean_no_memory(void) {
     const char *text = "";
     long value = 42;
     expect(getopts_read(NULL, 1, words) == GETOPTS_NO_MEMORY, "getopts_read without options");
-    expect(strcmp(getopts_message(NULL), "Out of memory") == 0, "its message");
+    expect(strcmp(getopts_message(NULL), "Out of memory") == 0 && *getopts_message_name(NULL) == '\0', "its message");
     expect(getopts_canonical(NULL, 1, words, &line) == GETOPTS_NO_MEMORY && line == NULL, "a line without options");
     expect(getopts_usage(NULL, "brief") == NULL && getopts_short_usage(NULL, "program") == NULL, "a usage of NULL");
     expect(getopts_usage_in(NULL, "brief", 40) == NULL, "a usage of NULL within 40 columns");

@@ -8,6 +8,14 @@ pub struct Global;
 #[derive(Clone, Copy, Debug, PartialEq, Eq)]
 pub struct AllocError;
 
+impl core::fmt::Display for AllocError {
+    fn fmt(&self, f: &mut core::fmt::Formatter<'_>) -> core::fmt::Result {
+        f.write_str("Out of memory")
+    }
+}
+
+impl crate::error::Error for AllocError {}
+
 /// An allocation failed; the value that couldn't be stored is returned.
 #[derive(Clone, Copy, Debug, PartialEq, Eq)]
 pub struct AllocFailed<T>(pub T);

@@ -137,10 +137,12 @@ pub use fail::{Fail, Result};
 pub use matches::Matches;
 #[cfg(feature = "std")]
 pub use options::Options;
-#[cfg(feature = "std")]
-pub use os::OsMatches;
 #[cfg(all(feature = "std", feature = "proved"))]
 pub use os::bytes_of;
+#[cfg(feature = "std")]
+pub use os::{OsGetError, OsMatches};
+// With the feature `proved`, they would otherwise be documented only as re-exports.
+#[doc(inline)]
 pub use proved::{HasArg, Occur, ParsingStyle};
 
 /// Tests the examples in the README.

@@ -5,6 +5,7 @@ use crate::debug::groups_of;
 use crate::fail::granted;
 use crate::fallible::TryClone;
 use crate::{Fail, HasArg, Matches, Occur, ParsingStyle, Result, proved};
+use std::collections::HashSet;
 use std::ffi::OsStr;
 use std::fmt;
 
@@ -399,6 +400,24 @@ impl Options {
         self.read(args, canonical_texts)
     }
 
+    /// Returns the first name, in order of declaration, that an earlier option has, too, or `None`
+    /// if all names differ. On a command line, the name means only one of these options. Not in the
+    /// crate getopts.
+    ///
+    /// ```
+    /// let mut options = getopts::Options::new();
+    /// options.optflag("o", "open", "").optopt("o", "output", "", "NAME");
+    /// assert_eq!(options.repeated_name(), Some("o"));
+    /// ```
+    pub fn repeated_name(&self) -> Option<&str> {
+        let (groups, mut seen) = (self.proved.groups(), HashSet::new());
+        let names = (0..groups.len()).flat_map(|place| {
+            let names = groups.get(place).signature.names;
+            [names.short, names.long]
+        });
+        names.filter(|name| !name.is_empty()).find(|name| !seen.insert(*name))
+    }
+
     /// Returns a usage line with all options.
     ///
     /// ```
@@ -446,6 +465,19 @@ impl Options {
     /// options.optflag("h", "help", "print this");
     /// let text = options.usage_with_format(|rows| rows.collect::<Vec<_>>().join("\n"));
     /// assert_eq!(text, "    -h, --help          print this");
+    /// ```
+    ///
+    /// Rows are in order of declaration, so a program can hide options, or put them into groups:
+    ///
+    /// ```
+    /// let mut options = getopts::Options::new();
+    /// options.optflag("h", "help", "print this").optflag("", "debug-me", "for developers");
+    /// let is_hidden = [false, true];
+    /// let text = options.usage_with_format(|rows| {
+    ///     let shown = rows.zip(is_hidden).filter(|(_, is_hidden)| !is_hidden);
+    ///     shown.map(|(row, _)| row + "\n").collect()
+    /// });
+    /// assert_eq!(text, "    -h, --help          print this\n");
     /// ```
     pub fn usage_with_format<F: FnMut(&mut dyn Iterator<Item = String>) -> String>(
         &self,

@@ -5,6 +5,7 @@ use crate::fail::granted;
 use crate::options::{parse_texts, read_texts, read_words, texts_in_order};
 use crate::{Fail, Matches, Options, proved};
 use std::borrow::Cow;
+use std::error::Error;
 use std::ffi::{OsStr, OsString};
 use std::fmt;
 use std::result::Result;
@@ -33,6 +34,46 @@ pub struct OsMatches {
     /// The values of each option, decoded, if a word wasn't text. Otherwise empty: `matches` has
     /// the values.
     values: Vec<Vec<Option<OsString>>>,
+}
+
+/// Why [`OsMatches::opt_get`] couldn't parse a value.
+///
+/// ```
+/// use std::error::Error;
+///
+/// fn number(word: &str) -> Result<Option<u8>, Box<dyn Error>> {
+///     let mut options = getopts::Options::new();
+///     options.optopt("n", "", "set the number", "N");
+///     Ok(options.parse_os(["-n", word])?.opt_get("n")?)
+/// }
+/// assert_eq!(number("7").unwrap(), Some(7));
+/// assert_eq!(number("x").unwrap_err().to_string(), "invalid digit found in string");
+/// ```
+#[derive(Clone, Debug, PartialEq, Eq)]
+pub enum OsGetError<E> {
+    /// The value isn't UTF-8.
+    NotUtf8,
+    /// The error of `FromStr`.
+    Invalid(E),
+}
+
+impl<E: fmt::Display> fmt::Display for OsGetError<E> {
+    fn fmt(&self, f: &mut fmt::Formatter<'_>) -> fmt::Result {
+        match self {
+            OsGetError::NotUtf8 => f.write_str("invalid UTF-8"),
+            OsGetError::Invalid(error) => error.fmt(f),
+        }
+    }
+}
+
+impl<E: Error> Error for OsGetError<E> {
+    fn source(&self) -> Option<&(dyn Error + 'static)> {
+        match self {
+            OsGetError::NotUtf8 => None,
+            // `Display` prints the error itself.
+            OsGetError::Invalid(error) => error.source(),
+        }
+    }
 }
 
 impl Options {
@@ -297,11 +338,12 @@ impl OsMatches {
     /// ```
     ///
     /// # Errors
-    /// Fails with `Some(error)` if the value can't be parsed as a `T`, and with `None` if it isn't
-    /// UTF-8.
+    /// Fails if the value isn't UTF-8, or can't be parsed as a `T`.
     #[track_caller]
-    pub fn opt_get<T: FromStr>(&self, name: &str) -> Result<Option<T>, Option<T::Err>> {
-        let read = |value: &OsStr| value.to_str().ok_or(None)?.parse().map_err(Some);
+    pub fn opt_get<T: FromStr>(&self, name: &str) -> Result<Option<T>, OsGetError<T::Err>> {
+        let read = |value: &OsStr| {
+            value.to_str().ok_or(OsGetError::NotUtf8)?.parse().map_err(OsGetError::Invalid)
+        };
         self.value(name).map(read).transpose()
     }
 

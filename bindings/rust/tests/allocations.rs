@@ -323,3 +323,14 @@ fn help_and_version_come_before_missing_options() {
     assert!(matches!(self::options(0).parse_request(Global, &WORDS), Ok(Request::Parsed(_))));
     assert!(fail_each_of(&options, |o| o.parse_request(Global, &["--input=x", "--", "y"])) > 8);
 }
+
+#[cfg(feature = "std")]
+#[test]
+fn failed_allocations_work_with_the_question_mark() {
+    fn add() -> Result<(), Box<dyn std::error::Error>> {
+        Options::new(Global).optflag("v", "", "")?;
+        Ok(())
+    }
+    assert!(add().is_ok());
+    assert_eq!(AllocError.to_string(), Fail::OutOfMemory.to_string());
+}

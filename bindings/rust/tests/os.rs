@@ -1,6 +1,6 @@
 //! Arguments of any bytes, borrowed values, and methods of matches.
 
-use getopts::{Fail, HasArg, Occur, Options};
+use getopts::{Fail, HasArg, Occur, Options, OsGetError};
 use std::ffi::{OsStr, OsString};
 
 fn options() -> Options {
@@ -80,10 +80,24 @@ fn arguments_of_any_bytes_are_preserved() {
         assert!(!matches.opt_defined("x") && matches.opt_present("color"));
         assert_eq!(matches.opt_default("c", "auto"), Some(&*word));
         let read = matches.opt_get::<String>("o");
-        assert_eq!(read, word.to_str().map(|text| Some(text.into())).ok_or(None));
+        let text = word.to_str().map(|text| Some(text.into()));
+        assert_eq!(read, text.ok_or(OsGetError::NotUtf8));
         // The characters that represent bytes aren't printed.
         assert!(format!("{matches:?}").contains(&format!("vals: [[(0, Val({word:?}))]")));
         assert!(format!("{matches:?}").contains(&format!("free: [{word:?}]")));
+    }
+}
+
+#[test]
+fn errors_of_opt_get_work_with_the_question_mark() {
+    let number = |word: OsString| -> Result<Option<u8>, Box<dyn std::error::Error>> {
+        Ok(options().parse_os(["-o".into(), word])?.opt_get("o")?)
+    };
+    assert_eq!(number("7".into()).unwrap(), Some(7));
+    let fail = number("x".into()).unwrap_err();
+    assert_eq!(fail.to_string(), "x".parse::<u8>().unwrap_err().to_string());
+    for word in not_unicode().into_iter().filter(|word| word.to_str().is_none()) {
+        assert_eq!(number(word).unwrap_err().to_string(), "invalid UTF-8");
     }
 }
 
@@ -118,7 +132,7 @@ fn parse_os_matches_parse() {
     let none = options().parse_os(["-o7"]).unwrap();
     assert_eq!((none.opt_default("c", "auto"), none.opt_get::<u8>("c")), (None, Ok(None)));
     assert_eq!((none.opt_get::<u8>("o"), none.opt_get("o")), (Ok(Some(7)), Ok(Some('7'))));
-    assert!(matches!(none.opt_get::<bool>("o"), Err(Some(_))));
+    assert!(matches!(none.opt_get::<bool>("o"), Err(OsGetError::Invalid(_))));
     assert_eq!(options().parse_os(["-x"]).unwrap_err(), Fail::UnrecognizedOption("x".into()));
 }
 

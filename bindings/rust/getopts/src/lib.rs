@@ -2,4 +2,10 @@
 //! replaces.
 #![no_std]
 
-pub use ::getopts::*;
+// Not `*`: if another package sets the feature `proved` of `proved-getopts`, a program with `use
+// getopts::*` would get modules such as `alloc` and `bytes`, whose names may mean crates there.
+pub use ::getopts::{
+    Fail, HasArg, Matches, Occur, Options, OsGetError, OsMatches, ParsingStyle, Result,
+};
+#[cfg(feature = "proved")]
+pub use ::getopts::{alloc, bytes, bytes_of, fallible, proved};
