@@ -289,8 +289,7 @@ impl Options {
     where
         C::Item: AsRef<OsStr>,
     {
-        let matches = self.read(args, parse_texts)?;
-        Ok(Matches::of(matches))
+        self.read(args, |options, texts| parse_texts(options, texts).map(Matches::of))
     }
 
     /// Parses a command line like `parse`, but doesn't check how often options occur: a required
@@ -322,8 +321,7 @@ impl Options {
     where
         C::Item: AsRef<OsStr>,
     {
-        let matches = self.read(args, read_texts)?;
-        Ok(Matches::of(matches))
+        self.read(args, |options, texts| read_texts(options, texts).map(Matches::of))
     }
 
     /// Parses a command line like `parse`, and returns its options in order: the main name of each

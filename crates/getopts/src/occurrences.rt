@@ -303,6 +303,17 @@ impl<'m> Occurrences<'m> {
     pub(crate) fn same(&self, other: &Occurrences<'_>) -> bool
         ensures { result ≡ pointwise same_group_occurrence self.now other.now }
     {
+        if self.is_empty() && other.is_empty() {
+            return true;
+        }
+        same_at(self.found, self.places, other.found, other.places)
+    }
+
+    /// Like `same`, which calls it if there are occurrences.
+    #[inline(always)]
+    fn same_items(&self, other: &Occurrences<'_>) -> bool
+        ensures { result ≡ pointwise same_group_occurrence self.now other.now }
+    {
         if self.len() != other.len() {
             return false;
         }
@@ -313,6 +324,23 @@ impl<'m> Occurrences<'m> {
         }
         true
     }
+}
+
+/// Whether two command lines have the same occurrences at these places.
+// Inlined, it would slow down the loop over groups, most of which have no occurrences.
+#[inline(never)]
+fn same_at(
+    found: &LineOccurrences,
+    places: &[usize],
+    other: &LineOccurrences,
+    others: &[usize],
+) -> bool
+    requires ours { ArePlacesOf found.now places.now }
+    requires theirs { ArePlacesOf other.now others.now }
+    ensures { result ≡ pointwise same_group_occurrence
+        (occurrences_at_places found.now places.now) (occurrences_at_places other.now others.now) }
+{
+    Occurrences::of(found, places).same_items(&Occurrences::of(other, others))
 }
 
 impl<'m> IntoIterator for Occurrences<'m> {

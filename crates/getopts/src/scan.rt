@@ -112,6 +112,7 @@ pub(crate) enum Shape<'w> {
 }
 
 /// Appends a copy of a word.
+#[inline]
 fn push_copy(alloc: Global, copies: &mut Vec<String>, word: &str) -> Result<(), AllocError>
     ensures { OnOk result (map string_bytes copies.new.items
         ≡ map string_bytes copies.old.items ++ word.now ∷ []) }

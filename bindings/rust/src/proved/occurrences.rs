@@ -213,6 +213,15 @@ impl<'m> Occurrences<'m> {
     /// Whether both have the same positions and values, in the same order.
     #[inline]
     pub(crate) fn same(&self, other: &Occurrences<'_>) -> bool {
+        if self.is_empty() && other.is_empty() {
+            return true;
+        }
+        same_at(self.found, self.places, other.found, other.places)
+    }
+
+    /// Like `same`, which calls it if there are occurrences.
+    #[inline(always)]
+    fn same_items(&self, other: &Occurrences<'_>) -> bool {
         if self.len() != other.len() {
             return false;
         }
@@ -223,6 +232,18 @@ impl<'m> Occurrences<'m> {
         }
         true
     }
+}
+
+/// Whether two command lines have the same occurrences at these places.
+// Inlined, it would slow down the loop over groups, most of which have no occurrences.
+#[inline(never)]
+fn same_at(
+    found: &LineOccurrences,
+    places: &[usize],
+    other: &LineOccurrences,
+    others: &[usize],
+) -> bool {
+    Occurrences::of(found, places).same_items(&Occurrences::of(other, others))
 }
 
 impl<'m> IntoIterator for Occurrences<'m> {

@@ -93,6 +93,7 @@ pub(crate) enum Shape<'w> {
 }
 
 /// Appends a copy of a word.
+#[inline]
 fn push_copy(alloc: Global, copies: &mut Vec<String>, word: &str) -> Result<(), AllocError> {
     copies.try_push(String::copy_of(alloc, word)?)?;
     Ok(())

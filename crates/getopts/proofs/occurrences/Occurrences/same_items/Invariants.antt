@@ -2,7 +2,7 @@
 use Rattle.std.proofs.Common.{◌≡◌, true, length, take}
 use Rattle.std.specs.Cmp.Lexicographic.{pointwise}
 use Rattle.getopts.specs.Same.{same_group_occurrence}
-use Rattle.getopts.proofs.occurrences.Occurrences.same.Given as goal
+use Rattle.getopts.proofs.occurrences.Occurrences.same_items.Given as goal
 
 abbrev pub invariant-loop-nth : goal.invariant-loop-nth
 invariant-loop-nth l = record {

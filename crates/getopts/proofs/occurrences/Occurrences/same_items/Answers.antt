@@ -2,7 +2,7 @@
 use Rattle.std.proofs.Common.{sym}
 use Rattle.std.proofs.lemmas.Bool.{not-true, not-false}
 use Rattle.getopts.proofs.Stored.Occurrences.{founds-differ, founds-same}
-use Rattle.getopts.proofs.occurrences.Occurrences.same.Goals as goal
+use Rattle.getopts.proofs.occurrences.Occurrences.same_items.Goals as goal
 
 pub returns-then-ne : goal.returns-then-ne
 returns-then-ne c =
