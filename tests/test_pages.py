@@ -112,7 +112,7 @@ def times():
         return f"{min(of)} to {max(of)} minutes" if min(of) < max(of) else f"{min(of)} minutes"
 
     commands = {"rt lib": ("`(cd crates/getopts && rt lib)`", "proves the library"),
-                "bash test.sh": ("`bash test.sh`", "proves and tests everything")}
+                "bash test.sh": ("`bash test.sh`", "proves everything, and runs the tests")}
     return table(["command", "what it does", "processor time", "time on four processors"],
                  *([*shown, span(command, 1), span(command, 2)] for command, shown in commands.items()))
 

@@ -82,8 +82,7 @@ struct getopts_option {
 };
 
 /* How words are read. Modes can be added. A mode used as a kind, or a kind used as a mode, is an
- * error: see getopts_new. (In docs/GRAMMAR.md, GETOPTS_STOP is a parsing style, and only
- * GETOPTS_LONG_ONLY a mode.) With GETOPTS_LONG_ONLY, short options can't be combined, and take
+ * error: see getopts_new. With GETOPTS_LONG_ONLY, short options can't be combined, and take
  * arguments as long options do: write `-I dir` or `-I=dir`, and `-v -v`. `-Idir` and `-vv`, which
  * getopt_long_only accepts, are rejected.
  *

@@ -4,7 +4,7 @@
     bindings/rust/erase.py [--check]
 
 Writes the Rust of each crate to its folder (see CRATES), and a README.md that says so. With --check it writes nothing;
-status 1 means that a folder is out of date. It needs `rustfmt`, which formats the result.
+status 1 means that a folder is out of date. It needs `rustfmt` of Rust 1.85 or later.
 
 It parses a crate's tokens by this grammar, and rejects everything else, naming file, line and token. What is marked
 with * has no meaning at run time, and is deleted.
@@ -49,6 +49,7 @@ shares neither code nor tables with this script.
 
 import functools
 import re
+import shutil
 import subprocess
 import sys
 from pathlib import Path
@@ -615,6 +616,8 @@ def main(arguments):
     if arguments not in ([], ["--check"]):
         print("usage: bindings/rust/erase.py [--check]", file=sys.stderr)
         return 2
+    if not shutil.which("rustfmt"):
+        raise NotRust("rustfmt not found: install Rust 1.85 or later with it")
     status, crates = 0, sources()
     for name, (folder, module, names) in CRATES.items():
         folder = TOP / folder
