@@ -1,6 +1,7 @@
 """Mutants: each applies to the sources, and the body of each public function of getopts has one. `rt ci` tries those in
-a folder `must-fail`. Those in a folder `mutants` are tried here, before a release and when a contract has changed."""
+a folder `must-fail`. Those in a folder `mutants` are tried here, before a release and if what they depend on changes."""
 
+import functools
 import hashlib
 import re
 import shutil
@@ -73,44 +74,93 @@ def test_public_functions_have_mutants():
     assert len(names) > 50 and not without, f"no mutant of their own: {without}"
 
 
+def tokens(text):
+    """The words of contracts or definitions, without comments, imports and layout."""
+    text = re.sub(r"^ *(pub |ghost )*use .*(\n[ }].*)*", "", text, flags=re.M)
+    found = re.findall(r'"(?:\\.|[^"\\])*"|(?://|--).*|[^\s(){},;\[\]|."]+|\S', text)
+    return [token for token in found if not token.startswith(("//", "--"))]
+
+
+@functools.cache
 def stated(path):
-    """The public clauses of a source, or the definitions in a file of `specs`, without comments, imports and layout."""
-    text = path.read_text(encoding="utf-8")
+    """What a file of `specs` defines or, of its types, a source states, by name; and what imported names stand for."""
+    text, found, imports = path.read_text(encoding="utf-8"), {}, {}
+    use = r"^ *(?:pub |ghost )*use Rattle\.(\w+)\.specs\.([\w.]+)\.\{(.*?)\}"
+    for crate, module, names in re.findall(use, text, re.M | re.S):
+        file = ROOT / f"crates/{crate}/specs/{module.replace('.', '/')}.antt"
+        imports |= {other or name: (file, name) for name, other in re.findall(r"([^\s,]+)(?: as ([^\s,]+))?", names)}
+    for part in re.split(r"\n\n+", text) if path.suffix == ".antt" else []:
+        code = re.sub(r"^ *--.*\n", "", part, flags=re.M)
+        head = re.match(r" *(?:(?:abbrev|unfoldable|pub|data|record) +)*([^\s(:]+) ?[:(]", code)
+        variants = re.findall(r"^  ([^\s:]+) :", code, re.M) if re.match(r"(pub )?data ", code) else []
+        found |= {name: found.get(name, "") + part for name in variants + ([head[1]] if head else [])}
     if path.suffix == ".rt":
-        heads = [it[0][: body_of(it)] for it in FUNCTION.finditer(text) if it[2]]
-        text = "\n".join(heads + re.findall(r"^ *ghost (?!use).*?;$", text, re.M | re.S))
-    text = re.sub(r"^(pub )?use .*(\n[ }].*)*", "", text, flags=re.M)
-    tokens = re.findall(r'"(?:\\.|[^"\\])*"|(?://|--).*|\w+|\S', text)
-    return " ".join(token for token in tokens if not token.startswith(("//", "--")))
+        for it in re.finditer(r"^impl(?:<.*?>)? (?:[^\n]* for )?(\w+).*?^\}$", text, re.M | re.S):
+            found[it[1]] = found.get(it[1], "") + "".join(re.findall(r"^    ghost (?!use).*?;$", it[0], re.M | re.S))
+    return found, imports
 
 
-def contracts(crate):
-    """A checksum of what decides whether mutants of a crate are wrong: its contracts, its definitions, and those of the
-    libraries below it. And the file with the checksum for which they were last tried."""
-    below, crates = [crate], (ROOT / "crates.txt").read_text(encoding="utf-8")
-    for name in below:
-        below += re.search(rf"^{name}:.*|\Z", crates, re.M)[0].split()[1:]
-    files = sorted({*ROOT.glob(f"crates/{crate}/src/**/*.rt"),
-                    *(path for name in below for path in ROOT.glob(f"crates/{name}/specs/**/*.antt"))})
-    checksum = hashlib.sha256("\n".join(map(stated, files)).encode()).hexdigest()
-    return f"{checksum}\n", ROOT / f"crates/{crate}/mutants/contracts.sha256"
+@functools.cache
+def origin(name, path):
+    """The file that states what a name in another file stands for, and its name there, if it is in this repository."""
+    found, imports = stated(path)
+    if name in imports:
+        file, name = imports[name]
+        return origin(name, file) if file.exists() else None
+    files = [path, *(sorted(ROOT.glob("crates/*/src/**/*.rt")) if path.suffix == ".rt" else [])]
+    return next(((file, name) for file in files if stated(file)[0].get(name)), None)
+
+
+def reached(text, path, found):
+    """Adds to `found` each definition on which a text in a file depends."""
+    for name in set(tokens(text)):
+        place = origin(name, path)
+        if place and place not in found:
+            file, name = place
+            found[place] = tokens(stated(file)[0][name])
+            reached(stated(file)[0][name], file, found)
+
+
+def contracts(mutant):
+    """A checksum of what decides whether a mutant is rejected: itself, the clauses of the functions that it changes, and
+    the definitions that these use."""
+    depends = {mutant: [mutant.read_text(encoding="utf-8")]}
+    for path, old, _ in changes(mutant):
+        text = path.read_text(encoding="utf-8")
+        functions = list(FUNCTION.finditer(text))
+        changed = [it for it in functions if it.start() <= text.find(old) < it.end()]
+        for it in changed or functions:
+            impl = re.findall(r"^impl.*", text[: it.start()], re.M)[-1] if it[1] else ""
+            head = impl + it[0][: body_of(it)]
+            depends[path, head] = tokens(head)
+            reached(head, path, depends)
+    return hashlib.sha256("\n".join(sorted(" ".join(it) for it in depends.values())).encode()).hexdigest()
+
+
+def for_release(crate):
+    """The mutants of a crate that `rt ci` doesn't try, the checksums of what decides about them now, the file with the
+    checksums for which they were last tried, and those for which the two differ."""
+    mutants = sorted(it for it in MUTANTS if it.parts[-3:-1] == (crate, "mutants"))
+    now, file = {it.stem: contracts(it) for it in mutants}, ROOT / f"crates/{crate}/mutants/contracts.sha256"
+    tried = dict(reversed(line.split()) for line in file.read_text().splitlines()) if file.exists() else {}
+    return mutants, now, file, [it for it in mutants if tried.get(it.stem) != now[it.stem]]
 
 
 @pytest.mark.parametrize("crate", FOR_RELEASE)
 def test_mutants_were_tried(crate):
-    checksum, file = contracts(crate)
-    if not file.exists() or file.read_text() != checksum:
-        pytest.fail(f"A contract or definition changed after the mutants of {crate} were tried: "
-                    f"run bash test.sh -k 'rejected[{crate}]' --release --fix", pytrace=False)
+    changed = [it.stem for it in for_release(crate)[3]]
+    if changed:
+        pytest.fail(f"These mutants of {crate} are new, or a contract or definition changed after they were tried: "
+                    f"{' '.join(changed)}. Run bash test.sh -k 'rejected[{crate}]' --release --fix", pytrace=False)
 
 
 def rejected(crate, mutants, copy):
     """How many of these mutants are rejected in a copy of the repository, and what `rt` prints."""
     copy_tree(copy)
-    # Libraries that are already proved aren't proved again.
-    for library in ROOT.glob("crates/*/out/rlib"):
-        if library.parents[1].name != crate:
-            shutil.copytree(library, copy / library.relative_to(ROOT))
+    # What is already proved isn't proved again: libraries and, of this crate, what earlier checks kept.
+    for kept in [*ROOT.glob("crates/*/out/rlib"), ROOT / f"crates/{crate}/out/incremental"]:
+        if kept.is_dir() and kept.parts[-3:] != (crate, "out", "rlib"):
+            shutil.copytree(kept, copy / kept.relative_to(ROOT))
     folder = copy / f"crates/{crate}/must-fail"
     shutil.rmtree(folder, ignore_errors=True)
     folder.mkdir()
@@ -127,15 +177,17 @@ def rejected(crate, mutants, copy):
 @pytest.mark.timeout(6 * 3600)
 @pytest.mark.parametrize("crate", FOR_RELEASE)
 def test_mutants_are_rejected(crate, tmp_path, request):
-    """In copies with at most 25, side by side. Each first proves the crate, which for `getopts` takes as long as 15."""
-    mutants = sorted(it for it in MUTANTS if it.parts[-3:-1] == (crate, "mutants"))
-    lanes, (checksum, file) = -(-len(mutants) // 25), contracts(crate)
+    """Tries all, or with --fix those that have to be tried again, in copies with at most 25, side by side."""
+    mutants, now, file, changed = for_release(crate)
+    if fix := request.config.getoption("--fix"):
+        mutants = changed
+    lanes = -(-len(mutants) // 25)
     if crate != "getopts":
         # Proves the library, unless an earlier command did: `rt ci` leaves none that other commands use.
         run("nice", "rt", "check", cwd=ROOT / "crates/getopts_bytes")
-    with ThreadPoolExecutor(lanes) as pool:
+    with ThreadPoolExecutor(max(1, lanes)) as pool:
         parts = [(crate, mutants[at::lanes], tmp_path / str(at)) for at in range(lanes)]
-        counts, said = zip(*pool.map(rejected, *zip(*parts)))
-    assert sum(counts) == len(mutants), "".join(said)
-    if request.config.getoption("--fix"):
-        file.write_text(checksum)
+        results = list(pool.map(rejected, *zip(*parts))) if parts else []
+    assert sum(count for count, _ in results) == len(mutants), "".join(said for _, said in results)
+    if fix:
+        file.write_text("".join(f"{checksum}  {name}\n" for name, checksum in now.items()))
