@@ -23,6 +23,7 @@ bash test.sh --quick --no-install -k versions -q
 bindings/build.py --check
 if [ -z "${TESTED:-}" ]; then
     bash test.sh ${crate:+"$crate"}
+    bindings/build.py --rebuild
     bash test.sh -k rejected --release -n 3
     tests/fresh.sh
     unchanged

@@ -2,11 +2,13 @@
 """Rebuilds what is checked in but generated from the proved source: the shell binaries and the erased Rust.
 
 usage: bindings/build.py [--check] [shell | rust]..
+       bindings/build.py --rebuild [x86_64 | aarch64]..
 
-The program is proved with the libraries that `rt ci`, or `rt lib` in their folders, left, and built for every processor
-from one proof. proved.sha256 records the program's version, and the checksums of the toolchain's logic, of the binaries
-and of their sources, without comments; what hasn't changed since isn't rebuilt. With --check, nothing is proved or built,
-and the status is 1 if anything is out of date.
+The program is proved with the libraries that `rt ci` left, or that `rt lib` makes now, and built for every processor from
+one proof. proved.sha256 records the program's version, and the checksums of the toolchain's logic, of the binaries and of
+their sources, without comments; what hasn't changed since isn't rebuilt. With --check, nothing is proved or built, and
+the status is 1 if anything is out of date. --rebuild proves the program, builds it elsewhere, and compares each byte with
+the binaries that are checked in; the status is 1 if one differs.
 """
 
 import hashlib
@@ -45,7 +47,9 @@ def build(processor, to):
     for library in ["std", *libraries(CRATE)]:
         own = ROOT / f"crates/{library}/out/rlib/{library}.rlib"
         at = own if (ROOT / "crates" / library).is_dir() else kit() / f"rlibs/{library}.rlib"
-        at.is_dir() or stop(f"{at} is missing: run 'rt ci', or 'rt lib' in crates/{library}")
+        if at == own and not at.is_dir():
+            done = subprocess.run([kit() / "bin/rt", "lib"], cwd=ROOT / "crates" / library, capture_output=True, text=True)
+            done.returncode == 0 or stop(f"'rt lib' in crates/{library} failed:\n{(done.stdout + done.stderr)[-3000:]}")
         externs += ["--extern", f"{library}={at}", "-L", f"dependency={at.parent}"]
     words = ["--crate-name", CRATE, "src/main.rt", "--links", f"{CRATE}=", "--jobs", os.environ.get("JOBS", "1"), *externs,
              "--antt-project", kit() / "rattle/logic/antt-project.json", "--logic-built", kit() / "logic_built",
@@ -90,6 +94,24 @@ def sums():
             *(f"{sum_of(file)}  {file.relative_to(ROOT)}" for file in files)]
 
 
+def built_for(processor, room):
+    """The program, built for a processor in a folder."""
+    to = Path(room) / processor
+    build(processor, f"{to}.o")
+    link(processor, to, f"{to}.o")
+    return to
+
+
+def rebuild(processors):
+    """Builds the binaries again, and compares them with those that are checked in."""
+    with tempfile.TemporaryDirectory() as room:
+        for processor in processors:
+            kept = FOLDER / processor / CRATE
+            if built_for(processor, room).read_bytes() != kept.read_bytes():
+                stop(f"{kept.relative_to(ROOT)} isn't what its source gives")
+            print(f"{kept.relative_to(ROOT)} is what its source gives, byte for byte", flush=True)
+
+
 def shell(check):
     """Rebuilds the binaries if something has changed, or with --check only reports it."""
     kept = FOLDER / "proved.sha256"
@@ -101,12 +123,10 @@ def shell(check):
         stop(f"bindings/shell is out of date: run bindings/build.py (changed: {', '.join(changed)})")
     with tempfile.TemporaryDirectory() as room:
         for processor in PROCESSORS:
-            to, built = FOLDER / processor / CRATE, Path(room) / "built"
-            build(processor, f"{built}.o")
-            link(processor, built, f"{built}.o")
+            to = FOLDER / processor / CRATE
             to.parent.mkdir(exist_ok=True)
             # A copy that replaces the old file: a test may be running that one.
-            shutil.copyfile(built, f"{to}.new")
+            shutil.copyfile(built_for(processor, room), f"{to}.new")
             os.chmod(f"{to}.new", 0o755)
             os.replace(f"{to}.new", to)
             Path(f"{to}.sha256").write_text(f"{sum_of(to)}  {to.name}\n")
@@ -119,6 +139,8 @@ def main(words):
         return print(__doc__.strip())
     if words[:1] == ["--link"]:
         return link(*words[1:])
+    if words[:1] == ["--rebuild"] and set(words[1:]) <= set(PROCESSORS):
+        return rebuild(words[1:] or PROCESSORS)
     check = "--check" in words
     for what in [word for word in words if word != "--check"] or ["shell", "rust"]:
         if what == "rust":

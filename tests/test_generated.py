@@ -59,6 +59,27 @@ def test_rebuilt_binaries(tmp_path, monkeypatch, capsys):
 
 
 @pytest.mark.rt
+def test_changed_binary_is_found(tmp_path, monkeypatch, capsys):
+    """`--rebuild` compares the binaries with what their source gives, so a changed checksum doesn't hide a change."""
+    copy = copy_tree(tmp_path / "copy")
+    build, folder = module_of(copy), copy / "bindings/shell"
+    monkeypatch.setattr(build, "build", lambda processor, to: Path(to).write_text("object"))
+    binaries = {it: (folder / it / "getopts_shell").read_bytes() for it in ("x86_64", "aarch64")}
+    monkeypatch.setattr(build, "link", lambda processor, to, of: Path(to).write_bytes(binaries[processor]))
+    build.main(["--rebuild"])
+    same = "bindings/shell/{}/getopts_shell is what its source gives, byte for byte\n"
+    assert capsys.readouterr().out == same.format("x86_64") + same.format("aarch64")
+    with open(folder / "aarch64/getopts_shell", "ab") as changed:
+        changed.write(b"\n")
+    (folder / "proved.sha256").write_text("\n".join(build.sums()) + "\n")
+    assert run(copy / BUILD, "--check", "shell") == UP_TO_DATE
+    with pytest.raises(SystemExit) as error:
+        build.main(["--rebuild"])
+    assert str(error.value) == "build.py: bindings/shell/aarch64/getopts_shell isn't what its source gives"
+    assert capsys.readouterr().out == same.format("x86_64")
+
+
+@pytest.mark.rt
 @pytest.mark.parametrize("file, text, found", [
     ("crates/getopts/src/scan.rt", "\n", True), ("crates/getopts/src/scan.rt", "    // A comment.\n", False),
     ("bindings/shell/start.c", ";", True), ("bindings/shell/start.h", ";", True), ("bindings/shell/start.c", "/* A */", False),
