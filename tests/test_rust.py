@@ -128,6 +128,35 @@ def test_eraser_rejects_sources(name, reader):
     assert re.search(rf"erase.py: crates/getopts/src/{file}.rt:\d+: {re.escape(error.removeprefix('error: '))}\n", said)
 
 
+def test_erased_forms(reader):
+    """Source with forms of which the library has only some: `Drop` at each place, and calls of values."""
+    (eraser, source), text = reader, """ghost use Rattle.std.specs.Prelude.{ℕ};
+
+#[derive(Drop, Clone)]
+pub struct First;
+
+#[derive(Clone, Drop, Copy)]
+pub struct Middle;
+
+#[derive(Debug, Drop)]
+pub struct Last;
+
+#[derive(Drop)]
+pub struct Only;
+
+pub fn called<F: FnMut(u8) -> u8 + Drop>(given: F) -> u8 {
+    let own = |byte: u8| byte;
+    let mut next = |byte: u8| byte;
+    next(own(given(1)))
+}
+"""
+    (source / "lib.rt").write_text("mod names;\n")
+    (source / "names.rt").write_text(text)
+    run(sys.executable, eraser)
+    wanted = re.sub("#.derive.Drop.]\n|ghost.*\n| [+] Drop|Drop, |, Drop", "", text)
+    assert (eraser.parent / "src/proved/names.rs").read_text().partition("\n")[2] == wanted
+
+
 @pytest.mark.parametrize("file, right, wrong, why", [
     ("row.rt", "const MARGIN: usize = 24", "const MARGIN: usize ≡ 24", "'≡': it isn't Rust"),
     ("index.rt", "let Index { groups: _, held: _ } = self;", "let _ = self;",
