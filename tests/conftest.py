@@ -19,7 +19,8 @@ sys.dont_write_bytecode = True
 os.environ["LC_ALL"] = "C.UTF-8"
 os.environ.pop("POSIXLY_CORRECT", None)
 # Cargo reads configurations in all folders above. So tests use no folder below /tmp, where other users may put them.
-ROOM = Path(os.environ.get("XDG_CACHE_HOME") or Path.home() / ".cache") / "proved-getopts/tmp"
+CACHE = Path(os.environ.get("XDG_CACHE_HOME", ""))
+ROOM = (CACHE if CACHE.is_absolute() else Path.home() / ".cache") / "proved-getopts/tmp"
 ROOM.mkdir(mode=0o700, parents=True, exist_ok=True)
 os.environ["TMPDIR"] = tempfile.tempdir = str(ROOM)
 ROOT = Path(__file__).resolve().parents[1]

@@ -3,6 +3,8 @@
 import hashlib
 import re
 import tarfile
+from concurrent.futures import ThreadPoolExecutor
+from pathlib import Path
 
 import pytest
 from conftest import ROOT, answer, copy_tree, need, run, script, tracked
@@ -17,10 +19,13 @@ LOGS = '#!/bin/sh\nline="{name} $*"\necho "$line" >>"{log}"\ncase $line in *${{F
 
 @pytest.fixture
 def test_sh(tmp_path):
-    """test_sh(WORD.., FAIL=.., status=..) runs a copy of test.sh: its output, its errors, and the calls of rt and pytest."""
+    """test_sh(WORD.., FAIL=.., status=..) runs a copy of test.sh: its output, its errors, and the calls of rt and pytest.
+    In the place of /usr/bin, the copy looks for Python in a folder that doesn't exist."""
     for name in ("test.sh", "tests/packages.txt"):
         (tmp_path / "copy" / name).parent.mkdir(parents=True, exist_ok=True)
-        (tmp_path / "copy" / name).write_bytes((ROOT / name).read_bytes())
+        text = (ROOT / name).read_text()
+        assert name != "test.sh" or text.count("/usr/bin/python3") == 1
+        (tmp_path / "copy" / name).write_text(text.replace("/usr/bin/python3", f"{tmp_path}/absent/python3"))
     (tmp_path / "bin").mkdir()
     (tmp_path / "crate").mkdir()
     (tmp_path / "crate/Cargo.toml").write_text("")
@@ -30,10 +35,10 @@ def test_sh(tmp_path):
         text = LOGS.format(name=name, log=log).replace("line=", '[ "$1" != -c ] || exit 0\n[ -f test.sh ] || exit 9\nline=', 1)
         script(tmp_path / "bin" / name, text)
 
-    def called(*words, FAIL="", status=0):
+    def called(*words, status=0, **env):
         log.write_text("")
-        said, errors = run("bash", tmp_path / "copy/test.sh", *words, status=status, cwd=tmp_path,
-                           env={"PATH": f"{tmp_path}/bin:/usr/bin:/bin", "XDG_CACHE_HOME": str(tmp_path / "cache"), "FAIL": FAIL})
+        said, errors = run("bash", tmp_path / "copy/test.sh", *words, status=status, cwd=tmp_path, env={
+            "PATH": f"{tmp_path}/bin:/usr/bin:/bin", "XDG_CACHE_HOME": str(tmp_path / "cache"), "FAIL": "", "CI": "", **env})
         return said, errors, sorted(re.sub(" --durations.*", "", line) for line in log.read_text().splitlines())
 
     return called
@@ -71,6 +76,20 @@ def test_clone_in_shared_folder(test_sh, tmp_path):
     tmp_path.chmod(0o1777)
     _, errors, calls = test_sh("--no-install", "--quick", status=2)
     assert errors.startswith(f"test.sh: other users can put programs into {tmp_path}: ") and calls == []
+    assert len(test_sh("--no-install", "--quick", CI="true")[2]) == 1
+
+
+def stubs(test_sh, tmp_path, lacks, **more):
+    """Programs that install what test.sh asks for: root's, of a Debian without these packages, and others."""
+    listed = re.sub("#.*|^unpack:.*", "", (ROOT / "tests/packages.txt").read_text(), flags=re.M).split()
+    others = "".join(f"installed {name}\\n" for name in listed if name not in lacks)
+    for name, text in {
+        "id": "echo 0", "rustc": "echo rustc 1.95.0", "apt-cache": "printf 'zsh\\nmore\\n'",
+        "dpkg-query": f"printf '{others}'; [ ! -e '{tmp_path}/zsh' ] || echo installed zsh",
+        "apt-get": f"echo \"apt-get $*\" >>'{tmp_path}/log'; case $* in *'install -y'*) sleep 1; touch '{tmp_path}/zsh' ;; esac",
+        **more,
+    }.items():
+        script(tmp_path / "bin" / name, f"#!/bin/sh\n{text}\n")
 
 
 def test_wrong_arguments_of_test_sh(test_sh, tmp_path):
@@ -83,20 +102,60 @@ def test_wrong_arguments_of_test_sh(test_sh, tmp_path):
 def test_missing_packages_are_installed(test_sh, tmp_path):
     """As root, before the tests, those of tests/packages.txt that are missing, and that this release of Debian has. The
     others aren't looked for again."""
-    listed = re.sub("#.*|^unpack:.*", "", (ROOT / "tests/packages.txt").read_text(), flags=re.M).split()
-    others = "".join(f"installed {name}\\n" for name in listed if name not in ("zsh", "fish"))
-    for name, text in {
-        "id": "echo 0", "rustc": "echo rustc 1.95.0", "apt-cache": "printf 'zsh\\nmore\\n'",
-        "dpkg-query": f"printf '{others}'; [ ! -e '{tmp_path}/zsh' ] || echo installed zsh",
-        "apt-get": f"echo \"apt-get $*\" >>'{tmp_path}/log'; case $* in *'install -y'*) touch '{tmp_path}/zsh' ;; esac",
-    }.items():
-        script(tmp_path / "bin" / name, f"#!/bin/sh\n{text}\n")
+    stubs(test_sh, tmp_path, ["zsh", "fish"])
     said, errors, (update, install, tests) = test_sh("--quick")
     assert said.startswith("test.sh: about to install (--no-install leaves this out): the Debian packages zsh fish\n")
     assert errors == "" and update.endswith(" update") and install.endswith("--no-install-recommends zsh")
     assert "pytest" in tests and "all passed" in said
     said, _, calls = test_sh("--quick")
     assert "about to install" not in said and len(calls) == 1
+
+
+def test_two_runs_install_once(test_sh, tmp_path):
+    stubs(test_sh, tmp_path, ["zsh"])
+    with ThreadPoolExecutor(2) as pool:
+        said = [one.result()[0] for one in [pool.submit(test_sh, "--quick") for _ in range(2)]]
+    assert all("all passed" in one for one in said) and sum("about to install" in one for one in said) == 1
+
+
+def test_rust_is_unpacked(test_sh, tmp_path):
+    """On Debian 12, if its rustc is all there is: into the cache, once, and tests run with it."""
+    if "VERSION_CODENAME=bookworm" not in Path("/etc/os-release").read_text():
+        pytest.skip("only on Debian 12")
+    stubs(test_sh, tmp_path, [], rustc="echo rustc 1.63.0", **{
+        "apt-get": """for word; do part=${word#Dir::Cache::Archives=}; [ "$part" = "$word" ] || touch "$part/rust.deb"; done""",
+        "dpkg": """mkdir -p "$3/usr/bin"; printf '#!/bin/sh\\necho rustc 1.85.1' >"$3/usr/bin/rustc"; chmod 755 "$3/usr/bin/rustc" """})
+    script(tmp_path / "bin/python3", f'#!/bin/sh\n[ "$1" = -c ] || rustc --version >>"{tmp_path}/log"\n')
+    rust = tmp_path / "cache/proved-getopts/rust"
+    said, errors, calls = test_sh("--quick")
+    assert f"about to install (--no-install leaves this out): Rust 1.85 into {rust}\n" in said and errors == ""
+    assert calls == ["rustc 1.85.1"] and sorted(path.name for path in rust.rglob("*")) == ["bin", "partial", "rustc", "usr"]
+    assert "about to install" not in test_sh("--quick")[0]
+
+
+def test_pytest_is_installed(test_sh, tmp_path):
+    """By other users, into the cache, without pip's messages; without it, nothing runs."""
+    missing = '#!/bin/sh\n[ "$1" != -c ] || exit 1\n'
+    script(tmp_path / "bin/python3", missing)
+    script(tmp_path / "bin/id", "#!/bin/sh\necho 1000\n")
+    message = "test.sh: pytest not found: apt-get install python3-pytest python3-pytest-xdist python3-pytest-timeout\n"
+    assert test_sh("--no-install", "--quick", status=2) == ("", message, [])
+    assert test_sh("--quick", status=2)[1] == message
+    own = tmp_path / "cache/proved-getopts/venv"
+    noise = f'mkdir -p "{own}/bin"; echo noise; echo noise >&2\n'
+    script(tmp_path / "bin/python3", missing + noise + f"""printf '#!/bin/sh\\necho "pip $*" >>{tmp_path}/log
+echo noise; echo noise >&2' >"{own}/bin/pip"
+printf '#!/bin/sh\\n[ "$1" = -c ] || echo "own $*" >>{tmp_path}/log' >"{own}/bin/python"; chmod 755 "{own}"/bin/*\n""")
+    said, errors, (tests, pip) = test_sh("--quick")
+    assert said.startswith(f"test.sh: about to install (--no-install leaves this out): pytest into {own}\n")
+    assert "noise" not in said and errors == "" and tests.startswith("own -m pytest tests") and pip.startswith("pip install pytest")
+
+
+def test_relative_cache_is_ignored(test_sh, tmp_path):
+    script(tmp_path / "bin/id", "#!/bin/sh\necho 1000\n")
+    script(tmp_path / "bin/python3", '#!/bin/sh\nexit 1\n')
+    said, _, _ = test_sh("--quick", status=2, XDG_CACHE_HOME="cache", HOME=str(tmp_path / "home"))
+    assert f"pytest into {tmp_path}/home/.cache/proved-getopts/venv\n" in said and not (tmp_path / "copy/cache").exists()
 
 
 # ---- release.sh
