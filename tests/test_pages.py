@@ -12,9 +12,11 @@ import textwrap
 
 import bench as bench_py
 import pytest
+import reading
 from conftest import ROOT, answer, kit, need, need_rustfmt, run
 from conftest import tracked as all_tracked
 from model import TEXTS, Group, Options
+from test_readings import conditions
 
 
 def read(name):
@@ -155,7 +157,7 @@ def quoted_contracts():
 
 # What --fix writes between `<!-- generated: NAME -->` and `<!-- end -->`.
 GENERATED = {make.__name__: make for make in (help_text, usage_example, speed, speed_in_c, memory, times, first_output,
-                                              compared, sizes, quoted_contracts)}
+                                              compared, sizes, conditions, quoted_contracts)}
 
 
 @pytest.mark.parametrize("page", pages)
@@ -166,6 +168,11 @@ def test_generated_parts(page, request):
         (ROOT / page).write_text(wanted, encoding="utf-8")
         pages[page] = wanted
     assert pages[page] == wanted, "out of date: run 'bash test.sh -k pages --fix'"
+
+
+def test_picture_of_a_reading(show):
+    """docs/reading.py draws what getopts_show prints."""
+    assert reading.draw(run(show, *reading.WORDS)[0]) == read("docs/reading.svg")
 
 
 def test_generated_parts_are_used():
