@@ -13,6 +13,7 @@ import time
 
 import model
 import pytest
+import texts
 from conftest import MARGIN, ROOT, answer, check_page, need, need_compiler, run, script
 from targets import OLD, cargo, cargo_for, copy_folders, need_cargo, need_target, runner, rust_minor, shared_folder
 
@@ -107,6 +108,8 @@ OCCURS = [*model.OCCURS, "reqmulti"]
 STATUSES = ["", "ArgumentMissing", "UnrecognizedOption", "OptionMissing", "OptionDuplicated", "UnexpectedArgument"]
 SHORTS, LONGS = ["", "", "", *"abcv7="], ["ab", "verbose", "verbatim", "a=b", "=a", "é", "日本", "no-v", "a" * 50]
 HINTS, DESCRIPTIONS = [None, "", "N", "FILE", "é"], [None, "", "say more", "many words " * 9]
+# Whether a long name is valid.
+IS_LONG = re.compile("(?=..|[^\0-\x7f])[^-\U0010ff80-\U0010ffff][^\U0010ff80-\U0010ffff]*", re.S).fullmatch
 # Mistakes in a row: a field and its text.
 MISTAKES = [(0, "ab"), (0, "-"), (0, "\udcff"), (1, "x"), (1, "--x"), (1, "a\udcff"), (2, "\U0010ffff"), (3, "\udcc3"), (4, 3), (4, 16)]
 PARTS = ["-", "--", "", *"abv7=x-é", "ab", "verbose", "\udcff", "\udcf4", "\U0010ffff", "\U0010ff7f", "\udce6\udc97",
@@ -116,19 +119,22 @@ PARTS = ["-", "--", "", *"abv7=x-é", "ab", "verbose", "\udcff", "\udcf4", "\U00
 
 def random_case(rng, occurs=model.OCCURS):
     """Modes, columns, rows (whose last field is the kind), the row with a mistake (None: no row), and words."""
-    count = rng.randrange(1, 7)
+    count, few = rng.randrange(1, 7), [texts.character(rng) for _ in range(4)]
+    shorts = SHORTS + [char for char in dict.fromkeys(few) if char.isascii() and char not in ["-", *SHORTS]]
+    longs = [*dict.fromkeys([*LONGS, *filter(IS_LONG, (texts.near(rng, rng.choice(LONGS)) for _ in range(2)))])]
     often = [place for place, occur in enumerate(occurs) for _ in range(1 if "req" in occur else 9)]
     rows = [[short, long if not short or rng.random() < 0.7 else rng.choice([None, ""]), None, rng.choice(DESCRIPTIONS),
              rng.randrange(len(model.KINDS)) + 4 * rng.choice(often)]
-            for short, long in zip(rng.sample(SHORTS, count), rng.sample(LONGS, count))]
+            for short, long in zip(rng.sample(shorts, count), rng.sample(longs, count))]
     for row in rows:
         row[2] = rng.choice(HINTS if row[4] % 4 else HINTS[:2])
     wrong = rng.randrange(count) if rng.random() < 0.1 else None
     if wrong is not None:
         field, text = rng.choice(MISTAKES)
         rows[wrong][field] = text
-    parts = PARTS + 4 * [f"{dashes}{name}" for row in rows for dashes, name in zip(("-", "--"), row[:2]) if name]
+    parts = PARTS + few + 4 * [f"{dashes}{name}" for row in rows for dashes, name in zip(("-", "--"), row[:2]) if name]
     words = ["".join(rng.choices(parts, k=rng.choice([0, 1, 1, 1, 2, 3]))) for _ in range(rng.choice([2, 4, 8, 16, 17, 24]))]
+    words = [texts.near(rng, word) if rng.random() < 0.05 else word for word in words]
     return 16 * rng.randrange(32), rng.choice([0, 30, 60, 2**32 - 1]), rows, wrong, words
 
 
@@ -211,7 +217,8 @@ def random_cases(count):
         patch.setattr(model, "first_character", first_byte)
         for _ in range(count):
             modes, columns, rows, wrong, words = random_case(rng, OCCURS)
-            names = [name for row in rows for name in row[:2] if name] + ([] if modes & STRICT else ["nope", "\udcff"])
+            names = [name for row in rows for name in row[:2] if name]
+            names += [] if modes & STRICT else ["nope", "\udcff", texts.near(rng, names[0] if names else "")]
             case = modes, columns, rows, [*map(in_bytes, names)], [*map(in_bytes, words)]
             fields.append(fields_of(*case))
             wanted.append((case, [*(answers(*case) if wrong is None else answers_if_wrong(wrong, names))]))

@@ -5,6 +5,11 @@ import sys
 from itertools import product
 from pathlib import Path
 
+sys.path.insert(0, str(Path(__file__).resolve().parents[1]))
+from texts import CLASSES
+
+# The ASCII characters of each class.
+TEXTS = [text for members in CLASSES if (text := "".join(filter(str.isascii, members[:20])).encode())]
 # 0xFE ends a field; bytes from 0x80 stand for texts. For compare and promises:
 OPTIONS = [
     b"\x10v\xfeverbose\xfe\xfesay more",
@@ -14,11 +19,13 @@ OPTIONS = [
 ]
 LINES = [b"-v\xfe--output=x\xfey", b"-vvo\xfex\xfe--\xfe-v", b"\xfe-\xfe--", b"-Ia\xfe-cIx\xfe--color=\xfe\xe0\xe1",
          b"\xaa\xe0=z\xfe\xaa\xe2", b"-c\xfe-\xfe-c\xfe-v", b"-\xbe\xfe\xbf"]
+OPTIONS += [b"\xfe".join(b"\x09%c\xfe\xfe\xfe" % char for char in text) for text in TEXTS]
+LINES += [b"\xfe".join(b"-%c\xfe--%c" % (char, char) for char in text) for text in TEXTS]
 # For shell:
 TABLES = [b"\x93\x92\x94\x90\x91", b"\x92-i|--input FILE  read\n\x95[SOURCE]", b"\x96\x97[--a-b]\n[-x [Y]]..\n",
           b"-a\n--bc D\nSRC\n[DEST]\n", b"\x93# text\n  [-q]!  say \x9c\nFILE.."]
 ARGUMENTS = [b"\xad\xfex\xfe\xa6\xfey", b"\xaf\x9c\xfe-L\xfe\x9d\xfe\x9e", b"\x90\xfe\x98", b"-a\xfe--bc=\xa2\xfea\xfeb",
-             b"-q\xfe\xa6", b"-vvLx\xfe-L\xfe\x99\x9a\xfe-cred\xfe\xa0"]
+             b"-q\xfe\xa6", b"-vvLx\xfe-L\xfe\x99\x9a\xfe-cred\xfe\xa0", *TEXTS]
 # For c:
 ROWS = [
     b"\x06v\xfeverbose\xfe\xff\xfesay more\xfe",
@@ -29,7 +36,7 @@ ROWS = [
     b"\x00h\xfe\xff\xfe\xff\xfe\xff\xfe",
 ]
 WORDS = [b"-av\xfe--output=7\xfex\xfe--\xfe-v", b"-b\xfe5\xfe-c\xfered\xfe--dir=a\xfe--dir\xfeb", b"--input\xfe1\xfe\xe9",
-         b"--dir=\xff\x80\xfe-b-3\xfey", b"-e\xfe9999999999999999999", b"-v\xfe\xff", b"--color\xfe--color="]
+         b"--dir=\xff\x80\xfe-b-3\xfey", b"-e\xfe9999999999999999999", b"-v\xfe\xff", b"--color\xfe--color=", *TEXTS]
 
 
 def seeds(target):

@@ -7,12 +7,13 @@ import re
 
 from conftest import run
 from model import Group, Options
+from texts import character
 
 WITH_ARRAYS = ["bash", "zsh", "ksh93", "mksh", "yash"]
 SPECIAL = list("'\"\\$`!~=*?[]{}()<>|&;#%^ \t\n\r-") + ["''", "\\'", "$(", "\n\n", "$HOME", "--", "\u00a0", "\u2028"]
 # The pieces of words: a percentage, and a function that returns a random piece. The last two return marks, and bytes
 # that aren't text.
-PIECES = [(50, lambda rng: rng.choice(SPECIAL)), (20, lambda rng: chr(rng.randrange(1, 128))),
+PIECES = [(50, lambda rng: rng.choice(SPECIAL)), (20, character),
           (20, lambda rng: rng.choice("abcxyz")), (2, lambda rng: chr(rng.randrange(0x80, 0xD800))),
           (2, lambda rng: chr(rng.randrange(0xE000, 0x110000))), (2, lambda rng: chr(rng.randrange(0x80, 0xA0))),
           (2, lambda rng: chr(rng.randrange(0x10FF80, 0x110000))),
@@ -30,8 +31,9 @@ def text_of(rng):
 def table_of(rng, alone):
     """A random table: for each option its names, its kind and how often it may be given. `alone` is the probability
     of an option that is given alone."""
-    shorts = rng.sample("abcdefgXYZ", 8)
-    longs = rng.sample(["aa", "b-b", "c_c", "K3", "e-1-f", "g--h", "long-", "_x"], 8)
+    shorts = rng.sample("abcdefgABCXYZ", 8)
+    longs = rng.sample(["aa", "aA", "aaa", "b-b", "bb-", "c_c", "K3", "e-1-f", "g--h", "long-", "_x", "_xx",
+                        "a-long-name-of-x", "a-long-name-of-y"], 8)
     options = []
     for short, long in list(zip(shorts, longs))[:rng.randrange(1, 7)]:
         names = rng.choice([(short, ""), ("", long), (short, long)])

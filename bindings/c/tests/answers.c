@@ -9,6 +9,10 @@
 #include <stdio.h>
 #include <stdlib.h>
 #include <string.h>
+#ifdef _WIN32
+#include <fcntl.h>
+#include <io.h>
+#endif
 
 enum { MOST = 32 };
 
@@ -226,6 +230,10 @@ static void answer_case(void) {
 }
 
 int main(void) {
+#ifdef _WIN32
+    /* As text, it would end at a byte 0x1A. */
+    _setmode(0, _O_BINARY);
+#endif
     size_t len = fread(input, 1, sizeof input - 1, stdin);
     while (at < input + len)
         answer_case();

@@ -93,7 +93,14 @@ fn group(random: &mut Random) -> Group {
 }
 
 fn declared(random: &mut Random, most: usize) -> Declared {
-    let groups = (0..random.below(most + 1)).map(|_| group(random)).collect();
+    let mut groups: Vec<Group> = (0..random.below(most + 1)).map(|_| group(random)).collect();
+    for place in 1..groups.len() {
+        let other = random.below(place);
+        let near = texts::near(random, &groups[other].long);
+        if !groups[place].long.is_empty() && near.len() > 1 && random.one_in(6) {
+            groups[place].long = near;
+        }
+    }
     Declared { groups, stop: random.one_in(4), long_only: random.one_in(4) }
 }
 
@@ -117,18 +124,20 @@ fn name(random: &mut Random, declared: &Declared) -> String {
     if declared.groups.is_empty() || random.one_in(14) {
         return match random.below(6) {
             0 => texts::short_name(random),
-            5 => texts::similar_name(random),
             1 => texts::long_name(random),
             2 => texts::noise(random),
-            3 => "é".to_string(),
+            3 => texts::similar_name(random),
+            4 => texts::character(random).to_string(),
             _ => String::new(),
         };
     }
     let group = &declared.groups[random.below(declared.groups.len())];
-    if group.long.is_empty() || (!group.short.is_empty() && random.one_in(2)) {
-        group.short.clone()
+    let is_short = group.long.is_empty() || (!group.short.is_empty() && random.one_in(2));
+    let name = if is_short { &group.short } else { &group.long };
+    if random.one_in(14) {
+        texts::near(random, name)
     } else {
-        group.long.clone()
+        name.clone()
     }
 }
 
@@ -161,9 +170,12 @@ fn cluster(random: &mut Random, declared: &Declared) -> String {
     for _ in 0..1 + random.below(3) {
         let shorts: Vec<&str> = declared.groups.iter().map(|group| group.short.as_str()).collect();
         if shorts.is_empty() || random.one_in(14) {
-            word.push_str(&texts::short_name(random));
+            word.push(texts::character(random));
+        } else if random.one_in(14) {
+            let short = random.of(&shorts);
+            word += &texts::near(random, short);
         } else {
-            word.push_str(random.of(&shorts));
+            word += random.of(&shorts);
         }
     }
     if random.one_in(4) {
@@ -182,13 +194,14 @@ fn ask(random: &mut Random, making: &mut Making, words: &[String], most: usize) 
     let counts_words = declared.counts_words(words);
     for _ in 0..1 + random.below(most) {
         let name = name(random, &declared);
-        match random.below(6) {
+        match random.below(8) {
             0 if counts_words => making.put(&["positions", &name]),
             1 => {
                 let mut line = vec!["any".to_string()];
                 line.extend((0..random.below(4)).map(|_| self::name(random, &declared)));
                 making.add(Line(line));
             }
+            2 => making.put(&["opt_defined", &name]),
             _ => {
                 let default =
                     if random.one_in(3) { texts::value(random) } else { "def".to_string() };
@@ -238,8 +251,15 @@ fn text(random: &mut Random, number: usize) -> Making {
             group.hint = texts::hint(random);
         }
         if !group.long.is_empty() && random.one_in(4) {
-            let letters = 8 + random.below(14);
-            group.long = "n".repeat(letters);
+            let columns = 8 + random.below(14);
+            group.long = texts::of_columns(random, columns);
+        }
+        // Other heads take over 24 columns, however wide their characters are.
+        if !texts::is_measured(&group.short) {
+            group.short = "a".to_string();
+        }
+        if !texts::is_measured(&(group.long.clone() + &group.hint)) {
+            group.long.insert_str(0, "a-very-long-name-of-an-option");
         }
     }
     making.declare(&declared);
@@ -259,10 +279,11 @@ fn text(random: &mut Random, number: usize) -> Making {
 fn names(random: &mut Random, number: usize) -> Making {
     let mut making = Making::begin("names", number);
     for _ in 0..1 + random.below(3) {
-        let pair = [0, 1].map(|_| match random.below(4) {
+        let pair = [0, 1].map(|_| match random.below(5) {
             0 => texts::short_name(random),
             1 => texts::long_name(random),
             2 => texts::noise(random),
+            3 => texts::character(random).to_string(),
             _ => String::new(),
         });
         making.put(&["lawful", &pair[0], &pair[1]]);
@@ -273,7 +294,13 @@ fn names(random: &mut Random, number: usize) -> Making {
 /// Copies and their equality: of options with one change, or of the results of two lines.
 fn same(random: &mut Random, number: usize) -> Making {
     let mut making = Making::begin("same", number);
-    let first = declared(random, 3);
+    let mut first = declared(random, 3);
+    for group in &mut first.groups {
+        group.desc = texts::value(random);
+        if group.has_hint() {
+            group.hint = texts::hint(random);
+        }
+    }
     making.declare(&first);
     let first_words = words(random, &first, 3);
     making.words(&first_words);
@@ -292,6 +319,9 @@ fn same(random: &mut Random, number: usize) -> Making {
     };
     if first.counts_words(&first_words) && second.counts_words(&second_words) {
         making.words(&second_words);
+        if random.one_in(8) {
+            making.put(&["clear"]);
+        }
         making.put(&["same", "answers"]);
     }
     making
@@ -314,13 +344,18 @@ fn change(random: &mut Random, declared: &mut Declared) {
             let place = random.below(declared.groups.len());
             let group = &mut declared.groups[place];
             group.call = "opt";
-            match random.below(7) {
+            match random.below(9) {
                 0 => group.short = texts::short_name(random),
                 1 => group.long = texts::long_name(random),
-                2 => group.desc = "another".to_string(),
-                3 => group.hint = "another".to_string(),
+                2 => group.desc = texts::near(random, &group.desc),
+                3 => group.hint = texts::near(random, &group.hint),
                 4 => group.kind = random.of(KINDS).0,
                 5 => group.occur = random.of(OCCURS).0,
+                // The same texts, divided between two fields in another way.
+                6 => group.desc.insert_str(0, &std::mem::take(&mut group.hint)),
+                7 if !group.long.is_empty() => {
+                    group.long.insert_str(0, &std::mem::take(&mut group.short));
+                }
                 _ => {}
             }
         }
@@ -330,12 +365,16 @@ fn change(random: &mut Random, declared: &mut Declared) {
 /// Words with almost the same meaning as others.
 fn changed_words(random: &mut Random, declared: &Declared, words: &[String]) -> Vec<String> {
     let mut words = words.to_vec();
-    match random.below(5) {
+    match random.below(6) {
         0 => words.reverse(),
         1 => words.push(texts::value(random)),
         2 => words.extend(item(random, declared)),
         3 => {
             words.pop();
+        }
+        4 if !words.is_empty() => {
+            let place = random.below(words.len());
+            words[place] = texts::near(random, &words[place]);
         }
         _ => {
             if let Some(word) = words.first_mut() {
@@ -359,8 +398,8 @@ fn value(random: &mut Random, number: usize) -> Making {
     for _ in 0..random.below(3) {
         words.push(match random.below(3) {
             0 => "-n".to_string(),
-            1 => format!("-n{}", texts::value(random)),
-            _ => format!("--{}={}", group.main(), texts::value(random)),
+            1 => format!("-n{}", texts::parsed(random)),
+            _ => format!("--{}={}", group.main(), texts::parsed(random)),
         });
     }
     making.words(&words);
