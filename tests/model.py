@@ -151,13 +151,15 @@ class Options:
         return [b"--" + self.groups[place].main + (b"" if value is None else b"=" + value)
                 for place, _, value in occurrences] + [b"--"] + free
 
+    def head(self, group):
+        dashes, blank = (b"-" if self.long_only else b"--"), b" " * 4 if any(group.short for group in self.groups) else b""
+        short = b"-%s%s " % (group.short, b"," if group.long else b"") if group.short else blank
+        return b"    " + short + (b"%s%s " % (dashes, group.long) if group.long else b"") + group.argument
+
     def usage_rows(self, columns):
         """The rows of the usage text within so many columns."""
-        dashes, blank = (b"-" if self.long_only else b"--"), b" " * 4 if any(group.short for group in self.groups) else b""
         for group in self.groups:
-            short = b"-%s%s " % (group.short, b"," if group.long else b"") if group.short else blank
-            head = b"    " + short + (b"%s%s " % (dashes, group.long) if group.long else b"") + group.argument
-            rows = wrapped(columns - MARGIN, group.desc)
+            head, rows = self.head(group), wrapped(columns - MARGIN, group.desc)
             yield (head.ljust(MARGIN) if len(head) < MARGIN else head + NEXT_ROW) + NEXT_ROW.join(rows)
 
     def usage(self, brief, columns=USUAL_COLUMNS):

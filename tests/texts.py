@@ -14,13 +14,13 @@ def members(part):
 
 
 # NUL is left out: no argument contains it.
-CLASSES = [[char for part in line.split()[2:] for char in members(part) if char != "\0"]
-           for line in TABLE.read_text(encoding="utf-8").splitlines() if not line.startswith("# ")]
+CLASSES = {line.split()[0]: [char for part in line.split()[2:] for char in members(part) if char != "\0"]
+           for line in TABLE.read_text(encoding="utf-8").splitlines() if not line.startswith("# ")}
 
 
 def character(rng):
     """A random character of a random class."""
-    return rng.choice(rng.choice(CLASSES))
+    return rng.choice(rng.choice([*CLASSES.values()]))
 
 
 def near(rng, text):
@@ -28,6 +28,6 @@ def near(rng, text):
     at = rng.randrange(len(text) + 1)
     head, one, tail = text[:at], text[at:at + 1], text[at + 1:]
     key = (text + "a" * 14)[:rng.choice([3, 4, 7, 14])]  # what the library looks names up by
-    return rng.choice([head + one.swapcase() + tail, text.swapcase(), head + ("_" if one == "-" else "-") + tail,
-                       f"{head} {one}{tail}", head + character(rng) + one + tail, text + character(rng), head, one + tail,
+    return rng.choice([head + one.swapcase() + tail, text.swapcase(), head + ("_" if one == "-" else "-") + tail, head,
+                       f"{head} {one}{tail}", head + character(rng) + one + tail, text + character(rng), one + tail,
                        key + character(rng)])

@@ -9,7 +9,7 @@ sys.path.insert(0, str(Path(__file__).resolve().parents[1]))
 from texts import CLASSES
 
 # The ASCII characters of each class.
-TEXTS = [text for members in CLASSES if (text := "".join(filter(str.isascii, members[:20])).encode())]
+TEXTS = [text for members in CLASSES.values() if (text := "".join(filter(str.isascii, members[:20])).encode())]
 # 0xFE ends a field; bytes from 0x80 stand for texts. For compare and promises:
 OPTIONS = [
     b"\x10v\xfeverbose\xfe\xfesay more",

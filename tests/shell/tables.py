@@ -95,7 +95,7 @@ def changed_tables(program, most):
     """Changes each byte of valid lines to many others, deletes it and doubles it; tries at most this many tables."""
     good = ["-v|--verbose  say more", "[-c|--color [WHEN]]..\tcolour it", "[-o|--output FILE]  write",
             "[-V|--version]!  print it", "[-q] .it says less", "SOURCE  from here", "[DEST]..  to there"]
-    others = [*map(chr, range(32, 128)), "", "\r", *(char for members in CLASSES for char in (members[0], members[-1]))]
+    others = [*map(chr, range(32, 128)), "", "\r", *(char for members in CLASSES.values() for char in (members[0], members[-1]))]
     tables = ["\n".join([*good[:at], line[:place] + other + line[place + 1:], *good[at + 1:]])
               for at, line in enumerate(good) for place in range(len(line)) for other in [*others, 2 * line[place]]]
     for table in tables[::max(1, len(tables) // most)]:
