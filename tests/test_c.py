@@ -21,7 +21,7 @@ C = ROOT / "bindings/c"
 VERSION = re.search(r'GETOPTS_VERSION "(.*)"', (C / "getopts.h").read_text())[1]
 SONAME = f"libgetopts.so.{VERSION.partition('.')[0]}"
 WARNINGS = "-std=c11 -Wall -Wextra -Wpedantic -Wshadow -Wconversion -Wno-sign-conversion -Werror".split()
-PLUS_WARNINGS = "-Wall -Wextra -Wpedantic -Werror".split()
+PLUS_WARNINGS = "-Wall -Wextra -Wpedantic -Wold-style-cast -Werror".split()
 SANITIZERS = "-fsanitize=address,undefined -fno-sanitize-recover=all -g -O1".split()
 WRAPS = "-Wl,--wrap=malloc,--wrap=realloc,--wrap=free"
 HOST = "x86_64-unknown-linux-gnu"
@@ -421,6 +421,9 @@ def test_manual_page(prefix):
 
 
 def test_installed_documents(prefix):
+    """The documents are installed, and getopts.h names no file that isn't."""
+    named = set(re.findall(r"[\w.-]+\.(?:c|md|sh)\b", (C / "getopts.h").read_text()))
+    assert {"head.c", "order.c"} <= named <= {path.name for path in prefix.rglob("*")}
     for name in ("README.md", "head.c", "order.c", "../../LICENSE-MIT", "../../LICENSE-APACHE", "../../NOTICE"):
         assert (prefix / "share/doc/getopts" / os.path.basename(name)).read_bytes() == (C / name).read_bytes()
 

@@ -119,8 +119,8 @@ struct getopts;
  * have a hint. To give an option another name, add a row, as order.c does. */
 struct getopts *getopts_new(const struct getopts_option *table, enum getopts_modes modes);
 
-/* Reads `count` words, such as argc - 1 and argv + 1; none if `count` is negative, as argc - 1 may
- * be. Returns GETOPTS_OK or an error:
+/* Reads `count` words, such as argc - 1 and argv + 1. If `count` is negative, as argc - 1 may be,
+ * there are no words. Returns GETOPTS_OK or an error:
  *
  * - GETOPTS_OPTION_MISSING, GETOPTS_OPTION_DUPLICATED: a required option is missing, or an option
  *   was given too often. Except for getopts_nth, the functions below return what was read, so that
@@ -137,9 +137,13 @@ int getopts_read(struct getopts *options, int count, char *const *words);
  * the first byte. */
 const char *getopts_message(const struct getopts *options);
 
-/* The option's name in getopts_message, such as "x", for a message in another language: the result
- * of getopts_read says what is wrong. Returns "" if the message names no option. Valid until the
- * next getopts_read. */
+/* The option's name in getopts_message, such as "x", or "" if the message names no option. With the
+ * status of getopts_read, a program can print errors in another language:
+ *
+ *     if (status == GETOPTS_UNRECOGNIZED_OPTION)
+ *         fprintf(stderr, "Unbekannte Option: %s\n", getopts_message_name(options));
+ *
+ * The string is valid until the next getopts_read. */
 const char *getopts_message_name(const struct getopts *options);
 
 /* In the next functions, `name` is the short or long name of an option, and nth counts from 0. If

@@ -76,8 +76,9 @@ static char *said(const struct getopts *options, const struct getopts_option *ta
     char *text;
     size_t len;
     FILE *out = open_memstream(&text, &len);
-    fprintf(out, "%s|%d|%d", getopts_message(options), getopts_free_count(options), getopts_trailing_start(options));
-    CHECK(strstr(getopts_message(options), getopts_message_name(options)) != NULL);
+    const char *message = getopts_message(options), *wrong = getopts_message_name(options);
+    CHECK(strstr(message, wrong) != NULL);
+    fprintf(out, "%s|%s|%d|%d", message, wrong, getopts_free_count(options), getopts_trailing_start(options));
     char *const *free_words = getopts_free_words(options);
     for (int nth = 0; nth <= getopts_free_count(options); nth++)
         fprintf(out, "|%s", free_words[nth] ? free_words[nth] : "NULL");

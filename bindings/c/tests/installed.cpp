@@ -19,7 +19,7 @@ int main(int argc, char **argv) {
         std::cerr << getopts_message(options.get()) << '\n';
         return 2;
     }
-    const char *output = getopts_value(options.get(), "output", 0);
+    const char *output = getopts_value(options.get(), "output", GETOPTS_LAST);
     std::cout << getopts_count(options.get(), "verbose") << ' ' << (output ? output : "none");
     for (auto word = getopts_free_words(options.get()); *word; ++word)
         std::cout << ' ' << *word;

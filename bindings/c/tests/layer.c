@@ -198,7 +198,8 @@ static void needed_options_are_looked_for(void) {
             const char *message = repeats ? rows[nth].repeated : rows[nth].message;
             expect(strcmp(getopts_message(options), message) == 0, rows[nth].words);
             const char *name = getopts_message_name(options), *quote = strchr(message, '\'');
-            expect(quote == NULL ? *name == '\0' : strncmp(quote + 1, name, strcspn(quote + 1, "'")) == 0, "the name in its message");
+            size_t len = quote != NULL ? strcspn(quote + 1, "'") : 0;
+            expect(strlen(name) == len && (len == 0 || memcmp(quote + 1, name, len) == 0), "the name in the message");
             expect((status == GETOPTS_OK) == (*message == '\0'), "the status of these words");
             expect(getopts_canonical(options, count, words, &line) == status, "the same status");
             free(line);
@@ -206,6 +207,9 @@ static void needed_options_are_looked_for(void) {
         expect(getopts_read(options, 3, (char *[]){ "-vv", "-sa", "-sb" }) != GETOPTS_OK, "words that are read anyway");
         expect(getopts_count(options, "v") == (repeats ? 1 : 2), "how often an option counts");
         expect(getopts_count(options, "s") == 2 && strcmp(getopts_value(options, "s", GETOPTS_LAST), "b") == 0, "its values");
+        free(usage);
+        usage = getopts_usage(options, "");
+        expect(usage != NULL && strncmp(usage, "\n\nOptions:\n    -v", 17) == 0, "the rows begin after 11 bytes");
         free(usage);
         getopts_delete(options);
     }
@@ -232,7 +236,8 @@ static void null_is_rejected(void) {
     expect(getopts_canonical(options, 1, words, NULL) == GETOPTS_OK, "no place for a line");
     expect(getopts_read(options, 1, NULL) == GETOPTS_BAD, "NULL words");
     expect(getopts_read(options, 1, words + 1) == GETOPTS_BAD, "a NULL first word");
-    expect(getopts_read(options, 0, NULL) == GETOPTS_OK && getopts_read(options, -1, NULL) == GETOPTS_OK, "no words");
+    expect(getopts_read(options, 0, NULL) == GETOPTS_OK && getopts_read(options, -1, words + 1) == GETOPTS_OK, "no words");
+    expect(getopts_canonical(options, -1, words + 1, NULL) == GETOPTS_OK, "a line of no words");
     expect(strcmp(getopts_message(options), "") == 0 && getopts_count(options, "v") == 0, "nothing after no words");
     free(usage);
     getopts_delete(none);
