@@ -450,6 +450,16 @@ def test_shell_scripts():
     run("shellcheck", *scripts, cwd=ROOT)
 
 
+def test_line_ends():
+    """Git checks out all files with the same line ends, whatever its settings."""
+    need("git")
+    if not (ROOT / ".git").exists():
+        pytest.skip("no git repository: a release has none")
+    lines = run("git", "ls-files", "--eol", cwd=ROOT)[0].splitlines()
+    assert len(lines) > 100
+    assert_none(line for line in lines if not re.search(r"\b(eol=lf|attr/-text)\s", line))
+
+
 scripts = [name for name in tracked if (ROOT / name).read_bytes().startswith(b"#!")]
 
 
