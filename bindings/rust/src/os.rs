@@ -396,12 +396,16 @@ fn os_of(text: &str) -> OsString {
     word_of(bytes)
 }
 
-/// The error with its marks decoded, and U+FFFD in place of bytes that aren't UTF-8.
+/// The error with its marks decoded, and U+FFFD in place of what isn't Unicode.
 fn shown(fail: Fail) -> Fail {
     let shown = |name: String| {
         let mut bytes = Vec::new();
         granted(push_bytes(&mut bytes, &name));
-        String::from_utf8_lossy(&bytes).into_owned()
+        match bytes[..] {
+            // The first byte of a character in a cluster isn't a word.
+            [_] => String::from_utf8_lossy(&bytes).into_owned(),
+            _ => word_of(bytes).to_string_lossy().into_owned(),
+        }
     };
     match fail {
         Fail::ArgumentMissing(name) => Fail::ArgumentMissing(shown(name)),

@@ -225,6 +225,21 @@ fn parse_takes_any_iterator() {
     assert_eq!(options().parse(ends).unwrap().free, ["x"]);
 }
 
+/// Errors show what isn't Unicode as `OsStr::to_string_lossy` does.
+#[test]
+fn errors_show_marks() {
+    for word in not_unicode() {
+        let shown = |word: OsString| options().parse_os([word]).unwrap_err();
+        let lossy = word.to_string_lossy();
+        let name = lossy.split('=').next().unwrap();
+        assert_eq!(shown(joined("--", &word)), Fail::UnrecognizedOption(name.to_string()));
+        let mark = "\u{FFFD}".to_string();
+        if lossy.starts_with(&mark) {
+            assert_eq!(shown(joined("-v", &word)), Fail::UnrecognizedOption(mark));
+        }
+    }
+}
+
 #[test]
 fn matches_are_small() {
     assert!(std::mem::size_of::<getopts::Matches>() <= 27 * std::mem::size_of::<usize>());
