@@ -15,7 +15,7 @@ import model
 import pytest
 import texts
 from conftest import MARGIN, ROOT, answer, check_page, need, need_compiler, run, script
-from targets import OLD, cargo, cargo_for, copy_folders, need_cargo, need_target, runner, rust_minor, shared_folder
+from targets import OLD, TARGETS, cargo, cargo_for, copy_folders, need_cargo, need_target, runner, rust_minor, shared_folder
 
 C = ROOT / "bindings/c"
 VERSION = re.search(r'GETOPTS_VERSION "(.*)"', (C / "getopts.h").read_text())[1]
@@ -25,6 +25,7 @@ PLUS_WARNINGS = "-Wall -Wextra -Wpedantic -Wold-style-cast -Werror".split()
 SANITIZERS = "-fsanitize=address,undefined -fno-sanitize-recover=all -g -O1".split()
 WRAPS = "-Wl,--wrap=malloc,--wrap=realloc,--wrap=free"
 HOST = "x86_64-unknown-linux-gnu"
+WINDOWS = "x86_64-pc-windows-gnu"
 # For each build: the compiler with its flags, the library's target (None: this machine, with the cargo on its path),
 # and the command that runs its programs (None: the one in targets.py).
 BUILDS = {
@@ -36,7 +37,7 @@ BUILDS = {
     "aarch64": (["aarch64-linux-gnu-gcc", "-O2"], "aarch64-unknown-linux-gnu", None),
     "i686": (["i686-linux-gnu-gcc", "-O2"], "i686-unknown-linux-gnu", None),
     "wasm": (["clang", "--target=wasm32-wasi", "-O2"], "wasm32-wasi", None),
-    "windows": (["x86_64-w64-mingw32-gcc", "-O2", "-D__USE_MINGW_ANSI_STDIO=1"], "x86_64-pc-windows-gnu", None),
+    "windows": (["x86_64-w64-mingw32-gcc", "-O2", "-D__USE_MINGW_ANSI_STDIO=1"], WINDOWS, None),
 }
 
 
@@ -346,22 +347,46 @@ def test_example(compiler, flags, tmp_path):
 
 
 CMAKE = """cmake_minimum_required(VERSION 3.6)
-project(head C)
-find_package(PkgConfig REQUIRED)
-pkg_check_modules(GETOPTS REQUIRED IMPORTED_TARGET %s)
-add_executable(head %s)
-target_link_libraries(head PkgConfig::GETOPTS)
+project(program C)
+%s
+add_executable(program %s)
+target_link_libraries(program %s)
 """
+BY_PACKAGE = f"find_package(getopts {VERSION.rpartition('.')[0]} REQUIRED)"
 
 
-@pytest.mark.parametrize("module", ["getopts", "getopts-static"])
-def test_cmake(module, prefix, tmp_path):
-    need("cmake", "make", "readelf")
-    (tmp_path / "CMakeLists.txt").write_text(CMAKE % (module, C / "head.c"))
-    run("cmake", "-S", tmp_path, "-B", tmp_path, env={"PKG_CONFIG_PATH": str(prefix / "lib/pkgconfig")})
-    run("cmake", "--build", tmp_path)
-    assert run(tmp_path / "head", "-n1", tmp_path / "CMakeLists.txt")[0] == CMAKE.splitlines(True)[0]
-    assert (SONAME in run("readelf", "-d", tmp_path / "head")[0]) == (module == "getopts")
+def built_by_cmake(find, target, source, room, *flags, env=None):
+    """The program that CMake builds from a source and a library."""
+    need("cmake", "make")
+    room.mkdir(exist_ok=True)
+    (room / "CMakeLists.txt").write_text(CMAKE % (find, source, target))
+    run("cmake", "-S", room, "-B", room, *flags, env=env)
+    run("cmake", "--build", room)
+    return room / "program"
+
+
+@pytest.mark.parametrize("shared", [True, False])
+@pytest.mark.parametrize("by_package", [True, False])
+def test_cmake(by_package, shared, prefix, tmp_path):
+    """CMake finds both libraries, by the package or by pkg-config."""
+    need("readelf")
+    module = "getopts" if shared else "getopts-static"
+    find = f"find_package(PkgConfig REQUIRED)\npkg_check_modules(GETOPTS REQUIRED IMPORTED_TARGET {module})"
+    target = "PkgConfig::GETOPTS"
+    if by_package:
+        find, target = 2 * f"{BY_PACKAGE}\n", f"getopts::{'shared' if shared else 'static'}"
+    env = {"PKG_CONFIG_PATH": str(prefix / "lib/pkgconfig"), "getopts_ROOT" if by_package else "NONE": str(prefix)}
+    program = built_by_cmake(f"cmake_policy(SET CMP0074 NEW)\n{find}", target, C / "head.c", tmp_path, env=env)
+    assert run(program, "-n1", tmp_path / "CMakeLists.txt")[0] == CMAKE.splitlines(True)[0]
+    assert (SONAME in run("readelf", "-d", program)[0]) == shared
+
+
+@pytest.mark.parametrize("version, fits", [(VERSION, True), ("0.9", False), ("1.99", False), ("2", False), (f"{VERSION} EXACT", True)])
+def test_version_of_cmake_package(version, fits, prefix, tmp_path):
+    need("cmake")
+    (tmp_path / "CMakeLists.txt").write_text(CMAKE.partition("%s")[0] + f"find_package(getopts {version} REQUIRED)\n")
+    said, status = answer("cmake", "-S", tmp_path, "-B", tmp_path, f"-DCMAKE_PREFIX_PATH={prefix}")
+    assert (status == 0) == fits and (fits or b"version: " in said.lower()), said
 
 
 @pytest.mark.parametrize("compiler", ["g++", "clang++"])
@@ -467,20 +492,47 @@ def test_debug_information(installed, prefix):
 
 
 @pytest.mark.full
-def test_install_for_other_target(tmp_path):
-    """Installs with Debian's cargo and rustc, with the flags that these old versions need."""
-    target, compiler = "aarch64-unknown-linux-gnu", "aarch64-linux-gnu-gcc"
-    by = runner(target, tmp_path)
+@pytest.mark.parametrize("target", ["aarch64-unknown-linux-gnu", WINDOWS])
+def test_install_for_other_target(target, tmp_path):
+    """Installs with Debian's cargo and rustc, with the flags that these old versions need. Programs use either library."""
+    compiler, by = TARGETS[target][0], runner(target, tmp_path)
     need_target(target)
+    need("pkg-config")
     env = {**OLD, "CARGO": "/usr/bin/cargo", "CARGO_FLAGS": "--ignore-rust-version", "RUSTFLAGS": "--cfg old_rustc",
            "CARGO_BUILD_TARGET": target}
     _, errors = run("sh", C / "install.sh", tmp_path / "to", env=env, status=1)
-    assert "set CC to the C compiler for aarch64-unknown-linux-gnu" in errors
-    run("sh", C / "install.sh", tmp_path / "to", env={**env, "CC": compiler})
-    to, program = tmp_path / "to", tmp_path / "linked"
-    library = ["-isystem", to / "include", f"-L{to}/lib", f"-Wl,-rpath,{to}/lib", "-lgetopts"]
-    run(compiler, C / "order.c", *library, "-o", program)
-    assert run(*by, program, "-qv")[0] == "verbose\n"
+    assert f"set CC to the C compiler for {target}" in errors
+    to, windows = tmp_path / "to", target == WINDOWS
+    run("sh", C / "install.sh", to, env={**env, "CC": compiler})
+    for name in ("getopts", "getopts-static"):
+        flags = run("pkg-config", "--cflags", "--libs", name, env={"PKG_CONFIG_PATH": str(to / "lib/pkgconfig")})[0]
+        program = to / f"bin/{name}.exe"
+        program.parent.mkdir(exist_ok=True)
+        run(compiler, C / "order.c", *shlex.split(flags), *([] if windows else [f"-Wl,-rpath,{to}/lib"]), "-o", program)
+        assert run(*by, program, "-qv")[0].split() == ["verbose"]
+    if windows:
+        check_files_for_windows(to, env, tmp_path, by)
+
+
+def check_files_for_windows(to, env, room, by):
+    """Both libraries export the functions of getopts.h, have the same bytes each time, work with CMake, and are removed."""
+    same = ["bin/libgetopts-1.dll", "lib/libgetopts.dll.a", "lib/getopts.def", "lib/libgetopts.a"]
+    other, compiler = room / "other", TARGETS[WINDOWS][0]
+    run("sh", C / "install.sh", other, env={**env, "CC": compiler, "LIBDIR": "lib/own"})
+    assert all((to / file).read_bytes() == (other / file.replace("lib/", "lib/own/")).read_bytes() for file in same)
+    declared = re.findall(r"(getopts_[a-z_]*)\(", (C / "getopts.h").read_text())
+    names = {line.split()[-1] for line in run("nm", "-g", "--defined-only", to / same[3])[0].splitlines() if " T " in line}
+    listed = re.findall(r"^\t\[ *\d+\] (\w+)$", run("x86_64-w64-mingw32-objdump", "-p", to / same[0])[0], re.M)
+    assert names == {*listed} == {*(to / same[2]).read_text().split()[3:]} == {*declared}
+    for kind in ("static", "shared"):
+        flags = ["-DCMAKE_SYSTEM_NAME=Windows", f"-DCMAKE_C_COMPILER={compiler}", f"-Dgetopts_DIR={other}/lib/own/cmake/getopts"]
+        program = built_by_cmake(BY_PACKAGE, f"getopts::{kind}", C / "order.c", room / kind, *flags).with_suffix(".exe")
+        # The shared library isn't beside the program yet.
+        assert (answer(*by, program, "-qv")[0].split() == [b"verbose"]) == (kind == "static")
+    shutil.copy(other / same[0], room / "shared")
+    assert run(*by, program, "-qv")[0].split() == ["verbose"]
+    run("sh", C / "install.sh", "--uninstall", other, env={"LIBDIR": "lib/own"})
+    assert [file for file in other.rglob("*") if not file.is_dir()] == []
 
 
 def test_missing_tools(tmp_path):
@@ -494,6 +546,9 @@ def test_missing_tools(tmp_path):
     (tmp_path / "cargo").write_text("#!/bin/sh\n")
     _, errors = run("sh", C / "install.sh", tmp_path / "to", status=1, env=env)
     assert "cargo built no libgetopts.a. If cargo's configuration" in errors and not (tmp_path / "to").exists()
+    (tmp_path / "cargo").write_text('#!/bin/sh\nmkdir -p "$CARGO_TARGET_DIR/release"\n>"$CARGO_TARGET_DIR/release/getopts.lib"\n')
+    _, errors = run("sh", C / "install.sh", tmp_path / "to", status=1, env=env)
+    assert "can't install for MSVC" in errors and not (tmp_path / "to").exists()
 
 
 @pytest.mark.parametrize("shell", ["dash", "busybox sh", "bash"])
@@ -599,6 +654,12 @@ def test_prefix_with_special_characters(words, names, tmp_path):
     for name in names:
         errors = run(*words.split(), C / "install.sh", f"{tmp_path}/{name}", status=1)[1]
         assert "PREFIX must not" in errors and not list(tmp_path.iterdir()), name
+
+
+@pytest.mark.parametrize("prefix", ["C:/getopts", "c:\\getopts", "D:"])
+def test_prefix_of_windows(prefix, tmp_path):
+    errors = run("sh", C / "install.sh", prefix, status=1, cwd=tmp_path)[1]
+    assert "write PREFIX as in Git Bash and MSYS2: /c/getopts for C:/getopts" in errors and not [*tmp_path.iterdir()]
 
 
 def test_install_usage(tmp_path):

@@ -3,10 +3,12 @@
 #
 #     bindings/c/install.sh [--uninstall] PREFIX
 #
-# - PREFIX/lib: libgetopts.a, also as libgetopts-static.a, and on Linux libgetopts.so. On Linux, both export only the
-#   functions of getopts.h
+# - PREFIX/lib: libgetopts.a, also as libgetopts-static.a
+# - the shared library, on Linux: PREFIX/lib/libgetopts.so. For Windows, with mingw's gcc: PREFIX/bin/libgetopts-1.dll, and
+#   in PREFIX/lib libgetopts.dll.a and getopts.def. On both, each library exports only the functions of getopts.h
 # - PREFIX/include: getopts.h
-# - PREFIX/lib/pkgconfig: getopts-static.pc, for programs that contain the library, and on Linux getopts.pc
+# - PREFIX/lib/pkgconfig: getopts-static.pc, for programs that contain the library, and getopts.pc for the shared one
+# - PREFIX/lib/cmake/getopts: for CMake, the package getopts with its targets getopts::static and getopts::shared
 # - PREFIX/share/man/man3: getopts.3, generated from getopts.h, also under the name of each function
 # - PREFIX/share/doc/getopts: README.md, head.c, order.c and the licences
 #
@@ -51,6 +53,7 @@ line_end='
 case $1$prefix in
 *"$line_end"*) fail "PREFIX must not contain a line break (pkg-config misreads it)" ;;
 *[[:space:]]) fail "PREFIX must not end with a blank (pkg-config misreads it)" ;;
+[A-Za-z]:*) fail "write PREFIX as in Git Bash and MSYS2: /c/getopts for C:/getopts" ;;
 *[\"\$\#\\:]*) fail "PREFIX must not contain \", \$, #, \\ or : (pkg-config or search paths misread them)" ;;
 esac
 lib=${LIBDIR:-lib}
@@ -59,11 +62,14 @@ case /$lib/ in
 //* | */../* | *[[:space:]\"\$\#\\:]*) fail "LIBDIR must be a folder below PREFIX, without blanks, \", \$, #, \\ and :" ;;
 esac
 to=$(absolute "${DESTDIR:-/}")$prefix
+# From LIBDIR to PREFIX.
+up=$(printf '%s\n' "$lib" | sed 's,[^/][^/]*,..,g')
 
 # The version of the library. Programs linked with one version work with later ones that have the same first number.
 version=$(sed -n 's/^#define GETOPTS_VERSION "\(.*\)"/\1/p' "$here/getopts.h")
 soname=libgetopts.so.${version%%.*}
 shared=libgetopts.so.$version
+dll=libgetopts-${version%%.*}.dll
 functions=$(sed -n 's/^[a-z].*[ *]\(getopts_[a-z_]*\)(.*/\1/p' "$here/getopts.h")
 
 # The files for share/doc/getopts, relative to this script.
@@ -82,7 +88,8 @@ remove_versions() {
 if [ -n "$remove" ]; then
     rm -f "$to/include/getopts.h" "$to/$lib/libgetopts.a" "$to/$lib/libgetopts.so" "$to/$lib/$soname" \
         "$to/$lib/libgetopts-static.a" "$to/$lib/pkgconfig/getopts.pc" "$to/$lib/pkgconfig/getopts-static.pc" \
-        "$to/share/man/man3/getopts.3"
+        "$to/share/man/man3/getopts.3" "$to/bin/$dll" "$to/$lib/libgetopts.dll.a" "$to/$lib/getopts.def" \
+        "$to/$lib/cmake/getopts/getoptsConfig.cmake" "$to/$lib/cmake/getopts/getoptsConfigVersion.cmake"
     remove_versions
     for function in $functions; do
         rm -f "$to/share/man/man3/$function.3"
@@ -90,7 +97,7 @@ if [ -n "$remove" ]; then
     for file in $documents; do
         rm -f "$to/share/doc/getopts/${file##*/}"
     done
-    rmdir "$to/share/doc/getopts" 2>/dev/null || :
+    rmdir "$to/share/doc/getopts" "$to/$lib/cmake/getopts" 2>/dev/null || :
     echo "removed from $to"
     exit
 fi
@@ -133,6 +140,8 @@ fi
     fail "cargo failed. The build needs Rust 1.68 or later (on Debian 12, cargo-web and rustc-web) with the target's standard
 library, and the crate unicode-width (without a network, from Debian's package librust-unicode-width-dev)"
 built=$room/target/${target:+$target/}release/libgetopts.a
+[ ! -f "${built%/*}/getopts.lib" ] || fail "can't install for MSVC. For mingw's gcc, set CARGO_BUILD_TARGET and CC, as in
+CARGO_BUILD_TARGET=x86_64-pc-windows-gnu CC=x86_64-w64-mingw32-gcc"
 [ -f "$built" ] || fail "cargo built no libgetopts.a${target:+ for $target}. If cargo's configuration sets another
 target, set CARGO_BUILD_TARGET to it, and CC to its C compiler"
 
@@ -151,7 +160,7 @@ link() {
 # describe LIBS: prints a file for pkg-config.
 describe() {
     cat <<END
-prefix=$prefix
+prefix=$place
 libdir=\${prefix}/$lib
 includedir=\${prefix}/include
 
@@ -164,10 +173,40 @@ Cflags: "-I\${includedir}"
 END
 }
 
+# target NAME KIND FILES: prints a target for CMake.
+target() {
+    cat <<END
+add_library(getopts::$1 $2 IMPORTED)
+set_target_properties(getopts::$1 PROPERTIES INTERFACE_INCLUDE_DIRECTORIES "\${getopts_prefix}/include"
+    $3)
+END
+}
+
 awk -f "$here/man.awk" "$here/getopts.h" "$here/getopts.h" >"$room/getopts.3"
+cat >"$room/getoptsConfig.cmake" <<END
+# Defines getopts::static, for programs that contain the library, and getopts::shared if there is a shared library.
+get_filename_component(getopts_lib "\${CMAKE_CURRENT_LIST_DIR}" REALPATH)
+get_filename_component(getopts_lib "\${getopts_lib}/../.." ABSOLUTE)
+get_filename_component(getopts_prefix "\${getopts_lib}/$up" ABSOLUTE)
+if(TARGET getopts::static)
+    return()
+endif()
+END
+# shellcheck disable=SC2016
+target static STATIC 'IMPORTED_LOCATION "${getopts_lib}/libgetopts.a"' >>"$room/getoptsConfig.cmake"
+cat >"$room/getoptsConfigVersion.cmake" <<END
+set(PACKAGE_VERSION $version)
+if(PACKAGE_FIND_VERSION_MAJOR EQUAL ${version%%.*} AND NOT PACKAGE_FIND_VERSION VERSION_GREATER PACKAGE_VERSION)
+    set(PACKAGE_VERSION_COMPATIBLE TRUE)
+endif()
+if(PACKAGE_FIND_VERSION VERSION_EQUAL PACKAGE_VERSION)
+    set(PACKAGE_VERSION_EXACT TRUE)
+endif()
+END
 remove_versions
-case $($cc -dumpmachine) in
-*linux*)
+place=$prefix system=$($cc -dumpmachine)
+case $system in
+*linux* | *mingw*)
     # One object that only exports the functions of getopts.h.
     keep='' roots=''
     for function in $functions; do
@@ -182,12 +221,33 @@ case $($cc -dumpmachine) in
     "$(tool objcopy)" $strip $keep "$room/all.o" "$room/getopts.o"
     "${AR:-$(tool ar)}" rcs "$room/libgetopts.a" "$room/getopts.o"
     built=$room/libgetopts.a
-    # shellcheck disable=SC2086
-    $cc -shared ${CFLAGS:-} ${LDFLAGS:-} -Wl,-soname,"$soname" -Wl,-z,defs -Wl,-z,text "$room/getopts.o" \
-        -o "$room/$shared"
-    put "$room/$shared" "$lib/$shared" 755
-    link "$shared" "$lib/$soname"
-    link "$soname" "$lib/libgetopts.so"
+    case $system in
+    *mingw*)
+        # Windows' pkg-config can't read paths such as /c/getopts.
+        place="\${pcfiledir}/../$up"
+        # shellcheck disable=SC2086
+        printf '%s\n' "LIBRARY \"$dll\"" EXPORTS $functions >"$room/getopts.def"
+        # By default, the file would contain the time and a hash of its own path.
+        # shellcheck disable=SC2086
+        $cc -shared ${CFLAGS:-} ${LDFLAGS:-} ${strip:+"-Wl,$strip"} -Wl,--no-insert-timestamp \
+            -Wl,--disable-auto-image-base -Wl,--out-implib,"$room/libgetopts.dll.a" "$room/getopts.o" \
+            "$room/getopts.def" -o "$room/$dll"
+        put "$room/$dll" "bin/$dll" 755
+        put "$room/libgetopts.dll.a" "$lib/libgetopts.dll.a"
+        put "$room/getopts.def" "$lib/getopts.def"
+        files="IMPORTED_LOCATION \"\${getopts_prefix}/bin/$dll\" IMPORTED_IMPLIB \"\${getopts_lib}/libgetopts.dll.a\""
+        ;;
+    *)
+        # shellcheck disable=SC2086
+        $cc -shared ${CFLAGS:-} ${LDFLAGS:-} -Wl,-soname,"$soname" -Wl,-z,defs -Wl,-z,text "$room/getopts.o" \
+            -o "$room/$shared"
+        put "$room/$shared" "$lib/$shared" 755
+        link "$shared" "$lib/$soname"
+        link "$soname" "$lib/libgetopts.so"
+        files="IMPORTED_LOCATION \"\${getopts_lib}/libgetopts.so\""
+        ;;
+    esac
+    target shared SHARED "$files" >>"$room/getoptsConfig.cmake"
     # shellcheck disable=SC2016
     describe '"-L${libdir}" -lgetopts' >"$room/getopts.pc"
     put "$room/getopts.pc" "$lib/pkgconfig/getopts.pc"
@@ -200,6 +260,8 @@ echo '.so man3/getopts.3' >"$room/page.3"
 put "$built" "$lib/libgetopts.a"
 link libgetopts.a "$lib/libgetopts-static.a"
 put "$room/getopts-static.pc" "$lib/pkgconfig/getopts-static.pc"
+put "$room/getoptsConfig.cmake" "$lib/cmake/getopts/getoptsConfig.cmake"
+put "$room/getoptsConfigVersion.cmake" "$lib/cmake/getopts/getoptsConfigVersion.cmake"
 put "$here/getopts.h" include/getopts.h
 put "$room/getopts.3" share/man/man3/getopts.3
 for function in $functions; do
