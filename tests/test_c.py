@@ -277,6 +277,42 @@ def test_kind_passed_as_mode(compiler, modes, right, tmp_path):
     assert (said, status) == (b"", 0) if right else (b"getopts_kind" in said and said.count(b"error:") == 1), said
 
 
+UTF8 = """#include <getopts.h>
+#include <stdio.h>
+
+int _dowildcard = -1;
+
+int main(int argc, char **argv) {
+    static const struct getopts_option table[] = {
+        { NULL, "größe", "N", NULL, GETOPTS_YES }, { NULL, NULL, NULL, NULL, GETOPTS_NO },
+    };
+    struct getopts *options = getopts_new(table, GETOPTS_ORDINARY);
+    if (getopts_read(options, argc - 1, argv + 1) != GETOPTS_OK)
+        printf("%s\\n", getopts_message(options));
+    for (char *const *name = getopts_free_words(options); *name != NULL; name++)
+        printf("%s %s %d\\n", getopts_value(options, "größe", 0), *name, fopen(*name, "r") != NULL);
+    getopts_delete(options);
+}
+"""
+
+
+@pytest.mark.parametrize("build", builds("windows"), indirect=True)
+def test_words_in_utf8_on_windows(build, tmp_path):
+    """With the page's manifest, words are UTF-8, and names of files too. With the page's line, wildcards are expanded."""
+    need("x86_64-w64-mingw32-windres")
+    page = (C / "README.md").read_text()
+    manifest, command = re.search(r"```xml\n(.*?)```\n+    (.* -o utf8\.o)\n", page, re.S).groups()
+    assert "`int _dowildcard = -1;`" in page
+    for name, text in [("utf8.c", UTF8), ("utf8.manifest", manifest), ("日本.txt", "")]:
+        (tmp_path / name).write_text(text)
+    run("sh", "-c", command, cwd=tmp_path)
+    program = build(tmp_path / "utf8.c", "-I", C, tmp_path / "utf8.o")
+    for word in ("日本.txt", "*.txt"):
+        assert run(*program, "--größe=é", word, cwd=tmp_path)[0].split() == ["é", "日本.txt", "1"]
+    program = build(tmp_path / "utf8.c", "-I", C)
+    assert b"Unrecognized option" in answer(*program, "--größe=é", cwd=tmp_path)[0]
+
+
 ORDER = [  # arguments, output lines
     ("-qv", "verbose"), ("-vq", "quiet"), ("-v --silent", "quiet"), ("--verbose -q --quiet -v f -q", "quiet"), ("-q -- -v", "quiet"),
     ("-Ia -vXb --include=c -X d=e -q", "take a,leave b,take c,leave d=e,quiet"),
