@@ -263,6 +263,40 @@ def test_no_warnings_and_one_unsafe_file(tmp_path):
     assert "#![deny(unsafe_code)]" in (C / "src/lib.rs").read_text()
 
 
+@pytest.mark.parametrize("compiler", ["gcc -std=c99", "clang -std=c99", "g++ -std=c++11", "clang++ -std=c++20", "gcc -std=c2x"])
+def test_header_has_no_warnings(compiler, tmp_path):
+    need(compiler.split()[0])
+    source = tmp_path / ("header.cc" if "++" in compiler else "header.c")
+    source.write_text(f'#include "{C}/getopts.h"\n#include "{C}/getopts.h"\n')
+    run(*compiler.split(), *"-Wall -Wextra -Wpedantic -Wredundant-decls -Wundef -Werror -fsyntax-only".split(), source)
+
+
+# What a function does with options from getopts_new, and gcc's warning, which clang may share.
+MISUSES = [
+    ("getopts_delete(options); getopts_delete(options);", "-Wanalyzer-double-free", False),
+    ("free(options);", "-Wanalyzer-mismatching-deallocation", False),
+    ("char *text = getopts_usage(options, \"\"); getopts_delete(options); puts(text ? text : \"\");", "-Wanalyzer-malloc-leak", False),
+    ("char *text = getopts_usage_in(options, \"\", 80); getopts_delete(options); puts(text ? text : \"\");", "-Wanalyzer-malloc-leak", False),
+    ("getopts_short_usage(options, \"\"); getopts_delete(options);", "-Wunused-result", True),
+    ("getopts_delete(options); getopts_new(table, GETOPTS_ORDINARY);", "-Wunused-result", True),
+    ("free(getopts_usage(options, \"\")); free(getopts_short_usage(options, \"\")); getopts_delete(options);", None, False),
+]
+
+
+@pytest.mark.parametrize("body, warning, by_clang", MISUSES)
+def test_analyzers_know_what_is_freed(body, warning, by_clang, tmp_path):
+    need("gcc", "clang")
+    if int(run("gcc", "-dumpversion")[0].split(".")[0]) < 11:
+        pytest.skip("gcc is older than 11")
+    source = tmp_path / "misuse.c"
+    source.write_text(f'#include "{C}/getopts.h"\n#include <stdio.h>\n#include <stdlib.h>\n'
+                      "void misuse(const struct getopts_option *table);\nvoid misuse(const struct getopts_option *table) {\n"
+                      f"    struct getopts *options = getopts_new(table, GETOPTS_ORDINARY);\n    {body}\n}}\n")
+    for compiler, known in (["gcc", "-fanalyzer"], warning), (["clang"], warning if by_clang else None):
+        _, said = run(*compiler, *WARNINGS[:-1], "-c", source, "-o", tmp_path / "misuse.o")
+        assert known in said if known else said == "", (compiler, said)
+
+
 @pytest.mark.parametrize("compiler", ["gcc", "clang", "g++", "clang++"])
 @pytest.mark.parametrize("modes, right", [("GETOPTS_STOP | GETOPTS_LONG_ONLY", True), ("GETOPTS_NO", False)])
 def test_kind_passed_as_mode(compiler, modes, right, tmp_path):
@@ -433,13 +467,14 @@ def test_installed_for_cpp(compiler, flags, tmp_path):
 
 
 def test_exports(prefix):
-    """Both libraries export exactly the functions declared in getopts.h."""
+    """Both libraries export exactly the functions declared in getopts.h. Those of the shared one have a version."""
     need("nm", "readelf")
     declared = set(re.findall(r"(getopts_[a-z_]*)\(", (C / "getopts.h").read_text()))
     shared, archive = prefix / "lib/libgetopts.so", prefix / "lib/libgetopts.a"
-    for words in (["-D", shared], ["-g", archive]):
+    for words, version in ((["-D", shared], f"@@GETOPTS_{VERSION.partition('.')[0]}"), (["-g", archive], "")):
         listed = run("nm", "--defined-only", *words)[0].splitlines()
-        assert {line.split()[-1] for line in listed if re.match(r"[0-9a-f]{8}", line)} == declared
+        names = {line.split()[-1] for line in listed if re.match(r"[0-9a-f]{8}.* [^A] ", line)}
+        assert names == {name + version for name in declared}
     asked = {line.split()[-1] for line in run("nm", "-u", archive)[0].splitlines() if " U " in line}
     assert asked <= set("abort bcmp free malloc memcmp memcpy memmove memset realloc strlen write".split())
 
@@ -456,6 +491,7 @@ def test_installed_versions(prefix):
 
 def page_blocks(header):
     """What getopts(3) shows: code as in getopts.h, and each paragraph or item of a comment as one line."""
+    header = re.sub(r"^#if defined __GNUC__.*?^#endif\n|^GETOPTS_FREED_BY[^\n]*\n", "", header, flags=re.M | re.S)
     version, calls = re.search('GETOPTS_VERSION "(.*)"', header)[1], "".join(re.findall(r"^[a-z].*\);\n", header, re.M))
     yield from ["GETOPTS(3) Library Functions Manual GETOPTS(3)", "NAME"]
     yield from [f"{MARGIN}getopts - parse command-line options from a table", "SYNOPSIS", f"{MARGIN}#include <getopts.h>"]

@@ -204,7 +204,9 @@ def test_versions():
         if b"\0" not in (ROOT / name).read_bytes() and not name.endswith("proved.sha256") and place.search(read(name)):
             found[name] = len(place.findall(read(name)))
     assert found == VERSIONS
-    crate = re.search(r'GETOPTS_CRATE_VERSION "(.*)"', read("bindings/c/getopts.h"))[1]
+    header, (major, minor, patch) = read("bindings/c/getopts.h"), map(int, version.split("."))
+    assert re.search(r"^#define GETOPTS_VERSION_NUMBER (.*)", header, re.M)[1] == str(1_000_000 * major + 1000 * minor + patch)
+    crate = re.search(r'GETOPTS_CRATE_VERSION "(.*)"', header)[1]
     for name in ("bindings/rust/README.md", "bindings/rust/getopts/Cargo.toml"):
         assert f"{crate}+proved.{version}" in read(name)
     assert f'"getopts {version}"' in run("awk", "-f", *(ROOT / f"bindings/c/{it}" for it in ("man.awk", "getopts.h", "getopts.h")))[0]

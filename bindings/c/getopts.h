@@ -20,7 +20,8 @@
  * bytes of words that aren't UTF-8.
  *
  * There is no global state. Threads may share a struct getopts as long as none of them calls
- * getopts_read or getopts_delete on it.
+ * getopts_read or getopts_delete on it, or changes a free word. No function reports an error in
+ * errno, but functions that allocate or free memory may change it.
  *
  * `pkg-config --cflags --libs getopts` prints the flags for the shared library. For the static
  * library, write `getopts-static`. PREFIX/share/doc/getopts/head.c is a complete program. */
@@ -32,17 +33,35 @@
 #include <stdint.h>
 
 /* The version of this header. A program compiled with it can run with this version of the library,
- * and with later versions that have the same major number. */
+ * and with later versions that have the same major number. For the preprocessor, the number is
+ * 1000000 times the major number plus 1000 times the minor number plus the patch number:
+ *
+ *     #if GETOPTS_VERSION_NUMBER < 1002000
+ *     #error "This program needs getopts.h 1.2 or later."
+ *     #endif
+ *
+ * The version of the library is what getopts_version returns. */
 #define GETOPTS_VERSION "1.0.0"
+#define GETOPTS_VERSION_NUMBER 1000000
 
 /* The version of the Rust crate getopts whose rules the library follows. */
 #define GETOPTS_CRATE_VERSION "0.2.24"
+
+#if defined __GNUC__ && __GNUC__ >= 11 && !defined __clang__
+/* -fanalyzer reports a result that is lost, or freed by another function. */
+#define GETOPTS_FREED_BY(function) __attribute__((__malloc__(function, 1), __warn_unused_result__))
+#elif defined __GNUC__
+#define GETOPTS_FREED_BY(function) __attribute__((__warn_unused_result__))
+#else
+#define GETOPTS_FREED_BY(function)
+#endif
 
 #ifdef __cplusplus
 extern "C" {
 #endif
 
-/* Return values of getopts_read and getopts_canonical. */
+/* Return values of getopts_read and getopts_canonical. Later versions may add some: treat any value
+ * but GETOPTS_OK as an error. */
 enum {
     GETOPTS_OK,
     GETOPTS_ARGUMENT_MISSING,    /* this and the next four: the words are rejected */
@@ -106,10 +125,13 @@ enum getopts_modes {
 /* The options of a table, and what getopts_read read last. */
 struct getopts;
 
-/* Creates options from a table. Returns NULL if out of memory. All functions accept NULL
- * options: getopts_read and getopts_canonical return GETOPTS_NO_MEMORY, getopts_message returns
- * "Out of memory", the usage functions return NULL, and the others behave as if nothing had
- * been read.
+/* Frees options, and all results that are valid until the next getopts_read. NULL is allowed. */
+void getopts_delete(struct getopts *options);
+
+/* Creates options from a table. Free them with getopts_delete. Returns NULL if out of memory. All
+ * functions accept NULL options: getopts_read and getopts_canonical return GETOPTS_NO_MEMORY,
+ * getopts_message returns "Out of memory", the usage functions return NULL, and the others behave
+ * as if nothing had been read.
  *
  * If the table is NULL, or a row or the modes are invalid, getopts_message says what is wrong,
  * such as "table[2]: short name 'ab' isn't one ASCII character". Then getopts_read and
@@ -117,6 +139,7 @@ struct getopts;
  *
  * No two rows may share a name, no name begins with a dash, and only options that take an argument
  * have a hint. To give an option another name, add a row, as order.c does. */
+GETOPTS_FREED_BY(getopts_delete)
 struct getopts *getopts_new(const struct getopts_option *table, enum getopts_modes modes);
 
 /* Reads `count` words, such as argc - 1 and argv + 1. If `count` is negative, as argc - 1 may be,
@@ -168,7 +191,8 @@ int getopts_position(const struct getopts *options, const char *name, size_t nth
 const char *getopts_value(const struct getopts *options, const char *name, size_t nth);
 
 /* The values of the option's getopts_count occurrences, followed by NULL. An occurrence without a
- * value is a NULL in the list. The list is never NULL. Valid until the next getopts_read. */
+ * value is a NULL in the list. The list is never NULL. Don't change the list or the values, which
+ * are valid until the next getopts_read. */
 const char *const *getopts_values(const struct getopts *options, const char *name);
 
 /* Returns the table row, counted from 0, of the nth option in the words. Stores the option's value
@@ -191,7 +215,8 @@ bool getopts_long_value(const struct getopts *options, const char *name, size_t 
 /* The number of free words, which are the positional arguments. */
 int getopts_free_count(const struct getopts *options);
 
-/* The free words and then NULL, as in argv. Valid until the next getopts_read. */
+/* The free words and then NULL, as in argv. Each is a copy that you may change up to its end, for
+ * example with strtok(); don't change the list. Valid until the next getopts_read. */
 char *const *getopts_free_words(const struct getopts *options);
 
 /* The index, in the free words, of the first word after the `--` that ended the options; -1 if
@@ -201,15 +226,18 @@ int getopts_trailing_start(const struct getopts *options);
 /* The help text: `brief`, then each option with its description. The caller frees it with free().
  * Returns NULL if out of memory, if the table is invalid, or if `brief` is NULL or isn't UTF-8
  * below U+10FF80. */
+GETOPTS_FREED_BY(__builtin_free)
 char *getopts_usage(const struct getopts *options, const char *brief);
 
 /* Like getopts_usage, but descriptions end within this many columns, such as the width of a terminal;
  * getopts_usage wraps them within 78. They begin after 24 columns. A word that doesn't fit has a row
  * of its own. */
+GETOPTS_FREED_BY(__builtin_free)
 char *getopts_usage_in(const struct getopts *options, const char *brief, size_t columns);
 
 /* A line with the program's name and all options, such as "Usage: head [-n COUNT] [-h]"; otherwise
  * like getopts_usage. */
+GETOPTS_FREED_BY(__builtin_free)
 char *getopts_short_usage(const struct getopts *options, const char *program);
 
 /* Rewrites words in a canonical form: `--main` or `--main=value` for each option, in order, then
@@ -221,27 +249,30 @@ char *getopts_short_usage(const struct getopts *options, const char *program);
  * whose main name contains `=`. */
 int getopts_canonical(const struct getopts *options, int count, char *const *words, char ***line);
 
-/* Frees options, and all results that are valid until the next getopts_read. NULL is allowed. */
-void getopts_delete(struct getopts *options);
-
 /* The version of the library that the program runs with, such as "1.0.0". */
 const char *getopts_version(void);
 
 #ifdef __cplusplus
 }
 
-/* `+` and `|` combine kinds and modes in C++, as they do in C. */
+/* `+`, `|` and `|=` combine kinds and modes in C++, as they do in C. */
 constexpr getopts_kind operator+(getopts_kind one, getopts_kind other) {
     return static_cast<getopts_kind>(static_cast<int>(one) + static_cast<int>(other));
 }
 constexpr getopts_kind operator|(getopts_kind one, getopts_kind other) {
-    return one + other;
+    return static_cast<getopts_kind>(static_cast<int>(one) | static_cast<int>(other));
+}
+inline getopts_kind &operator|=(getopts_kind &one, getopts_kind other) {
+    return one = one | other;
 }
 constexpr getopts_modes operator+(getopts_modes one, getopts_modes other) {
-    return static_cast<getopts_modes>(static_cast<int>(one) | static_cast<int>(other));
+    return static_cast<getopts_modes>(static_cast<int>(one) + static_cast<int>(other));
 }
 constexpr getopts_modes operator|(getopts_modes one, getopts_modes other) {
-    return one + other;
+    return static_cast<getopts_modes>(static_cast<int>(one) | static_cast<int>(other));
+}
+inline getopts_modes &operator|=(getopts_modes &one, getopts_modes other) {
+    return one = one | other;
 }
 #endif
 

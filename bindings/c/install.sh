@@ -238,9 +238,11 @@ case $system in
         files="IMPORTED_LOCATION \"\${getopts_prefix}/bin/$dll\" IMPORTED_IMPLIB \"\${getopts_lib}/libgetopts.dll.a\""
         ;;
     *)
+        # A process may load libraries of several major versions.
+        echo "GETOPTS_${version%%.*} { global: getopts_*; local: *; };" >"$room/versions"
         # shellcheck disable=SC2086
-        $cc -shared ${CFLAGS:-} ${LDFLAGS:-} -Wl,-soname,"$soname" -Wl,-z,defs -Wl,-z,text "$room/getopts.o" \
-            -o "$room/$shared"
+        $cc -shared ${CFLAGS:-} ${LDFLAGS:-} -Wl,-soname,"$soname" -Wl,--version-script,"$room/versions" -Wl,-z,defs \
+            -Wl,-z,text "$room/getopts.o" -o "$room/$shared"
         put "$room/$shared" "$lib/$shared" 755
         link "$shared" "$lib/$soname"
         link "$soname" "$lib/libgetopts.so"

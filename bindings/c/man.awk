@@ -38,7 +38,7 @@ function said(line,    starts) {
     return starts line
 }
 
-FNR == NR && /^#define GETOPTS_VERSION/ { split($0, version, "\"") }
+FNR == NR && /^#define GETOPTS_VERSION "/ { split($0, version, "\"") }
 FNR == NR && /^[a-z].*getopts_[a-z_]*\(.*;$/ { calls = calls call($0) "\n" }
 FNR == NR { next }
 FNR == 1 {
@@ -46,8 +46,8 @@ FNR == 1 {
     print ".SH NAME\ngetopts \\- parse command\\-line options from a table"
     print ".SH SYNOPSIS\n.B #include <getopts.h>\n.P\n.RS 4\n" calls ".RE\n.SH DESCRIPTION"
 }
-/^#ifdef __cplusplus/, /^#endif/ { next }
-/^#(ifndef|include|endif)|^#define GETOPTS_H$/ { next }
+/^#ifdef __cplusplus|^#if defined __GNUC__/, /^#endif/ { next }
+/^#(ifndef|include|endif)|^#define GETOPTS_H$|^GETOPTS_FREED_BY/ { next }
 /^\/\*/ { comment = 1; sub(/^\/\*/, " *") }
 comment {
     comment = !sub(/ *\*\/$/, "")

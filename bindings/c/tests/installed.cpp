@@ -5,14 +5,23 @@
 #include <memory>
 #include <vector>
 
+static_assert((GETOPTS_YES | GETOPTS_REQ) == GETOPTS_YES + GETOPTS_REQ, "as in C");
+static_assert((GETOPTS_MULTI | GETOPTS_MULTI) == GETOPTS_MULTI && (GETOPTS_STOP | GETOPTS_STOP) == GETOPTS_STOP, "as in C");
+static_assert(GETOPTS_STOP + GETOPTS_STOP == GETOPTS_LONG_ONLY && GETOPTS_YES + GETOPTS_YES == GETOPTS_MAYBE, "as in C");
+
 int main(int argc, char **argv) {
+    getopts_kind often = GETOPTS_NO;
+    getopts_modes modes = GETOPTS_ORDINARY;
+    for (int times = 0; times < 2; times++) {
+        often |= GETOPTS_MULTI;
+        modes |= GETOPTS_STOP;
+    }
     const std::vector<getopts_option> table = {
         { "o", "output", "FILE", "write to FILE", GETOPTS_YES + GETOPTS_OPTIONAL },
-        { nullptr, "verbose", nullptr, "say more", GETOPTS_NO + GETOPTS_MULTI },
+        { nullptr, "verbose", nullptr, "say more", often },
         {},
     };
-    const std::unique_ptr<getopts, decltype(&getopts_delete)> options(
-        getopts_new(table.data(), GETOPTS_STOP), getopts_delete);
+    const std::unique_ptr<getopts, decltype(&getopts_delete)> options(getopts_new(table.data(), modes), getopts_delete);
     if (!options)
         return 3;
     if (getopts_read(options.get(), argc - 1, argv + 1) != GETOPTS_OK) {

@@ -303,6 +303,18 @@ static void numbers_are_checked(void) {
     getopts_delete(options);
 }
 
+/* A program may change free words: nothing else changes with them. */
+static void free_words_are_copies(void) {
+    struct getopts *options = getopts_new(required, GETOPTS_ORDINARY);
+    char *words[] = { "-o", "a,b", "a,b", "a,b", NULL };
+    expect(getopts_read(options, 4, words) == GETOPTS_OK && getopts_free_count(options) == 2, "free words");
+    char *const *free_words = getopts_free_words(options);
+    expect(strcmp(strtok(free_words[0], ","), "a") == 0 && strcmp(strtok(NULL, ","), "b") == 0, "a free word in parts");
+    expect(strcmp(free_words[1], "a,b") == 0 && strcmp(getopts_value(options, "o", 0), "a,b") == 0, "other results");
+    expect(strcmp(words[2], "a,b") == 0 && getopts_free_words(options)[0] == free_words[0], "the words that were read");
+    getopts_delete(options);
+}
+
 /* With GETOPTS_STRICT, passes a misspelt name to the function whose name begins with a letter. Returns if none does. */
 static int misspell(char function, int count, char **words) {
     struct getopts *options = getopts_new(required, GETOPTS_STRICT);
@@ -333,6 +345,7 @@ int main(int argc, char **argv) {
     null_is_rejected();
     null_options_mean_no_memory();
     numbers_are_checked();
+    free_words_are_copies();
     expect(strcmp(getopts_version(), GETOPTS_VERSION) == 0, "the version of header and library");
     if (!failed)
         printf("all tests passed\n");
