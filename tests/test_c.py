@@ -416,6 +416,16 @@ def test_example(compiler, flags, tmp_path):
     assert run(tmp_path / "head", "-h")[0] == re.search(r"^```text\n(.*?)^```", (C / "README.md").read_text(), re.M | re.S)[1]
 
 
+def test_example_without_memory(prefix, tmp_path):
+    """If there is no memory for the help, head's status is 3; if there is none before, 2."""
+    for function, status, said in [("usage", 3, ""), ("new", 2, "head: Out of memory\n")]:
+        (tmp_path / "wrap.c").write_text(f"void *__wrap_getopts_{function}(void);\n"
+                                         f"void *__wrap_getopts_{function}(void) {{ return (void *)0; }}\n")
+        run("cc", "-isystem", prefix / "include", C / "head.c", tmp_path / "wrap.c", f"-Wl,--wrap=getopts_{function}",
+            prefix / "lib/libgetopts.a", "-o", tmp_path / "head")
+        assert run(tmp_path / "head", "--help", status=status) == ("", said)
+
+
 CMAKE = """cmake_minimum_required(VERSION 3.6)
 project(program C)
 %s
@@ -614,7 +624,7 @@ def test_missing_tools(tmp_path):
     _, errors = run("sh", C / "install.sh", tmp_path / "to", status=1, env={**env, "CC": "no-cc"})
     assert "no-cc not found: install a C compiler (Debian's package gcc)" in errors
     _, errors = run("sh", C / "install.sh", tmp_path / "to", status=1, env=env)
-    assert "librust-unicode-width-dev" in errors and not (tmp_path / "to").exists()
+    assert "librust-unicode-width-dev" in errors and "RUSTFLAGS\nmust not" in errors and not (tmp_path / "to").exists()
     (tmp_path / "cargo").write_text("#!/bin/sh\n")
     _, errors = run("sh", C / "install.sh", tmp_path / "to", status=1, env=env)
     assert "cargo built no libgetopts.a. If cargo's configuration" in errors and not (tmp_path / "to").exists()
@@ -665,11 +675,12 @@ def test_libdir(copies, tmp_path):
 
 def test_install_in_shared_folder(prefix, tmp_path):
     """The library is built in a temporary folder. Cargo and rustup read nothing that other users put beside it, and the
-    libraries have the same bytes as those built in another folder (with Rust 1.95 or later)."""
+    libraries have the same bytes as those built in another folder (with Rust 1.95 or later), even if the environment sets
+    panic=unwind."""
     room = tmp_path / "shared room"
     ran = shared_folder(room)
     planted = set(room.rglob("*"))
-    run("sh", C / "install.sh", tmp_path / "to", env={"TMPDIR": str(room)})
+    run("sh", C / "install.sh", tmp_path / "to", env={"TMPDIR": str(room), "CARGO_PROFILE_RELEASE_PANIC": "unwind"})
     assert not ran.exists() and set(room.rglob("*")) == planted
     if rust_minor() >= 95:
         for name in ("libgetopts.a", "libgetopts.so"):
@@ -682,7 +693,8 @@ def test_destdir_and_uninstall(shell, relative, copies, tmp_path):
     """With dash, and with nothing but busybox's shell and tools."""
     need_install()
     need(shell)
-    env, words = {**copies, "DESTDIR": "stage" if relative else f"{tmp_path}/stage/"}, ["dash"]
+    stage = tmp_path / ("a/\nstage\n" if relative else "stage")
+    env, words = {**copies, "DESTDIR": "a/\nstage\n" if relative else f"{stage}/"}, ["dash"]
     if shell == "busybox":
         tools, words = tmp_path / "tools", ["busybox", "sh"]
         tools.mkdir()
@@ -691,9 +703,12 @@ def test_destdir_and_uninstall(shell, relative, copies, tmp_path):
         # Debian's busybox prefers its own tools to those on the path, and its ar can't create archives.
         env.update(PATH=f"{tools}:{os.environ['PATH']}", AR=shutil.which("ar"))
     run(*words, C / "install.sh", "/usr/lo cal/", env=env, cwd=tmp_path)
-    assert "prefix=/usr/lo cal\n" in (tmp_path / "stage/usr/lo cal/lib/pkgconfig/getopts.pc").read_text()
-    run(*words, C / "install.sh", "--uninstall", "/usr/lo cal", env=env, cwd=tmp_path)
-    assert not any(path.is_file() for path in (tmp_path / "stage").rglob("*"))
+    assert "prefix=/usr/lo cal\n" in (stage / "usr/lo cal/lib/pkgconfig/getopts.pc").read_text()
+    for said in ("removed from", "nothing to remove in"):
+        removed = run(*words, C / "install.sh", "--uninstall", "/usr/lo cal", env=env, cwd=tmp_path)
+        assert removed == (f"{said} {stage}/usr/lo cal\n", "")
+        assert not any(path.is_file() for path in stage.rglob("*"))
+    assert {*tmp_path.iterdir()} <= {tmp_path / name for name in ("a", "stage", "tools", "cargo")}
 
 
 def test_uninstall_keeps_other_files(copies, tmp_path):
@@ -739,7 +754,7 @@ def test_install_usage(tmp_path):
     assert run("sh", C / "install.sh", "--help") == (re.sub("^# ?", "", comment, flags=re.M), "")
     # If CDPATH has the folder, cd prints it.
     removed = run("sh", "c/install.sh", "--uninstall", tmp_path, cwd=C.parent, env={"CDPATH": str(C.parent)})
-    assert removed == (f"removed from {tmp_path}\n", "")
+    assert removed == (f"nothing to remove in {tmp_path}\n", "")
     for words in ([], [""], ["--nope"], ["a", "b"]):
         assert "usage: bindings/c/install.sh [--uninstall] PREFIX" in run("sh", C / "install.sh", *words, status=1)[1]
 

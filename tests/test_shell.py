@@ -436,8 +436,9 @@ def test_functions_of_start_c(compiler, tmp_path):
 def test_install(checked_in, tmp_path):
     """Installs to PREFIX, below DESTDIR, and for another processor; --uninstall leaves nothing."""
     def install(*words, status=0, **env):
-        """Runs the script, and returns its errors."""
-        return run("sh", SHELL / "install.sh", *words, status=status, cwd=tmp_path, env=env)[1]
+        """Runs the script, and returns its errors, or what it removed."""
+        said, errors = run("sh", SHELL / "install.sh", *words, status=status, cwd=tmp_path, env=env)
+        return errors or (said if words[0] == "--uninstall" else "")
 
     install("a prefix", CDPATH=f"/:{SHELL}")
     assert (tmp_path / "a prefix/bin/getopts_shell").read_bytes() == checked_in.read_bytes()
@@ -457,9 +458,9 @@ def test_install(checked_in, tmp_path):
         assert path.is_dir() or path.stat().st_mode & 0o777 == (0o755 if path.parent.name in ("bin", "examples") else 0o644), path
     (tmp_path / "a prefix/share/doc/getopts_shell/examples/own").write_text("others'")
     for machine in ("x86_64", "aarch64"):
-        install("/usr", DESTDIR="stage", MACHINE=machine)
+        install("/usr", DESTDIR="stage\n", MACHINE=machine)
         there = SHELL / machine / "getopts_shell"
-        assert (tmp_path / "stage/usr/bin/getopts_shell").read_bytes() == there.read_bytes()
+        assert (tmp_path / "stage\n/usr/bin/getopts_shell").read_bytes() == there.read_bytes()
     assert "no binary for m68k, only for aarch64 x86_64" in install("/nowhere", status=1, MACHINE="m68k")
     assert not Path("/nowhere").exists()
     # A link in the place of a file is replaced, its target stays. A folder there is an error, and so is another system.
@@ -489,13 +490,14 @@ def test_install(checked_in, tmp_path):
     (tmp_path / "link").symlink_to(SHELL / "install.sh")
     assert "through a symbolic link" in run("sh", tmp_path / "link", "other", status=1)[1]
     (tmp_path / "link").unlink()
-    assert install("--uninstall", "a prefix") == ""
+    for said in ("removed {}/bin/getopts_shell, its manual page and examples\n", "nothing to remove in {}\n"):
+        assert install("--uninstall", "a prefix") == said.format(tmp_path / "a prefix")
     (tmp_path / "a prefix/share/doc/getopts_shell/examples/own").unlink()
     # If another folder of CDPATH has a folder of the script's name, cd would prefer it.
     (tmp_path / "others/shell").mkdir(parents=True)
     run("sh", "shell/install.sh", tmp_path / "third", cwd=SHELL.parent, env={"CDPATH": str(tmp_path / "others")})
     install("--uninstall", "third")
-    install("--uninstall", "/usr", DESTDIR="stage/")
+    install("--uninstall", "/usr", DESTDIR="stage\n/")
     assert not [path for path in tmp_path.rglob("*") if not path.is_dir()]
 
 

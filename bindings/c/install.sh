@@ -31,23 +31,23 @@ fail() {
     exit 1
 }
 
-remove=
+uninstall=
 case ${1:-} in
 --help | -h) sed -n '2,/^[^#]/s/^# \{0,1\}//p' "$0"; exit ;;
---uninstall) remove=yes; shift ;;
+--uninstall) uninstall=yes; shift ;;
 esac
 if [ $# != 1 ] || [ -z "$1" ] || [ "${1#-}" != "$1" ]; then
     fail "usage: bindings/c/install.sh [--uninstall] PREFIX"
 fi
 
-# absolute PATH: the absolute path, without slashes at its end.
+# absolute PATH: sets path to the absolute path, without slashes at its end. $(..) would remove line breaks there.
 absolute() {
-    case $1 in
-    /*) printf '%s\n' "$1" ;;
-    *) printf '%s\n' "$PWD/$1" ;;
-    esac | sed 's,//*$,,'
+    path=$1
+    case $path in /*) ;; *) path=$PWD/$path ;; esac
+    while [ "$path" != "${path%/}" ]; do path=${path%/}; done
 }
-prefix=$(absolute "$1")
+absolute "$1"
+prefix=$path
 line_end='
 '
 case $1$prefix in
@@ -61,7 +61,8 @@ lib=${lib#"$prefix/"}
 case /$lib/ in
 //* | */../* | *[[:space:]\"\$\#\\:]*) fail "LIBDIR must be a folder below PREFIX, without blanks, \", \$, #, \\ and :" ;;
 esac
-to=$(absolute "${DESTDIR:-/}")$prefix
+absolute "${DESTDIR:-/}"
+to=$path$prefix
 # From LIBDIR to PREFIX.
 up=$(printf '%s\n' "$lib" | sed 's,[^/][^/]*,..,g')
 
@@ -75,30 +76,40 @@ functions=$(sed -n 's/^[a-z].*[ *]\(getopts_[a-z_]*\)(.*/\1/p' "$here/getopts.h"
 # The files for share/doc/getopts, relative to this script.
 documents="README.md head.c order.c ../../LICENSE-MIT ../../LICENSE-APACHE ../../NOTICE"
 
+# remove PLACE..: removes files, and sets removed if there was one.
+removed=
+remove() {
+    for file; do
+        [ ! -e "$to/$file" ] && [ ! -L "$to/$file" ] || removed=yes
+        rm -f "$to/$file"
+    done
+}
 # Removes the shared libraries of all versions with the same first number.
 remove_versions() {
     for file in "$to/$lib/$soname".*; do
         case ${file#"$to/$lib/$soname."} in
         *[!0-9.]*) ;;
-        *) rm -f "$file" ;;
+        *) remove "${file#"$to/"}" ;;
         esac
     done
 }
 
-if [ -n "$remove" ]; then
-    rm -f "$to/include/getopts.h" "$to/$lib/libgetopts.a" "$to/$lib/libgetopts.so" "$to/$lib/$soname" \
-        "$to/$lib/libgetopts-static.a" "$to/$lib/pkgconfig/getopts.pc" "$to/$lib/pkgconfig/getopts-static.pc" \
-        "$to/share/man/man3/getopts.3" "$to/bin/$dll" "$to/$lib/libgetopts.dll.a" "$to/$lib/getopts.def" \
-        "$to/$lib/cmake/getopts/getoptsConfig.cmake" "$to/$lib/cmake/getopts/getoptsConfigVersion.cmake"
+if [ -n "$uninstall" ]; then
+    remove include/getopts.h share/man/man3/getopts.3 "bin/$dll"
+    for file in libgetopts.a libgetopts-static.a libgetopts.so "$soname" libgetopts.dll.a getopts.def \
+        pkgconfig/getopts.pc pkgconfig/getopts-static.pc cmake/getopts/getoptsConfig.cmake \
+        cmake/getopts/getoptsConfigVersion.cmake; do
+        remove "$lib/$file"
+    done
     remove_versions
     for function in $functions; do
-        rm -f "$to/share/man/man3/$function.3"
+        remove "share/man/man3/$function.3"
     done
     for file in $documents; do
-        rm -f "$to/share/doc/getopts/${file##*/}"
+        remove "share/doc/getopts/${file##*/}"
     done
     rmdir "$to/share/doc/getopts" "$to/$lib/cmake/getopts" 2>/dev/null || :
-    echo "removed from $to"
+    [ -n "$removed" ] && echo "removed from $to" || echo "nothing to remove in $to"
     exit
 fi
 
@@ -108,7 +119,8 @@ command -v "${cc%% *}" >/dev/null ||
     fail "${cc%% *} not found: install a C compiler (Debian's package gcc), or set CC to yours"
 [ -z "$target" ] || [ -n "${CC:-}" ] || fail "set CC to the C compiler for $target"
 room=$(mktemp -d)
-room=$(absolute "$room")
+absolute "$room"
+room=$path
 trap 'rm -rf "$room"' EXIT
 trap 'exit 1' HUP INT TERM
 
@@ -121,24 +133,25 @@ sed 's,"../rust","rust",' "$here/Cargo.toml" >"$room/c/Cargo.toml"
 printf '\n[workspace]\nexclude = ["rust"]\n' >>"$room/c/Cargo.toml"
 cp -R "$here/src" "$room/c"
 cp -R "$top/bindings/rust/Cargo.toml" "$top/bindings/rust/src" "$room/c/rust"
-: >"$room/config.toml"
-for crate in /usr/share/cargo/registry/unicode-width-*; do
-    if [ -d "$crate" ]; then
-        printf '[net]\noffline = true\n[source]\ncrates-io.replace-with = "debian"\ndebian.directory = "%s"\n' "${crate%/*}" \
-            >"$room/config.toml"
-    fi
-done
+# The library needs panic=abort, whatever the environment sets.
+printf '[profile.release]\npanic = "abort"\n' >"$room/config.toml"
 strip=--strip-debug
 if [ -n "${DEBUG_INFO:-}" ]; then
     strip=''
-    printf '[profile.release]\ndebug = true\n[build]\nrustflags = ["--remap-path-prefix=%s=getopts"]\n' "$room" \
-        >>"$room/config.toml"
+    printf 'debug = true\n[build]\nrustflags = ["--remap-path-prefix=%s=getopts"]\n' "$room" >>"$room/config.toml"
 fi
+for crate in /usr/share/cargo/registry/unicode-width-*; do
+    if [ -d "$crate" ]; then
+        printf '[net]\noffline = true\n[source]\ncrates-io.replace-with = "debian"\ndebian.directory = "%s"\n' "${crate%/*}" \
+            >>"$room/config.toml"
+    fi
+done
 # shellcheck disable=SC2086
 (cd / && CARGO_TARGET_DIR=$room/target "$cargo" build --release --quiet --manifest-path "$room/c/Cargo.toml" \
     --config "$room/config.toml" ${CARGO_FLAGS:-}) ||
     fail "cargo failed. The build needs Rust 1.68 or later (on Debian 12, cargo-web and rustc-web) with the target's standard
-library, and the crate unicode-width (without a network, from Debian's package librust-unicode-width-dev)"
+library, and the crate unicode-width (without a network, from Debian's package librust-unicode-width-dev). RUSTFLAGS
+must not contain -Cpanic=unwind"
 built=$room/target/${target:+$target/}release/libgetopts.a
 [ ! -f "${built%/*}/getopts.lib" ] || fail "can't install for MSVC. For mingw's gcc, set CARGO_BUILD_TARGET and CC, as in
 CARGO_BUILD_TARGET=x86_64-pc-windows-gnu CC=x86_64-w64-mingw32-gcc"

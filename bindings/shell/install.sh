@@ -30,11 +30,18 @@ esac
 case $to in /*) ;; *) to=$PWD/$to ;; esac
 program=$to/bin/getopts_shell page=$to/share/man/man1/getopts_shell.1 papers=$to/share/doc/getopts_shell
 if [ -n "$remove" ]; then
-    for name in $licences; do rm -f "$papers/${name##*/}"; done
-    for name in $examples; do rm -f "$papers/examples/$name"; done
-    rm -f "$program" "$page"
+    removed=
+    # drop FILE: removes a file, and sets removed if it was there.
+    drop() {
+        [ ! -e "$1" ] && [ ! -L "$1" ] || removed=yes
+        rm -f "$1"
+    }
+    for name in $licences; do drop "$papers/${name##*/}"; done
+    for name in $examples; do drop "$papers/examples/$name"; done
+    drop "$program"
+    drop "$page"
     rmdir "$papers/examples" "$papers" 2>/dev/null || :
-    echo "removed $program, its manual page and examples"
+    [ -n "$removed" ] && echo "removed $program, its manual page and examples" || echo "nothing to remove in $to"
     exit
 fi
 source=${PROGRAM-}
