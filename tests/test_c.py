@@ -19,7 +19,8 @@ from targets import OLD, TARGETS, cargo, cargo_for, copy_folders, need_cargo, ne
 
 C = ROOT / "bindings/c"
 VERSION = re.search(r'GETOPTS_VERSION "(.*)"', (C / "getopts.h").read_text())[1]
-SONAME = f"libgetopts.so.{VERSION.partition('.')[0]}"
+MAJOR = VERSION.partition(".")[0]
+SONAME = f"libgetopts.so.{MAJOR}"
 WARNINGS = "-std=c11 -Wall -Wextra -Wpedantic -Wshadow -Wconversion -Wno-sign-conversion -Werror".split()
 PLUS_WARNINGS = "-Wall -Wextra -Wpedantic -Wold-style-cast -Werror".split()
 SANITIZERS = "-fsanitize=address,undefined -fno-sanitize-recover=all -g -O1".split()
@@ -271,30 +272,35 @@ def test_header_has_no_warnings(compiler, tmp_path):
     run(*compiler.split(), *"-Wall -Wextra -Wpedantic -Wredundant-decls -Wundef -Werror -fsyntax-only".split(), source)
 
 
-# What a function does with options from getopts_new, and gcc's warning, which clang may share.
-MISUSES = [
-    ("getopts_delete(options); getopts_delete(options);", "-Wanalyzer-double-free", False),
-    ("free(options);", "-Wanalyzer-mismatching-deallocation", False),
-    ("char *text = getopts_usage(options, \"\"); getopts_delete(options); puts(text ? text : \"\");", "-Wanalyzer-malloc-leak", False),
-    ("char *text = getopts_usage_in(options, \"\", 80); getopts_delete(options); puts(text ? text : \"\");", "-Wanalyzer-malloc-leak", False),
-    ("getopts_short_usage(options, \"\"); getopts_delete(options);", "-Wunused-result", True),
-    ("getopts_delete(options); getopts_new(table, GETOPTS_ORDINARY);", "-Wunused-result", True),
-    ("free(getopts_usage(options, \"\")); free(getopts_short_usage(options, \"\")); getopts_delete(options);", None, False),
+MISUSES = [  # what a function does with the options that it creates, gcc's warning, and clang's
+    ("getopts_delete(options); getopts_delete(options);", "-Wanalyzer-double-free", ""),
+    ("free(options);", "-Wanalyzer-mismatching-deallocation", ""),
+    ('char *text = getopts_usage(options, ""); puts(text ? text : ""); getopts_delete(options);', "-Wanalyzer-malloc-leak", ""),
+    ('char *text = getopts_usage_in(options, "", 9); puts(text ? text : ""); getopts_delete(options);', "-Wanalyzer-malloc-leak", ""),
+    ('getopts_short_usage(options, ""); getopts_delete(options);', "-Wunused-result", "-Wunused-result"),
+    ("getopts_delete(options); getopts_new(table, GETOPTS_ORDINARY);", "-Wunused-result", "-Wunused-result"),
+    ('free(getopts_usage(options, "")); free(getopts_short_usage(options, "")); getopts_delete(options);', "", ""),
 ]
 
 
-@pytest.mark.parametrize("body, warning, by_clang", MISUSES)
-def test_analyzers_know_what_is_freed(body, warning, by_clang, tmp_path):
-    need("gcc", "clang")
-    if int(run("gcc", "-dumpversion")[0].split(".")[0]) < 11:
+@pytest.mark.parametrize("compiler", ["gcc -fanalyzer", "clang"])
+def test_misuse_is_reported(compiler, tmp_path):
+    need(compiler.split()[0])
+    if compiler != "clang" and int(run("gcc", "-dumpversion")[0].partition(".")[0]) < 11:
         pytest.skip("gcc is older than 11")
-    source = tmp_path / "misuse.c"
-    source.write_text(f'#include "{C}/getopts.h"\n#include <stdio.h>\n#include <stdlib.h>\n'
-                      "void misuse(const struct getopts_option *table);\nvoid misuse(const struct getopts_option *table) {\n"
-                      f"    struct getopts *options = getopts_new(table, GETOPTS_ORDINARY);\n    {body}\n}}\n")
-    for compiler, known in (["gcc", "-fanalyzer"], warning), (["clang"], warning if by_clang else None):
-        _, said = run(*compiler, *WARNINGS[:-1], "-c", source, "-o", tmp_path / "misuse.o")
-        assert known in said if known else said == "", (compiler, said)
+    for body, *known in MISUSES:
+        (tmp_path / "misuse.c").write_text(f"""#include "{C}/getopts.h"
+#include <stdio.h>
+#include <stdlib.h>
+void misuse(const struct getopts_option *table);
+void misuse(const struct getopts_option *table) {{
+    struct getopts *options = getopts_new(table, GETOPTS_ORDINARY);
+    {body}
+}}
+""")
+        said = run(*compiler.split(), *WARNINGS[:-1], "-c", tmp_path / "misuse.c", "-o", tmp_path / "misuse.o")[1]
+        warning = known[compiler == "clang"]
+        assert warning in said if warning else said == "", (body, said)
 
 
 @pytest.mark.parametrize("compiler", ["gcc", "clang", "g++", "clang++"])
@@ -335,7 +341,7 @@ def test_words_in_utf8_on_windows(build, tmp_path):
     """With the page's manifest, words are UTF-8, and names of files too. With the page's line, wildcards are expanded."""
     need("x86_64-w64-mingw32-windres")
     page = (C / "README.md").read_text()
-    manifest, command = re.search(r"```xml\n(.*?)```\n+    (.* -o utf8\.o)\n", page, re.S).groups()
+    manifest, command = re.search(r"```xml\n(.*?)```.*?^    (.* -o utf8\.o)$", page, re.M | re.S).groups()
     assert "`int _dowildcard = -1;`" in page
     for name, text in [("utf8.c", UTF8), ("utf8.manifest", manifest), ("日本.txt", "")]:
         (tmp_path / name).write_text(text)
@@ -481,7 +487,7 @@ def test_exports(prefix):
     need("nm", "readelf")
     declared = set(re.findall(r"(getopts_[a-z_]*)\(", (C / "getopts.h").read_text()))
     shared, archive = prefix / "lib/libgetopts.so", prefix / "lib/libgetopts.a"
-    for words, version in ((["-D", shared], f"@@GETOPTS_{VERSION.partition('.')[0]}"), (["-g", archive], "")):
+    for words, version in ((["-D", shared], f"@@GETOPTS_{MAJOR}"), (["-g", archive], "")):
         listed = run("nm", "--defined-only", *words)[0].splitlines()
         names = {line.split()[-1] for line in listed if re.match(r"[0-9a-f]{8}.* [^A] ", line)}
         assert names == {name + version for name in declared}
@@ -598,7 +604,7 @@ def test_install_for_other_target(target, tmp_path):
 
 def check_files_for_windows(to, env, room, by):
     """Both libraries export the functions of getopts.h, have the same bytes each time, work with CMake, and are removed."""
-    same = ["bin/libgetopts-1.dll", "lib/libgetopts.dll.a", "lib/getopts.def", "lib/libgetopts.a"]
+    same = [f"bin/libgetopts-{MAJOR}.dll", "lib/libgetopts.dll.a", "lib/getopts.def", "lib/libgetopts.a"]
     other, compiler = room / "other", TARGETS[WINDOWS][0]
     run("sh", C / "install.sh", other, env={**env, "CC": compiler, "LIBDIR": "lib/own"})
     assert all((to / file).read_bytes() == (other / file.replace("lib/", "lib/own/")).read_bytes() for file in same)
@@ -665,6 +671,7 @@ def test_libdir(copies, tmp_path):
     run("sh", "-c", 'umask 077; exec sh "$0" "$1"', C / "install.sh", to, env={**copies, "LIBDIR": f"{to}/lib/own"})
     assert (to / "lib/own/libgetopts.so").is_file() and [*(to / "lib").iterdir()] == [to / "lib/own"]
     assert "libdir=${prefix}/lib/own\n" in (to / "lib/own/pkgconfig/getopts.pc").read_text()
+    assert '"${getopts_lib}/../.."' in (to / "lib/own/cmake/getopts/getoptsConfig.cmake").read_text()
     for path in [to, *to.rglob("*")]:
         assert path.stat().st_mode & 0o777 == (0o755 if path.is_dir() or ".so" in path.name else 0o644), path
     run("sh", C / "install.sh", "--uninstall", to, env={"LIBDIR": "lib/own"})

@@ -4,8 +4,8 @@
 #     bindings/c/install.sh [--uninstall] PREFIX
 #
 # - PREFIX/lib: libgetopts.a, also as libgetopts-static.a
-# - the shared library, on Linux: PREFIX/lib/libgetopts.so. For Windows, with mingw's gcc: PREFIX/bin/libgetopts-1.dll, and
-#   in PREFIX/lib libgetopts.dll.a and getopts.def. On both, each library exports only the functions of getopts.h
+# - the shared library: on Linux, PREFIX/lib/libgetopts.so; for Windows with mingw's gcc, PREFIX/bin/libgetopts-1.dll, and
+#   in PREFIX/lib libgetopts.dll.a and getopts.def. There, both libraries export only the functions of getopts.h
 # - PREFIX/include: getopts.h
 # - PREFIX/lib/pkgconfig: getopts-static.pc, for programs that contain the library, and getopts.pc for the shared one
 # - PREFIX/lib/cmake/getopts: for CMake, the package getopts with its targets getopts::static and getopts::shared
