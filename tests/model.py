@@ -84,23 +84,25 @@ class Options:
                     yield mentions + [(place, after[0])], 2, False
 
     def readings(self, words, whole=False):
-        """The readings of the words, at most one: occurrences, free words and trailing start. In a whole reading no
-        word ends the options."""
-        found = {len(words): [([], [], None)]}
+        """The readings of the words, at most one: occurrences, free words, trailing start and order. The order has a
+        place and a value for each option, and None and the word for each free word. In a whole reading no word ends the
+        options."""
+        found = {len(words): [([], [], None, [])]}
         for at in range(len(words) - 1, -1, -1):
             found[at] = []
             if words[at] == b"--" and not whole:
-                found[at].append(([], words[at + 1:], 0 if words[at + 1:] else None))
+                found[at].append(([], words[at + 1:], 0 if words[at + 1:] else None, in_order(words[at + 1:])))
             if self.stops and not is_dashed(words[at]) and not whole:
-                found[at].append(([], words[at:], None))
+                found[at].append(([], words[at:], None, in_order(words[at:])))
             for mentions, used, bare in self.items(words[at], words[at + 1:]):
                 after = at + used
                 if bare and after < len(words) and not is_dashed(words[after]):
                     continue
-                for occurrences, free, start in found[after]:
+                for occurrences, free, start, order in found[after]:
                     own = [] if mentions else [words[at]]
                     given = [(place, at, value) for place, value in mentions]
-                    found[at].append((given + occurrences, own + free, start if start is None else start + len(own)))
+                    start = start if start is None else start + len(own)
+                    found[at].append((given + occurrences, own + free, start, mentions + in_order(own) + order))
         assert len(found[0]) < 2, words
         return found[0]
 
@@ -128,7 +130,7 @@ class Options:
                     yield "ArgumentMissing", letter
 
     def parse(self, words, with_counts=True):
-        """Occurrences, free words and trailing start; or an error and its name."""
+        """Occurrences, free words, trailing start and order; or an error and its name."""
         readings = self.readings(words)
         if not readings:
             errors = list(self.scan_errors(words))
@@ -145,7 +147,7 @@ class Options:
         return readings[0]
 
     def canonical(self, read):
-        occurrences, free, _ = read
+        occurrences, free, *_ = read
         if any(b"=" in self.groups[place].main for place, _, _ in occurrences):
             return None
         return [b"--" + self.groups[place].main + (b"" if value is None else b"=" + value)
@@ -181,6 +183,11 @@ def wrapped(limit, desc):
 def is_measured(*texts, of=rb"[ -~]*"):
     """Whether the rules here measure these texts: each character takes one column."""
     return all(re.fullmatch(of, text) and b"{Z}" not in text for text in texts)
+
+
+def in_order(free):
+    """Free words as parts of an order."""
+    return [(None, word) for word in free]
 
 
 def is_dashed(word):
@@ -232,7 +239,8 @@ class Session:
         if word == "parse_in_order":
             read = self.options.parse(fields)
             return [line(word) + b"\t" + (self.result("", read) if len(read) == 2 else
-                                          line("order", *(place for place, _, _ in read[0])))]
+                                          line("order", *(b"=" + text if place is None else place
+                                                          for place, text in read[3])))]
         if word == "lawful":
             short, long = fields
             return [line("lawful", "true" if len(short) < 2 and len(long) != 1 and short + long else "false")]
@@ -279,7 +287,7 @@ class Session:
         """The result of words, unless they give a flag: help and then the version in a request, or the first field."""
         flags, words = ([b"help", b"version"], fields) if word == "parse_request" else (fields[:1], fields[1:])
         self.read = self.options.parse(words, with_counts=False)
-        asked = [flag for flag in flags if len(self.read) == 3 and self.given(flag)]
+        asked = [flag for flag in flags if len(self.read) > 2 and self.given(flag)]
         self.read = None if asked else self.options.parse(words)
         if asked:
             return line("requested" if word == "parse_request" else "given", asked[0])
@@ -287,9 +295,9 @@ class Session:
 
     def taken_off(self, word):
         """Takes all words off the free ones or, for `take_trailing`, those from the trailing start on."""
-        occurrences, free, start = self.read
+        occurrences, free, start, order = self.read
         left = [] if word == "clear" else free[:start]
-        self.read = occurrences, left, start
+        self.read = occurrences, left, start, order
         if word == "clear":
             return [self.result("accepted", self.read)]
         return [line(word, *free[len(left):]), line("free", *left)]
@@ -352,8 +360,8 @@ def rows_of(text):
 
 def answer_rows(rows):
     """Answers rows. Returns three things: the rows, with more rows added (for all words, whether they give a flag, their
-    canonical line and their options in order; for all names, their positions); the number of stored answers that were
-    checked; and the rows whose stored answers are wrong."""
+    canonical line and their order; for all names, their positions); the number of stored answers that were checked; and
+    the rows whose stored answers are wrong."""
     session, beyond, given, differ, case = Session(), [], 0, [], b""
     for one, answers in rows:
         word, fields = parts(one)
@@ -370,7 +378,7 @@ def answer_rows(rows):
                 differ.append((case, one, b"model: " + b" / ".join(expected), b"stored: " + b" / ".join(answers)))
         if word in ("words", "ignoring_counts"):
             asked = [line("canonical", *fields), line("parse_in_order", *fields)]
-            if len(session.read) == 3:
+            if len(session.read) > 2:
                 asked += [line("positions", name) for name in names]
             beyond += [(more, session.answer(*parts(more))) for more in asked]
     return beyond, given, differ

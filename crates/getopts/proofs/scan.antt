@@ -1,5 +1,7 @@
--- How the code scans a word, an item, a cluster, and the line up to a place.
+-- How the code scans a word, an item, a cluster, and the line and its order up to a
+-- place.
 pub mod Words
 pub mod Items
 pub mod Clusters
 pub mod Loop
+pub mod Order

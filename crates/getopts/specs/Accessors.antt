@@ -11,6 +11,9 @@ use Rattle.std.specs.declared.string.String.{String}
 use Rattle.std.specs.declared.alloc.Global.{Global}
 use Rattle.getopts.specs.Names.{Text, Names, IsLawfullyNamed, resolution}
 use Rattle.getopts.specs.Matches.{GroupOccurrence, Matched, MatchedGroup}
+use Rattle.getopts.specs.Reading.{Given, option, free_word}
+use Rattle.getopts.specs.declared.scan.Given as Borrowed
+use Rattle.getopts.specs.declared.scan.Given.TheVariants as borrowed
 
 -- the names of each group
 abbrev pub held_names : List MatchedGroup → List Names
@@ -48,6 +51,11 @@ is_present groups name = nat_lt 0 (length (occurrences_of_name groups name))
 -- a position and a value, borrowed
 abbrev pub borrowed_occurrence : ℕ × Option (Bor Text) → GroupOccurrence
 borrowed_occurrence pair = record { position = pair.0; value = option_copied pair.1 }
+
+-- an option or a free word, borrowed
+abbrev pub borrowed_given : Borrowed.Given → Given
+borrowed_given (borrowed.Option place) = option place
+borrowed_given (borrowed.Free word) = free_word word.now
 
 -- a position and a value, copied
 abbrev pub pair_view : ℕ × String Global → ℕ × Text

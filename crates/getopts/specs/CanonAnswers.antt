@@ -1,8 +1,9 @@
 -- The results of `canonical` for accepted words, and the laws of the lines that it returns.
-use Rattle.std.specs.Prelude.{◌≡◌, ℕ, List, map, Option, MatchOption, Result, MatchResult}
+use Rattle.std.specs.Prelude.{◌≡◌, List, map, Option, MatchOption, Result, MatchResult}
 use Rattle.getopts.specs.Names.{Text}
-use Rattle.getopts.specs.Options.{Declared}
+use Rattle.getopts.specs.Options.{Declared, grammar_of}
 use Rattle.getopts.specs.Fail.{Fault}
+use Rattle.getopts.specs.Reading.{Given, order_of_reading, options_in, frees_in}
 use Rattle.getopts.specs.Matches.{Matched}
 use Rattle.getopts.specs.Parse.{IsAccepted, IsRefused}
 pub use Rattle.getopts.specs.Canon.{IsAcceptedWith}
@@ -42,13 +43,17 @@ abbrev pub KeepsLineLaws : Declared → Type 0
 KeepsLineLaws options = (words line : List Text) → (written : IsWritten options words line)
     → HasCanonicalLine options written.content
 
--- The words are accepted, and these are the places of their options, in command-line order.
-pub record IsOrder (options : Declared) (words : List Text) (places : List ℕ) : Type 0 where
+-- The words are accepted, and this is the order of their reading. It has all mentions and all free
+-- words of their content.
+-- This is the order of the options and free words in the words.
+pub record IsOrder (options : Declared) (words : List Text) (order : List Given) : Type 0 where
   pub content : Content
   pub accepted : IsAcceptedWith options words content
-  pub places_are : places ≡ map (λ m. m.group) content.mentions
+  pub order_is : order ≡ order_of_reading (grammar_of options) accepted.reading
+  pub options_are : options_in order ≡ map (λ m. m.group) content.mentions
+  pub frees_are : frees_in order ≡ content.free
 
 -- This is the result of `parse_in_order` for these words, unless it is out of memory.
-abbrev pub IsOrderAnswer : Declared → List Text → Result (List ℕ) Fault → Type 0
+abbrev pub IsOrderAnswer : Declared → List Text → Result (List Given) Fault → Type 0
 IsOrderAnswer options words answer =
     MatchResult answer (IsOrder options words) (IsRefused options words)

@@ -9,8 +9,9 @@ pub use Rattle.getopts.specs.Fail.{argument_missing, unrecognized_option, option
 pub use Rattle.getopts.specs.Fail.{option_duplicated, unexpected_argument}
 pub use Rattle.getopts.specs.Matches.{Matched}
 pub use Rattle.getopts.specs.Accessors.{IsDefined, IsParsedAs, first_value, first_value_or}
-pub use Rattle.getopts.specs.Accessors.{occurrences_of_name}
+pub use Rattle.getopts.specs.Accessors.{borrowed_given, occurrences_of_name}
 pub use Rattle.getopts.specs.Accessors.{free_before_trailing, is_present, trailing_words, values_of}
+pub use Rattle.getopts.specs.Reading.{Given, option, free_word}
 pub use Rattle.getopts.specs.Results.{parse_in_order_result, parse_result}
 pub use Rattle.getopts.specs.Unless.{IfParsed, parse_request_result, parse_unless_result}
 pub use Rattle.getopts.specs.Holds.{EndsInTrailing, FitOptions, FitOptionsAndCounts}

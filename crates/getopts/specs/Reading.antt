@@ -295,6 +295,39 @@ free_items (item ∷ items) = free_items items
 abbrev pub free_words : Reading → List Text
 free_words reading = free_items reading.items ++ tail_frees reading.tail
 
+-- what a command line gives: an option, by the place of its group, or a free word
+pub data Given : Type 0 where
+  option : ℕ → Given
+  free_word : Text → Given
+
+-- what an item gives, in the order of its spelling
+abbrev pub given_by : Grammar → Item → List Given
+given_by grammar (free word) = free_word word ∷ []
+given_by grammar item = map (λ m. option m.group) (mentions grammar item)
+
+-- what items give, in order
+abbrev pub order_of_items : Grammar → List Item → List Given
+order_of_items grammar [] = []
+order_of_items grammar (item ∷ items) = given_by grammar item ++ order_of_items grammar items
+
+-- The free words of the tail follow all others.
+-- the options and free words of a reading, in command-line order
+abbrev pub order_of_reading : Grammar → Reading → List Given
+order_of_reading grammar reading =
+    order_of_items grammar reading.items ++ map free_word (tail_frees reading.tail)
+
+-- the options in an order
+abbrev pub options_in : List Given → List ℕ
+options_in [] = []
+options_in (option place ∷ order) = place ∷ options_in order
+options_in (free_word word ∷ order) = options_in order
+
+-- the free words in an order
+abbrev pub frees_in : List Given → List Text
+frees_in [] = []
+frees_in (option place ∷ order) = frees_in order
+frees_in (free_word word ∷ order) = word ∷ frees_in order
+
 -- The place is the number of free words before the stop. There is none if no word follows the stop.
 -- where the words after a stop begin among the free words
 abbrev pub trailing_after : ℕ → Tail → Option ℕ

@@ -1,14 +1,14 @@
 -- The results as functions. Nobody has to trust these definitions: `HasResults` says that each
 -- function gives what a relation of `Returns` or `CanonAnswers` describes. An *outcome* is a
 -- reading or an error.
-use Rattle.std.specs.Prelude.{◌==◌, if◌then◌else◌, ℕ, not, List, [], ◌∷◌, ◌++◌}
-use Rattle.std.specs.Prelude.{length, map, Option, Some, None, Result, Ok, Err}
+use Rattle.std.specs.Prelude.{◌==◌, if◌then◌else◌, not, List, [], ◌∷◌, ◌++◌}
+use Rattle.std.specs.Prelude.{length, Option, Some, None, Result, Ok, Err}
 use Rattle.std.specs.List.{list_all}
 use Rattle.getopts.specs.Names.{Text, main_name}
 use Rattle.getopts.specs.Options.{Group, Grammar, Declared, grammar_of}
 use Rattle.getopts.specs.Fail.{Fault}
 use Rattle.getopts.specs.Reading.{dash, none, separate, one, two, Item, free, line_end}
-use Rattle.getopts.specs.Reading.{stop, rest, Reading, holds_equals}
+use Rattle.getopts.specs.Reading.{stop, rest, Reading, holds_equals, Given, order_of_reading}
 use Rattle.getopts.specs.Matches.{MatchedGroup, Matched, matches_of, fits_count, count_fault}
 use Rattle.getopts.specs.Canon.{Content, content_of, main_at, canonical_line}
 use Rattle.getopts.specs.Step.{Step, ends, takes, faults, long_step, cluster_step}
@@ -123,8 +123,7 @@ canonical_result options words =
     made_of (λ reading. written_line options.groups (content_of options reading))
     (accepted_reading options words)
 
--- the result of `parse_in_order`: the place of each option, in command-line order
-abbrev pub parse_in_order_result : Declared → List Text → Result (List ℕ) Fault
+-- the result of `parse_in_order`
+abbrev pub parse_in_order_result : Declared → List Text → Result (List Given) Fault
 parse_in_order_result options words =
-    made_of (λ reading. map (λ m. m.group) (content_of options reading).mentions)
-    (accepted_reading options words)
+    made_of (order_of_reading (grammar_of options)) (accepted_reading options words)

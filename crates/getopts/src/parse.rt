@@ -10,9 +10,8 @@ use crate::counts::check_counts;
 use crate::fail::Fail;
 use crate::index::Index;
 use crate::matches::{Matches, ReadLine};
-use crate::occurrences::LineOccurrences;
 use crate::options::Options;
-use crate::scan::{FIRST_ROOM, Scanner, are_texts};
+use crate::scan::{FIRST_ROOM, Given, OrderedLine, Scanner, are_texts};
 use crate::table::Table;
 use std::alloc::{AllocError, Global};
 use std::convert::AsStr;
@@ -27,6 +26,8 @@ impl Options {
     ghost use Rattle.getopts.specs.Results.{accepted_reading, reading_or_error};
     ghost use Rattle.getopts.specs.Holds.{FitOptionsAndCounts, FitOptions, Accepts, EndsInTrailing};
     ghost use Rattle.getopts.specs.Stored.Matches.{IsReadLine};
+    ghost use Rattle.getopts.specs.Stored.Scan.{GivesOrder};
+    ghost use Rattle.getopts.specs.Accessors.{borrowed_given};
 
     /// Parses a command line, given without the program's own name.
     ///
@@ -103,29 +104,35 @@ impl Options {
         self.parse_words(alloc, &words)
     }
 
-    /// Parses a command line like `parse_words`, but returns its options in the order in which they
-    /// were given.
+    /// Parses a command line like `parse_words`, but returns its options and free words in the order
+    /// in which they were given.
     ///
     /// Use it if the order of different options matters, for example if the last of `-q` and `-v`
-    /// wins. (Positions don't help: options in one word, such as `-vq`, share a position.) Each
-    /// option is returned as its index in the order of declaration, as from `opt_place`. With the
-    /// options `q` and `v`, `["-vq", "x", "-v"]` gives 1, 0 and 1. Free words aren't in the list.
-    /// If an index occurs for the nth time in the list, the option's value is in the nth occurrence
-    /// of `occurrences_at` for that index.
+    /// wins, or if an option applies to the free words after it, as in `-C a f -C b g`. (Positions
+    /// don't help: options in one word, such as `-vq`, share a position, and free words have none.)
+    /// Each option is returned as its index in the order of declaration, as from `opt_place`. With
+    /// the options `q` and `v`, `["-vq", "x", "-v"]` gives `Option(1)`, `Option(0)`, `Free("x")` and
+    /// `Option(1)`. If an index occurs for the nth time in the list, the option's value is in the
+    /// nth occurrence of `occurrences_at` for that index. The nth free word in the list is the nth
+    /// of `free`.
     ///
     /// Fails exactly as `parse_words` does. The Rust crate has no such method.
-    pub fn parse_in_order<S: AsStr>(&self, alloc: Global, words: &[S]) -> Result<Vec<usize>, Fail>
-        ensures result { ReturnsConverted (λ places. places.items) result
+    pub fn parse_in_order<'w, S: AsStr>(
+        &self,
+        alloc: Global,
+        words: &'w [S],
+    ) -> Result<Vec<Given<'w>>, Fail>
+        ensures result { ReturnsConverted (λ order. map borrowed_given order.items) result
             (λ answer. parse_in_order_result self.now (map S.text words.now) ≡ answer) }
-        ensures order { IfOk result (λ places.
-            IsOrder self.now (map S.text words.now) places.items) }
+        ensures order { IfOk result (λ order.
+            IsOrder self.now (map S.text words.now) (map borrowed_given order.items)) }
         ensures same_error { IfErr result (λ fail. IsOutOfMemoryOr fail (λ fault.
             parse_result self.now (map S.text words.now) ≡ Err fault)) }
         ensures refused { IfErr result (λ fail. IsOutOfMemoryOr fail
             (IsRefused self.now (map S.text words.now))) }
     {
-        let read = self.accepted_line(alloc, words)?;
-        Ok(option_places(alloc, &read.line.found)?)
+        let line = self.accepted_in_order(alloc, words)?;
+        Ok(line.order)
     }
 
     /// The matches of a command line, without checking its counts.
@@ -183,19 +190,32 @@ impl Options {
         let index = Index::of(alloc, signatures.len(), &line.found)?;
         Ok(ReadLine { table, line, index })
     }
-}
 
-/// The places of the groups of the occurrences.
-fn option_places(alloc: Global, found: &LineOccurrences) -> Result<Vec<usize>, AllocError>
-    ensures { IfOk result (λ places. places.items
-        ≡ map (λ m. m.group) (map (λ o. o.mention) found.now)) }
-{
-    let mut places = Vec::with_capacity(alloc, found.len())?;
-    for place in 0..found.len() {
-        let occurrence = found.at(place);
-        places.push(occurrence.group)?;
+    /// Reads a command line with the order of its options and free words, and checks its counts.
+    pub(crate) fn accepted_in_order<'w, S: AsStr>(
+        &self,
+        alloc: Global,
+        words: &'w [S],
+    ) -> Result<OrderedLine<'w>, Fail>
+        ensures ok { IfOk result (GivesOrder (grammar_of self.now)
+            (accepted_reading self.now (map S.text words.now))) }
+        ensures err { IfErr result (λ fail. IsOutOfMemoryOr fail
+            (λ fault. accepted_reading self.now (map S.text words.now) ≡ Err fault)) }
+        ensures declared { MayBeDeclared self.now.groups }
+        ensures texts { AreTexts (map S.text words.now) }
+    {
+        are_texts(words);
+        let signatures = self.signatures();
+        let table = Table::of(alloc, signatures)?;
+        let scanner = Scanner {
+            options: self,
+            table: &table,
+        };
+        let line = scanner.scan_in_order(alloc, words)?;
+        let index = Index::of(alloc, signatures.len(), &line.found)?;
+        check_counts(alloc, signatures, &index)?;
+        Ok(line)
     }
-    Ok(places)
 }
 
 /// The words that an iterator yields, in order. Unlike std's `collect`, this reports every failed

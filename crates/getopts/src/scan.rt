@@ -1,10 +1,11 @@
 //! Reading words as items, from the first to the last.
 
 ghost use Rattle.std.specs.Prelude.{◌≡◌, ◌≢◌, ◌<◌, ◌≤◌, ◌∷◌, ◌++◌, [], MatchOption, OnSome, length};
-ghost use Rattle.std.specs.Prelude.{Some, None, Err, false, IfOk, IfErr, OnOk, map};
+ghost use Rattle.std.specs.Prelude.{Some, None, Err, false, IfOk, IfErr, OnOk, map, drop};
 ghost use Rattle.std.specs.String.{string_bytes};
 ghost use Rattle.std.specs.Option.{option_copied};
-ghost use Rattle.getopts.specs.Reading.{Dashes, dash, holds_equals, is_dashed};
+ghost use Rattle.getopts.specs.Reading.{Dashes, dash, holds_equals, is_dashed, option, free_word};
+ghost use Rattle.getopts.specs.Accessors.{borrowed_given};
 ghost use Rattle.getopts.specs.Fail.{IsOutOfMemoryOr};
 ghost use Rattle.std.specs.Str.{IsUtf8};
 ghost use Rattle.getopts.specs.Names.{AreTexts, Text};
@@ -76,6 +77,22 @@ impl Line {
     }
 }
 
+/// An option or a free word in a command line, as `parse_in_order` returns them.
+#[derive(Clone, Copy, Debug, PartialEq, Eq)]
+pub enum Given<'w> {
+    /// An option, as its index in the order of declaration.
+    Option(usize),
+    /// A free word.
+    Free(&'w str),
+}
+
+/// The options in a command line, and their order among its free words.
+#[derive(Drop)]
+pub(crate) struct OrderedLine<'w> {
+    pub found: LineOccurrences,
+    pub order: Vec<Given<'w>>,
+}
+
 /// Reads words by these options, with the table of their names.
 #[derive(Clone, Copy)]
 pub(crate) struct Scanner<'o> {
@@ -133,6 +150,38 @@ fn push_copies<S: AsStr>(
     copies.reserve(words.len())?;
     for word in words {
         push_copy(alloc, copies, word.as_str())?;
+    }
+    Ok(())
+}
+
+/// Appends words as free words.
+fn push_free_words<'w, S: AsStr>(
+    order: &mut Vec<Given<'w>>,
+    words: &'w [S],
+) -> Result<(), AllocError>
+    ensures { OnOk result (map borrowed_given order.new.items
+        ≡ map borrowed_given order.old.items ++ map free_word (map S.text words.now)) }
+{
+    order.reserve(words.len())?;
+    for word in words {
+        order.push(Given::Free(word.as_str()))?;
+    }
+    Ok(())
+}
+
+/// Appends the options from this place on.
+fn push_options(
+    order: &mut Vec<Given<'_>>,
+    found: &LineOccurrences,
+    first: usize,
+) -> Result<(), AllocError>
+    requires { first ≤ length found.now }
+    ensures { OnOk result (map borrowed_given order.new.items
+        ≡ map borrowed_given order.old.items
+        ++ map (λ o. option o.mention.group) (drop first found.now)) }
+{
+    for place in first..found.len() {
+        order.push(Given::Option(found.at(place).group))?;
     }
     Ok(())
 }
@@ -226,7 +275,7 @@ fn last_argument<'w, S: AsStr>(
 impl<'o> Scanner<'o> {
     ghost use Rattle.getopts.specs.Step.{faults, long_step, cluster_step, AddsItem};
     ghost use Rattle.getopts.specs.Stored.Scan.{scanner_grammar, IsLawfulScanner, IsNamedBy};
-    ghost use Rattle.getopts.specs.Stored.Scan.{HasShape, GivesLine};
+    ghost use Rattle.getopts.specs.Stored.Scan.{HasShape, GivesLine, GivesOrder};
     ghost use Rattle.getopts.specs.Results.{read};
     ghost use Rattle.getopts.specs.Options.{long_kind, long_place};
 
@@ -398,5 +447,56 @@ impl<'o> Scanner<'o> {
             };
         }
         Ok(line)
+    }
+
+    /// Reads a command line like `scan`, but returns the order of its options and free words. Has
+    /// its own loop, so that `scan` needn't keep the order.
+    pub(crate) fn scan_in_order<'w, S: AsStr>(
+        &self,
+        alloc: Global,
+        words: &'w [S],
+    ) -> Result<OrderedLine<'w>, Fail>
+        requires { IsLawfulScanner self.now }
+        ensures ok { let grammar = scanner_grammar self.now in
+            IfOk result (GivesOrder grammar (read grammar (map S.text words.now))) }
+        ensures err { let grammar = scanner_grammar self.now in
+            IfErr result (λ fail. IsOutOfMemoryOr fail
+            (λ fault. read grammar (map S.text words.now) ≡ Err fault)) }
+    {
+        let stops = self.options.style() == ParsingStyle::StopAtFirstFree;
+        let room = words.len().min(FIRST_ROOM);
+        let mut found = LineOccurrences::with_capacity(alloc, room)?;
+        let mut order = Vec::with_capacity(alloc, room)?;
+        let mut at = 0;
+        'items: while at < words.len() {
+            let word = words[at].as_str();
+            let after = &words[at + 1..];
+            let first = found.len();
+            match self.shape(word) {
+                Shape::Free => {
+                    if stops {
+                        push_free_words(&mut order, &words[at..])?;
+                        return Ok(OrderedLine { found, order });
+                    }
+                    order.push(Given::Free(word))?;
+                    at += 1;
+                }
+                Shape::Stop => {
+                    push_free_words(&mut order, after)?;
+                    return Ok(OrderedLine { found, order });
+                }
+                Shape::Long(text) => {
+                    let used = self.read_long(alloc, text, after, at, &mut found)?;
+                    push_options(&mut order, &found, first)?;
+                    at += 1 + used;
+                }
+                Shape::Cluster(text) => {
+                    let used = self.cluster(alloc, text, after, at, &mut found)?;
+                    push_options(&mut order, &found, first)?;
+                    at += 1 + used;
+                }
+            }
+        }
+        Ok(OrderedLine { found, order })
     }
 }

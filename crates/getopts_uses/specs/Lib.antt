@@ -1,6 +1,7 @@
 pub mod Checked
 pub mod Command
 pub mod Driver
+pub mod Linker
 pub mod Log
 pub mod Logged
 pub mod Loudness

@@ -4,7 +4,7 @@ use Rattle.std.specs.Prelude.{Option, Some, None, Result, Ok, Err, unwrap_or}
 use Rattle.std.specs.Option.{option_map}
 use Rattle.std.specs.String.{string_bytes}
 use Rattle.getopts.specs.Prelude.{Declared, Fault, IsOutOfMemoryOr, Matched, first_value, group_of}
-use Rattle.getopts.specs.Prelude.{occurrences_of_name}
+use Rattle.getopts.specs.Prelude.{occurrences_of_name, Given, option, free_word}
 use Rattle.getopts.specs.declared.fail.Fail.{Fail}
 use Rattle.getopts.specs.declared.kinds.HasArg.TheVariants.{No, Yes}
 use Rattle.getopts.specs.declared.kinds.Occur.TheVariants.{Optional, Multi}
@@ -33,15 +33,16 @@ abbrev pub loudness_at : ℕ → Option Loudness
 loudness_at place = if place == 0 then Some Quiet else (if place == 1 then Some Verbose else None)
 
 -- The last of the two flags wins.
--- how much output options at these places ask for, if it was `loudness` before
-abbrev pub after : Loudness → List ℕ → Loudness
+-- how much output options in this order ask for, if it was `loudness` before
+abbrev pub after : Loudness → List Given → Loudness
 after loudness [] = loudness
-after loudness (place ∷ places) = after (unwrap_or (loudness_at place) loudness) places
+after loudness (option place ∷ order) = after (unwrap_or (loudness_at place) loudness) order
+after loudness (free_word word ∷ order) = after loudness order
 
--- This is how much output the places of a command line's options ask for, or its error.
-abbrev pub IsLoudnessOrError : Result (List ℕ) Fault → Result Loudness Fail → Type 0
+-- This is how much output the options of a command line ask for, or its error.
+abbrev pub IsLoudnessOrError : Result (List Given) Fault → Result Loudness Fail → Type 0
 IsLoudnessOrError line (Err fail) = IsOutOfMemoryOr fail (λ fault. line ≡ Err fault)
-IsLoudnessOrError (Ok places) (Ok loudness) = loudness ≡ after Normal places
+IsLoudnessOrError (Ok order) (Ok loudness) = loudness ≡ after Normal order
 IsLoudnessOrError (Err fault) (Ok loudness) = ⊥
 
 -- This is the report that matches ask for, with this much output.
@@ -51,12 +52,12 @@ pub record IsReportOf (matches : Matched) (loudness : Loudness) (report : Report
       ≡ first_value (occurrences_of_name matches.groups (codes "output"))
   pub files : map string_bytes report.files.items ≡ matches.free
 
--- The places are those of the options, in the order in which they were typed.
+-- The order is that in which options and free words were typed.
 -- This is what a command line asks for, or its error.
-abbrev pub IsAskedOrError : Result (Request Matched) Fault → Result (List ℕ) Fault
+abbrev pub IsAskedOrError : Result (Request Matched) Fault → Result (List Given) Fault
     → Result (Request Report) Fail → Type 0
 IsAskedOrError asked line (Err fail) = IsOutOfMemoryOr fail (λ fault. asked ≡ Err fault)
 IsAskedOrError (Ok Help) line (Ok Help) = ⊤
-IsAskedOrError (Ok (Parsed matches)) (Ok places) (Ok (Parsed report)) =
-    IsReportOf matches (after Normal places) report
+IsAskedOrError (Ok (Parsed matches)) (Ok order) (Ok (Parsed report)) =
+    IsReportOf matches (after Normal order) report
 IsAskedOrError asked line result = ⊥

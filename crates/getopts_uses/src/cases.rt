@@ -13,7 +13,7 @@ use crate::output::output_of;
 use crate::plugin::add_flag;
 use crate::subcommand::read_run;
 use crate::wrapper::handed_on;
-use crate::{add, driver, log};
+use crate::{add, driver, linker, log};
 use getopts::{Matches, Options};
 use std::alloc::{AllocError, Global};
 use std::fmt::Debug;
@@ -62,6 +62,7 @@ fn push_caller(
         "log_help" => push(text, log::help_text(alloc)),
         "output" => push(text, output_of(alloc, words)),
         "driver" => push(text, driver::read_job(alloc, words)),
+        "linker" => push(text, linker::read_inputs(alloc, words)),
         _ => push_given(alloc, text, caller, words),
     }
 }

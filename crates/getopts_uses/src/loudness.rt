@@ -5,13 +5,13 @@ ghost use Rattle.std.specs.Prelude.{◌≡◌, List, [], ◌∷◌, ◌++◌, co
 ghost use Rattle.std.specs.Result.{result_map_both};
 ghost use Rattle.getopts.specs.Prelude.{FitOptionsAndCounts, IsOutOfMemoryOr, Text};
 ghost use Rattle.getopts.specs.Prelude.{parse_in_order_result, parse_request_result, parse_result};
-ghost use Rattle.getopts.specs.Prelude.{unrecognized_option};
+ghost use Rattle.getopts.specs.Prelude.{borrowed_given, unrecognized_option};
 ghost use Rattle.getopts.specs.declared.request.Request.TheVariants.{Help};
 ghost use Rattle.getopts_uses.specs.Loudness.{IsAskedOrError, IsLoudnessOrError, IsReportOf, after};
 ghost use Rattle.getopts_uses.specs.Loudness.{loudness_at, report_options};
 ghost use Rattle.getopts_uses.specs.declared.loudness.Loudness.TheVariants.{Normal, Quiet, Verbose};
 
-use getopts::{Fail, Matches, Options, Request};
+use getopts::{Fail, Given, Matches, Options, Request};
 use std::alloc::{AllocError, Global};
 use std::convert::AsStr;
 
@@ -81,17 +81,19 @@ fn loudness_of<S: AsStr>(alloc: Global, options: &Options, words: &[S]) -> Resul
     ensures same_error { IfErr result (λ fail. IsOutOfMemoryOr fail (λ fault.
         parse_result options.now (map S.text words.now) ≡ Err fault)) }
 {
-    let places = options.parse_in_order(alloc, words)?;
-    Ok(last_of(&places))
+    let order = options.parse_in_order(alloc, words)?;
+    Ok(last_of(&order))
 }
 
-/// How much output options at these places ask for.
-fn last_of(places: &[usize]) -> Loudness
-    ensures { result ≡ after Normal places.now }
+/// How much output options in this order ask for.
+fn last_of(order: &[Given<'_>]) -> Loudness
+    ensures { result ≡ after Normal (map borrowed_given order.now) }
 {
     let mut loudness = Loudness::Normal;
-    for place in places {
-        loudness = loudness_at(*place).unwrap_or(loudness);
+    for given in order {
+        if let Given::Option(place) = given {
+            loudness = loudness_at(*place).unwrap_or(loudness);
+        }
     }
     loudness
 }

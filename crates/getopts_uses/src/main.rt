@@ -11,6 +11,7 @@ mod checked;
 mod driver;
 mod flag;
 mod join;
+mod linker;
 mod lists;
 mod log;
 mod logged;

@@ -7,7 +7,7 @@ use crate::form::{Answer, Field, is_taken};
 use crate::iterators::{promised, taken};
 use crate::stop::{UNKNOWN_LINE, WRONG_FIELDS};
 use getopts::wrap::each_split_within;
-use getopts::{Fail, Options, names_lawful};
+use getopts::{Fail, Given, Options, names_lawful};
 use std::alloc::{AllocError, Global};
 
 /// Answers rejected words with a line.
@@ -148,12 +148,12 @@ fn written(
     }
 }
 
-/// Answers the places of the options that words give, in order.
-fn in_order(order: &Result<Vec<usize>, Fail>, answer: &mut Answer) {
+/// Answers the options and free words that words give, in order.
+fn in_order(order: &Result<Vec<Given<'_>>, Fail>, answer: &mut Answer) {
     match order {
-        Ok(places) => {
+        Ok(order) => {
             answer.field("order");
-            places.put(answer);
+            order.put(answer);
         }
         Err(fail) => {
             answer.field("refused");

@@ -1,6 +1,7 @@
 //! Fields of lines: texts in which tabs and newlines are escaped.
 
 use crate::stop::{NOT_TEXT, Stop, WRONG_ESCAPE};
+use getopts::Given;
 use std::alloc::{AllocError, Global};
 use std::fmt::Display;
 
@@ -303,6 +304,18 @@ impl Field for Vec<usize> {
     fn put(&self, answer: &mut Answer) {
         for number in self {
             number.put(answer);
+        }
+    }
+}
+
+/// A field for each option or free word: an option's place, or `=` and the word.
+impl Field for Vec<Given<'_>> {
+    fn put(&self, answer: &mut Answer) {
+        for given in self {
+            match given {
+                Given::Option(place) => place.put(answer),
+                Given::Free(word) => Some(*word).put(answer),
+            }
         }
     }
 }

@@ -73,8 +73,8 @@
 //! - `error`: the text of the error of the last `words`, or `nothing` if they were accepted
 //! - `error FAULT NAME`: the error's text, whether it prints the same in other formats, and whether
 //!   it equals its clone
-//! - `parse_in_order WORD..`: `parse_in_order order PLACE..`, or `parse_in_order refused FAULT
-//!   NAME`
+//! - `parse_in_order WORD..`: `parse_in_order order` and, for each option and free word in order,
+//!   the option's place, or `=` and the free word; or `parse_in_order refused FAULT NAME`
 //!
 //! These make one call, and are answered with the line itself and the result:
 //!

@@ -67,7 +67,7 @@ pub use names::names_lawful;
 pub use occurrences::{Occurrences, OccurrencesIter};
 pub use options::Options;
 pub use request::Request;
-pub use scan::are_texts;
+pub use scan::{Given, are_texts};
 pub use usage::UsageRows;
 
 /// What `parse` returns: the matches of an accepted command line, or why it was rejected.

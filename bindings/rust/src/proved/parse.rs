@@ -7,9 +7,8 @@ use super::counts::check_counts;
 use super::fail::Fail;
 use super::index::Index;
 use super::matches::{Matches, ReadLine};
-use super::occurrences::LineOccurrences;
 use super::options::Options;
-use super::scan::{FIRST_ROOM, Scanner, are_texts};
+use super::scan::{FIRST_ROOM, Given, OrderedLine, Scanner, are_texts};
 use super::table::Table;
 use crate::alloc::{AllocError, Global};
 use crate::convert::AsStr;
@@ -52,20 +51,26 @@ impl Options {
         self.parse_words(alloc, &words)
     }
 
-    /// Parses a command line like `parse_words`, but returns its options in the order in which they
-    /// were given.
+    /// Parses a command line like `parse_words`, but returns its options and free words in the order
+    /// in which they were given.
     ///
     /// Use it if the order of different options matters, for example if the last of `-q` and `-v`
-    /// wins. (Positions don't help: options in one word, such as `-vq`, share a position.) Each
-    /// option is returned as its index in the order of declaration, as from `opt_place`. With the
-    /// options `q` and `v`, `["-vq", "x", "-v"]` gives 1, 0 and 1. Free words aren't in the list.
-    /// If an index occurs for the nth time in the list, the option's value is in the nth occurrence
-    /// of `occurrences_at` for that index.
+    /// wins, or if an option applies to the free words after it, as in `-C a f -C b g`. (Positions
+    /// don't help: options in one word, such as `-vq`, share a position, and free words have none.)
+    /// Each option is returned as its index in the order of declaration, as from `opt_place`. With
+    /// the options `q` and `v`, `["-vq", "x", "-v"]` gives `Option(1)`, `Option(0)`, `Free("x")` and
+    /// `Option(1)`. If an index occurs for the nth time in the list, the option's value is in the
+    /// nth occurrence of `occurrences_at` for that index. The nth free word in the list is the nth
+    /// of `free`.
     ///
     /// Fails exactly as `parse_words` does. The Rust crate has no such method.
-    pub fn parse_in_order<S: AsStr>(&self, alloc: Global, words: &[S]) -> Result<Vec<usize>, Fail> {
-        let read = self.accepted_line(alloc, words)?;
-        Ok(option_places(alloc, &read.line.found)?)
+    pub fn parse_in_order<'w, S: AsStr>(
+        &self,
+        alloc: Global,
+        words: &'w [S],
+    ) -> Result<Vec<Given<'w>>, Fail> {
+        let line = self.accepted_in_order(alloc, words)?;
+        Ok(line.order)
     }
 
     /// The matches of a command line, without checking its counts.
@@ -100,16 +105,25 @@ impl Options {
         let index = Index::of(alloc, signatures.len(), &line.found)?;
         Ok(ReadLine { table, line, index })
     }
-}
 
-/// The places of the groups of the occurrences.
-fn option_places(alloc: Global, found: &LineOccurrences) -> Result<Vec<usize>, AllocError> {
-    let mut places = Vec::of_capacity(alloc, found.len())?;
-    for place in 0..found.len() {
-        let occurrence = found.at(place);
-        places.try_push(occurrence.group)?;
+    /// Reads a command line with the order of its options and free words, and checks its counts.
+    pub(crate) fn accepted_in_order<'w, S: AsStr>(
+        &self,
+        alloc: Global,
+        words: &'w [S],
+    ) -> Result<OrderedLine<'w>, Fail> {
+        are_texts(words);
+        let signatures = self.signatures();
+        let table = Table::of(alloc, signatures)?;
+        let scanner = Scanner {
+            options: self,
+            table: &table,
+        };
+        let line = scanner.scan_in_order(alloc, words)?;
+        let index = Index::of(alloc, signatures.len(), &line.found)?;
+        check_counts(alloc, signatures, &index)?;
+        Ok(line)
     }
-    Ok(places)
 }
 
 /// The words that an iterator yields, in order. Unlike std's `collect`, this reports every failed

@@ -57,6 +57,21 @@ impl Line {
     }
 }
 
+/// An option or a free word in a command line, as `parse_in_order` returns them.
+#[derive(Clone, Copy, Debug, PartialEq, Eq)]
+pub enum Given<'w> {
+    /// An option, as its index in the order of declaration.
+    Option(usize),
+    /// A free word.
+    Free(&'w str),
+}
+
+/// The options in a command line, and their order among its free words.
+pub(crate) struct OrderedLine<'w> {
+    pub found: LineOccurrences,
+    pub order: Vec<Given<'w>>,
+}
+
 /// Reads words by these options, with the table of their names.
 #[derive(Clone, Copy)]
 pub(crate) struct Scanner<'o> {
@@ -108,6 +123,30 @@ fn push_copies<S: AsStr>(
     copies.try_grow(words.len())?;
     for word in words {
         push_copy(alloc, copies, word.as_str())?;
+    }
+    Ok(())
+}
+
+/// Appends words as free words.
+fn push_free_words<'w, S: AsStr>(
+    order: &mut Vec<Given<'w>>,
+    words: &'w [S],
+) -> Result<(), AllocError> {
+    order.try_grow(words.len())?;
+    for word in words {
+        order.try_push(Given::Free(word.as_str()))?;
+    }
+    Ok(())
+}
+
+/// Appends the options from this place on.
+fn push_options(
+    order: &mut Vec<Given<'_>>,
+    found: &LineOccurrences,
+    first: usize,
+) -> Result<(), AllocError> {
+    for place in first..found.len() {
+        order.try_push(Given::Option(found.at(place).group))?;
     }
     Ok(())
 }
@@ -307,5 +346,49 @@ impl<'o> Scanner<'o> {
             };
         }
         Ok(line)
+    }
+
+    /// Reads a command line like `scan`, but returns the order of its options and free words. Has
+    /// its own loop, so that `scan` needn't keep the order.
+    pub(crate) fn scan_in_order<'w, S: AsStr>(
+        &self,
+        alloc: Global,
+        words: &'w [S],
+    ) -> Result<OrderedLine<'w>, Fail> {
+        let stops = self.options.style() == ParsingStyle::StopAtFirstFree;
+        let room = words.len().min(FIRST_ROOM);
+        let mut found = LineOccurrences::of_capacity(alloc, room)?;
+        let mut order = Vec::of_capacity(alloc, room)?;
+        let mut at = 0;
+        'items: while at < words.len() {
+            let word = words[at].as_str();
+            let after = &words[at + 1..];
+            let first = found.len();
+            match self.shape(word) {
+                Shape::Free => {
+                    if stops {
+                        push_free_words(&mut order, &words[at..])?;
+                        return Ok(OrderedLine { found, order });
+                    }
+                    order.try_push(Given::Free(word))?;
+                    at += 1;
+                }
+                Shape::Stop => {
+                    push_free_words(&mut order, after)?;
+                    return Ok(OrderedLine { found, order });
+                }
+                Shape::Long(text) => {
+                    let used = self.read_long(alloc, text, after, at, &mut found)?;
+                    push_options(&mut order, &found, first)?;
+                    at += 1 + used;
+                }
+                Shape::Cluster(text) => {
+                    let used = self.cluster(alloc, text, after, at, &mut found)?;
+                    push_options(&mut order, &found, first)?;
+                    at += 1 + used;
+                }
+            }
+        }
+        Ok(OrderedLine { found, order })
     }
 }

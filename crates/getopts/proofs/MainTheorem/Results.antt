@@ -1,5 +1,5 @@
 -- The functions that compute results return what the relations describe.
-use Rattle.std.proofs.Common.{◌≡◌, Bool, true, false, List, map, Option, Some, None, Result, Ok}
+use Rattle.std.proofs.Common.{◌≡◌, Bool, true, false, List, Option, Some, None, Result, Ok}
 use Rattle.std.proofs.Common.{Err, refl, sym, inl, ◌∙◌, rules}
 use Rattle.std.specs.List.{list_all}
 use Rattle.std.specs.Prelude.{MatchResult, not, if◌then◌else◌}
@@ -7,7 +7,7 @@ use Rattle.getopts.specs.Only.{IsTheOnly}
 use Rattle.getopts.specs.Names.{Text, AreTexts}
 use Rattle.getopts.specs.Options.{Declared, MayBeDeclared, grammar_of}
 use Rattle.getopts.specs.Fail.{Fault}
-use Rattle.getopts.specs.Reading.{Reading, IsReading, holds_equals}
+use Rattle.getopts.specs.Reading.{Reading, IsReading, holds_equals, order_of_reading}
 use Rattle.getopts.specs.Matches.{Matched, matches_of}
 use Rattle.getopts.specs.Parse.{Reads, IsRefused, HasReading, HasNoReading}
 use Rattle.getopts.specs.Holds.{Accepts}
@@ -25,6 +25,7 @@ use Rattle.getopts.proofs.MainTheorem.Given.{only_unless, only_request}
 use Rattle.getopts.proofs.Only.{IsTheOnly-from}
 use Rattle.getopts.proofs.parse.Parsed.{only_reads, named_here, HasNoReading-fault}
 use Rattle.getopts.proofs.parse.Parsed.{HasReading-reading, IsAccepted-reading}
+use Rattle.getopts.proofs.Reading.Positions.{options_in-order, frees_in-order}
 use Rattle.getopts.proofs.Reading.Readings.{IsSoundOutcome, read_sound}
 use Rattle.std.proofs.lemmas.Bool.{true≢false}
 use Rattle.std.proofs.lemmas.Result.{MatchResult-weaker}
@@ -73,9 +74,14 @@ module _ (options : Declared) (declared : MayBeDeclared options.groups) (words :
   line_answer texts (Err fault) fails = inl (HasNoReading-fault options declared words texts fault fails)
 
   -- the only content of words that are accepted
-  with_content : (reading : Reading) → IsCountKeeping options reading words
+  abbrev with_content : (reading : Reading) → IsCountKeeping options reading words
       → IsAcceptedWith options words (content_of options reading)
-  with_content reading keeps = search (rules, only_reads)
+  with_content reading keeps = record {
+    reading = reading;
+    only = only_reads options declared words reading keeps.reads;
+    counts = keeps.keeps;
+    content_is = refl;
+  }
 
   once : (reading other : Reading) → Reads options words reading → Reads options words other
       → reading ≡ other
@@ -104,11 +110,12 @@ module _ (options : Declared) (declared : MayBeDeclared options.groups) (words :
             search (rules, the_only, Answered.only_canonical_answer, made_of-is, written_answer, with_content);
         order = the_only (Answered.only_order_answer options words) (Spec.parse_in_order_result options words)
             (made_of-is (IsOrder options words) (IsRefused options words) (λ r. IsCountKeeping options r words)
-            (λ r. map (λ m. m.group) (content_of options r).mentions)
-            (Spec.accepted_reading options words) (λ r keeps. record {
+            (order_of_reading (grammar_of options)) (Spec.accepted_reading options words) (λ r keeps. record {
               content = content_of options r;
               accepted = with_content r keeps;
-              places_are = refl;
+              order_is = refl;
+              options_are = options_in-order (grammar_of options) r;
+              frees_are = frees_in-order (grammar_of options) r;
             }) line);
         unless = λ flag. only_unless options words _ parse flag _ matches;
         request = only_request options words _ parse _ matches;

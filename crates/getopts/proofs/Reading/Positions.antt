@@ -1,11 +1,11 @@
 -- Positions: how many words items spell, which occurrences move up by one, and what is at a
--- position.
+-- position. Orders: the options and free words in the order of a reading.
 use Rattle.std.proofs.Common.{◌≡◌, ℕ, ◌+◌, ◌<◌, true, false, List, [], ◌∷◌, append_assoc, ◌++◌}
 use Rattle.std.proofs.Common.{length, map, refl, ap, ◌∙◌, sym, inl, inr, add-zero, zero-add, arith}
 use Rattle.std.proofs.Common.{Some, rules}
 use Rattle.std.specs.Prelude.{nat_le, slice_get, Contains}
 use Rattle.std.specs.List.{AllByRecursion, flat_map}
-use Rattle.std.proofs.lemmas.List.{map-append, length-append, map-id}
+use Rattle.std.proofs.lemmas.List.{map-append, length-append, map-id, append-nil}
 use Rattle.std.proofs.lemmas.List.Elements.{Contains-append_cases, All-contains, All-map}
 use Rattle.std.proofs.lemmas.List.Elements.{All-contains_itself, All-weaker, recursion_from_All}
 use Rattle.std.proofs.lemmas.Simd.{map-map}
@@ -16,6 +16,8 @@ use Rattle.getopts.specs.Options.{Signature, Grammar}
 use Rattle.getopts.specs.Reading.{Item, free, long, cluster, item_words, spelled_all, Tail}
 use Rattle.getopts.specs.Reading.{tail_words, Reading, IsReading, Mention, mentions, Occurrence}
 use Rattle.getopts.specs.Reading.{at_position, word_count, occurrences_after, occurrences_of}
+use Rattle.getopts.specs.Reading.{Given, option, free_word, given_by, order_of_items, tail_frees}
+use Rattle.getopts.specs.Reading.{order_of_reading, options_in, frees_in, free_items, free_words}
 use Rattle.getopts.specs.Matches.{matched}
 use Rattle.getopts.specs.ReadingLaws as Spec
 use Rattle.getopts.proofs.Lists.{AllByRecursion-filter, AllByRecursion-map, slice_get-append}
@@ -177,3 +179,95 @@ pub HavePositionsBelow-matched : (grammar : Grammar) (reading : Reading) (words 
     → Spec.HavePositionsBelow (length words) (matched place signatures (occurrences_of grammar reading))
 HavePositionsBelow-matched grammar reading words reads place signatures =
     search (rules, AllByRecursion-matched, AllByRecursion-map, AllByRecursion-filter, below-occurrences_of)
+
+-- the options and free words in two orders
+options_in-append : (order more : List Given)
+    → options_in (order ++ more) ≡ options_in order ++ options_in more
+options_in-append [] more = refl
+options_in-append (option place ∷ order) more =
+    ap (λ places. place ∷ places) (options_in-append order more)
+options_in-append (free_word word ∷ order) more = options_in-append order more
+
+frees_in-append : (order more : List Given)
+    → frees_in (order ++ more) ≡ frees_in order ++ frees_in more
+frees_in-append [] more = refl
+frees_in-append (option place ∷ order) more = frees_in-append order more
+frees_in-append (free_word word ∷ order) more =
+    ap (λ words. word ∷ words) (frees_in-append order more)
+
+-- in an order of options
+options_in-options : (told : List Mention)
+    → options_in (map (λ (m : Mention). option m.group) told) ≡ map (λ (m : Mention). m.group) told
+options_in-options [] = refl
+options_in-options (m ∷ told) = ap (λ places. m.group ∷ places) (options_in-options told)
+
+frees_in-options : (told : List Mention)
+    → frees_in (map (λ (m : Mention). option m.group) told) ≡ []
+frees_in-options [] = refl
+frees_in-options (m ∷ told) = frees_in-options told
+
+-- in an order of free words
+options_in-frees : (words : List Text) → options_in (map free_word words) ≡ []
+options_in-frees [] = refl
+options_in-frees (word ∷ words) = options_in-frees words
+
+frees_in-frees : (words : List Text) → frees_in (map free_word words) ≡ words
+frees_in-frees [] = refl
+frees_in-frees (word ∷ words) = ap (λ words. word ∷ words) (frees_in-frees words)
+
+-- in what an item gives
+options_in-given_by : (grammar : Grammar) (item : Item)
+    → options_in (given_by grammar item) ≡ map (λ (m : Mention). m.group) (mentions grammar item)
+options_in-given_by grammar (free word) = refl
+options_in-given_by grammar (long dashes name argument) = refl
+options_in-given_by grammar (cluster bytes end) =
+    options_in-options (mentions grammar (cluster bytes end))
+
+frees_in-given_by : (grammar : Grammar) (item : Item)
+    → frees_in (given_by grammar item) ≡ free_items (item ∷ [])
+frees_in-given_by grammar (free word) = refl
+frees_in-given_by grammar (long dashes name argument) = refl
+frees_in-given_by grammar (cluster bytes end) =
+    frees_in-options (mentions grammar (cluster bytes end))
+
+-- in what items give
+options_in-items : (grammar : Grammar) (items : List Item)
+    → options_in (order_of_items grammar items)
+    ≡ map (λ (m : Mention). m.group) (flat_map (mentions grammar) items)
+options_in-items grammar [] = refl
+options_in-items grammar (item ∷ items) =
+    simp (options_in-append, options_in-given_by, map-append, options_in-items grammar items)
+
+frees_in-items : (grammar : Grammar) (items : List Item)
+    → frees_in (order_of_items grammar items) ≡ free_items items
+frees_in-items grammar [] = refl
+frees_in-items grammar (free word ∷ items) =
+    ap (λ words. word ∷ words) (frees_in-items grammar items)
+frees_in-items grammar (long dashes name argument ∷ items) = frees_in-items grammar items
+frees_in-items grammar (cluster bytes end ∷ items) =
+    search (rules, frees_in-append, frees_in-given_by, frees_in-items grammar items)
+
+-- the options in the order of a reading are its mentions
+pub options_in-order : (grammar : Grammar) (reading : Reading)
+    → options_in (order_of_reading grammar reading)
+    ≡ map (λ (m : Mention). m.group) (Spec.mentions_of grammar reading)
+options_in-order grammar reading =
+    search (
+      rules,
+      options_in-append,
+      options_in-items grammar reading.items,
+      options_in-frees (tail_frees reading.tail),
+      mentions_of-items grammar reading,
+      append-nil,
+    )
+
+-- and its free words are those of the reading
+pub frees_in-order : (grammar : Grammar) (reading : Reading)
+    → frees_in (order_of_reading grammar reading) ≡ free_words reading
+frees_in-order grammar reading =
+    search (
+      rules,
+      frees_in-append,
+      frees_in-items grammar reading.items,
+      frees_in-frees (tail_frees reading.tail),
+    )

@@ -1,5 +1,5 @@
 -- Words have one result.
-use Rattle.std.proofs.Common.{◌≡◌, ◌<◌, ℕ, Bool, true, false, List, rules, length, get_or, map}
+use Rattle.std.proofs.Common.{◌≡◌, ◌<◌, ℕ, Bool, true, false, List, rules, length, get_or}
 use Rattle.std.proofs.Common.{Option, Some, None, Result, Ok, Err, refl, sym, ap, ◌∙◌, subst, inl}
 use Rattle.std.proofs.Common.{inr}
 use Rattle.std.proofs.lemmas.Bool.{true≢false}
@@ -7,7 +7,8 @@ use Rattle.std.proofs.lemmas.List.Folds.{list_any_at}
 use Rattle.getopts.specs.Names.{Text}
 use Rattle.getopts.specs.Options.{Declared, MayBeDeclared, grammar_of}
 use Rattle.getopts.specs.Fail.{Fault}
-use Rattle.getopts.specs.Reading.{equals_sign, holds_equals, Reading, IsScanFault, Mention}
+use Rattle.getopts.specs.Reading.{equals_sign, holds_equals, Reading, IsScanFault, Given}
+use Rattle.getopts.specs.Reading.{order_of_reading}
 use Rattle.getopts.specs.Matches.{Matched, matches_of, KeepsCounts}
 use Rattle.std.specs.Prelude.{MatchOption, MatchResult}
 use Rattle.getopts.specs.Parse.{Reads, IsAccepted, HasReading, HasNoReading, IsRefused}
@@ -138,13 +139,13 @@ module _ (options : Declared) (words : List Text) where
       cc (only_content is.content is_other.content is.accepted is_other.accepted)
 
   -- words have one result of `parse_in_order`
-  pub only_order_answer : (answer other : Result (List ℕ) Fault)
+  pub only_order_answer : (answer other : Result (List Given) Fault)
       → IsOrderAnswer options words answer → IsOrderAnswer options words other → answer ≡ other
   only_order_answer = only_answer {Is = IsOrder options words}
-      (λ places is. (is.accepted.reading, count_keeping options words is.content is.accepted))
-      (λ places others is also. is.places_are
-      ∙ ap (λ (content : Content). map (λ (m : Mention). m.group) content.mentions)
-      (only_content is.content also.content is.accepted also.accepted) ∙ sym also.places_are)
+      (λ order is. (is.accepted.reading, count_keeping options words is.content is.accepted))
+      (λ order other is also. is.order_is
+      ∙ ap (order_of_reading (grammar_of options)) ((also.accepted.only is.accepted.reading).0
+      (count_keeping options words is.content is.accepted).reads) ∙ sym also.order_is)
 
   -- words aren't both written and unwritable
   not_both : (line : List Text) → IsWritten options words line → IsUnwritable options words → ⊥

@@ -1,26 +1,43 @@
 -- What is made of a line that was read.
-use Rattle.std.proofs.Common.{◌≡◌, ◌<◌, Bool, not, List, length, map, Option, Some, None, Result}
+use Rattle.std.proofs.Common.{◌≡◌, ◌<◌, ℕ, Bool, not, List, length, map, Option, Some, None, Result}
 use Rattle.std.proofs.Common.{Ok, refl, sym, arith, rules}
 use Rattle.std.specs.List.{AllByRecursion, list_all}
 use Rattle.std.specs.Prelude.{if◌then◌else◌}
 use Rattle.std.specs.String.{string_bytes}
 use Rattle.std.proofs.lemmas.List.Folds.{list_all-map}
 use Rattle.getopts.specs.Names.{Text}
-use Rattle.getopts.specs.Options.{Declared, signatures_of}
+use Rattle.getopts.specs.Options.{Declared, signatures_of, grammar_of}
 use Rattle.getopts.specs.Fail.{Fault}
-use Rattle.getopts.specs.Reading.{Reading, holds_equals}
+use Rattle.getopts.specs.Reading.{Reading, holds_equals, Occurrence, occurrences_of}
 use Rattle.getopts.specs.Matches.{matched, matches_of}
 use Rattle.getopts.specs.Canon.{Content, content_of, main_at, canonical_line}
 use Rattle.getopts.specs.Results.{made_of, accepted_reading, with_counts_kept, unless_fault}
 use Rattle.getopts.specs.Results.{written_line}
 use Rattle.getopts.specs.Returns.{HasResults}
-use Rattle.getopts.specs.Stored.Index.{count_in, first_wrong, places_in}
+use Rattle.getopts.specs.Stored.Index.{count_in, first_wrong, places_in, index_of}
 use Rattle.getopts.specs.Stored.Matches.{IsReadLine}
 use Rattle.getopts.specs.Stored.Scan.{line_content}
 use Rattle.getopts.specs.declared.matches.ReadLine.{ReadLine}
 use Rattle.getopts.proofs.canon.Lines.{FitsGroup-within, IsFitting-reading}
 use Rattle.getopts.proofs.counts.Groups.{first_wrong_matched}
 use Rattle.getopts.proofs.Lists.{AllByRecursion-follows, AllByRecursion-unmap}
+
+-- the outcome with its counts checked, by an index of its occurrences
+pub with_counts_kept-index : (options : Declared) {outcome : Result Reading Fault}
+    (reading : Reading) (found : List Occurrence) (index : ℕ → List ℕ) (fault : Option Fault)
+    → outcome ≡ Ok reading → found ≡ occurrences_of (grammar_of options) reading
+    → index ≡ index_of (length (signatures_of options.groups)) found
+    → first_wrong 0 (signatures_of options.groups) (count_in index) ≡ fault
+    → with_counts_kept options outcome ≡ unless_fault reading fault
+with_counts_kept-index options reading found index fault outcome_is found_are index_is first =
+    let signatures = signatures_of options.groups in
+    rw (
+      outcome_is,
+      ← first,
+      index_is,
+      first_wrong_matched 0 signatures found (length signatures) (omega arith),
+      found_are,
+    ) refl
 
 module _ {options : Declared} {outcome : Result Reading Fault} {read : ReadLine}
     (is : IsReadLine options outcome read) where
@@ -52,14 +69,8 @@ module _ {options : Declared} {outcome : Result Reading Fault} {read : ReadLine}
       → first_wrong 0 (signatures_of options.groups) (count_in (places_in read.index)) ≡ fault
       → with_counts_kept options outcome ≡ unless_fault is.gives.reading fault
   with_counts_kept-line fault first =
-      let signatures = signatures_of options.groups in
-      rw (
-        is.gives.outcome_is,
-        ← first,
-        is.of_groups.index,
-        first_wrong_matched 0 signatures read.line.found (length signatures) (omega arith),
-        is.gives.occurrences,
-      ) refl
+      with_counts_kept-index options is.gives.reading read.line.found (places_in read.index) fault
+      is.gives.outcome_is is.gives.occurrences is.of_groups.index first
 
 -- the occurrences of accepted words are of the groups
 pub groups_within : {options : Declared} {words : List Text} {read : ReadLine}

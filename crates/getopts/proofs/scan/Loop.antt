@@ -71,6 +71,19 @@ pub trailing_after-stop : {X : Type 0} (text : X → Text) (start : ℕ) (words 
 trailing_after-stop text start [] = refl
 trailing_after-stop text start (word ∷ words) = search rules
 
+-- A line that begins with this word.
+module _ (grammar : Grammar) (words : List Text) (word : Text) (after : List Text)
+    (left : words ≡ word ∷ after) where
+  -- the rest, from a free word on
+  pub read-rest : Spec.is_dashed word ≡ false → grammar.style ≡ StopAtFirstFree
+      → read grammar words ≡ Ok (record { items = []; tail = Spec.rest words })
+  read-rest plain stops = search (rules, read_step, step_free)
+
+  -- the stop, and the words after it
+  pub read-stop : word ≡ Spec.stop_word
+      → read grammar words ≡ Ok (record { items = []; tail = Spec.stop after })
+  read-stop stops = search (rules, read, read_step, step, step_stop)
+
 -- A line that was read up to a place.
 module _ {grammar : Grammar} {words : List Text} {at : ℕ} {found : List Spec.Occurrence}
     {frees : List Text} (before : ReadSoFar grammar words at found frees) where
@@ -114,16 +127,6 @@ module _ {grammar : Grammar} {words : List Text} {at : ℕ} {found : List Spec.O
         → step grammar word after ≡ said → AddsItem grammar said at used found newer
         → ReadSoFar grammar words (at + 1 + used) newer frees
     ReadSoFar-added said used newer is adds = search (rules, ReadSoFar-item, append-nil)
-
-    -- the rest, from a free word on
-    pub read-rest : Spec.is_dashed word ≡ false → grammar.style ≡ StopAtFirstFree
-        → read grammar (drop at words) ≡ Ok (record { items = []; tail = Spec.rest (drop at words) })
-    read-rest plain stops = search (rules, read_step, step_free)
-
-    -- the stop, and the words after it
-    pub read-stop : word ≡ Spec.stop_word
-        → read grammar (drop at words) ≡ Ok (record { items = []; tail = Spec.stop after })
-    read-stop stops = search (rules, read, read_step, step, step_stop)
 
     -- an error
     pub read-fault : (said : Step) → step grammar word after ≡ said → (fault : Fault)

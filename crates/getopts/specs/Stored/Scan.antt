@@ -2,15 +2,17 @@
 use Rattle.std.specs.Prelude.{◌≡◌, false, None, Some, [], map, Result, Ok, Option, ℕ}
 use Rattle.std.specs.String.{string_bytes}
 use Rattle.getopts.specs.Names.{Text}
+use Rattle.getopts.specs.Accessors.{borrowed_given}
 use Rattle.getopts.specs.Options.{Grammar, MayBeDeclared, names_of, grammar_of}
 use Rattle.getopts.specs.Stored.Table.{IsTableOf}
 use Rattle.getopts.specs.Canon.{Content}
 use Rattle.getopts.specs.Fail.{Fault}
 use Rattle.getopts.specs.Reading.{Dashes, is_dashed, stop_word, Reading}
-use Rattle.getopts.specs.Reading.{occurrences_of, free_words, trailing_start}
+use Rattle.getopts.specs.Reading.{occurrences_of, free_words, trailing_start, order_of_reading}
 use Rattle.getopts.specs.Step.{IsInLongForm, IsShortForm}
 use Rattle.getopts.specs.declared.kinds.HasArg.{HasArg}
 use Rattle.getopts.specs.declared.scan.Line.{Line}
+use Rattle.getopts.specs.declared.scan.OrderedLine.{OrderedLine}
 use Rattle.getopts.specs.declared.scan.Resolved.{Resolved}
 use Rattle.getopts.specs.declared.scan.Scanner.{Scanner}
 use Rattle.getopts.specs.declared.scan.Shape.{Shape}
@@ -46,6 +48,14 @@ pub record GivesLine (grammar : Grammar) (outcome : Result Reading Fault) (line 
   pub occurrences : line.found ≡ occurrences_of grammar reading
   pub free : map string_bytes line.free.items ≡ free_words reading
   pub trailing : line.trailing_start ≡ trailing_start reading
+
+-- The outcome is a reading, and the line has its occurrences and its order.
+pub record GivesOrder (grammar : Grammar) (outcome : Result Reading Fault) (line : OrderedLine)
+    : Type 0 where
+  pub reading : Reading
+  pub outcome_is : outcome ≡ Ok reading
+  pub occurrences : line.found ≡ occurrences_of grammar reading
+  pub order : map borrowed_given line.order.items ≡ order_of_reading grammar reading
 
 -- The line has no occurrence, no free word and no trailing start.
 pub record IsEmptyLine (line : Line) : Type 0 where

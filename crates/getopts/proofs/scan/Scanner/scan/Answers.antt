@@ -28,7 +28,7 @@ returns-then-stops-clause-ok g c =
     let here = texts_from g.S.AsStr.text c.args.words.now c.items.at _ _ c.items-test.true
     c.index-words-at.is c.as_str-word.ensures in
     GivesLine-tail c.items.invariant.read _ (rest _)
-    (read-rest c.items.invariant.read _ _ here c.in-Free.ensures stops) refl
+    (read-rest _ _ _ _ here c.in-Free.ensures stops) refl
     (rw (
       drop-map g.S.AsStr.text c.items.at c.args.words.now,
       ← take_rest c.args.words.now c.items.at,
@@ -43,7 +43,7 @@ returns-in-Stop-clause-ok g c =
     let start : c.len.result ≡ length (map string_bytes free.items) =
     c.len.ensures ∙ free.ok.0 ∙ sym (length-map free.items string_bytes) in
     GivesLine-tail c.items.invariant.read _ (stop _)
-    (read-stop c.items.invariant.read _ _ here c.in-Stop.ensures) refl
+    (read-stop _ _ _ _ here c.in-Stop.ensures) refl
     c.in_ok-push_copies-in-Stop.ensures
     (rw (c.then_some-line.ensures, c.is_empty.ensures, start)
     (trailing_after-stop g.S.AsStr.text _ _))
