@@ -1,7 +1,7 @@
 //! What matches return for an option's name.
 
-ghost use Rattle.std.specs.Prelude.{◌≡◌, ◌↔◌, Some, None, Ok, IsTrue, map, length, vec_len, ◌<◌, IfOk};
-ghost use Rattle.std.specs.Prelude.{MatchOption, OnErr, OnOk};
+ghost use Rattle.std.specs.Prelude.{◌≡◌, ◌↔◌, Some, None, Ok, IsTrue, map, length, vec_len, ◌<◌, IfOk, IsOk};
+ghost use Rattle.std.specs.Prelude.{[], MatchOption, OnErr, OnOk};
 ghost use Rattle.std.specs.List.{list_any};
 ghost use Rattle.std.specs.Option.{option_copied, option_map};
 ghost use Rattle.std.specs.String.{string_bytes};
@@ -108,6 +108,7 @@ impl Matches {
             ≡ positions_of (occurrences_of_name self.now.groups name.now)) }
         ensures count { IfOk result (λ positions. vec_len positions
             ≡ length (occurrences_of_name self.now.groups name.now)) }
+        ensures absent { occurrences_of_name self.now.groups name.now ≡ [] → IsOk result }
     {
         self.held.occurrences_of(name).positions(alloc)
     }
@@ -121,6 +122,8 @@ impl Matches {
         requires { IsDefined self.now.groups name.now }
         ensures values { IfOk result (λ values. map string_bytes values.items
             ≡ values_of (occurrences_of_name self.now.groups name.now)) }
+        ensures absent { values_of (occurrences_of_name self.now.groups name.now) ≡ []
+            → IsOk result }
     {
         self.held.occurrences_of(name).values(alloc)
     }
@@ -141,6 +144,8 @@ impl Matches {
             ≡ pairs_of (occurrences_of_name self.now.groups name.now)) }
         ensures texts { IfOk result (λ pairs. map (λ pair. string_bytes pair.1) pairs.items
             ≡ values_of (occurrences_of_name self.now.groups name.now)) }
+        ensures absent { values_of (occurrences_of_name self.now.groups name.now) ≡ []
+            → IsOk result }
     {
         self.held.occurrences_of(name).pairs(alloc)
     }
@@ -237,6 +242,7 @@ impl Matches {
             map string_bytes words.items ≡ trailing_words self.old) }
         ensures left { OnOk result
             (self.new ≡ record self.old { free = free_before_trailing self.old }) }
+        ensures absent { trailing_words self.old ≡ [] → IsOk result }
         ensures unchanged { OnErr result (self.new ≡ self.old) }
     {
         let len = self.free.len();

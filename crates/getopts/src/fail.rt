@@ -1,6 +1,6 @@
 //! The errors of `parse`.
 
-ghost use Rattle.std.specs.Prelude.{◌≡◌, ◌↔◌, Some, IfOk, IsTrue};
+ghost use Rattle.std.specs.Prelude.{◌≡◌, ◌↔◌, Some, Ok, IfOk, IsTrue};
 ghost use Rattle.std.specs.Cmp.Rules.{comparing};
 ghost use Rattle.std.proofs.Common.{rules};
 ghost use Rattle.getopts.specs.Fail.{IsOutOfMemoryOr, argument_missing, fail_text, fault_of};
@@ -45,6 +45,7 @@ impl Clone for Fail {
     /// allocates nothing.
     fn clone(&self) -> Result<Fail, AllocError>
         ensures same { IfOk result (λ copy. fault_of copy ≡ fault_of self.now) }
+        ensures nameless { self.now ≡ OutOfMemory → result ≡ Ok OutOfMemory }
     {
         Ok(match self {
             Fail::ArgumentMissing(name) => Fail::ArgumentMissing(name.clone()?),

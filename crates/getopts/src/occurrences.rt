@@ -1,7 +1,7 @@
 //! The options in a command line, with their values: all together, and by group.
 
 ghost use Rattle.std.specs.Prelude.{◌≡◌, ◌↔◌, ◌<◌, ◌∷◌, ◌++◌};
-ghost use Rattle.std.specs.Prelude.{[], Some, IfOk, OnOk, OnErr, IsTrue, map, length, slice_get};
+ghost use Rattle.std.specs.Prelude.{[], Some, IfOk, IsOk, OnOk, OnErr, IsTrue, map, length, slice_get};
 ghost use Rattle.std.specs.Cmp.Lexicographic.{pointwise};
 ghost use Rattle.std.specs.Iterator.{YieldsFirstBy, item_count};
 ghost use Rattle.std.specs.Option.{option_copied, option_map};
@@ -248,7 +248,8 @@ impl<'m> Occurrences<'m> {
     }
 
     pub(crate) fn positions(&self, alloc: Global) -> Result<Vec<usize>, AllocError>
-        ensures { IfOk result (λ positions. positions.items ≡ positions_of self.now) }
+        ensures positions { IfOk result (λ positions. positions.items ≡ positions_of self.now) }
+        ensures absent { self.now ≡ [] → IsOk result }
     {
         let mut positions = Vec::with_capacity(alloc, self.len())?;
         for nth in 0..self.len() {
@@ -258,7 +259,8 @@ impl<'m> Occurrences<'m> {
     }
 
     pub(crate) fn values(&self, alloc: Global) -> Result<Vec<String>, AllocError>
-        ensures { IfOk result (λ values. map string_bytes values.items ≡ values_of self.now) }
+        ensures values { IfOk result (λ values. map string_bytes values.items ≡ values_of self.now) }
+        ensures absent { values_of self.now ≡ [] → IsOk result }
     {
         let mut values = Vec::new(alloc);
         for nth in 0..self.len() {
@@ -270,7 +272,8 @@ impl<'m> Occurrences<'m> {
     }
 
     pub(crate) fn pairs(&self, alloc: Global) -> Result<Vec<(usize, String)>, AllocError>
-        ensures { IfOk result (λ pairs. map pair_view pairs.items ≡ pairs_of self.now) }
+        ensures pairs { IfOk result (λ pairs. map pair_view pairs.items ≡ pairs_of self.now) }
+        ensures absent { values_of self.now ≡ [] → IsOk result }
     {
         let mut pairs = Vec::new(alloc);
         for nth in 0..self.len() {

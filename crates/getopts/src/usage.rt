@@ -1,6 +1,6 @@
 //! Usage texts: all options in one line, and a row for each option with its description.
 
-ghost use Rattle.std.specs.Prelude.{◌≡◌, ◌++◌, List, codes, map, string_bytes, IfOk, OnOk};
+ghost use Rattle.std.specs.Prelude.{◌≡◌, ◌++◌, List, [], codes, map, string_bytes, IfOk, IsOk, OnOk};
 ghost use Rattle.std.specs.Iterator.{YieldsFirstBy, item_count};
 ghost use Rattle.getopts.specs.Stored.Signatures.{names_view};
 ghost use Rattle.getopts.specs.Stored.Groups.{group_view};
@@ -187,6 +187,9 @@ impl Options {
 
         // The same with these rows as a function.
         ensures result { OnOk result (F.post formatter (usage_rows_result self.now) result) }
+
+        // Without options, only the closure can fail.
+        ensures absent { self.now.groups ≡ [] → F.post formatter [] result }
     {
         let rows = self.usage_rows(alloc)?.into_iter();
         formatter(UsageRows { rows })
@@ -201,6 +204,7 @@ impl Options {
         // These rows as a function.
         ensures result { IfOk result (λ rows.
             map string_bytes rows.items ≡ usage_rows_result self.now) }
+        ensures absent { self.now.groups ≡ [] → IsOk result }
     {
         self.usage_rows_in(alloc, USUAL_COLUMNS)
     }
@@ -211,6 +215,7 @@ impl Options {
             IsTheOnly (AreUsageRowsIn columns self.now) (map string_bytes rows.items)) }
         ensures result { IfOk result (λ rows.
             map string_bytes rows.items ≡ usage_rows_in_result columns self.now) }
+        ensures absent { self.now.groups ≡ [] → IsOk result }
     {
         let layout = self.layout(columns);
         let groups = self.groups();

@@ -1,6 +1,6 @@
 //! Descriptions in rows: each line is broken into as few rows as its words allow.
 
-ghost use Rattle.std.specs.Prelude.{◌≡◌, ◌++◌, map, string_bytes, IfOk, OnOk};
+ghost use Rattle.std.specs.Prelude.{◌≡◌, ◌++◌, [], map, string_bytes, IfOk, IsOk, OnOk};
 ghost use Rattle.getopts.specs.Wrap.{BreaksInto, IsDescriptionRows, IsFewestBreaking};
 ghost use Rattle.getopts.specs.Wrap.{joined, parting, text_of, words_of};
 ghost use Rattle.getopts.specs.UsageResults.{description_rows, runs_of};
@@ -44,6 +44,7 @@ pub fn each_split_within(alloc: Global, desc: &str, lim: usize) -> Result<Vec<St
     // No fitting way to break the words of a line has fewer rows.
     ensures fewest { IfOk result (λ rows.
         BreaksInto (IsFewestBreaking lim) desc.now (map string_bytes rows.items)) }
+    ensures absent { description_rows lim desc.now ≡ [] → IsOk result }
 {
     let mut rows = Vec::new(alloc);
     for line in desc.split('\n') {
@@ -59,8 +60,9 @@ fn push_line(
     line: &str,
     lim: usize,
 ) -> Result<(), AllocError>
-    ensures { OnOk result (map string_bytes rows.new.items
+    ensures rows { OnOk result (map string_bytes rows.new.items
         ≡ map string_bytes rows.old.items ++ map text_of (runs_of lim (words_of line.now))) }
+    ensures absent { words_of line.now ≡ [] → IsOk result }
 {
     let mut words = line.split_whitespace();
     let first = match words.next() {

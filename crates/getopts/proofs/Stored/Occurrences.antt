@@ -1,5 +1,5 @@
 -- Occurrences: as they are stored, with their values in one text, and those of one group.
-use Rattle.std.proofs.Common.{◌≡◌, ◌<◌, ◌+◌, ℕ, ◌==◌, ◌&&◌, Bool, true, false, List, [], rules, ◌∷◌}
+use Rattle.std.proofs.Common.{◌≡◌, ◌≢◌, ◌<◌, ◌+◌, ℕ, zero, suc, ◌==◌, ◌&&◌, Bool, true, false, List, [], rules, ◌∷◌}
 use Rattle.std.proofs.Common.{◌++◌, map, length, get_or, take, slice_get, Option, Bor, Some, refl}
 use Rattle.std.proofs.Common.{ap, sym, ◌∙◌, arith, length-append}
 use Rattle.std.specs.List.{AllByRecursion}
@@ -82,6 +82,14 @@ module _ (founds : List GroupOccurrence) (i : ℕ) (found : GroupOccurrence)
       ≡ pairs_of (take i founds) ++ pairs_of (found ∷ [])
   pairs-more = ap pairs_of (Lists.take_more_at founds i found at)
       ∙ filter_map-append pair_of (take i founds) (found ∷ [])
+
+-- with an occurrence that has a value, there are values
+pub value_given : (founds : List GroupOccurrence) (i : ℕ) (found : GroupOccurrence) (value : Text)
+    → slice_get founds i ≡ Some found → found.value ≡ Some value → values_of founds ≢ []
+value_given [] i found value at given none = cc at
+value_given (first ∷ founds) zero found value at given none = search rules
+value_given (first ∷ founds) (suc i) found value at given none =
+    value_given founds i found value at given (grind (arith, common_steps))
 
 -- two occurrences as they are read, compared like in the code
 abbrev pub same_read : Option (ℕ × Option (Bor Text)) → Option (ℕ × Option (Bor Text)) → Bool

@@ -1,13 +1,15 @@
 -- The rows of a description, line after line, and their properties.
-use Rattle.std.proofs.Common.{◌≡◌, ℕ, List, [], ◌∷◌, ◌++◌, map, append-nil, rules}
+use Rattle.std.proofs.Common.{◌≡◌, ◌≢◌, ◌<◌, ◌∙◌, ℕ, zero, suc, true, false, if◌then◌else◌}
+use Rattle.std.proofs.Common.{List, [], ◌∷◌, ◌++◌, length, get_or, map, ap, append-nil, arith, refl}
+use Rattle.std.proofs.Common.{rules}
 use Rattle.std.specs.List.{AllZip}
 use Rattle.std.proofs.lemmas.List.{map-append}
 use Rattle.std.proofs.lemmas.List.Concat.{flat_map-append}
 use Rattle.getopts.specs.Names.{Text}
 use Rattle.getopts.specs.Only.{IsTheOnly}
-use Rattle.getopts.specs.Wrap.{text_of, IsTightBreaking, IsFewestBreaking, words_of, BreaksInto}
+use Rattle.getopts.specs.Wrap.{Run, text_of, IsTightBreaking, IsFewestBreaking, words_of, BreaksInto}
 use Rattle.getopts.specs.Wrap.{IsDescriptionRows}
-use Rattle.getopts.specs.UsageResults.{runs_of, rows_of, description_rows}
+use Rattle.getopts.specs.UsageResults.{has_room, runs_from, runs_of, rows_of, description_rows}
 use Rattle.getopts.proofs.Only.{IsTheOnly-from, map_is_the_only, meets}
 use Rattle.getopts.proofs.wrap.Breakings.{runs_of-tight, runs_of-only, runs_of-is_fewest}
 
@@ -17,6 +19,40 @@ pub rows_of-push : (limit : ℕ) (lines : List Text) (line : Text) (rows new_row
     → new_rows ≡ rows_of limit (lines ++ line ∷ [])
 rows_of-push limit lines line rows new_rows are added =
     search (rules, map-append, flat_map-append, append-nil)
+
+-- words fill at least one row
+runs_from-filled : (limit : ℕ) (run : Run) (words : List Text) → runs_from limit run words ≢ []
+runs_from-filled limit run [] none = cc none
+runs_from-filled limit run (word ∷ words) none =
+    elim (has_room limit run word) as (λ room.
+    (if room then runs_from limit (run ++ word ∷ []) words
+    else run ∷ runs_from limit (word ∷ []) words) ≢ [])
+    [ true ↦ runs_from-filled limit (run ++ word ∷ []) words | false ↦ λ e. cc e ] none
+
+-- and so at least one text
+some : (runs more : List Run) → runs ≢ [] → map text_of (runs ++ more) ≢ []
+some [] more filled none = filled refl
+some (run ∷ runs) more filled none = cc none
+
+none_of : (limit : ℕ) (words : List Text) (more : List Run)
+    → map text_of (runs_of limit words ++ more) ≡ [] → words ≡ []
+none_of limit [] more none = refl
+none_of limit (word ∷ words) more none =
+    absurd (some _ more (runs_from-filled limit (word ∷ []) words) none)
+
+after_none : (runs more : List Run) → map text_of (runs ++ more) ≡ [] → map text_of more ≡ []
+after_none [] more none = none
+after_none (run ∷ runs) more none = cc none
+
+-- without rows, no line has words
+pub rows_of-none : (limit : ℕ) (lines : List Text) (i : ℕ) (line : Text) → i < length lines
+    → line ≡ get_or lines i line → rows_of limit lines ≡ [] → words_of line ≡ []
+rows_of-none limit [] i line within is none = absurd (omega (arith, within))
+rows_of-none limit (first ∷ lines) zero line within is none =
+    ap words_of is ∙ none_of limit (words_of first) _ none
+rows_of-none limit (first ∷ lines) (suc i) line within is none =
+    rows_of-none limit lines i line (omega (arith, within)) is
+    (after_none (runs_of limit (words_of first)) _ none)
 
 each_fewest : (limit : ℕ) (lines : List (List Text))
     → AllZip (IsFewestBreaking limit) lines (map (runs_of limit) lines)

@@ -1,5 +1,5 @@
 -- The words of a line, one after the other, as `split_whitespace` returns them.
-use Rattle.std.proofs.Common.{◌≡◌, ℕ, ◌<◌, Bool, true, false, List, [], ◌∷◌, ◌++◌, length, Some}
+use Rattle.std.proofs.Common.{◌≡◌, ◌≢◌, ℕ, ◌<◌, Bool, true, false, List, [], ◌∷◌, ◌++◌, length, Some}
 use Rattle.std.proofs.Common.{sym, refl, ap, ◌∙◌, subst, append_assoc, append-nil, arith, rules}
 use Rattle.std.specs.Prelude.{nat_lt, filter, chars, encode_utf8, encode_utf8_all, not}
 use Rattle.std.specs.Borrow.{Bor}
@@ -97,3 +97,11 @@ words_of-step s t word utf8 (gap, split, not_empty, blank, solid, next) =
     ap (parts_by is_whitespace) characters
     ∙ parts_by-gap is_whitespace blank.0 (solid.0 ++ chars rest) blank.2
     ∙ parts_by-next solid.0 rest next.0 after_word.0 has_some solid.2 next.1 in search rules
+
+-- a line with a word has words
+pub words_of-filled : (line : List ℕ) (s t : SplitWhitespace) (word : Bor (List ℕ))
+    → split_whitespace_rest s ≡ line → IsUtf8 line → split_whitespace_steps s (Some word) t
+    → words_of line ≢ []
+words_of-filled line s t word is utf8 steps none =
+    let filled = (words_of-step s t word (subst IsUtf8 (sym is) utf8) steps).1 in
+    cc (sym filled ∙ ap words_of is ∙ none)

@@ -1,16 +1,17 @@
 -- A line's words fill rows, which are added to the rows before.
-use Rattle.std.proofs.Common.{◌+◌, ◌<◌, [], ◌∷◌, string_bytes, lit<, arith, ap, ◌∙◌, sym, subst}
+use Rattle.std.proofs.Common.{◌≢◌, ◌+◌, ◌<◌, [], ◌∷◌, string_bytes, lit<, arith, ap, ◌∙◌, sym, subst}
 use Rattle.std.specs.Str.{IsUtf8}
 use Rattle.std.specs.Str.Iter.{split_whitespace_rest}
 use Rattle.std.proofs.lemmas.List.{map-append}
 use Rattle.getopts.specs.Wrap.{width_of, words_of}
-use Rattle.getopts.proofs.wrap.Words.{words_of-none, words_of-step}
+use Rattle.getopts.proofs.wrap.Words.{words_of-none, words_of-step, words_of-filled}
 use Rattle.getopts.proofs.wrap.Rows.{adds_none, rows_begin, rows_take, rows_end, rows_finish}
 use Rattle.getopts.proofs.wrap.push_line.Goals as goal
+use Rattle.getopts.proofs.wrap.push_line.Goals.{In-Some}
 
 -- the line has no word
-pub returns-in-None : goal.returns-in-None
-returns-in-None c =
+pub returns-in-None-clause-rows : goal.returns-in-None-clause-rows
+returns-in-None-clause-rows c =
     let is_line = c.split_whitespace-words.ensures.rest in
     adds_none c.args.lim c.args.line.now _
     (words_of-none c.args.line.now c.utf8.line (rw is_line at c.in-None.ensures.steps.1))
@@ -60,10 +61,35 @@ loop-word-preserved c =
     ])
 
 -- no words are left
-pub returns : goal.returns
-returns c =
+pub returns-clause-rows : goal.returns-clause-rows
+returns-clause-rows c =
     let none = words_of-none _ c.loop-word.invariant.utf8 c.in-None-word.ensures.steps.1 in
     rw (
       c.in_ok-push-3.ensures.items,
       map-append string_bytes c.loop-word.rows.items (c.loop-word.row ∷ []),
     ) (rows_finish c.args.lim c.args.line.now _ _ _ _ _ c.loop-word.invariant none)
+
+-- once there is a first word, the line has words
+begun : (c : In-Some) → words_of c.args.line.now ≢ []
+begun c = words_of-filled c.args.line.now c.split_whitespace-words.result c.next.new.self
+    c.in-Some.first c.split_whitespace-words.ensures.rest c.utf8.line c.in-Some.ensures.steps
+
+pub returns-in_err-row-clause-absent : goal.returns-in_err-row-clause-absent
+returns-in_err-row-clause-absent c none =
+    absurd (begun (goal.at.returns-in_err-row-clause-absent c).In-Some none)
+
+pub returns-in_err-push-clause-absent : goal.returns-in_err-push-clause-absent
+returns-in_err-push-clause-absent c none =
+    absurd (begun (goal.at.returns-in_err-push-clause-absent c).In-Some none)
+
+pub returns-in_err-push-2-clause-absent : goal.returns-in_err-push-2-clause-absent
+returns-in_err-push-2-clause-absent c none =
+    absurd (begun (goal.at.returns-in_err-push-2-clause-absent c).In-Some none)
+
+pub returns-in_err-push_str-clause-absent : goal.returns-in_err-push_str-clause-absent
+returns-in_err-push_str-clause-absent c none =
+    absurd (begun (goal.at.returns-in_err-push_str-clause-absent c).In-Some none)
+
+pub returns-in_err-push-3-clause-absent : goal.returns-in_err-push-3-clause-absent
+returns-in_err-push-3-clause-absent c none =
+    absurd (begun (goal.at.returns-in_err-push-3-clause-absent c).In-Some none)

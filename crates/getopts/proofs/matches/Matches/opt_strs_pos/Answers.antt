@@ -18,4 +18,4 @@ returns-clause-texts c =
     sym (map-map (λ (pair : ℕ × Text). pair.1) pair_view pairs.items)
     ∙ ap (map (λ (pair : ℕ × Text). pair.1)) same ∙ texts_of_pairs c.occurrences_of.result
     ∙ ap values_of found)
-    c.pairs.ensures
+    c.pairs.ensures.pairs

@@ -40,4 +40,5 @@ returns c =
       rows = subst (IsTheOnly (AreUsageRowsIn c.args.columns options)) (sym made)
           (usage_rows_in_computed c.args.columns options);
       result = made;
+      absent = λ none. refl;
     }
