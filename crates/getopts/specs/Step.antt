@@ -69,9 +69,9 @@ chosen_step item (Ok argument) = takes (item argument) argument
 chosen_step item (Err fault) = faults fault
 
 -- the step of a name in long form, by its kind and the argument attached to it
-abbrev pub named_step : Grammar → Option HasArg → Dashes → Text → Option Text → List Text → Step
-named_step grammar None dashes name argument after = faults (unknown_long grammar name)
-named_step grammar (Some kind) dashes name argument after =
+abbrev pub long_name_step : Grammar → Option HasArg → Dashes → Text → Option Text → List Text → Step
+long_name_step grammar None dashes name argument after = faults (unknown_long grammar name)
+long_name_step grammar (Some kind) dashes name argument after =
     chosen_step (λ a. long dashes name a) (chosen_long kind name argument after)
 
 -- a text in long form, split at its first `=`: the name, and the argument attached to it
@@ -84,7 +84,7 @@ cut_at_equals (c ∷ text) = if c == equals_sign then ([], Some text)
 abbrev pub long_step : Grammar → Dashes → Text → List Text → Step
 long_step grammar dashes text after =
     let cut = cut_at_equals text in
-    named_step grammar (long_kind grammar cut.0) dashes cut.0 cut.1 after
+    long_name_step grammar (long_kind grammar cut.0) dashes cut.0 cut.1 after
 
 -- the first character of a text
 abbrev pub first_char : Text → Text

@@ -274,7 +274,7 @@ fn last_argument<'w, S: AsStr>(
 
 impl<'o> Scanner<'o> {
     ghost use Rattle.getopts.specs.Step.{faults, long_step, cluster_step, AddsItem};
-    ghost use Rattle.getopts.specs.Stored.Scan.{scanner_grammar, IsLawfulScanner, IsNamedBy};
+    ghost use Rattle.getopts.specs.Stored.Scan.{scanner_grammar, IsLawfulScanner, IsResolvedTo};
     ghost use Rattle.getopts.specs.Stored.Scan.{HasShape, GivesLine, GivesOrder};
     ghost use Rattle.getopts.specs.Results.{read};
     ghost use Rattle.getopts.specs.Options.{long_kind, long_place};
@@ -284,7 +284,7 @@ impl<'o> Scanner<'o> {
         requires { IsLawfulScanner self.now }
         ensures { let grammar = scanner_grammar self.now in
             MatchOption result (long_kind grammar name.now ≡ None)
-            (IsNamedBy (long_place grammar name.now) (long_kind grammar name.now)) }
+            (IsResolvedTo (long_place grammar name.now) (long_kind grammar name.now)) }
     {
         let signatures = self.options.signatures();
         let place = self.table.resolve(signatures, name)?;
@@ -337,7 +337,7 @@ impl<'o> Scanner<'o> {
         requires { IsLawfulScanner self.now }
         ensures option { let grammar = scanner_grammar self.now in
             MatchOption result (grammar.kind (byte ∷ []) ≡ None)
-            (IsNamedBy (grammar.place (byte ∷ [])) (grammar.kind (byte ∷ []))) }
+            (IsResolvedTo (grammar.place (byte ∷ [])) (grammar.kind (byte ∷ []))) }
         ensures ascii { OnSome result (byte < 128) }
     {
         if !byte.is_ascii() {

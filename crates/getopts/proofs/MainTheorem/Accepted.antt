@@ -9,7 +9,7 @@ use Rattle.getopts.specs.Parse.{IsAccepted}
 use Rattle.getopts.specs.Results.{accepted_reading, parse_result}
 use Rattle.getopts.proofs.counts.FirstFault.{first_count_fault-kept}
 use Rattle.getopts.proofs.Only.{meets}
-use Rattle.getopts.proofs.parse.Parsed.{named_here}
+use Rattle.getopts.proofs.parse.Parsed.{text_names_here}
 use Rattle.getopts.proofs.Reading.Readings.{reading_read}
 
 module _ (options : Declared) (declared : MayBeDeclared options.groups) (words : List Text) where
@@ -18,7 +18,7 @@ module _ (options : Declared) (declared : MayBeDeclared options.groups) (words :
       → accepted_reading options words ≡ Ok reading
   unfolding accepted_reading
   accepted_reading-keeps reading is =
-      search (rules, reading_read, named_here, first_count_fault-kept)
+      search (rules, reading_read, text_names_here, first_count_fault-kept)
 
   -- accepted words have this result
   pub parse_result-accepted : (m : Matched) → IsAccepted options words m

@@ -23,7 +23,7 @@ use Rattle.getopts.proofs.counts.FirstFault.{HaveFault, first_count_fault-is}
 use Rattle.getopts.proofs.MainTheorem.BeforeFree.{Accepts-accepted}
 use Rattle.getopts.proofs.MainTheorem.Given.{only_unless, only_request}
 use Rattle.getopts.proofs.Only.{IsTheOnly-from}
-use Rattle.getopts.proofs.parse.Parsed.{only_reads, named_here, HasNoReading-fault}
+use Rattle.getopts.proofs.parse.Parsed.{only_reads, text_names_here, HasNoReading-fault}
 use Rattle.getopts.proofs.parse.Parsed.{HasReading-reading, IsAccepted-reading}
 use Rattle.getopts.proofs.Reading.Positions.{options_in-order, frees_in-order}
 use Rattle.getopts.proofs.Reading.Readings.{IsSoundOutcome, read_sound}
@@ -92,7 +92,7 @@ module _ (options : Declared) (declared : MayBeDeclared options.groups) (words :
   unfolding Spec.reading_or_error Spec.accepted_reading
   HasResults-declared texts =
       let sound = read_sound (grammar_of options)
-      (named_here options declared) words texts _ refl in
+      (text_names_here options declared) words texts _ refl in
       let reading = MatchResult-weaker (Spec.read (grammar_of options) words) sound (λ r reads. reads)
       (HasNoReading-fault options declared words texts) in
       let line = line_answer texts (Spec.read (grammar_of options) words) sound in

@@ -9,7 +9,7 @@ use Rattle.getopts.specs.Parse.{IsAccepted, IsRefused}
 use Rattle.getopts.specs.Theorem.{OneReading, AcceptedExactlyWhen, RefusedExactlyWhen}
 use Rattle.getopts.proofs.canon.Answered.{reads_of, keeps_accepted, not_refused}
 use Rattle.getopts.proofs.Only.{meets}
-use Rattle.getopts.proofs.parse.Parsed.{named_here, HasNoReading-fault, HasReading-reading}
+use Rattle.getopts.proofs.parse.Parsed.{text_names_here, HasNoReading-fault, HasReading-reading}
 use Rattle.getopts.proofs.parse.Parsed.{IsAccepted-reading}
 use Rattle.getopts.proofs.Reading.Readings.{only_reading}
 
@@ -17,7 +17,7 @@ module _ (options : Declared) (declared : MayBeDeclared options.groups) where
   -- words have at most one reading
   pub OneReading-options : OneReading options
   OneReading-options words reading other reads other_reads =
-      only_reading (grammar_of options) (named_here options declared) words reading other reads other_reads
+      only_reading (grammar_of options) (text_names_here options declared) words reading other reads other_reads
 
   -- accepted exactly when a reading keeps the counts
   pub AcceptedExactlyWhen-options : AcceptedExactlyWhen options

@@ -13,6 +13,6 @@ abbrev pub spelled : Item → List Text → List Text
 spelled item more = item_words item ++ more
 
 -- Names are texts: the empty name in long form means no group, nor does a byte that isn't ASCII.
-pub record IsNamed (grammar : Grammar) : Type 0 where
+pub record HasTextNames (grammar : Grammar) : Type 0 where
   pub empty : long_kind grammar [] ≡ None
   pub ascii : (byte : ℕ) → byte < 128 ⊎ (grammar.kind (byte ∷ []) ≡ None)

@@ -14,7 +14,7 @@ use Rattle.getopts.specs.Reading.{spelled_all, tail_words, IsLawfulTail, IsScanF
 use Rattle.std.proofs.Recursive.{every_back}
 use Rattle.getopts.specs.Results.{made_of}
 use Rattle.getopts.specs.Step.{Step, takes}
-use Rattle.getopts.proofs.Reading.Reader.{IsNamed, step, spelled, free_step, with_items, after_step}
+use Rattle.getopts.proofs.Reading.Reader.{HasTextNames, step, spelled, free_step, with_items, after_step}
 use Rattle.getopts.proofs.Reading.Reader.{read_both, read}
 use Rattle.getopts.proofs.Reading.Steps as Steps
 
@@ -59,7 +59,7 @@ with_items-append items others (Ok reading) = rw append_assoc refl
 with_items-append items others (Err fault) = refl
 
 -- valid items go in front of the outcome of the words after them
-pub items_read : (grammar : Grammar) → IsNamed grammar → (items : List Item) (more : List Text)
+pub items_read : (grammar : Grammar) → HasTextNames grammar → (items : List Item) (more : List Text)
     → AllByRecursion (IsLawfulItem grammar) items → AreWellFollowed items more
     → read grammar (spelled_all items more) ≡ with_items items (read grammar more)
 items_read grammar named [] more lawful followed = with_items-none (read grammar more)
@@ -71,7 +71,7 @@ items_read grammar named (item ∷ items) more lawful followed =
 
 -- So a line has at most one reading: `read` is a function.
 -- if a line has a reading, `read` returns it
-pub reading_read : (grammar : Grammar) → IsNamed grammar → (reading : Reading) (words : List Text)
+pub reading_read : (grammar : Grammar) → HasTextNames grammar → (reading : Reading) (words : List Text)
     → IsReading grammar reading words → read grammar words ≡ Ok reading
 reading_read grammar named reading words is =
     search (rules, read, items_read, with_items, append-nil, read_nil, read_step, Steps.step_stop, Steps.step_free, free_step)
@@ -114,7 +114,7 @@ followed-append (item ∷ items) more followed dashed =
     search (rules, spelled_all-append items [] more, followed-append items more followed.1 dashed)
 
 -- if a line has an error, `read` returns it
-pub fault_read : (grammar : Grammar) → IsNamed grammar → (words : List Text) (fault : Fault)
+pub fault_read : (grammar : Grammar) → HasTextNames grammar → (words : List Text) (fault : Fault)
     → AreTexts words → IsScanFault grammar words fault → read grammar words ≡ Err fault
 fault_read grammar named words fault texts is =
     let utf8 : AreTexts (is.word ∷ is.after) =
@@ -135,7 +135,7 @@ made_of-ok make (Ok reading) x same = (reading, refl, cc)
 made_of-ok make (Err fault) x same = cc
 
 -- The laws of a line: at most one reading, at most one error, and never both.
-module _ (grammar : Grammar) (named : IsNamed grammar) (words : List Text) where
+module _ (grammar : Grammar) (named : HasTextNames grammar) (words : List Text) where
   -- two readings of a line are equal
   pub only_reading : (r s : Reading) → IsReading grammar r words → IsReading grammar s words → r ≡ s
   only_reading r s first second =
@@ -192,7 +192,7 @@ tail_sound : (grammar : Grammar) (words : List Text) (tail : Tail) → IsLawfulT
 tail_sound grammar words tail lawful spells = search rules
 
 -- the outcomes of a line and of the line without its first word
-both_sound : (grammar : Grammar) → IsNamed grammar → (words : List Text) → AreTexts words
+both_sound : (grammar : Grammar) → HasTextNames grammar → (words : List Text) → AreTexts words
     → IsSoundOutcome grammar words (read_both grammar words).0
     × IsSoundOutcome grammar (drop 1 words) (read_both grammar words).1
 unfolding read_both
@@ -201,7 +201,7 @@ both_sound grammar named (word ∷ more) texts =
     search (rules, read_both, step, Steps.step_sound, both_sound grammar named more texts.1, tail_sound, item_sound)
 
 -- the outcome of `read` is right for a line of texts
-pub read_sound : (grammar : Grammar) → IsNamed grammar → (words : List Text) → AreTexts words
+pub read_sound : (grammar : Grammar) → HasTextNames grammar → (words : List Text) → AreTexts words
     → (outcome : Result Reading Fault) → read grammar words ≡ outcome
     → IsSoundOutcome grammar words outcome
 unfolding read

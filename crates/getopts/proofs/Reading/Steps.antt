@@ -20,13 +20,13 @@ use Rattle.getopts.specs.Reading.{IsLawfulEnd, IsLawfulItem, IsLawfulTail, unkno
 use Rattle.getopts.specs.Reading.{wide_character, IsLawfulCluster, HasAfterFlags, long_unfinished}
 use Rattle.getopts.specs.Reading.{short_unfinished}
 use Rattle.getopts.specs.Step.{with_equals, Step, ends, takes, faults, IsInLongForm, IsShortForm}
-use Rattle.getopts.specs.Step.{chosen_long, chosen_end, chosen_step, named_step, cut_at_equals}
+use Rattle.getopts.specs.Step.{chosen_long, chosen_end, chosen_step, long_name_step, cut_at_equals}
 use Rattle.getopts.specs.Step.{long_step, first_char, byte_step, cluster_step}
 use Rattle.getopts.specs.declared.kinds.HasArg.{HasArg}
 use Rattle.getopts.specs.declared.kinds.HasArg.TheVariants.{Yes, No, Maybe}
 use Rattle.std.proofs.Permutation.{every_append}
 use Rattle.getopts.proofs.Lists.{filled-append}
-use Rattle.getopts.proofs.Reading.Reader.{spelled, IsNamed, free_step, step}
+use Rattle.getopts.proofs.Reading.Reader.{spelled, HasTextNames, free_step, step}
 use Rattle.getopts.proofs.Reading.Texts as Texts
 
 -- ---- sound steps: words in long form
@@ -70,32 +70,32 @@ module _ (grammar : Grammar) (dashes : Dashes) (word name : Text)
   takes_long kind argument more form resolved fits = search (rules, before_front, false≢true)
 
   -- each kind, and an unknown name
-  named_sound : (kind : Option HasArg) (argument : Option Text) (more : List Text)
+  long_name_sound : (kind : Option HasArg) (argument : Option Text) (more : List Text)
       → IsInLongForm grammar dashes word (name ++ with_equals argument)
       → long_kind grammar name ≡ kind
-      → IsSoundStep grammar word more (named_step grammar kind dashes name argument more)
-  named_sound None argument more form resolved =
+      → IsSoundStep grammar word more (long_name_step grammar kind dashes name argument more)
+  long_name_sound None argument more form resolved =
       λ utf8. unknown_name name argument (long_form argument form) resolved
-  named_sound (Some No) None more form resolved = takes_long No none more form resolved tt
-  named_sound (Some No) (Some argument) more form resolved =
+  long_name_sound (Some No) None more form resolved = takes_long No none more form resolved tt
+  long_name_sound (Some No) (Some argument) more form resolved =
       λ utf8. unwanted_argument name argument (long_form (Some argument) form) resolved
-  named_sound (Some Yes) None [] form resolved =
+  long_name_sound (Some Yes) None [] form resolved =
       λ utf8. long_unfinished name (long_form None form) resolved refl
-  named_sound (Some Yes) None (next ∷ others) form resolved = search (rules, takes_long)
-  named_sound (Some Maybe) None more form resolved = takes_long Maybe none more form resolved tt
-  named_sound (Some kind) (Some argument) more form resolved = search (rules, takes_long)
+  long_name_sound (Some Yes) None (next ∷ others) form resolved = search (rules, takes_long)
+  long_name_sound (Some Maybe) None more form resolved = takes_long Maybe none more form resolved tt
+  long_name_sound (Some kind) (Some argument) more form resolved = search (rules, takes_long)
 
 -- ---- sound steps: words in short form
 
 -- the rest after flags is a text
-IsUtf8-past_flags : (grammar : Grammar) → IsNamed grammar → (bytes text : Text)
+IsUtf8-past_flags : (grammar : Grammar) → HasTextNames grammar → (bytes text : Text)
     → AllByRecursion (IsFlag grammar) bytes → IsUtf8 (bytes ++ text) → IsUtf8 text
 IsUtf8-past_flags grammar named [] text each utf8 = utf8
 IsUtf8-past_flags grammar named (byte ∷ bytes) text each utf8 =
     let ascii : byte < 128 = search rules in
     IsUtf8-past_flags grammar named bytes text each.1 (Texts.IsUtf8-past_ascii byte (bytes ++ text) ascii utf8)
 
-IsUtf8-after_flags : (grammar : Grammar) → IsNamed grammar → (word : Text) (bytes text : Text)
+IsUtf8-after_flags : (grammar : Grammar) → HasTextNames grammar → (word : Text) (bytes text : Text)
     → IsShortForm grammar word (bytes ++ text) → AllByRecursion (IsFlag grammar) bytes
     → IsUtf8 word → IsUtf8 text
 IsUtf8-after_flags grammar named word bytes text form each utf8 =
@@ -126,7 +126,7 @@ module _ (grammar : Grammar) (word : Text) (bytes : List ℕ)
   after_flags rest form = search rules
 
   -- a name that doesn't resolve
-  unknown_flag : IsNamed grammar → (byte : ℕ) (text : Text) (more : List Text)
+  unknown_flag : HasTextNames grammar → (byte : ℕ) (text : Text) (more : List Text)
       → IsShortForm grammar word (bytes ++ byte ∷ text) → grammar.kind (byte ∷ []) ≡ None
       → IsUtf8 word → IsFaultAt grammar word more (unrecognized_option (first_char (byte ∷ text)))
   unknown_flag named byte text more form resolved utf8 =
@@ -143,7 +143,7 @@ module _ (grammar : Grammar) (word : Text) (bytes : List ℕ)
       ])
 
   -- one more byte, by its kind, given the result of one more flag
-  byte_sound : IsNamed grammar → (byte : ℕ) (kind : Option HasArg) (text : Text) (more : List Text)
+  byte_sound : HasTextNames grammar → (byte : ℕ) (kind : Option HasArg) (text : Text) (more : List Text)
       (after : Step) → IsShortForm grammar word (bytes ++ byte ∷ text)
       → grammar.kind (byte ∷ []) ≡ kind
       → (kind ≡ Some No → IsSoundStep grammar word more after)
@@ -161,7 +161,7 @@ module _ (grammar : Grammar) (word : Text) (bytes : List ℕ)
       search (rules, cases_Bool, takes_end)
 
 -- a cluster, by the flags that were read and the remaining text
-cluster_sound : (grammar : Grammar) → IsNamed grammar
+cluster_sound : (grammar : Grammar) → HasTextNames grammar
     → (word : Text) (bytes : List ℕ) (text : Text) (more : List Text)
     → IsShortForm grammar word (bytes ++ text) → AllByRecursion (IsFlag grammar) bytes
     → IsSoundStep grammar word more (cluster_step grammar bytes text more)
@@ -208,7 +208,7 @@ plain_sound : (grammar : Grammar) (word : Text) (more : List Text) → is_dashed
 plain_sound grammar word more plain = search (rules, step_free)
 
 -- the first word of a line
-pub step_sound : (grammar : Grammar) → IsNamed grammar → (word : Text) (more : List Text)
+pub step_sound : (grammar : Grammar) → HasTextNames grammar → (word : Text) (more : List Text)
     → IsSoundStep grammar word more (step grammar word more)
 step_sound grammar named [] more = plain_sound grammar [] more refl
 step_sound grammar named (first ∷ []) more = plain_sound grammar (first ∷ []) more refl
@@ -231,7 +231,7 @@ step_sound grammar named (first ∷ second ∷ text) more = elim (cases_Bool (fi
   in_long dashes word others form =
       let cut = cut_at_equals others in
       rw (step_long grammar dashes word others more form)
-      (search (rules, named_sound, Texts.holds_equals-name, Texts.cut_at_equals-joined))
+      (search (rules, long_name_sound, Texts.holds_equals-name, Texts.cut_at_equals-joined))
 
   two_sound : (others : Text)
       → IsSoundStep grammar (dash ∷ dash ∷ others) more (step grammar (dash ∷ dash ∷ others) more)
@@ -248,7 +248,7 @@ pub long_step_cut : (grammar : Grammar) (dashes : Dashes) (name : Text) (argumen
     (more : List Text) (kind : Option HasArg) → holds_equals name ≡ false
     → long_kind grammar name ≡ kind
     → long_step grammar dashes (name ++ with_equals argument) more
-    ≡ named_step grammar kind dashes name argument more
+    ≡ long_name_step grammar kind dashes name argument more
 long_step_cut grammar dashes name argument more kind plain resolved =
     rw (Texts.cut_at_equals-append name argument plain, resolved) refl
 
@@ -263,7 +263,7 @@ before_more long_only two name argument before = tt
 pub long_form_step : (grammar : Grammar) (word name : Text) (argument : Option Text)
     (more : List Text) (kind : Option HasArg) (form : IsLongForm grammar word name argument)
     → long_kind grammar name ≡ kind
-    → step grammar word more ≡ named_step grammar kind form.dashes name argument more
+    → step grammar word more ≡ long_name_step grammar kind form.dashes name argument more
 long_form_step grammar word name argument more kind form resolved =
     step_long grammar form.dashes word (name ++ with_equals argument) more
     (search (rules, before_more))
@@ -271,7 +271,7 @@ long_form_step grammar word name argument more kind form resolved =
 
 -- So `--` is only the stop: if the empty name resolved, it would be a long item, too.
 -- the word of a name that resolves is longer than its dashes
-resolved_word : (grammar : Grammar) → IsNamed grammar
+resolved_word : (grammar : Grammar) → HasTextNames grammar
     → (dashes : Dashes) (name : Text) (argument : Option Text) (kind : HasArg)
     → long_kind grammar name ≡ Some kind
     → long_word dashes name argument ≢ dash_text dashes
@@ -352,7 +352,7 @@ byte_step-end kind bytes byte text more after other = refl
 -- This is why readings are unique: a step is a function of the words, so only one valid item can
 -- begin there.
 -- the step of the words that a valid item spells takes this item, and leaves the words after it
-pub spelled_step : (grammar : Grammar) → IsNamed grammar → (item : Item) (more : List Text)
+pub spelled_step : (grammar : Grammar) → HasTextNames grammar → (item : Item) (more : List Text)
     → IsLawfulItem grammar item → (is_bare item ≡ true → EndsOrIsDashed more)
     → TakesItem grammar (spelled item more) item more
 unfolding cluster_step
@@ -391,13 +391,13 @@ spelled_step grammar named (cluster bytes (ends_in option argument)) more lawful
 -- ---- the step of an error
 
 -- a wide character is unknown, by its first byte
-wide_unknown : (grammar : Grammar) → IsNamed grammar → (c byte : ℕ) (others text : Text)
+wide_unknown : (grammar : Grammar) → HasTextNames grammar → (c byte : ℕ) (others text : Text)
     → byte ∷ others ≡ encode_utf8 c ++ text → 1 < length (encode_utf8 c)
     → grammar.kind (byte ∷ []) ≡ None
 wide_unknown grammar named c byte others text e wide = search (rules, Texts.encode-ascii_byte)
 
 -- a word with a wide character after its flags
-wide_step : (grammar : Grammar) → IsNamed grammar
+wide_step : (grammar : Grammar) → HasTextNames grammar
     → (word : Text) (names : List ℕ) (c : ℕ) (text whole : Text) (more : List Text)
     → whole ≡ encode_utf8 c ++ text → IsUtf8 whole → IsShortForm grammar word (names ++ whole)
     → AllByRecursion (IsFlag grammar) names
@@ -430,7 +430,7 @@ first_byte byte text ascii utf8 =
     ap first_char (sym whole) ∙ Texts.first_char-append byte text (subst IsUtf8 (sym whole) utf8) ∙ encoded
 
 -- a word with an error
-pub fault_step : (grammar : Grammar) → IsNamed grammar
+pub fault_step : (grammar : Grammar) → HasTextNames grammar
     → (word : Text) (more : List Text) (fault : Fault) → IsUtf8 word
     → IsFaultAt grammar word more fault → step grammar word more ≡ faults fault
 fault_step grammar named word more fault utf8 (unknown_name name argument form unknown) =

@@ -19,7 +19,7 @@ use Rattle.getopts.specs.CanonAnswers.{IsOrderAnswer, IsOrder, KeepsLineLaws}
 use Rattle.getopts.proofs.canon.Lines.{HasCanonicalLine-says, Says-accepted}
 use Rattle.getopts.proofs.counts.FirstFault.{first_count_fault-kept, first_count_fault-broken}
 use Rattle.getopts.proofs.Only.{meets}
-use Rattle.getopts.proofs.parse.Parsed.{named_here}
+use Rattle.getopts.proofs.parse.Parsed.{text_names_here}
 use Rattle.getopts.proofs.scan.Words.{holds_equals-none}
 
 -- a test that finds `=` exactly if it is there
@@ -39,7 +39,7 @@ count_keeping options words content is = search (rules, meets)
 pub KeepsLineLaws-lawful : (options : Declared) → MayBeDeclared options.groups
     → KeepsLineLaws options
 KeepsLineLaws-lawful options declared words line written =
-    HasCanonicalLine-says options words written.content declared.named (named_here options declared)
+    HasCanonicalLine-says options words written.content declared.named (text_names_here options declared)
     (Says-accepted options options.style options.long_only words written.content written.accepted)
     written.plain
 

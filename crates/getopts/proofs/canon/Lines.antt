@@ -37,7 +37,7 @@ use Rattle.getopts.proofs.Lists.{filter-map}
 use Rattle.getopts.proofs.table.Names.{main_at-Some, resolution-main_name, resolution-nil}
 use Rattle.getopts.proofs.table.Names.{resolution_within}
 use Rattle.getopts.proofs.Reading.Positions.{mentions_of-items}
-use Rattle.getopts.proofs.Reading.Reader.{IsNamed}
+use Rattle.getopts.proofs.Reading.Reader.{HasTextNames}
 use Rattle.getopts.proofs.Reading.Readings.{only_reading, reading_after_item}
 use Rattle.getopts.proofs.Reading.Texts.{begins_with_dash-append, cut_at_equals-append}
 
@@ -274,7 +274,7 @@ ReadsBackEverywhere-says options words content says plain style long_only =
 
 -- a canonical line that reads back says nothing else, since a line has one reading at most
 says_nothing_else-reads_back : (options : Declared) (content : Content)
-    → IsNamed (grammar_of options) → ReadsBackEverywhere options content → (other : Content)
+    → HasTextNames (grammar_of options) → ReadsBackEverywhere options content → (other : Content)
     → Says options (canonical_line options.groups content) other → other ≡ content
 says_nothing_else-reads_back options content named back other says =
     let there = back says.style says.long_only in
@@ -327,7 +327,7 @@ canonical_line-same groups content other lawful sound plain sound_other plain_ot
 
 -- the laws of the canonical line of a line's plain content
 pub HasCanonicalLine-says : (options : Declared) (words : List Text) (content : Content)
-    → AreLawfullyNamed options.groups → IsNamed (grammar_of options) → Says options words content
+    → AreLawfullyNamed options.groups → HasTextNames (grammar_of options) → Says options words content
     → IsPlain options.groups content → HasCanonicalLine options content
 HasCanonicalLine-says options words content lawful named says plain =
     let sound = IsSound-says options words content says in

@@ -9,29 +9,29 @@ use Rattle.getopts.specs.Reading.{Reading, IsScanFault}
 use Rattle.getopts.specs.Matches.{matches_of}
 use Rattle.getopts.specs.Canon.{IsCountKeeping}
 use Rattle.getopts.specs.Parse.{Reads, HasReading, HasNoReading, IsAccepted, KeepsReadingLaws}
-use Rattle.getopts.proofs.table.Names.{named_grammar}
+use Rattle.getopts.proofs.table.Names.{has_text_names}
 use Rattle.getopts.proofs.Only.{IsTheOnly-from}
 use Rattle.getopts.proofs.Reading.Laws as Laws
 use Rattle.getopts.proofs.Reading.Positions.{PositionsAreWords_lem}
-use Rattle.getopts.proofs.Reading.Reader.{IsNamed}
+use Rattle.getopts.proofs.Reading.Reader.{HasTextNames}
 use Rattle.getopts.proofs.Reading.Readings.{only_reading, only_fault, no_reading}
 
 module _ (options : Declared) (declared : MayBeDeclared options.groups) where
   -- the grammar has names
-  pub named_here : IsNamed (grammar_of options)
-  named_here = named_grammar options declared
+  pub text_names_here : HasTextNames (grammar_of options)
+  text_names_here = has_text_names options declared
 
   module _ (words : List Text) where
     -- a reading is unique
     pub only_reads : (reading : Reading) → Reads options words reading
         → IsTheOnly (Reads options words) reading
-    only_reads reading reads = search (rules, IsTheOnly-from, only_reading, named_here)
+    only_reads reading reads = search (rules, IsTheOnly-from, only_reading, text_names_here)
 
     -- a scan error leaves no reading and no other error
     pub HasNoReading-fault : AreTexts words → (fault : Fault)
         → IsScanFault (grammar_of options) words fault → HasNoReading options words fault
     HasNoReading-fault texts fault fault_is =
-        search (rules, IsTheOnly-from, only_fault, named_here, no_reading)
+        search (rules, IsTheOnly-from, only_fault, text_names_here, no_reading)
 
     -- words with a reading have its matches
     pub HasReading-reading : (reading : Reading) → Reads options words reading
@@ -52,7 +52,7 @@ module _ (options : Declared) (declared : MayBeDeclared options.groups) where
     dashes = Laws.OneDashOrTwo_lem (grammar_of options);
     lines = Laws.LinesCompose_lem (grammar_of options)
         (λ reading other words reads other_reads. only_reading
-        (grammar_of options) named_here words reading other
+        (grammar_of options) text_names_here words reading other
         reads other_reads);
     trailing = Laws.TrailingStartIsAfterStop_lem (grammar_of options);
     frees = Laws.FreeWordsAreSubsequence_lem (grammar_of options);

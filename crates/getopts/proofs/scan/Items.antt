@@ -6,7 +6,7 @@ use Rattle.getopts.specs.Options.{Grammar, long_kind, long_place}
 use Rattle.getopts.specs.Reading.{Argument, none, attached, Dashes, argument_words, value_of}
 use Rattle.getopts.specs.Reading.{holds_equals, Occurrence, at_position}
 use Rattle.getopts.specs.Fail.{Fault, IsOutOfMemoryOr}
-use Rattle.getopts.specs.Step.{with_equals, faults, chosen_long, named_step, long_step, Chooses}
+use Rattle.getopts.specs.Step.{with_equals, faults, chosen_long, long_name_step, long_step, Chooses}
 use Rattle.getopts.specs.Step.{AddsItem}
 use Rattle.getopts.specs.declared.fail.Fail.{Fail}
 use Rattle.getopts.specs.declared.kinds.HasArg.{HasArg}
@@ -35,18 +35,18 @@ module _ (grammar : Grammar) (dashes : Dashes) (text name : Text) (argument : Op
     (after : List Text) (text_is : text ≡ name ++ with_equals argument)
     (cut_once : holds_equals name ≡ false) where
   -- its result, by its kind
-  long_step-named : (kind : Option HasArg) → long_kind grammar name ≡ kind
-      → long_step grammar dashes text after ≡ named_step grammar kind dashes name argument after
-  long_step-named kind kind_is = search (rules, long_step_cut)
+  long_step-long_name : (kind : Option HasArg) → long_kind grammar name ≡ kind
+      → long_step grammar dashes text after ≡ long_name_step grammar kind dashes name argument after
+  long_step-long_name kind kind_is = search (rules, long_step_cut)
 
   -- a `Fail` with its error
   pub IsOutOfMemoryOr-long : (kind : Option HasArg) → long_kind grammar name ≡ kind
       → (fail : Fail) (fault : Fault)
-      → named_step grammar kind dashes name argument after ≡ faults fault
+      → long_name_step grammar kind dashes name argument after ≡ faults fault
       → IsOutOfMemoryOr fail (λ f. f ≡ fault)
       → IsOutOfMemoryOr fail (λ f. long_step grammar dashes text after ≡ faults f)
   IsOutOfMemoryOr-long kind kind_is fail fault is told = IsOutOfMemoryOr-one fail fault
-      (λ f. long_step grammar dashes text after ≡ faults f) told (long_step-named kind kind_is ∙ is)
+      (λ f. long_step grammar dashes text after ≡ faults f) told (long_step-long_name kind kind_is ∙ is)
 
   -- an item, after its occurrence was added
   pub AddsItem-long : (kind : HasArg) (group position used : ℕ) (value : Option Text)
@@ -56,7 +56,7 @@ module _ (grammar : Grammar) (dashes : Dashes) (text name : Text) (argument : Op
       → new ≡ old ++ at_position position (record { group = group; value = value }) ∷ []
       → AddsItem grammar (long_step grammar dashes text after) position used old new
   AddsItem-long kind group position used value old new kind_is place_is chooses added =
-      search (rules, long_step-named (Some kind) kind_is, length-argument [] chooses.argument)
+      search (rules, long_step-long_name (Some kind) kind_is, length-argument [] chooses.argument)
 
 -- a nonempty list of borrowed words
 pub texts-first : {X : Type 0} (text : X → Text) (words : List X) (word : X)

@@ -28,7 +28,7 @@ pub record IsLawfulScanner (scanner : Scanner) : Type 0 where
   pub table : IsTableOf (names_of scanner.options.now.groups) scanner.table.now
 
 -- This is the place and this the kind of an option.
-pub record IsNamedBy (group : Option ℕ) (takes : Option HasArg) (option : Resolved) : Type 0 where
+pub record IsResolvedTo (group : Option ℕ) (takes : Option HasArg) (option : Resolved) : Type 0 where
   pub place : group ≡ Some option.place
   pub kind : takes ≡ Some option.kind
 

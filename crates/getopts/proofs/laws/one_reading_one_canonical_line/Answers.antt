@@ -4,7 +4,7 @@ use Rattle.getopts.proofs.MainTheorem.SameContent.{OneContentHoldsSame_lem, Line
 use Rattle.getopts.proofs.MainTheorem.Results.{HasResults-declared}
 use Rattle.getopts.proofs.canon.Lines.{IsSound-says, HasCanonicalLine-says}
 use Rattle.getopts.proofs.canon.Lines.{OneLineOneContent-lawful}
-use Rattle.getopts.proofs.parse.Parsed.{keeps_laws, named_here}
+use Rattle.getopts.proofs.parse.Parsed.{keeps_laws, text_names_here}
 use Rattle.getopts.proofs.MainTheorem.Theorem.{OneReading-options, AcceptedExactlyWhen-options}
 use Rattle.getopts.proofs.MainTheorem.Theorem.{RefusedExactlyWhen-options}
 use Rattle.getopts.proofs.canon.Answered.{KeepsLineLaws-lawful}
@@ -27,7 +27,7 @@ returns c =
       holds_same = holds_same;
       one_line_one_content = OneLineOneContent-lawful options declared.named;
       canonical_lines = λ words content. HasCanonicalLine-says options words content declared.named
-          (named_here options declared);
+          (text_names_here options declared);
       line_laws = line_laws;
       read_again = LinesReadAgain_lem options declared line_laws;
       reading_laws = keeps_laws options declared;

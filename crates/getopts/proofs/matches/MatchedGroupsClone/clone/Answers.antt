@@ -9,14 +9,14 @@ invariant_of-result c =
     let signatures : c.in_ok-clone.field-0 ≡ c.self.inside.signatures = c.in_ok-clone.ensures.cases in
     let letters : c.in_ok-clone-2.field-0.letters.items ≡ c.self.inside.table.letters.items =
     c.in_ok-clone-2.ensures.letters in
-    let words : c.in_ok-clone-2.field-0.words.items ≡ c.self.inside.table.words.items =
-    c.in_ok-clone-2.ensures.words in
+    let long_names : c.in_ok-clone-2.field-0.long_names.items ≡ c.self.inside.table.long_names.items =
+    c.in_ok-clone-2.ensures.long_names in
     let found : c.in_ok-clone-3.field-0 ≡ c.self.inside.found = c.in_ok-clone-3.ensures.cases in
     let index : c.in_ok-clone-4.field-0 ≡ c.self.inside.index = c.in_ok-clone-4.ensures.cases in
     record {
       table = record {
         are_letters = rw (signatures, letters) c.self.invariant.table.are_letters;
-        are_words = rw (signatures, words) c.self.invariant.table.are_words;
+        are_long_names = rw (signatures, long_names) c.self.invariant.table.are_long_names;
       };
       index = ap places_in index ∙ c.self.invariant.index ∙ sym (λ i. index_of (length (signatures i)) (found i));
     }
