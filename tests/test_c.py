@@ -105,8 +105,9 @@ def test_misspelt_names(build):
 # ---- answers on random tables and words, compared with tests/model.py
 
 STOP, LONG_ONLY, KEEP_ORDER, REPEAT, STRICT, BAD = 16, 32, 64, 128, 256, 7
-# In C, an option that must be given may be repeated: by its kind, or in the mode REPEAT.
-OCCURS = [*model.OCCURS, "reqmulti"]
+# In C, an option that must be given may be repeated: by its kind, or in the mode REPEAT. These are in the order of C's
+# numbers, whatever the model's order is.
+OCCURS = ["optional", "req", "multi", "reqmulti"]
 STATUSES = ["", "ArgumentMissing", "UnrecognizedOption", "OptionMissing", "OptionDuplicated", "UnexpectedArgument"]
 SHORTS, LONGS = ["", "", "", *"abcv7="], ["ab", "verbose", "verbatim", "a=b", "=a", "é", "日本", "no-v", "a" * 50]
 HINTS, DESCRIPTIONS = [None, "", "N", "FILE", "é"], [None, "", "say more", "many words " * 9]
@@ -124,7 +125,7 @@ def random_case(rng, occurs=model.OCCURS):
     count, few = rng.randrange(1, 7), [texts.character(rng) for _ in range(4)]
     shorts = SHORTS + [char for char in dict.fromkeys(few) if char.isascii() and char not in ["-", *SHORTS]]
     longs = [*dict.fromkeys([*LONGS, *filter(IS_LONG, (texts.near(rng, rng.choice(LONGS)) for _ in range(2)))])]
-    often = [place for place, occur in enumerate(occurs) for _ in range(1 if "req" in occur else 9)]
+    often = [OCCURS.index(occur) for occur in occurs for _ in range(1 if "req" in occur else 9)]
     rows = [[short, long if not short or rng.random() < 0.7 else rng.choice([None, ""]), None, rng.choice(DESCRIPTIONS),
              rng.randrange(len(model.KINDS)) + 4 * rng.choice(often)]
             for short, long in zip(rng.sample(shorts, count), rng.sample(longs, count))]

@@ -293,7 +293,7 @@ def answers_of_parse_os(modes, _, rows, names, words):
 
 
 def with_named_kinds(rows):
-    return [[*row[:4], model.KINDS[row[4] % 4], model.OCCURS[row[4] // 4]] for row in rows]
+    return [[*row[:4], model.KINDS[row[4] % 4], test_c.OCCURS[row[4] // 4]] for row in rows]
 
 
 def test_answers_of_parse_os(ours, cases):
