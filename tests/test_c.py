@@ -588,7 +588,7 @@ def test_install_for_other_target(target, tmp_path):
     need_target(target)
     need("pkg-config")
     env = {**OLD, "CARGO": "/usr/bin/cargo", "CARGO_FLAGS": "--ignore-rust-version", "RUSTFLAGS": "--cfg old_rustc",
-           "CARGO_BUILD_TARGET": target}
+           "CARGO_BUILD_TARGET": target, "CARGO_PROFILE_RELEASE_PANIC": "unwind"}
     _, errors = run("sh", C / "install.sh", tmp_path / "to", env=env, status=1)
     assert f"set CC to the C compiler for {target}" in errors
     to, windows = tmp_path / "to", target == WINDOWS
@@ -677,7 +677,7 @@ def test_libdir(copies, tmp_path):
         assert path.stat().st_mode & 0o777 == (0o755 if path.is_dir() or ".so" in path.name else 0o644), path
     run("sh", C / "install.sh", "--uninstall", to, env={"LIBDIR": "lib/own"})
     assert not any(path.is_file() for path in to.rglob("*"))
-    for wrong in ("/elsewhere", "../lib", "lib 64", to):
+    for wrong in ("/elsewhere", "../lib", "./lib", "lib 64", to):
         assert "LIBDIR must be" in run("sh", C / "install.sh", to, status=1, env={"LIBDIR": str(wrong)})[1]
 
 

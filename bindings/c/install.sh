@@ -4,8 +4,9 @@
 #     bindings/c/install.sh [--uninstall] PREFIX
 #
 # - PREFIX/lib: libgetopts.a, also as libgetopts-static.a
-# - the shared library: on Linux, PREFIX/lib/libgetopts.so; for Windows with mingw's gcc, PREFIX/bin/libgetopts-1.dll, and
-#   in PREFIX/lib libgetopts.dll.a and getopts.def. There, both libraries export only the functions of getopts.h
+# - the shared library: on Linux, PREFIX/lib/libgetopts.so; for Windows with mingw's gcc for x86-64,
+#   PREFIX/bin/libgetopts-1.dll and, in PREFIX/lib, libgetopts.dll.a and getopts.def. There, both libraries export only
+#   the functions of getopts.h
 # - PREFIX/include: getopts.h
 # - PREFIX/lib/pkgconfig: getopts-static.pc, for programs that contain the library, and getopts.pc for the shared one
 # - PREFIX/lib/cmake/getopts: for CMake, the package getopts with its targets getopts::static and getopts::shared
@@ -59,7 +60,7 @@ esac
 lib=${LIBDIR:-lib}
 lib=${lib#"$prefix/"}
 case /$lib/ in
-//* | */../* | *[[:space:]\"\$\#\\:]*) fail "LIBDIR must be a folder below PREFIX, without blanks, \", \$, #, \\ and :" ;;
+//* | */./* | */../* | *[[:space:]\"\$\#\\:]*) fail "LIBDIR must be a folder below PREFIX, without blanks, \", \$, #, \\ and :" ;;
 esac
 absolute "${DESTDIR:-/}"
 to=$path$prefix
@@ -133,22 +134,22 @@ sed 's,"../rust","rust",' "$here/Cargo.toml" >"$room/c/Cargo.toml"
 printf '\n[workspace]\nexclude = ["rust"]\n' >>"$room/c/Cargo.toml"
 cp -R "$here/src" "$room/c"
 cp -R "$top/bindings/rust/Cargo.toml" "$top/bindings/rust/src" "$room/c/rust"
-# The library needs panic=abort, whatever the environment sets.
-printf '[profile.release]\npanic = "abort"\n' >"$room/config.toml"
-strip=--strip-debug
-if [ -n "${DEBUG_INFO:-}" ]; then
-    strip=''
-    printf 'debug = true\n[build]\nrustflags = ["--remap-path-prefix=%s=getopts"]\n' "$room" >>"$room/config.toml"
-fi
+: >"$room/config.toml"
 for crate in /usr/share/cargo/registry/unicode-width-*; do
     if [ -d "$crate" ]; then
         printf '[net]\noffline = true\n[source]\ncrates-io.replace-with = "debian"\ndebian.directory = "%s"\n' "${crate%/*}" \
-            >>"$room/config.toml"
+            >"$room/config.toml"
     fi
 done
+strip=--strip-debug
+if [ -n "${DEBUG_INFO:-}" ]; then
+    strip=''
+    printf '[profile.release]\ndebug = true\n[build]\nrustflags = ["--remap-path-prefix=%s=getopts"]\n' "$room" \
+        >>"$room/config.toml"
+fi
 # shellcheck disable=SC2086
-(cd / && CARGO_TARGET_DIR=$room/target "$cargo" build --release --quiet --manifest-path "$room/c/Cargo.toml" \
-    --config "$room/config.toml" ${CARGO_FLAGS:-}) ||
+(cd / && CARGO_TARGET_DIR=$room/target CARGO_PROFILE_RELEASE_PANIC=abort "$cargo" build --release --quiet \
+    --manifest-path "$room/c/Cargo.toml" --config "$room/config.toml" ${CARGO_FLAGS:-}) ||
     fail "cargo failed. The build needs Rust 1.68 or later (on Debian 12, cargo-web and rustc-web) with the target's standard
 library, and the crate unicode-width (without a network, from Debian's package librust-unicode-width-dev). RUSTFLAGS
 must not contain -Cpanic=unwind"
@@ -186,8 +187,8 @@ Cflags: "-I\${includedir}"
 END
 }
 
-# target NAME KIND FILES: prints a target for CMake.
-target() {
+# cmake_target NAME KIND FILES: prints a target for CMake.
+cmake_target() {
     cat <<END
 add_library(getopts::$1 $2 IMPORTED)
 set_target_properties(getopts::$1 PROPERTIES INTERFACE_INCLUDE_DIRECTORIES "\${getopts_prefix}/include"
@@ -206,7 +207,7 @@ if(TARGET getopts::static)
 endif()
 END
 # shellcheck disable=SC2016
-target static STATIC 'IMPORTED_LOCATION "${getopts_lib}/libgetopts.a"' >>"$room/getoptsConfig.cmake"
+cmake_target static STATIC 'IMPORTED_LOCATION "${getopts_lib}/libgetopts.a"' >>"$room/getoptsConfig.cmake"
 cat >"$room/getoptsConfigVersion.cmake" <<END
 set(PACKAGE_VERSION $version)
 if(PACKAGE_FIND_VERSION_MAJOR EQUAL ${version%%.*} AND NOT PACKAGE_FIND_VERSION VERSION_GREATER PACKAGE_VERSION)
@@ -219,7 +220,7 @@ END
 remove_versions
 place=$prefix system=$($cc -dumpmachine)
 case $system in
-*linux* | *mingw*)
+*linux* | x86_64*mingw*)
     # One object that only exports the functions of getopts.h.
     keep='' roots=''
     for function in $functions; do
@@ -262,7 +263,7 @@ case $system in
         files="IMPORTED_LOCATION \"\${getopts_lib}/libgetopts.so\""
         ;;
     esac
-    target shared SHARED "$files" >>"$room/getoptsConfig.cmake"
+    cmake_target shared SHARED "$files" >>"$room/getoptsConfig.cmake"
     # shellcheck disable=SC2016
     describe '"-L${libdir}" -lgetopts' >"$room/getopts.pc"
     put "$room/getopts.pc" "$lib/pkgconfig/getopts.pc"
