@@ -36,8 +36,8 @@ def written(rows):
 
 @functools.cache
 def all_rows():
-    """All rows, and more that model.py answers: whether words give a flag, canonical lines, options in order, and the
-    positions of names."""
+    """All rows, and more that model.py answers: whether words give a flag, canonical lines, orders, and the positions of
+    names."""
     rows = [row for file in ROWS for row in rows_of(file.read_bytes())]
     asked, given, differ = answer_rows(rows)
     assert not differ, b"\n  ".join(differ[0]).decode()

@@ -294,6 +294,7 @@ impl<'o> Scanner<'o> {
 
     /// Reads a long item: `text` follows the dashes in its first word, and `after` is the words
     /// after that. Appends the item's occurrence, and returns how many words of `after` it used.
+    #[inline(always)]
     fn read_long<'w, S: AsStr>(
         &self,
         alloc: Global,
@@ -350,6 +351,7 @@ impl<'o> Scanner<'o> {
 
     /// Reads a cluster: `text` follows the dash in its first word, and `after` is the words after
     /// that. Appends the cluster's occurrences, and returns how many words of `after` it used.
+    #[inline(always)]
     fn cluster<S: AsStr>(
         &self,
         alloc: Global,

@@ -231,6 +231,7 @@ impl<'o> Scanner<'o> {
 
     /// Reads a long item: `text` follows the dashes in its first word, and `after` is the words
     /// after that. Appends the item's occurrence, and returns how many words of `after` it used.
+    #[inline(always)]
     fn read_long<'w, S: AsStr>(
         &self,
         alloc: Global,
@@ -270,6 +271,7 @@ impl<'o> Scanner<'o> {
 
     /// Reads a cluster: `text` follows the dash in its first word, and `after` is the words after
     /// that. Appends the cluster's occurrences, and returns how many words of `after` it used.
+    #[inline(always)]
     fn cluster<S: AsStr>(
         &self,
         alloc: Global,
