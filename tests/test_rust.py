@@ -285,11 +285,12 @@ def answers_of_parse_os(modes, _, rows, names, words):
     options = model.Options(test_c.groups_of(rows), modes & test_c.STOP, modes & test_c.LONG_ONLY)
     read, kept = options.parse(words), options.parse(words, with_counts=False)
     yield (model.TEXTS[read[0]] % read[1]).decode(errors="replace") if len(read) == 2 else None
-    occurrences, free, start = kept if len(kept) == 3 else ([], [], None)
+    occurrences, free, start, _ = kept if len(kept) > 2 else ([], [], None, [])
     for name in names:
         yield from (it for place, at, value in occurrences if place == options.resolve(name) for it in (at, value))
-    yield from (it for place, _, value in occurrences if len(read) == 3 for it in (options.groups[place].main, value))
-    yield from [*free, start] if len(kept) == 3 else []
+    for place, text in read[3] if len(read) > 2 else []:
+        yield from (None if place is None else options.groups[place].main, text)
+    yield from [*free, start] if len(kept) > 2 else []
 
 
 def with_named_kinds(rows):

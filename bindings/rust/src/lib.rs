@@ -38,8 +38,8 @@
 //! `-ofile`.
 //!
 //! `parse` also rejects `join --help` if a required option is missing. To print help anyway, use
-//! [`parse_ignoring_counts`](Options::parse_ignoring_counts). If the order of different options
-//! matters, use [`parse_in_order`](Options::parse_in_order).
+//! [`parse_ignoring_counts`](Options::parse_ignoring_counts). If the order of options and positional
+//! arguments matters, use [`parse_in_order`](Options::parse_in_order).
 //!
 //! # Subcommands
 //!
@@ -136,7 +136,7 @@ pub use fail::{Fail, Result};
 #[cfg(feature = "std")]
 pub use matches::Matches;
 #[cfg(feature = "std")]
-pub use options::Options;
+pub use options::{Given, Options};
 #[cfg(all(feature = "std", feature = "proved"))]
 pub use os::bytes_of;
 #[cfg(feature = "std")]

@@ -54,6 +54,41 @@ impl fmt::Debug for Options {
     }
 }
 
+/// An option or a positional argument, as [`Options::parse_in_order`] returns them. Texts are
+/// `OsString` if [`parse_os_in_order`](Options::parse_os_in_order) returned it.
+///
+/// ```
+/// use getopts::{Given, Options};
+///
+/// let mut options = Options::new();
+/// options.optmulti("l", "library", "link with NAME", "NAME");
+/// let given = options.parse_in_order(["a.o", "-lm"]).unwrap();
+/// let library = Given::Option { name: "library", value: Some("m".to_string()) };
+/// assert_eq!(given, [Given::Free("a.o".to_string()), library]);
+/// ```
+#[derive(Clone, Debug, PartialEq, Eq)]
+pub enum Given<'o, T = String> {
+    /// An option.
+    Option {
+        /// Its main name: the long name or, if it has none, the short one.
+        name: &'o str,
+        /// Its value, if it has one.
+        value: Option<T>,
+    },
+    /// A positional argument (*free word*).
+    Free(T),
+}
+
+impl<'o, T> Given<'o, T> {
+    /// The same with another text.
+    pub(crate) fn map<U>(self, convert: impl Fn(T) -> U) -> Given<'o, U> {
+        match self {
+            Given::Option { name, value } => Given::Option { name, value: value.map(convert) },
+            Given::Free(word) => Given::Free(convert(word)),
+        }
+    }
+}
+
 /// Fewer than `FEW` items of at most `SMALL` bytes stay on the stack.
 const FEW: usize = 16;
 const SMALL: usize = 64;
@@ -324,24 +359,26 @@ impl Options {
         self.read(args, |options, texts| read_texts(options, texts).map(Matches::of))
     }
 
-    /// Parses a command line like `parse`, and returns its options in order: the main name of each
-    /// (the long name or, if there is none, the short one) and its value. Not in the crate getopts.
+    /// Parses a command line like `parse`, and returns its options and positional arguments in the
+    /// order in which they were given. Not in the crate getopts.
     ///
-    /// Use it if the order of different options matters: `opt_positions` can't order options in one
-    /// word, such as `-vq`.
+    /// Use it if an option applies to the positional arguments after it, or if the order of
+    /// different options matters: `opt_positions` can't order options in one word, such as `-vq`.
     ///
     /// ```
-    /// let mut options = getopts::Options::new();
-    /// options.optflagmulti("q", "quiet", "say less").optmulti("I", "", "add a folder", "DIR");
-    /// let mut folders = Vec::new();
-    /// for (name, value) in options.parse_in_order(["-Isrc", "-qI", "lib", "in.txt"]).unwrap() {
-    ///     match name {
-    ///         "I" => folders.extend(value),
-    ///         "quiet" => folders.clear(),
-    ///         _ => {}
+    /// use getopts::{Given, Options};
+    ///
+    /// let mut options = Options::new();
+    /// options.optmulti("C", "directory", "take the next files from DIR", "DIR");
+    /// let (mut folder, mut paths) = (String::from("."), Vec::new());
+    /// for given in options.parse_in_order(["-C", "src", "a", "b", "-Clib", "c"]).unwrap() {
+    ///     match given {
+    ///         Given::Option { name: "directory", value } => folder = value.unwrap(),
+    ///         Given::Option { .. } => {}
+    ///         Given::Free(file) => paths.push(format!("{folder}/{file}")),
     ///     }
     /// }
-    /// assert_eq!(folders, ["lib"]);
+    /// assert_eq!(paths, ["src/a", "src/b", "lib/c"]);
     /// ```
     ///
     /// # Errors
@@ -349,7 +386,7 @@ impl Options {
     pub fn parse_in_order<C: IntoIterator>(
         &self,
         args: C,
-    ) -> std::result::Result<Vec<(&str, Option<String>)>, Fail>
+    ) -> std::result::Result<Vec<Given<'_>>, Fail>
     where
         C::Item: AsRef<OsStr>,
     {
@@ -374,7 +411,7 @@ impl Options {
     }
 
     /// Parses a command line like `parse`, and rewrites it in canonical form: each option as
-    /// `--name` or `--name=value`, with its main name (see `parse_in_order`), then `--`, then the
+    /// `--name` or `--name=value`, with its main name (see [`Given`]), then `--`, then the
     /// positional arguments. Not in the crate getopts.
     ///
     /// Returns `None` if the command line gives an option whose main name contains `=`.
@@ -497,15 +534,18 @@ pub(crate) fn read_texts(options: &proved::Options, words: &[&str]) -> proved::R
     options.parse_ignoring_counts(Global, words)
 }
 
-/// The main name and the value of each option given, in order.
 pub(crate) fn texts_in_order<'o>(
     options: &'o proved::Options,
     words: &[&str],
-) -> std::result::Result<Vec<(&'o str, Option<String>)>, proved::Fail> {
-    let found = options.accepted_line(Global, words)?.line.found;
-    let given = (0..found.len()).map(|nth| {
-        let option = found.at(nth);
-        (options.groups().main(option.group), option.value.map(String::from))
+) -> std::result::Result<Vec<Given<'o>>, proved::Fail> {
+    let line = options.accepted_in_order(Global, words)?;
+    let mut values = (0..line.found.len()).map(|nth| line.found.at(nth).value);
+    let given = line.order.iter().map(|given| match *given {
+        proved::Given::Option(place) => Given::Option {
+            name: options.groups().main(place),
+            value: values.next().flatten().map(String::from),
+        },
+        proved::Given::Free(word) => Given::Free(word.into()),
     });
     Ok(given.collect())
 }

@@ -3,7 +3,7 @@
 use crate::bytes::{plain_text, push_bytes, push_text};
 use crate::fail::granted;
 use crate::options::{parse_texts, read_texts, read_words, texts_in_order};
-use crate::{Fail, Matches, Options, proved};
+use crate::{Fail, Given, Matches, Options, proved};
 use std::borrow::Cow;
 use std::error::Error;
 use std::ffi::{OsStr, OsString};
@@ -125,14 +125,17 @@ impl Options {
         self.read_os(args, read_texts, OsMatches::of)
     }
 
-    /// Parses a command line like `parse_os`, and returns its options in order, as `parse_in_order`
-    /// does.
+    /// Parses a command line like `parse_os`, and returns its options and positional arguments in
+    /// order, as `parse_in_order` does.
     ///
     /// ```
+    /// use getopts::Given;
+    ///
     /// let mut options = getopts::Options::new();
-    /// options.optflagmulti("q", "quiet", "say less").optmulti("I", "", "add a folder", "DIR");
-    /// let given = options.parse_os_in_order(["-Isrc", "-q", "in.txt"]).unwrap();
-    /// assert_eq!(given, [("I", Some("src".into())), ("quiet", None)]);
+    /// options.optmulti("I", "", "add a folder", "DIR");
+    /// let given = options.parse_os_in_order(["in.txt", "-Isrc"]).unwrap();
+    /// let option = Given::Option { name: "I", value: Some("src".into()) };
+    /// assert_eq!(given, [Given::Free("in.txt".into()), option]);
     /// ```
     ///
     /// # Errors
@@ -140,13 +143,13 @@ impl Options {
     pub fn parse_os_in_order<C: IntoIterator>(
         &self,
         args: C,
-    ) -> Result<Vec<(&str, Option<OsString>)>, Fail>
+    ) -> Result<Vec<Given<'_, OsString>>, Fail>
     where
         C::Item: AsRef<OsStr>,
     {
         self.read_os(args, texts_in_order, |given, marked| {
             let word = |text: String| if marked { os_of(&text) } else { text.into() };
-            given.into_iter().map(|(name, value)| (name, value.map(word))).collect()
+            given.into_iter().map(|given| given.map(word)).collect()
         })
     }
 

@@ -207,7 +207,7 @@ fn reports_failures<T>(options: &Options, read: impl Fn(&Options) -> Result<T, F
         assert!(of_memory(&result));
         result
     });
-    assert!(failures > 8);
+    assert!(failures > 5);
 }
 
 #[test]

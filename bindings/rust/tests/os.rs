@@ -1,6 +1,6 @@
 //! Arguments of any bytes, borrowed values, and methods of matches.
 
-use getopts::{Fail, HasArg, Occur, Options, OsGetError};
+use getopts::{Fail, Given, HasArg, Occur, Options, OsGetError};
 use std::ffi::{OsStr, OsString};
 
 fn options() -> Options {
@@ -105,14 +105,30 @@ fn errors_of_opt_get_work_with_the_question_mark() {
 fn parse_os_in_order_returns_words_as_given() {
     let options = options();
     for word in not_unicode() {
-        let words = [joined("-vo", &word), "-c".into(), word.clone(), "-v".into()];
-        let value = Some(word);
-        let given =
-            [("verbose", None), ("output", value.clone()), ("color", value), ("verbose", None)];
+        let words = [
+            joined("-vo", &word),
+            "in".into(),
+            "-c".into(),
+            word.clone(),
+            "-v".into(),
+            "--".into(),
+            word.clone(),
+        ];
+        let option = |name, value| Given::Option { name, value };
+        let given = [
+            option("verbose", None),
+            option("output", Some(word.clone())),
+            Given::Free("in".into()),
+            option("color", Some(word.clone())),
+            option("verbose", None),
+            Given::Free(word),
+        ];
         assert_eq!(options.parse_os_in_order(&words).unwrap(), given);
     }
-    let given = options.parse_os_in_order(["-ofile", "in.txt", "-v"]).unwrap();
-    assert_eq!(given, [("output", Some("file".into())), ("verbose", None)]);
+    let given = options.parse_os_in_order(["in.txt", "-ofile", "-v"]).unwrap();
+    let option = |name, value| Given::Option { name, value };
+    let output = option("output", Some("file".into()));
+    assert_eq!(given, [Given::Free("in.txt".into()), output, option("verbose", None)]);
     assert_eq!(options.parse_os_in_order(["-x"]), Err(Fail::UnrecognizedOption("x".into())));
 }
 

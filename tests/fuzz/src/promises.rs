@@ -6,7 +6,7 @@ use fuzz::{Case, case_of, check, panic_of, same};
 use getopts::alloc::Global;
 use getopts::fallible::TryClone;
 use getopts::proved::{
-    self, Fail, Matches, Options, Request, names_lawful, wrap::each_split_within,
+    self, Fail, Given, Matches, Options, Request, names_lawful, wrap::each_split_within,
 };
 use getopts::{HasArg, Occur, ParsingStyle};
 use std::ffi::OsString;
@@ -31,7 +31,14 @@ fn given(matches: &Matches, order: &[usize], rows: usize) -> Line {
 /// Parses words by two calls that have to agree.
 fn line_of(options: &Options, words: &[String], rows: usize) -> Result<Line, Fail> {
     let matches = options.parse_words(Global, words)?;
-    let order = options.parse_in_order(Global, words)?;
+    let (mut order, mut free) = (Vec::new(), Vec::new());
+    for given in options.parse_in_order(Global, words)? {
+        match given {
+            Given::Option(place) => order.push(place),
+            Given::Free(word) => free.push(word),
+        }
+    }
+    check!(free == matches.free, words);
     for place in 0..rows {
         let count = order.iter().filter(|other| **other == place).count();
         check!(matches.occurrences_at(place).len() == count, words);
@@ -207,8 +214,12 @@ fn any_bytes(case: &Case, dropin: &getopts::Options, names: &[String]) {
     }
     let (order, expected) =
         (dropin.parse_os_in_order(&case.words), dropin.parse_in_order(&encoded));
-    let expected =
-        expected.unwrap().into_iter().map(|(name, value)| (name, value.map(|text| decode(&text))));
+    let expected = expected.unwrap().into_iter().map(|given| match given {
+        getopts::Given::Option { name, value } => {
+            getopts::Given::Option { name, value: value.map(|text| decode(&text)) }
+        }
+        getopts::Given::Free(word) => getopts::Given::Free(decode(&word)),
+    });
     check!(order.unwrap() == expected.collect::<Vec<_>>(), case);
     check!(dropin.parse_os_ignoring_counts(&case.words).is_ok_and(|other| other == read), case);
 }

@@ -2,6 +2,8 @@
 
 use crate::form::Line;
 use crate::options::{Group, CALLS};
+#[cfg(feature = "canonical")]
+use getopts::Given;
 use getopts::{Fail, HasArg, Matches, Occur, Options, ParsingStyle};
 use std::panic::catch_unwind;
 use std::str::FromStr;
@@ -157,14 +159,18 @@ fn canonical(options: &Options, words: &[String]) -> String {
     }
 }
 
-/// Whether a canonical line consists of these options, then `--`.
+/// Whether a canonical line consists of these options, then `--`, then these free words.
 #[cfg(feature = "canonical")]
-fn is_in_order(given: &[(&str, Option<String>)], line: &[String]) -> bool {
-    let written = given.iter().map(|(name, value)| match value {
-        Some(value) => format!("--{name}={value}"),
-        None => format!("--{name}"),
-    });
-    written.eq(line[..given.len()].iter().cloned()) && line[given.len()] == "--"
+fn is_in_order(given: &[Given], line: &[String]) -> bool {
+    let (mut options, mut free) = (Vec::new(), vec!["--".to_string()]);
+    for given in given {
+        match given {
+            Given::Option { name, value: Some(value) } => options.push(format!("--{name}={value}")),
+            Given::Option { name, value: None } => options.push(format!("--{name}")),
+            Given::Free(word) => free.push(word.clone()),
+        }
+    }
+    [options, free].concat() == line
 }
 
 /// The kind of an error and its name.

@@ -4,7 +4,7 @@
 
 use crate::form::Line;
 use crate::options::Group;
-use getopts::{Options, ParsingStyle};
+use getopts::{Given, Options, ParsingStyle};
 use std::ffi::{OsStr, OsString};
 use std::os::unix::ffi::{OsStrExt, OsStringExt};
 
@@ -56,9 +56,13 @@ fn answer(input: &mut &[u8], out: &mut Vec<u8>) {
             say(out, value);
         }
     }
-    for (name, value) in options.parse_os_in_order(&words).unwrap_or_default() {
-        say(out, Some(name.as_ref()));
-        say(out, value.as_deref());
+    for given in options.parse_os_in_order(&words).unwrap_or_default() {
+        let (name, text) = match given {
+            Given::Option { name, value } => (Some(name.as_ref()), value),
+            Given::Free(word) => (None, Some(word)),
+        };
+        say(out, name);
+        say(out, text.as_deref());
     }
     matches.free.iter().for_each(|word| say(out, Some(word)));
     say(
