@@ -105,6 +105,7 @@ def test_misspelt_names(build):
 # ---- answers on random tables and words, compared with tests/model.py
 
 STOP, LONG_ONLY, KEEP_ORDER, REPEAT, STRICT, BAD = 16, 32, 64, 128, 256, 7
+FREE_WORD = 0x7FFFFFFF
 # In C, an option that must be given may be repeated: by its kind, or in the mode REPEAT. These are in the order of C's
 # numbers, whatever the model's order is.
 OCCURS = ["optional", "req", "multi", "reqmulti"]
@@ -190,15 +191,15 @@ def answers(modes, columns, rows, names, words):
     fault, name = read if len(read) == 2 else ("", b"")
     line = [] if fault else options.canonical(read) or []
     read = options.parse(words, with_counts=False) if fault.startswith("Option") else read
-    occurrences, free, start = read if len(read) == 3 else ([], [], None)
+    occurrences, free, start, order = read if len(read) > 2 else ([], [], None, [])
     yield from [b"", *map(int, defined), STATUSES.index(fault), model.TEXTS[fault] % name if fault else b"",
                 name if fault else b""]
     for name, is_defined in zip(names, defined):
         place = options.resolve(name)
         given = [(at, value) for mine, at, value in occurrences if mine == place]
         yield from said_of_option(is_defined, given[-1:] if is_defined and last[place] else given)
-    for place, _, value in occurrences if modes & KEEP_ORDER and not fault else []:
-        yield from [place, value]
+    for place, text in order if modes & KEEP_ORDER and not fault else []:
+        yield from [FREE_WORD if place is None else place, text]
     yield from [-1, None, len(free), *free, None, -1 if start is None else start, STATUSES.index(fault), *line, None]
     measured = all(model.is_measured(group.short, group.long, group.hint, group.desc) for group in groups)
     yield from [options.usage(b"brief"), options.usage(b"brief", columns)] if measured else [..., ...]
@@ -355,9 +356,10 @@ def test_words_in_utf8_on_windows(build, tmp_path):
 
 
 ORDER = [  # arguments, output lines
-    ("-qv", "verbose"), ("-vq", "quiet"), ("-v --silent", "quiet"), ("--verbose -q --quiet -v f -q", "quiet"), ("-q -- -v", "quiet"),
-    ("-Ia -vXb --include=c -X d=e -q", "take a,leave b,take c,leave d=e,quiet"),
-    ("-Xa -I- --include --", "leave a,take -,take --,verbose"),
+    ("-qv", "verbose"), ("-vq", "quiet"), ("-v --silent", "quiet"), ("--verbose -q --quiet -v -q", "quiet"),
+    ("-q f -- -v", "take ./f,take ./-v,quiet"), ("-C a f -C b g", "take a/f,take b/g,verbose"),
+    ("f -Ca g -vXb h --directory=c -X d=e -q i", "take ./f,take a/g,leave b,take a/h,leave d=e,take c/i,quiet"),
+    ("-Xa -C- - --directory -- -- --", "leave a,take -/-,take --/--,verbose"),
 ]
 
 

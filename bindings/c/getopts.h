@@ -116,7 +116,7 @@ enum getopts_modes {
     GETOPTS_ORDINARY = 0,    /* no mode */
     GETOPTS_STOP = 16,       /* the first free word ends the options */
     GETOPTS_LONG_ONLY = 32,  /* long options begin with one dash or two */
-    GETOPTS_KEEP_ORDER = 64, /* getopts_nth returns options in the order given */
+    GETOPTS_KEEP_ORDER = 64, /* getopts_nth returns options and free words in order */
     GETOPTS_REPEAT = 128,    /* options may be repeated: the last occurrence counts */
     GETOPTS_STRICT = 256,    /* calls with the name of no option end the program */
     GETOPTS_MODES_MAX = 0x7fffffff /* not a mode: makes the enum four bytes wide */
@@ -195,10 +195,15 @@ const char *getopts_value(const struct getopts *options, const char *name, size_
  * are valid until the next getopts_read. */
 const char *const *getopts_values(const struct getopts *options, const char *name);
 
-/* Returns the table row, counted from 0, of the nth option in the words. Stores the option's value
- * in *value, or NULL if it has none; `value` may be NULL. Returns -1 after the last option, if the
- * mode GETOPTS_KEEP_ORDER isn't set, or if the words last read were rejected. The value is valid
- * until the next getopts_read. Call it in a loop, as you would call getopt_long:
+/* What getopts_nth returns for a free word. No row has this number. */
+#define GETOPTS_FREE_WORD 0x7fffffff
+
+/* Returns the nth of the options and free words, in the order given. For an option, returns its
+ * table row, counted from 0, and stores its value in *value, or NULL if it has none. For a free
+ * word, returns GETOPTS_FREE_WORD, and stores the word. `value` may be NULL. Returns -1 after the
+ * last one, if the mode GETOPTS_KEEP_ORDER isn't set, or if the words last read were rejected. The
+ * string is valid until the next getopts_read. Call it in a loop, as you would call getopt_long if
+ * its short options began with `-`:
  *
  *     for (size_t nth = 0; (row = getopts_nth(options, nth, &value)) >= 0; nth++)
  *         switch (row) ..

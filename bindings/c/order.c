@@ -1,20 +1,21 @@
-/* Handles options in the order in which they were given, as a loop over getopt_long does: an example of getopts.h. The
- * last of -q and -v wins, as in -qv, and -I and -X are printed in order. --silent is another name of --quiet. */
+/* Handles options and free words in the order in which they were given, as a loop over getopt_long does: an example of
+ * getopts.h. The last of -q and -v wins, as in -qv. -C applies to the files after it, as in -C a f -C b g. --silent is
+ * another name of --quiet. */
 #include <getopts.h>
 #include <stdio.h>
 
-enum { QUIET, SILENT, VERBOSE, INCLUDE, EXCLUDE, ROWS };
+enum { QUIET, SILENT, VERBOSE, DIRECTORY, EXCLUDE, ROWS };
 
 static const struct getopts_option table[ROWS + 1] = {
     [QUIET] = { "q", "quiet", NULL, "say less", GETOPTS_NO },
     [SILENT] = { NULL, "silent", NULL, "the same as --quiet", GETOPTS_NO },
     [VERBOSE] = { "v", "verbose", NULL, "say more", GETOPTS_NO },
-    [INCLUDE] = { "I", "include", "NAME", "take files of this name", GETOPTS_YES },
+    [DIRECTORY] = { "C", "directory", "DIR", "take the next files from this folder", GETOPTS_YES },
     [EXCLUDE] = { "X", NULL, "NAME", "leave files of this name", GETOPTS_YES },
 };
 
 static int run(struct getopts *options, int count, char **words) {
-    const char *value;
+    const char *value, *folder = ".";
     bool quiet = false;
     int row;
     if (getopts_read(options, count, words) != GETOPTS_OK) {
@@ -25,8 +26,9 @@ static int run(struct getopts *options, int count, char **words) {
         switch (row) {
         case QUIET: case SILENT: quiet = true; break;
         case VERBOSE: quiet = false; break;
-        case INCLUDE: printf("take %s\n", value); break;
+        case DIRECTORY: folder = value; break;
         case EXCLUDE: printf("leave %s\n", value); break;
+        case GETOPTS_FREE_WORD: printf("take %s/%s\n", folder, value); break;
         }
     }
     puts(quiet ? "quiet" : "verbose");

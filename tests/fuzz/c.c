@@ -108,13 +108,17 @@ static char *said(const struct getopts *options, const struct getopts_option *ta
         CHECK(getopts_value(options, name, GETOPTS_LAST) == (count ? values[count - 1] : NULL));
         CHECK(count == 0 || getopts_defined(options, name));
     }
-    int row;
+    int row, seen = 0;
     const char *value = "";
     for (size_t nth = 0; (row = getopts_nth(options, nth, &value)) >= 0; nth++) {
-        CHECK((size_t)row < rows && getopts_nth(options, nth, NULL) == row);
+        CHECK(getopts_nth(options, nth, NULL) == row);
+        if (row == GETOPTS_FREE_WORD)
+            CHECK(value == free_words[seen++]);
+        else
+            CHECK((size_t)row < rows);
         fprintf(out, "\n#%d %s", row, value ? value : "NULL");
     }
-    CHECK(value == NULL);
+    CHECK(value == NULL && (seen == 0 || seen == getopts_free_count(options)));
     fclose(out);
     return owned[owned_len++] = text;
 }

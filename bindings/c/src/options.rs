@@ -157,7 +157,7 @@ impl Getopts {
         Ok((reading, status))
     }
 
-    /// Stores what was read, as `keep` does, with the order of the options.
+    /// Stores what was read, as `keep` does, with the order of the options and free words.
     #[cold]
     pub fn keep_in_order(
         &mut self,
@@ -177,18 +177,17 @@ impl Getopts {
         }
     }
 
-    /// The options that words give, in order, as stored in `order`.
+    /// The options and free words that words give, in order, as stored in `order`.
     fn order_of(
         &self,
         reading: &Reading,
         words: Result<Words<'_>, Error>,
     ) -> Result<Vec<(usize, usize)>, Error> {
         let mut texts = self.texts(words)?;
-        let rows = texts.ask(|words| self.options.parse_in_order(Global, words))?;
-        Ok(reading.in_order(&rows)?)
+        texts.ask(|words| Ok(reading.in_order(&self.options.parse_in_order(Global, words)?)?))
     }
 
-    /// The row of the nth option among all that were given, and its value.
+    /// The row of the nth option or free word, and its value.
     pub fn nth(&self, nth: usize) -> Option<(usize, Text)> {
         let (row, at) = *self.order.get(nth_of(nth, self.order.len())?)?;
         Some((row, self.reading.text_at(at)))

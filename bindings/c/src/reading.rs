@@ -3,12 +3,16 @@
 use crate::AllocResult;
 use crate::c::{Text, text};
 use crate::words::Texts;
+use core::ffi::c_int;
 use core::mem::take;
 use core::ptr::null;
 use library::alloc::Global;
 use library::bytes::push_bytes;
 use library::fallible::{TryCopies, TryList, Vec};
-use library::proved::{Fail, Matches};
+use library::proved::{self, Fail, Matches};
+
+/// Stands for the row of a free word: `GETOPTS_FREE_WORD`.
+const FREE_WORD: usize = c_int::MAX as usize;
 
 /// The result of reading words: empty if they couldn't be read.
 pub struct Reading {
@@ -114,15 +118,20 @@ impl Reading {
         Ok(reading)
     }
 
-    /// For the rows of all options in order: each row, and the index of its value in the lists.
-    pub fn in_order(&self, rows: &[usize]) -> AllocResult<Vec<(usize, usize)>> {
-        let (mut next, mut order) =
-            (self.starts.try_clone()?, Vec::of_capacity(Global, rows.len())?);
-        for row in rows {
-            order.push((*row, next[*row]));
-            next[*row] += 1;
+    /// For all options and free words in order: the row of an option, or `FREE_WORD`, and the index
+    /// in the lists of the option's value, or of the free word.
+    pub fn in_order(&self, order: &[proved::Given<'_>]) -> AllocResult<Vec<(usize, usize)>> {
+        let (mut next, mut found) =
+            (self.starts.try_clone()?, Vec::of_capacity(Global, order.len())?);
+        for given in order {
+            let (row, list) = match *given {
+                proved::Given::Option(row) => (row, row),
+                proved::Given::Free(_) => (FREE_WORD, next.len() - 1),
+            };
+            found.push((row, next[list]));
+            next[list] += 1;
         }
-        Ok(order)
+        Ok(found)
     }
 
     /// The text at an index of the lists.

@@ -224,6 +224,8 @@ static void null_is_rejected(void) {
     expect(getopts_read(none, 1, words) == GETOPTS_BAD, "getopts_read without a table");
     expect(strcmp(getopts_message(none), "the table is NULL") == 0, "no table, after getopts_read");
     expect((usage = getopts_usage(none, "brief")) == NULL && !getopts_defined(none, "v"), "usage without a table");
+    expect(getopts_read(options, 1, words + 2) == GETOPTS_OK && getopts_nth(options, 0, NULL) == GETOPTS_FREE_WORD
+           && getopts_nth(options, 1, NULL) == -1, "a free word without a place for it");
     expect(getopts_read(options, 1, words) == GETOPTS_OK, "words before a NULL");
     expect(getopts_read(options, 3, words) == GETOPTS_BAD, "a NULL word");
     expect(strcmp(getopts_message(options), "a word is NULL") == 0 && *getopts_message_name(options) == '\0', "its message");
