@@ -205,18 +205,29 @@ def test_no_clippy_warnings(folder, features):
 
 
 def test_features_compose(folder, tmp_path):
-    """Two crates of one program ask for different features."""
-    for name, dependencies, options in (
-        ("one", f'{{ path = "{folder}", default-features = false, features = ["proved"] }}', "proved::Options"),
-        ("other", f'{{ path = "{folder}" }}\none = {{ path = "../one" }}', "Options"),
+    """Packages of one program ask for different features. Those of others don't change what `getopts::*` imports from the
+    package that replaces the crate getopts."""
+    for name, dependencies, source in (
+        ("one", f'proved-getopts = {{ path = "{folder}", default-features = false, features = ["proved"] }}',
+         "pub use getopts::proved::Options;"),
+        ("other", f'proved-getopts = {{ path = "{folder}" }}\none = {{ path = "../one" }}', "pub use getopts::Options;"),
+        ("glob", f'getopts = {{ path = "{folder}/getopts" }}\nother = {{ path = "../other" }}',
+         "extern crate alloc;\npub mod cli {\nuse getopts::*;\npub use alloc::vec::Vec as List;\npub type All = (List<Fail>, "
+         "HasArg, Matches, Occur, Options, OsGetError<()>, OsMatches, ParsingStyle, Result);\n}"),
     ):
         (tmp_path / name / "src").mkdir(parents=True)
-        (tmp_path / name / "src/lib.rs").write_text(f"pub use getopts::{options};\n")
-        (tmp_path / name / "Cargo.toml").write_text(f"""package = {{ name = "{name}", version = "0.0.0", edition = "2021" }}
-[dependencies]
-proved-getopts = {dependencies}
-""")
-    cargo(tmp_path / "other", "check")
+        (tmp_path / name / "src/lib.rs").write_text(f"{source}\n")
+        head = f'package = {{ name = "{name}", version = "0.0.0", edition = "2021" }}'
+        (tmp_path / name / "Cargo.toml").write_text(f"{head}\n[dependencies]\n{dependencies}\n")
+    cargo(tmp_path / "glob", "check")
+
+
+def test_names_of_the_replacement():
+    """The package that replaces the crate getopts exports all that `proved-getopts` does."""
+    ours, theirs = ((RUST / f"{folder}src/lib.rs").read_text() for folder in ("", "getopts/"))
+    lists = [re.findall(r"^ *pub use \S*?(?:::)?(?:\{([^}]*)\}|(\w+));", source, re.M) for source in (ours, theirs)]
+    names, listed = (sorted(name for pair in found for name in re.findall(r"\w+", "".join(pair))) for found in lists)
+    assert sorted(names + re.findall(r"^ *\$seen mod (\w+);", ours, re.M)) == listed
 
 
 def test_documentation(folder):

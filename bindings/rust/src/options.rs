@@ -8,6 +8,7 @@ use crate::{Fail, HasArg, Matches, Occur, ParsingStyle, Result, proved};
 use std::collections::HashSet;
 use std::ffi::OsStr;
 use std::fmt;
+use std::mem::{forget, replace, size_of};
 
 /// The options that a program accepts, and how to parse them.
 ///
@@ -89,85 +90,84 @@ impl<'o, T> Given<'o, T> {
     }
 }
 
-/// Fewer than `FEW` items of at most `SMALL` bytes stay on the stack.
+/// The first `FEW` items stay on the stack, unless each has more than `SMALL` bytes.
 const FEW: usize = 16;
 const SMALL: usize = 64;
-/// Limits a list's initial capacity: an iterator may yield fewer items than `size_hint` promises.
-const FIRST_ROOM: usize = 1024;
+/// With more words than `MANY`, the iterator is dropped before they are parsed: it may own as much
+/// memory as the parser needs. With fewer, glibc's allocator takes less time if it is dropped later.
+const MANY: usize = 4096;
+/// The most bytes of a list because of `size_hint`, which may promise too many items.
+const MOST: usize = 1 << 22;
 
-/// Calls `ask` with the words as texts. If some word isn't text, calls `otherwise` with the first
-/// such word and all words.
+/// Calls `ask` with the words as texts. Stops at the first word that isn't text: calls `otherwise`
+/// with the texts before it, this word, and the iterator.
 #[inline]
-pub(crate) fn read_words<A: AsRef<OsStr>, T>(
-    words: impl Iterator<Item = A>,
+pub(crate) fn read_words<A: AsRef<OsStr>, I: Iterator<Item = A>, T>(
+    words: I,
     text_of: impl Fn(&OsStr) -> Option<&str>,
     ask: impl FnOnce(&[&str]) -> T,
-    otherwise: impl FnOnce(&OsStr, &mut dyn Iterator<Item = &OsStr>) -> T,
+    otherwise: impl FnOnce(&[&str], &OsStr, I) -> T,
 ) -> T {
-    if std::mem::size_of::<A>() > SMALL {
-        read_list(std::iter::empty(), words, text_of, ask, otherwise)
+    if size_of::<A>() > SMALL {
+        read_list(&[], words, text_of, ask, otherwise)
     } else {
         read_few(words, text_of, ask, otherwise)
     }
 }
 
-/// Reads fewer than `FEW` words without a `Vec`, and hands more to `read_list`. Items over `SMALL`
-/// bytes would take too much stack.
-fn read_few<A: AsRef<OsStr>, T>(
-    mut words: impl Iterator<Item = A>,
+/// Reads the first `FEW` words without a `Vec`. Items over `SMALL` bytes would take too much stack.
+fn read_few<A: AsRef<OsStr>, I: Iterator<Item = A>, T>(
+    mut words: I,
     text_of: impl Fn(&OsStr) -> Option<&str>,
     ask: impl FnOnce(&[&str]) -> T,
-    otherwise: impl FnOnce(&OsStr, &mut dyn Iterator<Item = &OsStr>) -> T,
+    otherwise: impl FnOnce(&[&str], &OsStr, I) -> T,
 ) -> T {
-    let (mut first, mut few) = (<[Option<A>; FEW]>::default(), 0);
-    while few < FEW {
-        first[few] = words.next();
-        if first[few].is_none() {
-            break;
+    let (mut items, mut texts) = (<[Option<A>; FEW]>::default(), [""; FEW]);
+    for (nth, item) in items.iter_mut().enumerate() {
+        *item = words.next();
+        match item {
+            None => return ask(&texts[..nth]),
+            Some(word) => match text_of(A::as_ref(word)) {
+                Some(text) => texts[nth] = text,
+                None => return otherwise(&texts[..nth], A::as_ref(word), words),
+            },
         }
-        few += 1;
     }
-    if few == FEW {
-        return read_list(first.into_iter().flatten(), words, text_of, ask, otherwise);
-    }
-    let (words, mut texts) = (|| first[..few].iter().flatten().map(A::as_ref), [""; FEW]);
-    match put_texts(&mut texts[..few], words(), text_of) {
-        Ok(()) => ask(&texts[..few]),
-        Err(word) => otherwise(word, &mut words()),
-    }
+    read_list(&texts, words, text_of, ask, otherwise)
 }
 
-/// Reads words into a list: those already taken from the iterator (`first`), and the others.
-fn read_list<A: AsRef<OsStr>, T>(
-    first: impl IntoIterator<Item = A>,
-    others: impl Iterator<Item = A>,
+/// Reads the words after those with the texts `first`. An item can't move once its text is
+/// borrowed: if there is no place for it in the list, calls itself with a larger one.
+fn read_list<A: AsRef<OsStr>, I: Iterator<Item = A>, T>(
+    first: &[&str],
+    mut words: I,
     text_of: impl Fn(&OsStr) -> Option<&str>,
     ask: impl FnOnce(&[&str]) -> T,
-    otherwise: impl FnOnce(&OsStr, &mut dyn Iterator<Item = &OsStr>) -> T,
+    otherwise: impl FnOnce(&[&str], &OsStr, I) -> T,
 ) -> T {
-    let mut all = Vec::with_capacity(FEW + others.size_hint().0.min(FIRST_ROOM));
-    all.extend(first);
-    others.for_each(|word| all.push(word));
-    // The list is kept while its words are parsed.
-    all.shrink_to_fit();
-    let mut texts = vec![""; all.len()];
-    match put_texts(&mut texts, all.iter().map(A::as_ref), text_of) {
-        Ok(()) => ask(&texts),
-        Err(word) => otherwise(word, &mut all.iter().map(A::as_ref)),
+    let promised = words.size_hint().0.min(MOST / size_of::<Option<A>>().max(1));
+    let room = promised.max(first.len()).max(FEW);
+    let (mut items, mut texts) = (Vec::new(), Vec::with_capacity(first.len() + room));
+    // The last place is for the end of the iterator.
+    items.resize_with(room + 1, || None);
+    texts.extend_from_slice(first);
+    for item in &mut items {
+        // An assignment would check whether the old item, `None`, has to be dropped.
+        forget(replace(item, words.next()));
+        match item {
+            None => {
+                if room > MANY {
+                    drop(words);
+                }
+                return ask(&texts);
+            }
+            Some(word) => match text_of(A::as_ref(word)) {
+                Some(text) => texts.push(text),
+                None => return otherwise(&texts, A::as_ref(word), words),
+            },
+        }
     }
-}
-
-/// Stores the words as texts. Returns the first word that isn't text, if there is one.
-#[inline]
-fn put_texts<'a>(
-    texts: &mut [&'a str],
-    words: impl Iterator<Item = &'a OsStr>,
-    text_of: impl Fn(&OsStr) -> Option<&str>,
-) -> std::result::Result<(), &'a OsStr> {
-    for (text, word) in texts.iter_mut().zip(words) {
-        *text = text_of(word).ok_or(word)?;
-    }
-    Ok(())
+    read_list(&texts, words, text_of, ask, otherwise)
 }
 
 impl Options {
@@ -316,7 +316,8 @@ impl Options {
     /// ```
     ///
     /// For a program's own arguments, pass `std::env::args_os().skip(1)`; `std::env::args()` panics
-    /// if an argument isn't UTF-8. The iterator is exhausted before the first item is parsed.
+    /// if an argument isn't UTF-8. All items are taken before the first one is parsed, but none after
+    /// one that isn't UTF-8.
     ///
     /// # Errors
     /// See [`Fail`].
@@ -406,7 +407,7 @@ impl Options {
             args.into_iter(),
             OsStr::to_str,
             |texts| ask(&self.proved, texts).map_err(Fail::of),
-            |word, _| Err(Fail::UnrecognizedOption(format!("{word:?}"))),
+            |_, word, _| Err(Fail::UnrecognizedOption(format!("{word:?}"))),
         )
     }
 

@@ -172,8 +172,10 @@ impl Options {
             args.into_iter(),
             plain,
             |texts| answer(texts, false),
-            |_, words| {
-                let words: Vec<_> = words.collect();
+            |texts, word, others| {
+                let (first, others) = (texts.iter().map(OsStr::new), others.collect::<Vec<_>>());
+                let others = others.iter().map(|word| word.as_ref());
+                let words: Vec<_> = first.chain([word]).chain(others).collect();
                 let texts =
                     words.iter().map(|word| text_of(word)).collect::<Result<Vec<_>, _>>()?;
                 let given = answer(&borrowed(&texts), true);

@@ -92,6 +92,21 @@ mod of_the_crate {
     }
 
     #[test]
+    fn payload_without_a_name() {
+        let panic = catch_unwind(|| _ = Options::new().optflag("", "", "")).unwrap_err();
+        assert_eq!(panic.downcast_ref::<&str>(), Some(&NONE));
+    }
+
+    #[test]
+    fn repeated_names_are_found() {
+        let mut options = Options::new();
+        options.optflag("a", "", "").optflag("", "long", "").optflag("b", "", "");
+        assert_eq!(options.repeated_name(), None);
+        options.optflag("c", "long", "").optflag("a", "", "");
+        assert_eq!(options.repeated_name(), Some("long"));
+    }
+
+    #[test]
     fn undefined_names_panic() {
         let (options, names) = (Options::new(), ["y".to_string()]);
         let (matches, os) = (options.parse(["x"]).unwrap(), options.parse_os(["x"]).unwrap());

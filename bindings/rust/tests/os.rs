@@ -1,7 +1,9 @@
 //! Arguments of any bytes, borrowed values, and methods of matches.
 
 use getopts::{Fail, Given, HasArg, Occur, Options, OsGetError};
+use std::cell::Cell;
 use std::ffi::{OsStr, OsString};
+use std::iter::{once, repeat};
 
 fn options() -> Options {
     let mut options = Options::new();
@@ -210,6 +212,15 @@ impl AsRef<OsStr> for Large {
     }
 }
 
+/// An argument, with other data.
+struct Longer<'a>(&'a OsStr, #[allow(dead_code)] [u8; 100]);
+
+impl AsRef<OsStr> for Longer<'_> {
+    fn as_ref(&self) -> &OsStr {
+        self.0
+    }
+}
+
 /// An iterator that promises too many items.
 struct Promised<I>(I);
 
@@ -252,6 +263,31 @@ fn errors_show_marks() {
         let mark = "\u{FFFD}".to_string();
         if lossy.starts_with(&mark) {
             assert_eq!(shown(joined("-v", &word)), Fail::UnrecognizedOption(mark));
+        }
+    }
+}
+
+#[test]
+fn parse_takes_no_item_after_one_that_is_not_unicode() {
+    for word in not_unicode().iter().filter(|word| word.to_str().is_none()) {
+        for before in [0, 1, 15, 16, 17, 40, 10_000] {
+            let taken = Cell::new(0);
+            let endless = || {
+                taken.set(0);
+                let words = repeat(OsStr::new("x")).take(before).chain(repeat(&**word));
+                words.inspect(|_| taken.set(taken.get() + 1))
+            };
+            let wanted = Fail::UnrecognizedOption(format!("{word:?}"));
+            assert_eq!(options().parse(endless()).unwrap_err(), wanted);
+            assert_eq!(taken.get(), before + 1);
+            assert_eq!(options().parse_ignoring_counts(endless()).unwrap_err(), wanted);
+            assert_eq!(options().canonical(Promised(endless())).unwrap_err(), wanted);
+            let large = endless().map(|word| Longer(word, [0; 100]));
+            assert_eq!(options().parse(large).unwrap_err(), wanted);
+            assert_eq!(taken.get(), before + 1);
+            // `parse_os` needs them all.
+            let words: Vec<_> = endless().take(before + 2).chain(once("y".as_ref())).collect();
+            assert_eq!(options().parse_os(&words).unwrap().free, words);
         }
     }
 }
