@@ -182,10 +182,12 @@ def test_generated_parts_are_used():
 
 @pytest.mark.parametrize("folder", ["rust", "c", "shell"])
 def test_oldest_rust(folder):
-    """The pages name the oldest Rust that builds this folder."""
+    """The pages name the oldest Rust that builds this folder. If it is older than what unicode-width 0.2 needs, also that."""
     oldest = re.search(r'rust-version = "(.*)"', read(f"bindings/{folder}/Cargo.toml"))[1]
     row = re.search(rf"^\| \[.*\]\(bindings/{folder}/README.md\).*", pages["README.md"], re.M)[0]
-    assert f"Rust {oldest}" in row and f"Rust {oldest} or later" in pages[f"bindings/{folder}/README.md"]
+    both = f"Rust 1.66, or {oldest} with `unicode-width` 0.1.10"
+    in_row, on_page = (f"Rust {oldest}", f"Rust {oldest} or later") if folder == "c" else (both, both)
+    assert in_row in row and on_page in " ".join(pages[f"bindings/{folder}/README.md"].split())
 
 
 # How often each file names the version of this repository.

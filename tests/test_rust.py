@@ -16,7 +16,7 @@ import pytest
 import test_c
 from conftest import LINES, ROOT, ROWS, VECTORS, answer, need_rustfmt, run
 from targets import (REGISTRY, TARGETS, UNWINDS, cargo, cargo_for, commit_repository, copy_folders, need_cargo, offline,
-                     passed, runner, shared_folder)
+                     passed, runner, rust_minor, shared_folder)
 
 RUST = ROOT / "bindings/rust"
 REFERENCE = ROOT / "tests/differential/reference"
@@ -255,6 +255,44 @@ def test_package(folder, tmp_path):
     (tmp_path / archive.stem / ".cargo-checksum.json").write_text('{"files": {}}')
     if offline():
         cargo(folder / "getopts", "package", "--allow-dirty", registry=tmp_path)
+
+
+def test_versions_of_rust(folder, tmp_path):
+    """From a registry with unicode-width 0.1.10 and 0.2, cargo takes 0.2, which Rust 1.63 can't compile; with 0.1.10 in
+    Cargo.lock, it builds. Here, 0.2 is a stand-in that calls the function that Rust 1.63 lacks and the real one calls."""
+    need_cargo(RUST)
+    real = REGISTRY / "unicode-width-0.1.10"
+    if not real.exists():
+        pytest.skip(f"{real} not found: apt-get install librust-unicode-width-dev, of Debian 12")
+    for registry in ("old", "both"):
+        (tmp_path / registry).mkdir()
+        (tmp_path / registry / real.name).symlink_to(real)
+    newer = tmp_path / "both/unicode-width-0.2.0"
+    (newer / "src").mkdir(parents=True)
+    (newer / ".cargo-checksum.json").write_text('{"files": {}}')
+    (newer / "Cargo.toml").write_text('package = { name = "unicode-width", version = "0.2.0", edition = "2021" }\n')
+    (newer / "src/lib.rs").write_text("pub trait UnicodeWidthStr { fn width(&self) -> usize; }\nimpl UnicodeWidthStr for str {"
+                                      " fn width(&self) -> usize { self.len().wrapping_add_signed(0) } }\n")
+    program = tmp_path / "program"
+    (program / "src").mkdir(parents=True)
+    (program / "src/main.rs").write_text("fn main() { getopts::Options::new(); }\n")
+    (program / "Cargo.toml").write_text('package = { name = "program", version = "0.0.0", edition = "2021" }\n'
+                                        f'dependencies.proved-getopts = {{ path = "{folder}" }}\n')
+
+    def build(registry, rust="", status=0):
+        env = {"RUSTC": f"{rust}rustc", "CARGO_TARGET_DIR": str(tmp_path / "target")}
+        done = run(f"{rust}cargo", "build", *offline(tmp_path / registry), cwd=program, env=env, status=status)
+        return done[1], re.search(r'"unicode-width"\nversion = "(.*)"', (program / "Cargo.lock").read_text())[1]
+
+    if rust_minor() >= 66:
+        assert build("both")[1] == "0.2.0"
+    if not Path("/usr/bin/cargo").exists() or " 1.63." not in run("/usr/bin/rustc", "--version")[0]:
+        pytest.skip("/usr/bin/rustc isn't Rust 1.63: apt-get install cargo rustc, of Debian 12")
+    (program / "Cargo.lock").unlink(missing_ok=True)
+    said, version = build("both", "/usr/bin/", 101)
+    assert version == "0.2.0" and re.search(r"^error\[E0658\]:.*\n *--> .*/unicode-width-0.2.0/src/lib.rs", said, re.M)
+    (program / "Cargo.lock").unlink()
+    assert build("old", "/usr/bin/")[1] == build("both", "/usr/bin/")[1] == "0.1.10"
 
 
 def test_git_dependency(tmp_path):
