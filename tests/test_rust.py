@@ -227,12 +227,12 @@ def test_names_of_the_replacement():
     ours, theirs = ((RUST / f"{folder}src/lib.rs").read_text() for folder in ("", "getopts/"))
     lists = [re.findall(r"^ *pub use \S*?(?:::)?(?:\{([^}]*)\}|(\w+));", source, re.M) for source in (ours, theirs)]
     names, listed = (sorted(name for pair in found for name in re.findall(r"\w+", "".join(pair))) for found in lists)
-    assert sorted(names + re.findall(r"^ *\$seen mod (\w+);", ours, re.M)) == listed
+    assert sorted(names + re.findall(r"^ *(?:\$seen|pub) mod (\w+);", ours, re.M)) == listed
 
 
 def test_documentation(folder):
     cargo(folder, "doc", "--no-deps", "--all-features", env={"RUSTDOCFLAGS": "-D warnings"})
-    for name in ("fail", "options", "matches", "os"):
+    for name in ("fail", "iter", "options", "matches", "os"):
         example = False
         for line in (RUST / f"src/{name}.rs").read_text().splitlines():
             assert example or not line.startswith(("    pub fn", "pub struct", "pub enum")), f"no example for {line.strip()}"

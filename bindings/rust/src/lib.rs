@@ -105,6 +105,8 @@ mod error;
 #[cfg(feature = "std")]
 mod fail;
 #[cfg(feature = "std")]
+pub mod iter;
+#[cfg(feature = "std")]
 mod matches;
 mod names;
 #[cfg(feature = "std")]

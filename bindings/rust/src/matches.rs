@@ -4,8 +4,9 @@ use crate::alloc::Global;
 use crate::debug;
 use crate::fail::granted;
 use crate::fallible::TryClone;
+use crate::iter::{Occurrences, Values};
+use crate::proved;
 use crate::proved::matches::MatchedGroups;
-use crate::proved::{self, Occurrences};
 use std::fmt;
 use std::result::Result;
 use std::str::FromStr;
@@ -73,13 +74,13 @@ impl Matches {
 
     #[inline]
     pub(crate) fn given_at(&self, place: usize) -> Occurrences<'_> {
-        self.held.occurrences_at(place)
+        Occurrences::of(&self.held, place)
     }
 
     #[inline]
     #[track_caller]
-    fn given(&self, name: &str) -> Occurrences<'_> {
-        self.given_at(self.place(name))
+    fn given(&self, name: &str) -> proved::Occurrences<'_> {
+        self.held.occurrences_at(self.place(name))
     }
 
     /// For each option, the list of what `each` returns for its occurrences.
@@ -128,8 +129,8 @@ impl Matches {
     /// ```
     #[inline]
     #[track_caller]
-    pub fn values(&self, name: &str) -> impl Iterator<Item = &str> + '_ {
-        self.occurrences(name).filter_map(|(_, value)| value)
+    pub fn values(&self, name: &str) -> Values<Occurrences<'_>> {
+        Values(self.occurrences(name))
     }
 
     /// Borrows the positions and values of an option's occurrences, in command-line order. Not in
@@ -143,8 +144,8 @@ impl Matches {
     /// ```
     #[inline]
     #[track_caller]
-    pub fn occurrences(&self, name: &str) -> impl Iterator<Item = (usize, Option<&str>)> + '_ {
-        self.given(name).into_iter()
+    pub fn occurrences(&self, name: &str) -> Occurrences<'_> {
+        self.given_at(self.place(name))
     }
 
     /// Whether an option has this name. If not, most other methods panic.

@@ -2,6 +2,7 @@
 
 use crate::bytes::{plain_text, push_bytes, push_text};
 use crate::fail::granted;
+use crate::iter::{OsOccurrences, Values};
 use crate::options::{parse_texts, read_texts, read_words, texts_in_order};
 use crate::{Fail, Given, Matches, Options, proved};
 use std::borrow::Cow;
@@ -287,8 +288,8 @@ impl OsMatches {
     /// ```
     #[inline]
     #[track_caller]
-    pub fn values(&self, name: &str) -> impl Iterator<Item = &OsStr> + '_ {
-        self.occurrences(name).filter_map(|(_, value)| value)
+    pub fn values(&self, name: &str) -> Values<OsOccurrences<'_>> {
+        Values(self.occurrences(name))
     }
 
     /// The positions and values of an option's occurrences, in command-line order.
@@ -301,18 +302,14 @@ impl OsMatches {
     /// ```
     #[inline]
     #[track_caller]
-    pub fn occurrences(&self, name: &str) -> impl Iterator<Item = (usize, Option<&OsStr>)> + '_ {
+    pub fn occurrences(&self, name: &str) -> OsOccurrences<'_> {
         self.given_at(self.matches.place(name))
     }
 
     #[inline]
-    fn given_at(&self, place: usize) -> impl Iterator<Item = (usize, Option<&OsStr>)> + '_ {
-        let held = self.values.get(place);
-        let given = self.matches.given_at(place).into_iter().enumerate();
-        given.map(move |(nth, (position, text))| match held {
-            Some(values) => (position, values[nth].as_deref()),
-            None => (position, text.map(OsStr::new)),
-        })
+    fn given_at(&self, place: usize) -> OsOccurrences<'_> {
+        let decoded = self.values.get(place).map(Vec::as_slice);
+        OsOccurrences::of(self.matches.given_at(place), decoded)
     }
 
     /// The value of an option's first occurrence, or `def` if that occurrence has no value. Returns

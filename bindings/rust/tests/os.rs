@@ -1,5 +1,6 @@
 //! Arguments of any bytes, borrowed values, and methods of matches.
 
+use getopts::iter::{Occurrences, OsOccurrences, Values};
 use getopts::{Fail, Given, HasArg, Occur, Options, OsGetError};
 use std::cell::Cell;
 use std::ffi::{OsStr, OsString};
@@ -201,6 +202,52 @@ fn values_are_borrowed() {
     );
     assert!(matches.values("c").eq(["", "y"]));
     assert!(matches.occurrences("c").eq([(1, Some("")), (3, Some("y")), (5, None)]));
+}
+
+/// Checks an iterator from both ends, with these items.
+fn check_both_ends<I>(given: I, items: &[I::Item])
+where
+    I: DoubleEndedIterator + Clone + std::fmt::Debug,
+    I::Item: PartialEq + std::fmt::Debug,
+{
+    assert_eq!(format!("{given:?}"), format!("{items:?}"));
+    for taken in 0..=items.len() {
+        let mut left = given.clone();
+        for item in &items[..taken] {
+            assert_eq!(left.next().as_ref(), Some(item));
+        }
+        assert!(left.clone().eq(left.clone().rev().collect::<Vec<_>>().into_iter().rev()));
+        let (least, most) = left.size_hint();
+        assert!(least <= items.len() - taken && items.len() - taken <= most.unwrap());
+        for item in items[taken..].iter().rev() {
+            assert_eq!(left.next_back().as_ref(), Some(item));
+        }
+        assert_eq!((left.next(), left.next_back()), (None, None));
+    }
+}
+
+#[test]
+fn iterators_have_two_ends_and_can_be_stored() {
+    struct Stored<'m>(Occurrences<'m>, Values<Occurrences<'m>>);
+    struct OsStored<'m>(OsOccurrences<'m>, Values<OsOccurrences<'m>>);
+    let mut words = vec![OsString::from("-c")];
+    for (value, word) in ["x", "", "y"].iter().zip(not_unicode()) {
+        let all = [joined("--color=", value.as_ref()), "-c".into(), joined("-c", &word)];
+        words.extend(all);
+        let matches = options().parse_os(&words).unwrap();
+        let stored = OsStored(matches.occurrences("c"), matches.values("c"));
+        assert_eq!(stored.0.len(), words.len());
+        let items: Vec<_> = stored.0.clone().collect();
+        assert_eq!(items[words.len() - 1], (words.len() - 1, Some(&*word)));
+        assert_eq!(items[words.len() - 2], (words.len() - 2, None));
+        check_both_ends(stored.0, &items);
+        check_both_ends(stored.1, &items.iter().filter_map(|item| item.1).collect::<Vec<_>>());
+    }
+    let matches = options().parse(["-cx", "-v", "-c", "--color="]).unwrap();
+    let stored = Stored(matches.occurrences("c"), matches.values("c"));
+    assert_eq!((stored.0.len(), matches.occurrences("o").len()), (3, 0));
+    check_both_ends(stored.0, &[(0, Some("x")), (2, None), (3, Some(""))]);
+    check_both_ends(stored.1, &["x", ""]);
 }
 
 /// Items of 200,000 bytes.

@@ -5,7 +5,7 @@
 // Not `*`: if another package sets the feature `proved` of `proved-getopts`, a program with `use
 // getopts::*` would get modules such as `alloc` and `bytes`, whose names may mean crates there.
 pub use ::getopts::{
-    Fail, Given, HasArg, Matches, Occur, Options, OsGetError, OsMatches, ParsingStyle, Result,
+    Fail, Given, HasArg, Matches, Occur, Options, OsGetError, OsMatches, ParsingStyle, Result, iter,
 };
 #[cfg(feature = "proved")]
 pub use ::getopts::{alloc, bytes, bytes_of, fallible, proved};
