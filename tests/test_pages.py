@@ -24,7 +24,9 @@ def read(name):
 
 
 tracked = all_tracked()
-pages = {name: read(name) for name in tracked if name.endswith(".md")}
+# The Rust package has a copy of CHANGELOG.
+COPY = "bindings/rust/CHANGELOG.md"
+pages = {name: read(name) for name in tracked if name.endswith(".md") and name != COPY}
 sources = {name: read(name) for name in tracked if re.match(r"crates/\w*/src/.*\.rt$", name)}
 modules = sources | {name: read(name) for name in tracked if re.match(r"bindings/.*\.rs$", name)}
 CALLING = "crates/getopts/CALLING.md"
@@ -175,6 +177,12 @@ def test_picture_of_a_reading(show):
     assert reading.draw(run(show, *reading.WORDS)[0]) == read("docs/reading.svg")
 
 
+def test_copy_of_the_changelog(request):
+    if request.config.getoption("--fix"):
+        (ROOT / COPY).write_text(pages["CHANGELOG.md"], encoding="utf-8")
+    assert read(COPY) == pages["CHANGELOG.md"], "out of date: run 'bash test.sh -k pages --fix'"
+
+
 def test_generated_parts_are_used():
     used = re.findall(r"^<!-- generated: (\w+) -->$", "\n".join(pages.values()), re.M)
     assert sorted(used) == sorted(GENERATED)
@@ -191,7 +199,7 @@ def test_oldest_rust(folder):
 
 
 # How often each file names the version of this repository.
-VERSIONS = {"CHANGELOG.md": 1, "README.md": 1, "bindings/c/Cargo.toml": 1, "bindings/c/getopts.h": 2, "bindings/rust/Cargo.toml": 1,
+VERSIONS = {"CHANGELOG.md": 1, "README.md": 1, "bindings/c/Cargo.toml": 1, "bindings/c/getopts.h": 2, COPY: 1, "bindings/rust/Cargo.toml": 1,
             "bindings/rust/README.md": 1, "bindings/rust/getopts/Cargo.toml": 2, "bindings/shell/Cargo.toml": 1,
             "bindings/shell/src/program/answer.rs": 1, "crates/getopts_shell/specs/Program.antt": 1,
             "crates/getopts_shell/src/answer.rt": 1, "tests/shell/answers.rows": 1}

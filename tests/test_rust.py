@@ -47,7 +47,8 @@ def test_tokens_match_source(crate):
 @pytest.mark.parametrize("file, right, wrong", [
     ("counts.rs", "count <= 1", "count < 1"),
     ("scan.rs", "line.try_grow(words, stops)?;", "line.try_grow(words, stops);"),
-    ("table.rs", "entries.dedup_by", "entries.reverse(); entries.dedup_by")])
+    ("table.rs", "entries.dedup_by", "entries.reverse(); entries.dedup_by"),
+    ("occurrences.rs", "pub fn len", "#[doc(hidden)] pub fn len")])
 def test_changed_tokens_are_found(file, right, wrong, tmp_path):
     shutil.copytree(ERASED["getopts"], tmp_path / "changed")
     edited(tmp_path / "changed" / file, right, wrong)
@@ -230,8 +231,18 @@ def test_names_of_the_replacement():
     assert sorted(names + re.findall(r"^ *(?:\$seen|pub) mod (\w+);", ours, re.M)) == listed
 
 
+@pytest.mark.parametrize("features", ["", "std", "std,unicode", "std,unicode,proved"])
+def test_documentation_has_no_broken_links(folder, features):
+    flags = ["--no-deps", "--no-default-features", "--features", features]
+    cargo(folder, "doc", *flags, env={"RUSTDOCFLAGS": "-D warnings"})
+
+
 def test_documentation(folder):
-    cargo(folder, "doc", "--no-deps", "--all-features", env={"RUSTDOCFLAGS": "-D warnings"})
+    cargo(folder, "doc", "--no-deps", "--all-features")
+    shown = {str(page.relative_to(folder / "target/doc/getopts")) for page in (folder / "target/doc/getopts").rglob("*.html")}
+    assert {"enum.HasArg.html", "iter/struct.Values.html", "bytes/fn.plain_text.html"} <= shown
+    # Lemmas do nothing.
+    assert not {"bytes/fn.words_come_back.html", "proved/fn.are_texts.html"} & shown
     for name in ("fail", "iter", "options", "matches", "os"):
         example = False
         for line in (RUST / f"src/{name}.rs").read_text().splitlines():
@@ -242,7 +253,7 @@ def test_documentation(folder):
 def test_package(folder, tmp_path):
     """Both packages build from the files that would be uploaded. No registry is used."""
     names = cargo(folder, "package", "--allow-dirty", "--list")[0].split()
-    assert set("README.md LICENSE-MIT LICENSE-APACHE NOTICE src/proved/mod.rs src/bytes/mod.rs".split()) <= set(names)
+    assert set("README.md CHANGELOG.md LICENSE-MIT LICENSE-APACHE NOTICE src/proved/mod.rs src/bytes/mod.rs".split()) <= set(names)
     for name in set(names) - {"Cargo.lock", "Cargo.toml.orig", ".cargo_vcs_info.json"}:
         (RUST / name).read_text(encoding="utf-8")
     tree = cargo(folder, "tree", "--edges", "normal", "--prefix", "none")[0].splitlines()

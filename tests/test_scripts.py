@@ -202,8 +202,10 @@ def test_files_of_a_release(clone):
         modes = {it.name.removeprefix(f"{name}/"): it.mode for it in archive if it.isfile()}
     assert sorted(modes) == sorted(tracked()) and modes["release.sh"] & 0o777 == 0o775
     with tarfile.open(out / f"proved-getopts-{VERSION}.crate") as archive:
-        packed = {it.name.partition("/")[2] for it in archive}
-    assert {"LICENSE-MIT", "LICENSE-APACHE", "NOTICE", "src/proved/mod.rs", "Cargo.toml"} <= packed and "Cargo.lock" not in packed
+        packed = {it.name.partition("/")[2]: archive.extractfile(it).read() for it in archive}
+    assert {"LICENSE-MIT", "LICENSE-APACHE", "NOTICE", "src/proved/mod.rs", "Cargo.toml"} <= packed.keys()
+    assert "Cargo.lock" not in packed
+    assert packed["CHANGELOG.md"] == (clone / "CHANGELOG.md").read_bytes()
     settings = clone.parent / "settings"
     settings.write_text("[core]\nautocrlf = true\n[tar]\numask = 0077\n")
     release(clone, VERSION, GIT_CONFIG_GLOBAL=str(settings))

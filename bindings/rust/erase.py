@@ -43,8 +43,8 @@ and bounds by `Index` need an import. `stringify!` isn't among the known calls, 
 edition 2021, Rattle follows 2024), nor whether a pattern of `self` drops it. Code that overflows only on 32 bits, or
 has another value there, such as `usize::MAX`, is tested, not proved.
 
-It renames by the tables below, and rejects sources that contain a new name. `same_tokens.py` checks the result, and
-shares neither code nor tables with this script.
+It hides lemmas that a library exports from the documentation. It renames by the tables below, and rejects sources that
+contain a new name. `same_tokens.py` checks the result, and shares neither code nor tables with this script.
 """
 
 import functools
@@ -484,6 +484,19 @@ class Eraser:
         if re.fullmatch(r"sort(_unstable)?_by|select_nth_unstable_by", text) and not ordered and before != "fn":
             self.stop(at, "Rust may panic if this isn't an order")
 
+    def hide_lemmas(self):
+        """Hides from the documentation what a library exports for proofs: functions that neither return nor change
+        anything. `same_tokens.py` accepts this attribute only there."""
+        at = 0
+        while at < len(self.tokens):
+            head = self.next("{", at)
+            if self.has(at, "pub fn") and not any(self.text(it) == "mut" or self.has(it, "->") for it in range(at, head)):
+                hidden = tokens_of("#[doc(hidden)]")[:-1]
+                hidden[0].lead, self.tokens[at].lead = self.tokens[at].lead, "\n"
+                self.tokens[at:at] = hidden
+                at += len(hidden)
+            at = self.close(at) if self.text(at) in BRACKETS else at + 1
+
     def dots(self):
         """Rejects ranges without an end that aren't an index, because in Rust they go past the last number, and `..` of
         a record before anything but names, because Rust evaluates it even if no field is taken from it."""
@@ -582,6 +595,8 @@ def defined(eraser):
 
 def rust_of(path, eraser, module, names):
     called = eraser.rename(names)
+    if names is LIBRARY:
+        eraser.hide_lemmas()
     # Examples in comments are Rattle; Rust's doctests couldn't compile them.
     shown = functools.partial(re.sub, r"(//[/!] ```)\n((?:.*\n)*?.*//[/!] ```\n)", r"\1text\n\2")
     text = "".join(shown(token.lead) + token.text for token in eraser.tokens)

@@ -84,6 +84,8 @@ def main(source, folder):
     adding = r"pub fn \w+(?= \( [^()]* \) - > Result < & mut Options , AllocError >)"
     for found in re.findall(adding, " ".join(tokens(options))) if options.exists() else []:
         names[found] = "# [ track_caller ] " + found
+    # A library's functions that return and change nothing are lemmas, hidden from the documentation.
+    lemma = r"pub fn \w+(?= (?:< [^()]*? > )?\( (?:(?!\bmut\b)[^()])*\) (?:requires|ensures|{))"
     imports = f"use crate :: {'fallible' if library else 'host'} :: * ;".split()
     paths = sorted(Path(folder).glob("*.rs"))
     there = {path.stem for path in Path(source).glob("*.rt")} - {"lib", "main", "laws"} | {"mod"}
@@ -92,7 +94,8 @@ def main(source, folder):
         of = path.with_suffix(".rt").name if path.stem != "mod" else "main.rt"
         of = Path(source) / of if (Path(source) / of).exists() else Path(source) / "lib.rt"
         tokens_there = tokens(of)
-        at = differs(tokens_there, tokens(path), names, imports)
+        hidden = {found: "# [ doc ( hidden ) ] " + found for found in re.findall(lemma, " ".join(tokens_there)) if library}
+        at = differs(tokens_there, tokens(path), {**names, **hidden}, imports)
         if at is not None:
             wrong += 1
             print(f"{path}: differs from its source at '{' '.join(tokens_there[at : at + 8])}'")

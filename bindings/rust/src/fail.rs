@@ -30,8 +30,8 @@ use std::io::Write;
 pub enum Fail {
     /// An option needs an argument, but the command line ends.
     ArgumentMissing(String),
-    /// No option has this name. `parse` also reports a word that isn't UTF-8 this way, as `{:?}`
-    /// prints it.
+    /// No option has this name. [`Options::parse`](crate::Options::parse) also reports a word that
+    /// isn't UTF-8 this way, as `{:?}` prints it.
     UnrecognizedOption(String),
     /// A required option is missing.
     OptionMissing(String),
@@ -41,7 +41,8 @@ pub enum Fail {
     UnexpectedArgument(String),
 }
 
-/// The result of `parse`: the matches of an accepted command line, or why it was rejected.
+/// The result of [`Options::parse`](crate::Options::parse): the matches of an accepted command
+/// line, or why it was rejected.
 pub type Result = std::result::Result<Matches, Fail>;
 
 impl Error for Fail {}

@@ -33,13 +33,18 @@
 //! }
 //! ```
 //!
-//! `parse` rejects arguments that aren't UTF-8, and [`parse_os`](Options::parse_os) accepts them;
-//! `std::env::args()` would panic. Below, a *word* is an element of the command line, such as
-//! `-ofile`.
-//!
-//! `parse` also rejects `join --help` if a required option is missing. To print help anyway, use
-//! [`parse_ignoring_counts`](Options::parse_ignoring_counts). If the order of options and positional
-//! arguments matters, use [`parse_in_order`](Options::parse_in_order).
+#![cfg_attr(
+    feature = "std",
+    doc = "
+`parse` rejects arguments that aren't UTF-8, and [`parse_os`](Options::parse_os) accepts them;
+`std::env::args()` would panic. Below, a *word* is an element of the command line, such as
+`-ofile`.
+
+`parse` also rejects `join --help` if a required option is missing. To print help anyway, use
+[`parse_ignoring_counts`](Options::parse_ignoring_counts). If the order of options and positional
+arguments matters, use [`parse_in_order`](Options::parse_in_order).
+"
+)]
 //!
 //! # Subcommands
 //!

@@ -26,8 +26,9 @@ use std::str::FromStr;
 /// ```
 ///
 /// # Panics
-/// Methods panic if no option has the given name, except `opt_defined` and `opts_present`. Methods
-/// that stop at the first match ignore the names after it.
+/// Methods panic if no option has the given name, except [`opt_defined`](Self::opt_defined) and
+/// [`opts_present`](Self::opts_present). Methods that stop at the first match ignore the names
+/// after it.
 pub struct Matches {
     /// The positional arguments (*free words*), in command-line order.
     pub free: Vec<String>,
@@ -106,7 +107,8 @@ impl Matches {
         shown.field("free", free).field("args_end", &self.free_trailing_start()).finish()
     }
 
-    /// Borrows the value of an option's first occurrence. Not in the crate getopts.
+    /// Borrows the value of an option's first occurrence. Not in the crate getopts. To copy it, use
+    /// [`opt_str`](Self::opt_str).
     ///
     /// ```
     /// let mut options = getopts::Options::new();
@@ -119,7 +121,7 @@ impl Matches {
     }
 
     /// Borrows the values of an option's occurrences, in command-line order. Not in the crate
-    /// getopts.
+    /// getopts. To copy them, use [`opt_strs`](Self::opt_strs).
     ///
     /// ```
     /// let mut options = getopts::Options::new();
@@ -233,7 +235,8 @@ impl Matches {
         false
     }
 
-    /// The first value that `opt_str` returns for one of these names. Stops at that name.
+    /// The first value that [`opt_str`](Self::opt_str) returns for one of these names. Stops at
+    /// that name.
     ///
     /// ```
     /// let mut options = getopts::Options::new();
@@ -246,7 +249,8 @@ impl Matches {
         self.opts_str_first(names)
     }
 
-    /// The first value that `opt_str` returns for one of these names. Stops at that name.
+    /// The first value that [`opt_str`](Self::opt_str) returns for one of these names. Stops at
+    /// that name.
     ///
     /// ```
     /// let mut options = getopts::Options::new();

@@ -94,7 +94,7 @@ impl<'o, T> Given<'o, T> {
 const FEW: usize = 16;
 const SMALL: usize = 64;
 /// With more words than `MANY`, the iterator is dropped before they are parsed: it may own as much
-/// memory as the parser needs. With fewer, glibc's allocator takes less time if it is dropped later.
+/// memory as the parser needs. With fewer, glibc's allocator is faster if it is dropped later.
 const MANY: usize = 4096;
 /// The most bytes of a list because of `size_hint`, which may promise too many items.
 const MOST: usize = 1 << 22;
@@ -316,8 +316,8 @@ impl Options {
     /// ```
     ///
     /// For a program's own arguments, pass `std::env::args_os().skip(1)`; `std::env::args()` panics
-    /// if an argument isn't UTF-8. All items are taken before the first one is parsed, but none after
-    /// one that isn't UTF-8.
+    /// if an argument isn't UTF-8 ([`parse_os`](Self::parse_os) accepts these). All items are taken
+    /// before the first one is parsed, but none after one that isn't UTF-8.
     ///
     /// # Errors
     /// See [`Fail`].
@@ -328,9 +328,9 @@ impl Options {
         self.read(args, |options, texts| parse_texts(options, texts).map(Matches::of))
     }
 
-    /// Parses a command line like `parse`, but doesn't check how often options occur: a required
-    /// option may be missing, and an option that may occur once may occur several times. Not in the
-    /// crate getopts.
+    /// Parses a command line like [`parse`](Self::parse), but doesn't check how often options
+    /// occur: a required option may be missing, and an option that may occur once may occur several
+    /// times. Not in the crate getopts.
     ///
     /// Use it to print help even if a required option is missing:
     ///
@@ -411,8 +411,8 @@ impl Options {
         )
     }
 
-    /// Parses a command line like `parse`, and rewrites it in canonical form: each option as
-    /// `--name` or `--name=value`, with its main name (see [`Given`]), then `--`, then the
+    /// Parses a command line like [`parse`](Self::parse), and rewrites it in canonical form: each
+    /// option as `--name` or `--name=value`, with its main name (see [`Given`]), then `--`, then the
     /// positional arguments. Not in the crate getopts.
     ///
     /// Returns `None` if the command line gives an option whose main name contains `=`.
@@ -478,7 +478,7 @@ impl Options {
     }
 
     /// Returns the help text with descriptions that end within this many columns, such as the width
-    /// of a terminal. `usage(brief)` is `usage_in(brief, 78)`.
+    /// of a terminal. [`usage(brief)`](Self::usage) is `usage_in(brief, 78)`.
     ///
     /// Descriptions begin after 24 columns. A word that doesn't fit has a row of its own.
     ///

@@ -14,7 +14,7 @@ use std::str::FromStr;
 
 /// The matches of an accepted command line, which needn't be UTF-8. See [`Options::parse_os`].
 ///
-/// Methods panic if no option has the given name, except `opt_defined`.
+/// Methods panic if no option has the given name, except [`opt_defined`](Self::opt_defined).
 ///
 /// ```
 /// # #[cfg(unix)] {
@@ -78,8 +78,9 @@ impl<E: Error> Error for OsGetError<E> {
 }
 
 impl Options {
-    /// Parses a command line like `parse`, but also accepts arguments that aren't UTF-8. Values and
-    /// positional arguments are returned as they were given. Not in the crate getopts.
+    /// Parses a command line like [`parse`](Self::parse), but also accepts arguments that aren't
+    /// UTF-8. Values and positional arguments are returned as they were given. Not in the crate
+    /// getopts.
     ///
     /// Arguments may be any bytes on Unix, and may contain lone surrogates on Windows; elsewhere
     /// they must be UTF-8. Errors contain U+FFFD in place of invalid bytes or surrogates.
@@ -108,7 +109,8 @@ impl Options {
         self.read_os(args, parse_texts, OsMatches::of)
     }
 
-    /// Parses a command line like `parse_os`, but doesn't check how often options occur.
+    /// Parses a command line like [`parse_os`](Self::parse_os), but doesn't check how often options
+    /// occur.
     ///
     /// ```
     /// let mut options = getopts::Options::new();
@@ -118,7 +120,7 @@ impl Options {
     /// ```
     ///
     /// # Errors
-    /// See `parse_ignoring_counts`.
+    /// See [`parse_ignoring_counts`](Self::parse_ignoring_counts).
     pub fn parse_os_ignoring_counts<C: IntoIterator>(&self, args: C) -> Result<OsMatches, Fail>
     where
         C::Item: AsRef<OsStr>,

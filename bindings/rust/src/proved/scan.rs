@@ -20,6 +20,7 @@ pub(crate) const FIRST_ROOM: usize = 32;
 fn is_text(word: &str) {}
 
 /// A lemma for proofs, which compiles to nothing: each word is UTF-8, as its type says.
+#[doc(hidden)]
 pub fn are_texts<S: AsStr>(words: &[S]) {
     for word in words {
         is_text(word.as_str());
