@@ -97,6 +97,20 @@ def speed_in_c():
                                       for job in ("small", "typical", "long")))
 
 
+def behind():
+    """The jobs on which a library that declares options takes fewer instructions than this one."""
+    rows = []
+    for title, ours, peer, jobs in [("Instructions per iteration", "bindings/rust", "Rust crate", bench_py.JOBS),
+                                    ("Instructions per iteration in C", "bindings/c", "argp", bench_py.OF_C)]:
+        for job in jobs:
+            mine, theirs = (bench_py.recorded()[title, job][column].rstrip("*") for column in (ours, peer))
+            if not job.startswith("read-") and "-" not in (mine, theirs) and int(theirs) < int(mine):
+                name = ours.replace("bindings/rust", "proved-getopts")
+                rows.append([f"`{job}`", f"`{name}`: {int(mine):,}", f"{peer}: {int(theirs):,}",
+                             f"{int(mine) / int(theirs):.2f}"])
+    return table(["job", "this library", "the other", "times as many"], *rows)
+
+
 def memory():
     jobs = {"held-small": "3 words", "held-described": "options with long descriptions", "held-long": "1,000 words",
             "held-cluster": "a cluster of 100,000 letters", "held-values": "three values of 1 MB", "memory": "100,000 words"}
@@ -158,7 +172,7 @@ def quoted_contracts():
 
 
 # What --fix writes between `<!-- generated: NAME -->` and `<!-- end -->`.
-GENERATED = {make.__name__: make for make in (help_text, usage_example, speed, speed_in_c, memory, times, first_output,
+GENERATED = {make.__name__: make for make in (help_text, usage_example, speed, speed_in_c, behind, memory, times, first_output,
                                               compared, sizes, conditions, quoted_contracts)}
 
 
