@@ -77,9 +77,10 @@ arguments matters, use [`parse_in_order`](Options::parse_in_order).
 //!
 //! # The proved source
 //!
-//! The feature `proved` makes the proved source public, and doesn't need the feature `std`. The
-//! methods of `proved` take an allocator, and return an error if an allocation fails. Invalid names
-//! panic when they are added, and names that weren't declared count as not given:
+//! The feature `proved` makes the proved source public: the modules `proved`, `bytes`, `alloc` and
+//! `fallible` and, with the feature `std`, the function `bytes_of`. The methods of `proved` take an
+//! allocator, and return an error if an allocation fails. Invalid names panic when they are added,
+//! and names that weren't declared count as not given:
 //!
 //! ```
 //! # #[cfg(feature = "proved")] {
