@@ -82,14 +82,16 @@ impl Reading {
         of: &Texts<'_>,
     ) -> AllocResult<Reading> {
         let mut reading = Reading::nothing();
-        let parts = fail.map_or([""; 3], parts_of);
-        let message = parts.map(str::len).iter().sum::<usize>() + parts[1].len() + 2;
+        let (before, name, after) = fail.map_or(("", "", ""), Fail::parts);
+        let message = before.len() + 2 * name.len() + after.len() + 2;
         reading.texts.try_grow_exact(of.bytes.saturating_add(message))?;
         if fail.is_some() {
-            parts.iter().try_for_each(|part| push_bytes(&mut reading.texts, part))?;
+            for part in [before, name, after] {
+                push_bytes(&mut reading.texts, part)?;
+            }
             reading.texts.try_push(0)?;
             reading.name = reading.texts.len();
-            push_bytes(&mut reading.texts, parts[1])?;
+            push_bytes(&mut reading.texts, name)?;
             reading.texts.try_push(0)?;
         }
         if let Some(mut matches) = matches {
@@ -192,17 +194,5 @@ pub fn nth_of(nth: usize, count: usize) -> Option<usize> {
     match nth {
         usize::MAX => Some(last),
         _ => (nth <= last).then_some(nth),
-    }
-}
-
-/// The parts of a message: before the name, the name, and after it.
-fn parts_of(fail: &Fail) -> [&str; 3] {
-    match fail {
-        Fail::ArgumentMissing(name) => ["Argument to option '", name, "' missing"],
-        Fail::UnrecognizedOption(name) => ["Unrecognized option: '", name, "'"],
-        Fail::OptionMissing(name) => ["Required option '", name, "' missing"],
-        Fail::OptionDuplicated(name) => ["Option '", name, "' given more than once"],
-        Fail::UnexpectedArgument(name) => ["Option '", name, "' does not take an argument"],
-        Fail::OutOfMemory => [""; 3],
     }
 }

@@ -1,9 +1,10 @@
 //! The errors of `parse`.
 
-ghost use Rattle.std.specs.Prelude.{◌≡◌, ◌↔◌, Some, Ok, IfOk, IsTrue};
+ghost use Rattle.std.specs.Prelude.{◌≡◌, ◌++◌, ◌↔◌, Some, Ok, IfOk, IfSome, IsTrue};
 ghost use Rattle.std.specs.Cmp.Rules.{comparing};
 ghost use Rattle.std.proofs.Common.{rules};
-ghost use Rattle.getopts.specs.Fail.{IsOutOfMemoryOr, argument_missing, fail_text, fault_of};
+ghost use Rattle.getopts.specs.Fail.{IsOutOfMemoryOr, argument_missing, fail_text, fault_name};
+ghost use Rattle.getopts.specs.Fail.{fault_of};
 ghost use Rattle.getopts.specs.Fail.{option_duplicated, option_missing, unexpected_argument};
 ghost use Rattle.getopts.specs.Fail.{unrecognized_option};
 ghost use Rattle.getopts.specs.declared.fail.Fail.TheVariants.{OutOfMemory};
@@ -90,16 +91,8 @@ impl fmt::Display for Fail {
     ghost output = { λ fail. Some (fail_text fail) };
 
     fn fmt<W: fmt::Write>(&self, f: &mut fmt::Formatter<W>) -> fmt::Result {
-        match self {
-            Fail::ArgumentMissing(name) => write!(f, "Argument to option '{name}' missing"),
-            Fail::UnrecognizedOption(name) => write!(f, "Unrecognized option: '{name}'"),
-            Fail::OptionMissing(name) => write!(f, "Required option '{name}' missing"),
-            Fail::OptionDuplicated(name) => write!(f, "Option '{name}' given more than once"),
-            Fail::UnexpectedArgument(name) => {
-                write!(f, "Option '{name}' does not take an argument")
-            }
-            Fail::OutOfMemory => write!(f, "Out of memory"),
-        }
+        let (before, name, after) = self.parts();
+        write!(f, "{before}{name}{after}")
     }
 }
 
@@ -118,6 +111,30 @@ impl<T: Drop> From<AllocFailed<T>> for Fail {
 
     fn from(_error: AllocFailed<T>) -> Fail {
         Fail::OutOfMemory
+    }
+}
+
+impl Fail {
+    /// Returns the printed message in three parts: the text before the name, the name, and the text
+    /// after it.
+    ///
+    /// A missing option `n` gives `("Required option '", "n", "' missing")`. Use it to print the
+    /// name in another way. For `OutOfMemory`, the first part is the message. The Rust crate has no
+    /// such method.
+    pub fn parts(&self) -> (&str, &str, &str)
+        ensures message { fail_text self.now ≡ result.0.now ++ (result.1.now ++ result.2.now) }
+        ensures name { IfSome (fault_of self.now) (λ fault. result.1.now ≡ fault_name fault) }
+    {
+        match self {
+            Fail::ArgumentMissing(name) => ("Argument to option '", name.as_str(), "' missing"),
+            Fail::UnrecognizedOption(name) => ("Unrecognized option: '", name.as_str(), "'"),
+            Fail::OptionMissing(name) => ("Required option '", name.as_str(), "' missing"),
+            Fail::OptionDuplicated(name) => ("Option '", name.as_str(), "' given more than once"),
+            Fail::UnexpectedArgument(name) => {
+                ("Option '", name.as_str(), "' does not take an argument")
+            }
+            Fail::OutOfMemory => ("Out of memory", "", ""),
+        }
     }
 }
 

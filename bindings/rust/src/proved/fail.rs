@@ -67,16 +67,8 @@ impl Eq for Fail {}
 
 impl fmt::Display for Fail {
     fn fmt(&self, f: &mut fmt::Formatter<'_>) -> fmt::Result {
-        match self {
-            Fail::ArgumentMissing(name) => write!(f, "Argument to option '{name}' missing"),
-            Fail::UnrecognizedOption(name) => write!(f, "Unrecognized option: '{name}'"),
-            Fail::OptionMissing(name) => write!(f, "Required option '{name}' missing"),
-            Fail::OptionDuplicated(name) => write!(f, "Option '{name}' given more than once"),
-            Fail::UnexpectedArgument(name) => {
-                write!(f, "Option '{name}' does not take an argument")
-            }
-            Fail::OutOfMemory => write!(f, "Out of memory"),
-        }
+        let (before, name, after) = self.parts();
+        write!(f, "{before}{name}{after}")
     }
 }
 
@@ -91,6 +83,27 @@ impl From<AllocError> for Fail {
 impl<T> From<AllocFailed<T>> for Fail {
     fn from(_error: AllocFailed<T>) -> Fail {
         Fail::OutOfMemory
+    }
+}
+
+impl Fail {
+    /// Returns the printed message in three parts: the text before the name, the name, and the text
+    /// after it.
+    ///
+    /// A missing option `n` gives `("Required option '", "n", "' missing")`. Use it to print the
+    /// name in another way. For `OutOfMemory`, the first part is the message. The Rust crate has no
+    /// such method.
+    pub fn parts(&self) -> (&str, &str, &str) {
+        match self {
+            Fail::ArgumentMissing(name) => ("Argument to option '", name.as_str(), "' missing"),
+            Fail::UnrecognizedOption(name) => ("Unrecognized option: '", name.as_str(), "'"),
+            Fail::OptionMissing(name) => ("Required option '", name.as_str(), "' missing"),
+            Fail::OptionDuplicated(name) => ("Option '", name.as_str(), "' given more than once"),
+            Fail::UnexpectedArgument(name) => {
+                ("Option '", name.as_str(), "' does not take an argument")
+            }
+            Fail::OutOfMemory => ("Out of memory", "", ""),
+        }
     }
 }
 
