@@ -111,8 +111,12 @@ fn similar(random: &mut Random) -> Declared {
         let other = declared.groups[random.below(place + 1)].long.clone();
         let group = &mut declared.groups[place];
         if !group.long.is_empty() {
-            let again = random.one_in(5) && !other.is_empty();
-            group.long = if again { other } else { texts::similar_name(random) };
+            let name = match random.below(5) {
+                0 => other,
+                1 => texts::near(random, &other),
+                _ => String::new(),
+            };
+            group.long = if name.len() > 1 { name } else { texts::similar_name(random) };
         }
         (group.call, group.occur) = ("opt", "multi");
     }
@@ -365,16 +369,18 @@ fn change(random: &mut Random, declared: &mut Declared) {
 /// Words with almost the same meaning as others.
 fn changed_words(random: &mut Random, declared: &Declared, words: &[String]) -> Vec<String> {
     let mut words = words.to_vec();
-    match random.below(6) {
+    match random.below(8) {
         0 => words.reverse(),
         1 => words.push(texts::value(random)),
         2 => words.extend(item(random, declared)),
         3 => {
             words.pop();
         }
-        4 if !words.is_empty() => {
+        4..=6 if !words.is_empty() => {
             let place = random.below(words.len());
-            words[place] = texts::near(random, &words[place]);
+            let after_dashes = words[place].trim_start_matches('-');
+            let dashes = "-".repeat(words[place].len() - after_dashes.len());
+            words[place] = dashes + &texts::near(random, after_dashes);
         }
         _ => {
             if let Some(word) = words.first_mut() {
@@ -387,7 +393,7 @@ fn changed_words(random: &mut Random, declared: &Declared, words: &[String]) -> 
     words
 }
 
-/// Values converted to numbers and booleans.
+/// Values as they are, and converted to numbers and booleans.
 fn value(random: &mut Random, number: usize) -> Making {
     let mut making = Making::begin("value", number);
     let kind = random.of(&["yes", "yes", "maybe", "no"]);
@@ -395,22 +401,23 @@ fn value(random: &mut Random, number: usize) -> Making {
     let group = Group::named("n", long, ("opt", kind, "multi"));
     making.add(group.line());
     let mut words = Vec::new();
-    for _ in 0..random.below(3) {
-        words.push(match random.below(3) {
+    for _ in 0..random.below(6) {
+        let value = if random.one_in(2) { texts::parsed(random) } else { texts::value(random) };
+        let value = if random.one_in(4) { texts::near(random, &value) } else { value };
+        words.push(match random.below(4) {
             0 => "-n".to_string(),
-            1 => format!("-n{}", texts::parsed(random)),
-            _ => format!("--{}={}", group.main(), texts::parsed(random)),
+            1 => format!("-n{value}"),
+            _ => format!("--{}={value}", group.main()),
         });
     }
     making.words(&words);
-    for _ in 0..1 + random.below(2) {
-        if random.one_in(2) {
-            let default = random.of(&["0", "7", "-12"]);
-            making.put(&["number", "n", default]);
-        } else {
-            let default = random.of(&["true", "false"]);
-            making.put(&["truth", group.main(), default]);
-        }
+    making.put(&["option", "n", "def"]);
+    if random.one_in(2) {
+        let default = random.of(&["0", "7", "-12"]);
+        making.put(&["number", "n", default]);
+    } else {
+        let default = random.of(&["true", "false"]);
+        making.put(&["truth", group.main(), default]);
     }
     making
 }

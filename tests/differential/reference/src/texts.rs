@@ -25,9 +25,9 @@ const VALUES: [&str; 33] = [
 
 /// Texts that Rust reads as a number, a boolean or a character, or almost.
 #[rustfmt::skip]
-const PARSED: [&str; 19] = [
-    "0", "7", "-12", "007", "-0", "+7", "--7", "1_000", "0x7", "7.0", "1e3", "-", "2147483647",
-    "2147483648", "-2147483648", "-2147483649", "true", "false", "é",
+const PARSED: [&str; 21] = [
+    "0", "1", "7", "-12", "007", "-0", "+7", "--7", "1_000", "0x7", "7.0", "1e3", "-", "2147483647",
+    "2147483648", "-2147483648", "-2147483649", "true", "false", "yes", "é",
 ];
 
 #[rustfmt::skip]
@@ -112,8 +112,10 @@ pub fn is_measured(text: &str) -> bool {
 /// A text that is almost the same.
 pub fn near(random: &mut Random, text: &str) -> String {
     let mut chars: Vec<char> = text.chars().collect();
+    let last = chars.len().saturating_sub(1);
     let at = random.below(chars.len() + 1);
-    match (random.below(10), chars.get_mut(at)) {
+    let at = random.of(&[0, last, at, at]);
+    match (random.below(11), chars.get_mut(at)) {
         (0, Some(c)) => *c = other_case(*c),
         (1, Some(c)) => *c = if *c == '-' { '_' } else { '-' },
         (2, Some(c)) => *c = char::from_u32(*c as u32 ^ 1).unwrap_or(*c),
@@ -121,8 +123,12 @@ pub fn near(random: &mut Random, text: &str) -> String {
         (4, _) => chars.insert(at, ' '),
         (5, _) => chars.insert(at, character(random)),
         (6, _) => chars.push(character(random)),
-        (7, _) => chars.truncate(at),
-        (8, _) => drop(chars.drain(..at)),
+        (7, _) => {
+            chars.insert(0, character(random));
+            chars.push(chars[0]);
+        }
+        (8, _) => chars.truncate(at),
+        (9, _) => drop(chars.drain(..at)),
         // The library looks names up by their first 7 and 14 bytes, read as 4 and 3.
         _ => {
             chars.resize(random.of(&[3, 4, 7, 14]), 'a');
@@ -140,7 +146,7 @@ fn other_case(c: char) -> char {
 /// One of these texts or, less often, a text that is almost the same.
 fn of(random: &mut Random, texts: &[&str]) -> String {
     let text = random.of(texts);
-    if random.one_in(8) {
+    if random.one_in(5) {
         near(random, text)
     } else {
         text.to_string()
@@ -197,13 +203,19 @@ pub fn value(random: &mut Random) -> String {
     match random.below(12) {
         0 => noise(random),
         1 => parsed(random),
+        2 => character(random).to_string(),
         _ => of(random, &VALUES),
     }
 }
 
 /// A text that Rust reads as a number, a boolean or a character, or almost.
 pub fn parsed(random: &mut Random) -> String {
-    of(random, &PARSED)
+    let text = of(random, &PARSED);
+    match random.below(8) {
+        0 => space(random) + &text,
+        1 => text + &space(random),
+        _ => text,
+    }
 }
 
 /// A few characters, many of which occur in lines.
