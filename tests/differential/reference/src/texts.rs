@@ -194,7 +194,6 @@ pub fn similar_name(random: &mut Random) -> String {
     letters.into_iter().collect()
 }
 
-/// A hint. If it is measured, all versions of Unicode's tables agree on its columns.
 pub fn hint(random: &mut Random) -> String {
     of(random, &HINTS)
 }
@@ -244,8 +243,8 @@ fn words(random: &mut Random) -> String {
     let mut text = random.of(&WORDS).to_string();
     for _ in 0..random.below(24) {
         text += &space(random);
-        let columns = random.below(60);
-        if (1..9).contains(&columns) {
+        if random.one_in(8) {
+            let columns = 1 + random.below(8);
             text += &of_columns(random, columns);
         } else {
             text += random.of(&WORDS);
