@@ -412,8 +412,8 @@ impl Options {
     }
 
     /// Parses a command line like [`parse`](Self::parse), and rewrites it in canonical form: each
-    /// option as `--name` or `--name=value`, with its main name (see [`Given`]), then `--`, then the
-    /// positional arguments. Not in the crate getopts.
+    /// option as `--name` or `--name=value`, with its main name (see [`Given`]), then `--`, then
+    /// the positional arguments. Not in the crate getopts.
     ///
     /// Returns `None` if the command line gives an option whose main name contains `=`.
     ///

@@ -1,5 +1,5 @@
-//! A linker's command line. Files and libraries are linked in the order in which they were typed: the
-//! linker searches a library for what the files before it need.
+//! A linker's command line. Files and libraries are linked in the order in which they were typed:
+//! the linker searches a library for what the files before it need.
 
 ghost use Rattle.std.specs.Prelude.{◌≡◌, ◌++◌, codes, map, IfOk, OnOk, List, ◌∷◌, []};
 ghost use Rattle.std.specs.String.{string_bytes};

@@ -51,17 +51,17 @@ impl Options {
         self.parse_words(alloc, &words)
     }
 
-    /// Parses a command line like `parse_words`, but returns its options and free words in the order
-    /// in which they were given.
+    /// Parses a command line like `parse_words`, but returns its options and free words in the
+    /// order in which they were given.
     ///
     /// Use it if the order of different options matters, for example if the last of `-q` and `-v`
     /// wins, or if an option applies to the free words after it, as in `-C a f -C b g`. (Positions
     /// don't help: options in one word, such as `-vq`, share a position, and free words have none.)
     /// Each option is returned as its index in the order of declaration, as from `opt_place`. With
-    /// the options `q` and `v`, `["-vq", "x", "-v"]` gives `Option(1)`, `Option(0)`, `Free("x")` and
-    /// `Option(1)`. If an index occurs for the nth time in the list, the option's value is in the
-    /// nth occurrence of `occurrences_at` for that index. The nth free word in the list is the nth
-    /// of `free`.
+    /// the options `q` and `v`, `["-vq", "x", "-v"]` gives `Option(1)`, `Option(0)`, `Free("x")`
+    /// and `Option(1)`. If an index occurs for the nth time in the list, the option's value is in
+    /// the nth occurrence of `occurrences_at` for that index. The nth free word in the list is the
+    /// nth of `free`.
     ///
     /// Fails exactly as `parse_words` does. The Rust crate has no such method.
     pub fn parse_in_order<'w, S: AsStr>(
