@@ -72,7 +72,7 @@ pub use Rattle.std.specs.contracts.result.Result as Res
 pub use Rattle.std.specs.contracts.alloc.AllocError as AE
 pub use Rattle.getopts.specs.contracts.kinds.HasArg as has_arg
 pub use Rattle.getopts.specs.contracts.kinds.Occur as occurs
-use Rattle.std.proofs.Common.{Option, Some, None}
+use Rattle.std.proofs.Common.{Option, Some, None, rules}
 use Rattle.getopts.specs.contracts.options.Options.opt as g
 use Rattle.getopts.specs.contracts.options.Options.optflag as three
 use Rattle.getopts.specs.contracts.options.Options.optopt as four
@@ -101,10 +101,7 @@ added_values (Err e) v is = inr (ap only (enums.tells (Res.the_type unit AE.the_
 -- a value that is a result has its type
 pub returned_typed : {M : Type 1} {𝓤 : Ura M} (𝓛 : Logic 𝓤) (κ : Lft) (r : (Returned κ).Denot) (v : Val)
     → Is (Returned κ) r (v ∷ []) → T (has_ty (layout (Returned κ)) v) × WT v
-returned_typed 𝓛 κ r v is =
-    let l : NamedLft = record { mir = named 0; lft = κ } in
-    (((result_laws (MutRef (named 0) κ Options) AE.the_row (of_field (mut_ref_field l Options tt) (mut_ref_laws l Options tt) refl
-    (mut_ref_shared l Options tt (row_shared Options options_laws))) error_laws).lawful 𝓛).typed r (v ∷ []) is).0
+returned_typed 𝓛 κ r v is = search (rules, result_laws, options_laws, error_laws)
 
 module _ {M : Type 1} {𝓤 : Ura M} (𝓛 : Logic 𝓤) (options : MutBor Declared) where
   open 𝓛 use {A}

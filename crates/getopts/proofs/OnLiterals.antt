@@ -1,7 +1,6 @@
 -- Computing with literal options, command lines and help texts, and ten command lines as examples.
-use Rattle.std.proofs.Common.{◌≡◌, ℕ, Bool, true, false, nat_lt, List, [], ◌∷◌, Option, Some, None}
-use Rattle.std.proofs.Common.{Result, Ok, Err, codes, refl, subst, arith, ◌==◌, ◌≤◌, ◌+◌, ◌&&◌, not}
-use Rattle.std.proofs.Common.{length, rules}
+use Rattle.std.proofs.Common.{◌≡◌, ℕ, Bool, true, false, nat_lt, List, [], ◌∷◌, Option, Some, None, Result, Ok, Err}
+use Rattle.std.proofs.Common.{codes, refl, subst, arith, ◌==◌, ◌≤◌, ◌+◌, ◌&&◌, not, length, rules}
 use Rattle.std.specs.Prelude.{⊤}
 use Rattle.std.specs.Char.{encode_utf8}
 use Rattle.std.specs.List.{list_all}
@@ -14,8 +13,8 @@ use Rattle.getopts.specs.Names.{Text, Names, IsLawfullyNamed, AreTexts}
 use Rattle.getopts.specs.Options.{Group, MayBeDeclared, Declared, group_of}
 use Rattle.getopts.specs.Only.{IsTheOnly}
 use Rattle.getopts.specs.Fail.{Fault, unrecognized_option, option_duplicated}
-use Rattle.getopts.specs.Reading.{Reading, Item, free, long, cluster, two, flags, ends_in, none}
-use Rattle.getopts.specs.Reading.{attached, separate, Tail, line_end, stop, Mention}
+use Rattle.getopts.specs.Reading.{Reading, Item, free, long, cluster, two, flags, ends_in, none, attached, separate}
+use Rattle.getopts.specs.Reading.{Tail, line_end, stop, Mention}
 use Rattle.getopts.specs.Canon.{content_of}
 use Rattle.getopts.specs.Results.{step, read_both, read, reading_or_error, accepted_reading}
 use Rattle.getopts.specs.Returns.{IsLineOf}
@@ -76,13 +75,10 @@ lawful_groups [] plain = record { named = tt; shorts = tt }
 lawful_groups (group ∷ groups) plain =
     let names = group.signature.names in
     let parts = and_parts (are_plain_names group.signature.names) (are_plain groups) plain in
-    let short = and_parts (is_plain_short names.short)
-    (not (length names.long == 1) && nat_lt 0 (length names.short + length names.long)) parts.0 in
-    let others = lawful_groups groups parts.1 in search (rules, plain_lawful, IsUtf8-from_ascii, short_told)
+    search (rules, and_parts, plain_lawful, IsUtf8-from_ascii, short_told, lawful_groups groups parts.1)
 
 -- literal options may be declared if their names pass this test
-pub MayBeDeclared-plain : (options : Declared) → are_plain options.groups ≡ true
-    → MayBeDeclared options.groups
+pub MayBeDeclared-plain : (options : Declared) → are_plain options.groups ≡ true → MayBeDeclared options.groups
 MayBeDeclared-plain options plain = lawful_groups options.groups plain
 
 -- literal words are texts if they pass this test
@@ -137,9 +133,8 @@ pub record IsReadAs (words : List Text) (items : List Item) (tail : Tail) (menti
 abbrev pub IsRejectedWith : List Text → Fault → Type 0
 IsRejectedWith words fault = IsTheOnly (IsLineOf sample words) (Err fault)
 
-computed : (words : List Text) (answer : Result Reading Fault)
-    → list_all is_plain_text words ≡ true → accepted_reading sample words ≡ answer
-    → IsTheOnly (IsLineOf sample words) answer
+computed : (words : List Text) (answer : Result Reading Fault) → list_all is_plain_text words ≡ true
+    → accepted_reading sample words ≡ answer → IsTheOnly (IsLineOf sample words) answer
 computed words answer plain gives =
     let declared = MayBeDeclared-plain sample refl in
     subst (IsTheOnly (IsLineOf sample words)) gives
@@ -208,7 +203,6 @@ unfolding getopts_on_literals
 unknown_option = computed _ _ refl refl
 
 -- `-oa -ob`: `output` may occur once
-pub option_given_twice : IsRejectedWith (codes "-oa" ∷ codes "-ob" ∷ [])
-    (option_duplicated (codes "output"))
+pub option_given_twice : IsRejectedWith (codes "-oa" ∷ codes "-ob" ∷ []) (option_duplicated (codes "output"))
 unfolding getopts_on_literals
 option_given_twice = computed _ _ refl refl

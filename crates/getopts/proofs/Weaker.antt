@@ -1,5 +1,5 @@
 -- A result with a property has all properties that follow from it.
-use Rattle.std.proofs.Common.{◌≡◌, Option, Some, None, IfNone, rules}
+use Rattle.std.proofs.Common.{◌≡◌, Option, IfNone, rules}
 use Rattle.std.specs.Prelude.{Result, IfErr}
 use Rattle.std.specs.Result.{IsErrAnd}
 use Rattle.std.proofs.lemmas.Result.{err_from_is_err_and}
@@ -13,8 +13,7 @@ pub IsOutOfMemoryOr-weaker : (fail : Fail) (P Q : Fault → Type 0) → IsOutOfM
 IsOutOfMemoryOr-weaker fail P Q tells follows = IfSome_then (fault_of fail) {P = P} {Q = Q} tells follows
 
 -- a `Fail` with this error has an error with the properties of this error
-pub IsOutOfMemoryOr-one : (fail : Fail) (fault : Fault) (Q : Fault → Type 0)
-    → IsOutOfMemoryOr fail (λ f. f ≡ fault)
+pub IsOutOfMemoryOr-one : (fail : Fail) (fault : Fault) (Q : Fault → Type 0) → IsOutOfMemoryOr fail (λ f. f ≡ fault)
     → Q fault → IsOutOfMemoryOr fail Q
 IsOutOfMemoryOr-one fail fault Q tells holds = search (rules, IsOutOfMemoryOr-weaker)
 
@@ -22,11 +21,8 @@ IsOutOfMemoryOr-one fail fault Q tells holds = search (rules, IsOutOfMemoryOr-we
 pub IsOutOfMemoryOr-exit : {T : Type 0} (answer : Result T Fail) (fail : Fail)
     (P Q : Fault → Type 0) → IsErrAnd answer (λ other. other ≡ fail) → IsOutOfMemoryOr fail P
     → ((fault : Fault) → P fault → Q fault) → IfErr answer (λ fail. IsOutOfMemoryOr fail Q)
-IsOutOfMemoryOr-exit answer fail P Q exit tells follows =
-    search (rules, err_from_is_err_and, IsOutOfMemoryOr-weaker)
+IsOutOfMemoryOr-exit answer fail P Q exit tells follows = search (rules, err_from_is_err_and, IsOutOfMemoryOr-weaker)
 
 -- a fact about the case without a value implies all facts that follow from it
-pub IfNone-weaker : {X : Type 0} (answer : Option X) (P Q : Type 0) → (P → Q) → IfNone answer P
-    → IfNone answer Q
-IfNone-weaker None P Q follows holds = follows holds
-IfNone-weaker (Some x) P Q follows holds = tt
+pub IfNone-weaker : {X : Type 0} (answer : Option X) (P Q : Type 0) → (P → Q) → IfNone answer P → IfNone answer Q
+IfNone-weaker answer P Q follows holds = search rules

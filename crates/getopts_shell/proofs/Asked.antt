@@ -1,25 +1,15 @@
 -- The variables that are asked for, and matches if counts are ignored.
-use Rattle.std.proofs.Common.{◌≡◌, ℕ, ◌+◌, Bool, true, false, cond, List, [], ◌∷◌, Option, Some, None, Ok, map, refl}
-use Rattle.std.proofs.Common.{rules}
-use Rattle.getopts.specs.Matches.{Matched, MatchedGroup}
+use Rattle.std.proofs.Common.{◌≡◌, ℕ, ◌+◌, List, [], ◌∷◌, Some, None, map, refl, rules}
+use Rattle.getopts.specs.Matches.{MatchedGroup}
 use Rattle.getopts.specs.Names.{Text}
-use Rattle.getopts.specs.Options.{Declared}
-use Rattle.getopts.specs.Results.{accepted_reading, parse_result, parse_ignoring_counts_result, reading_or_error}
 use Rattle.getopts_shell.specs.Program.{Asked, asked_fault}
 use Rattle.getopts_shell.specs.Table.{Entry}
-use Rattle.getopts_shell.specs.Variables.{Given, HaveOwnVariables, SetsVariables, VariableFault, given_from}
+use Rattle.getopts_shell.specs.Variables.{Given, HaveOwnVariables, SetsVariables, given_from}
 use Rattle.getopts_shell.proofs.Written.{code_sets}
 
-begun : (begins : Bool) (first : Option VariableFault) (fault : VariableFault) → cond begins first
-    (Some fault) ≡ None
-    → first ≡ None
-begun true first fault is = is
-begun false first fault is = absurd cc
-
 -- if there is no error, the options make their own variables
-pub asked_own : (asked : Asked) (prefix : Text) (entries : List Entry)
-    → asked.variables ≡ Some prefix → asked_fault asked entries ≡ None
-    → HaveOwnVariables prefix entries
+pub asked_own : (asked : Asked) (prefix : Text) (entries : List Entry) → asked.variables ≡ Some prefix
+    → asked_fault asked entries ≡ None → HaveOwnVariables prefix entries
 asked_own asked prefix entries given none = search rules
 
 given_entries : (place : ℕ) (entries : List Entry) (held : List MatchedGroup)
@@ -34,10 +24,3 @@ pub asked_sets : (asked : Asked) (prefix : Text) (entries : List Entry) (held : 
 asked_sets asked prefix entries held free given none = search (rules, code_sets, given_entries, asked_own)
 
 -- ---- counts
-
--- words that keep the counts have the same matches if counts are ignored
-pub read_of_parsed : (options : Declared) (words : List Text) (matches : Matched)
-    → parse_result options words ≡ Ok matches
-    → parse_ignoring_counts_result options words ≡ Ok matches
-unfolding reading_or_error accepted_reading
-read_of_parsed options words matches is = search rules

@@ -39,8 +39,7 @@ name_written (byte ∷ name) = search (rules, name_written name)
 
 -- the value of an occurrence, or the empty text
 pub text_of : (founds : List GroupOccurrence) (nth : ℕ)
-    → get_or (texts_found founds) nth []
-    ≡ option_map_or (λ found. unwrap_or found.value []) (slice_get founds nth) []
+    → get_or (texts_found founds) nth [] ≡ option_map_or (λ found. unwrap_or found.value []) (slice_get founds nth) []
 text_of [] nth = refl
 text_of (first ∷ founds) zero = refl
 text_of (first ∷ founds) (suc nth) = text_of founds nth
@@ -51,8 +50,7 @@ length_texts founds = simp length-map
 
 -- one more word after a space
 spaced_last : (front : Text) (words : List Text) (word : Text)
-    → front ++ flat_map spaced (words ++ word ∷ [])
-    ≡ (front ++ flat_map spaced words) ++ (32 ∷ quoted word)
+    → front ++ flat_map spaced (words ++ word ∷ []) ≡ (front ++ flat_map spaced words) ++ (32 ∷ quoted word)
 spaced_last front words word = rw flat_map-append (simp append_assoc)
 
 -- one more word in quotes
@@ -124,8 +122,7 @@ variable_parts prefix name =
     by_first (byte ∷ text) = refl
 
 -- the same text before both changes nothing
-same_front : (front name other : Text)
-    → bytes_eq (front ++ name) (front ++ other) ≡ bytes_eq name other
+same_front : (front name other : Text) → bytes_eq (front ++ name) (front ++ other) ≡ bytes_eq name other
 same_front [] name other = refl
 same_front (byte ∷ front) name other = simp (eq-eqb, same_front front name other)
 
@@ -147,16 +144,12 @@ pub fault_from : (prefix : Text) (rows : List Row) (place : ℕ) (row : Row) →
 fault_from prefix rows place row below row_is = grind (arith, common_steps)
 
 -- an entry without an error makes a variable
-no_fault : (made : Bool) (more : Option VariableFault) (one : VariableFault)
-    (rest : Option VariableFault) → option_or (cond made more (Some one)) rest ≡ None
-    → (made ≡ true) × (rest ≡ None)
-no_fault false more one rest is = absurd cc
-no_fault true (Some other) one rest is = absurd cc
-no_fault true None one rest is = (refl, is)
+no_fault : (made : Bool) (more : Option VariableFault) (one : VariableFault) (rest : Option VariableFault)
+    → option_or (cond made more (Some one)) rest ≡ None → (made ≡ true) × (rest ≡ None)
+no_fault made more one rest is = search rules
 
 -- if no error is found, each entry makes a variable
-pub each_makes : (prefix : Text) (before entries : List Entry)
-    → first_fault prefix before entries ≡ None
+pub each_makes : (prefix : Text) (before entries : List Entry) → first_fault prefix before entries ≡ None
     → AllByRecursion (λ entry. is_variable (variable_of prefix entry) ≡ true) entries
 each_makes prefix before [] is = tt
 each_makes prefix before (entry ∷ more) is =

@@ -93,14 +93,12 @@ module _ (options : Declared) (declared : MayBeDeclared options.groups) where
   read_as words reading are reads =
       sym (((HasResults-declared options declared words are).reading (Ok reading)).0 reads)
 
-  result_of : (words : List Text) → AreTexts words
-      → IsReadingOf options words (reading_or_error options words)
+  result_of : (words : List Text) → AreTexts words → IsReadingOf options words (reading_or_error options words)
   result_of words are = search (rules, HasResults-declared options declared words are)
 
   -- no option may follow words that have no such reading
-  none_after : (words : List Text) → AreTexts words
-      → groups_before_option options words ≡ None → (outcome : Result Reading Fault)
-      → IsReadingOf options (with_stop words) outcome
+  none_after : (words : List Text) → AreTexts words → groups_before_option options words ≡ None
+      → (outcome : Result Reading Fault) → IsReadingOf options (with_stop words) outcome
       → groups_after (made_of (matches_of options) outcome) ≡ None
   none_after words are unread (Err fault) is = refl
   none_after words are unread (Ok reading) is = by reading.items reading.tail is where
@@ -120,8 +118,7 @@ module _ (options : Declared) (declared : MayBeDeclared options.groups) where
 
   -- what the words with the stop give
   pub groups_before_option-stop : (words : List Text) → AreTexts words
-      → groups_after (parse_ignoring_counts_result options (with_stop words))
-      ≡ groups_before_option options words
+      → groups_after (parse_ignoring_counts_result options (with_stop words)) ≡ groups_before_option options words
   groups_before_option-stop words are = by (reading_or_error options words) refl (result_of words are) where
     unread : (outcome : Result Reading Fault) → reading_or_error options words ≡ outcome
         → groups_at_end options outcome ≡ None

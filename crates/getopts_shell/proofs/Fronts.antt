@@ -1,6 +1,6 @@
 -- What was written of bytes is a prefix of them.
-use Rattle.std.proofs.Common.{◌≡◌, ◌≢◌, ℕ, ◌-◌, zero, suc, List, [], ◌++◌, length, take, drop, Option, Some, None}
-use Rattle.std.proofs.Common.{Result, Ok, Err, inl, inr, ◌∙◌, append-nil, append_assoc, arith, refl, sym, rules}
+use Rattle.std.proofs.Common.{◌≡◌, ◌≢◌, ℕ, ◌-◌, zero, suc, List, [], ◌++◌, length, take, drop, Option, Result, inl}
+use Rattle.std.proofs.Common.{inr, append-nil, append_assoc, arith, refl, rules}
 use Rattle.std.specs.Prelude.{OnOk, ◌⊎◌}
 use Rattle.std.specs.Io.KnownBytes.{Appends, Keeps}
 use Rattle.std.proofs.lemmas.List.{take-append-drop, take_rest}
@@ -9,24 +9,17 @@ use Rattle.getopts_shell.specs.Program.{AppendsFront, IsOutput, ShowsFront, Show
 
 -- nothing is appended if nothing changes
 pub appends_none : (old : Option (List ℕ)) → Appends old old []
-appends_none None = tt
-appends_none (Some bytes) = sym (append-nil bytes)
+appends_none old = search (rules, append-nil)
 
 -- what was appended is unchanged if a writer is
 pub appends_kept : (old new again : Option (List ℕ)) (bytes : List ℕ) → Appends old new bytes
     → Keeps new again → Appends old again bytes
-appends_kept None new again bytes is kept = tt
-appends_kept (Some held) None again bytes is kept = absurd is
-appends_kept (Some held) (Some now) None bytes is kept = absurd kept
-appends_kept (Some held) (Some now) (Some then) bytes is kept = kept ∙ is
+appends_kept old new again bytes is kept = search rules
 
 -- bytes and then more are appended as one
 pub appends_more : (old new again : Option (List ℕ)) (bytes more : List ℕ) → Appends old new bytes
     → Appends new again more → Appends old again (bytes ++ more)
-appends_more None new again bytes more is also = tt
-appends_more (Some held) None again bytes more is also = absurd is
-appends_more (Some held) (Some now) None bytes more is also = absurd also
-appends_more (Some held) (Some now) (Some then) bytes more is also = search (rules, append_assoc)
+appends_more old new again bytes more is also = search (rules, append_assoc)
 
 -- one more piece of the rest
 pub one_more_piece : (all done rest : List ℕ) (count : ℕ) → all ≡ done ++ rest
@@ -54,5 +47,4 @@ shows_front out out_now err err_now err_end words bytes (suc n) is on_out on_err
 
 -- a fact is true whatever the result
 pub on_ok : {X E : Type 0} (result : Result X E) (Fact : Type 0) → Fact → OnOk result Fact
-on_ok (Ok value) Fact fact = fact
-on_ok (Err error) Fact fact = tt
+on_ok result Fact fact = search rules

@@ -9,13 +9,14 @@ use Rattle.std.proofs.lemmas.Bool.Decides.{nat_tests}
 use Rattle.std.proofs.lemmas.List.{append_cancel_right}
 use Rattle.getopts.specs.Names.{Text, Names, is_empty}
 use Rattle.getopts.specs.declared.kinds.HasArg.{HasArg}
-use Rattle.getopts.specs.declared.kinds.HasArg.TheVariants.{Yes, No, Maybe}
+use Rattle.getopts.specs.declared.kinds.HasArg.TheVariants.{Yes, Maybe}
 use Rattle.getopts_shell.specs.Table.{is_name, is_hint, names_text, MayBeNames, AreNames, IsArgument, HasParts}
 use Rattle.getopts_shell.specs.Table.{IsBracketed, bare, bracketed, IsItem, end_means, fits}
 use Rattle.getopts_shell.specs.declared.row.Frequency.{Frequency}
 use Rattle.std.specs.Str.Pattern.{RFindsChar}
 use Rattle.std.proofs.lemmas.List.Elements.{All-from_get_or, recursion_from_All}
 use Rattle.std.proofs.lemmas.Str.Pattern.{NoCharPasses-char, drop_at_char}
+use Rattle.std.proofs.lemmas.Grind.{common_steps}
 
 -- ---- brackets
 
@@ -25,8 +26,7 @@ is_empty-cons byte text = grind (arith, nat_tests)
 
 -- a text that doesn't begin with `[`
 pub no_bracket : (text : Text) → ((rest : Text) → text ≢ 91 ∷ rest) → slice_index text 0 ≢ 91
-no_bracket [] none = λ is. absurd (omega arith)
-no_bracket (byte ∷ rest) none = λ is. none rest (ap (λ (b : ℕ). b ∷ rest) is)
+no_bracket text rest = grind (arith, common_steps)
 
 -- something isn't nothing
 never : {X : Type 0} (x : X) → None ≡ Some x → ⊥
@@ -64,8 +64,7 @@ last_close text (Some x) h = (
 )
 
 -- a text without `]` isn't a text with one
-no_close : (text front back : Text) → AllByRecursion (λ (byte : ℕ). byte ≢ 93) text → text ≡ front
-    ++ 93 ∷ back → ⊥
+no_close : (text front back : Text) → AllByRecursion (λ (byte : ℕ). byte ≢ 93) text → text ≡ front ++ 93 ∷ back → ⊥
 no_close [] [] back none is = cc
 no_close [] (byte ∷ front) back none is = cc
 no_close (byte ∷ text) [] back none is = none.0 cc
@@ -82,24 +81,19 @@ one_cut (byte ∷ front) (first ∷ other) back after none also same =
     search (rules, one_cut front other back after none also cc)
 
 -- a text that begins with `[` and has no `]` after it has no brackets
-pub none_closed : (text opened : Text) → text ≡ 91 ∷ opened
-    → AllByRecursion (λ (byte : ℕ). byte ≢ 93) opened
+pub none_closed : (text opened : Text) → text ≡ 91 ∷ opened → AllByRecursion (λ (byte : ℕ). byte ≢ 93) opened
     → (inside : Text) (frequency : Frequency) → ¬ (IsBracketed text inside frequency)
-none_closed text opened opens none inside frequency (bare is plain) = search rules
-none_closed text opened opens none inside frequency (bracketed end _ is means) = search (rules, no_close)
+none_closed text opened opens inside inside1 frequency h6 = search (rules, no_close)
 
 -- nor has a text whose end means nothing
 pub none_meant : (text opened before end : Text) → text ≡ 91 ∷ opened → opened ≡ before ++ 93 ∷ end
     → AllByRecursion (λ (byte : ℕ). byte ≢ 93) end → end_means end ≡ None
     → (inside : Text) (frequency : Frequency) → ¬ (IsBracketed text inside frequency)
-none_meant text opened before end opens parts none means inside frequency (bare is plain) = search rules
-none_meant text opened before end opens parts none means inside frequency (bracketed other _ is also) =
-    search (rules, one_cut, closed)
+none_meant text opened before end opens parts frequency means inside frequency1 h10 = search (rules, one_cut, closed)
 
 -- a text has only one inside, and its brackets only one meaning
-pub one_bracketed : (text inside other : Text) (frequency another : Frequency)
-    → IsBracketed text inside frequency → IsBracketed text other another
-    → (other ≡ inside) × (another ≡ frequency)
+pub one_bracketed : (text inside other : Text) (frequency another : Frequency) → IsBracketed text inside frequency
+    → IsBracketed text other another → (other ≡ inside) × (another ≡ frequency)
 one_bracketed text inside other frequency another (bare is plain) (bare also simple) = search rules
 one_bracketed text inside other frequency another (bare is plain) (bracketed end _ also means) = search rules
 one_bracketed text inside other frequency another (bracketed end _ is means) (bare also plain) = search rules
@@ -113,10 +107,8 @@ abbrev after_names : Option Text → Text
 after_names argument = option_map_or (λ (text : Text). 32 ∷ text) argument []
 
 -- a text is cut at its first space in only one way
-cut_once : (names others : Text) (argument other : Option Text)
-    → AllByRecursion (λ (byte : ℕ). byte ≢ 32) names
-    → AllByRecursion (λ (byte : ℕ). byte ≢ 32) others
-    → names ++ after_names argument ≡ others ++ after_names other
+cut_once : (names others : Text) (argument other : Option Text) → AllByRecursion (λ (byte : ℕ). byte ≢ 32) names
+    → AllByRecursion (λ (byte : ℕ). byte ≢ 32) others → names ++ after_names argument ≡ others ++ after_names other
     → (others ≡ names) × (other ≡ argument)
 cut_once [] [] None None plain plains same = (refl, refl)
 cut_once [] [] None (Some text) plain plains same = cc
@@ -130,9 +122,8 @@ cut_once (byte ∷ names) (also ∷ others) argument other plain plains same =
     search (rules, cut_once names others argument other plain.1 plains.1 cc)
 
 -- a text has one pair of parts
-pub one_pair : (text names others : Text) (argument other : Option Text)
-    → HasParts text names argument → HasParts text others other
-    → (others ≡ names) × (other ≡ argument)
+pub one_pair : (text names others : Text) (argument other : Option Text) → HasParts text names argument
+    → HasParts text others other → (others ≡ names) × (other ≡ argument)
 one_pair text names others argument other parts also =
     cut_once names others argument other parts.0 also.0 (sym parts.1 ∙ also.1)
 
@@ -165,8 +156,7 @@ shape : (names : Names) (text : Text) → AreNames names text → Shape names.sh
 shape names text are = shape_of names.short names.long text are.may_be are.written
 
 -- a longer text with one dash has both
-pub only_both : (text : Text) → get_or text 1 0 ≢ 45 → 2 < length text
-    → (names : Names) → AreNames names text
+pub only_both : (text : Text) → get_or text 1 0 ≢ 45 → 2 < length text → (names : Names) → AreNames names text
     → (names.short ≡ take 1 (drop 1 text)) × (names.long ≡ drop 5 text)
 only_both text no_dash more names are = search (rules, shape names text are)
 
@@ -185,13 +175,7 @@ between_names text no_dash more names are = search (rules, shape names text are)
 -- and a text with that separator consists of the names before and after it
 pub written_both : (text : Text) → get_or text 0 0 ≡ 45 → Between text
     → text ≡ names_text (record { short = take 1 (drop 1 text); long = drop 5 text })
-written_both [] dash is = absurd (omega (arith, is.long_enough))
-written_both (a ∷ []) dash is = absurd (omega (arith, is.long_enough))
-written_both (a ∷ b ∷ []) dash is = absurd (omega (arith, is.long_enough))
-written_both (a ∷ b ∷ c ∷ []) dash is = absurd (omega (arith, is.long_enough))
-written_both (a ∷ b ∷ c ∷ d ∷ []) dash is = absurd (omega (arith, is.long_enough))
-written_both (a ∷ b ∷ c ∷ d ∷ e ∷ []) dash is = absurd (omega (arith, is.long_enough))
-written_both (a ∷ b ∷ c ∷ d ∷ e ∷ f ∷ text) dash is = cc (is_empty-cons f text)
+written_both text dash is = search (rules, is_empty-cons)
 
 -- names that are found are the text's
 pub by_names : (result : Option (Bor Text × Bor Text)) (short long text : Text)
@@ -201,8 +185,7 @@ pub by_names : (result : Option (Bor Text × Bor Text)) (short long text : Text)
     (λ found. MayBeNames short long × (found.0.now ≡ short) × (found.1.now ≡ long))
     → MatchOption result ((names : Names) → ¬ (AreNames names text))
     (λ found. AreNames (record { short = found.0.now; long = found.1.now }) text)
-by_names None short long text written only none = search rules
-by_names (Some found) short long text written only some = search rules
+by_names result short long text written only some = search rules
 
 -- ---- arguments
 
@@ -210,9 +193,8 @@ by_names (Some found) short long text written only some = search rules
 
 -- the parts of an item, and how often it may occur, are those that are found
 same_parts_found : (text inside names : Text) (frequency : Frequency) (argument : Option Text)
-    → IsBracketed text inside frequency → HasParts inside names argument
-    → (own : Names) (kind : HasArg) (another : Frequency) (hint : Text)
-    (is : IsItem text own kind another hint)
+    → IsBracketed text inside frequency → HasParts inside names argument → (own : Names) (kind : HasArg)
+    (another : Frequency) (hint : Text) (is : IsItem text own kind another hint)
     → (is.names ≡ names) × (is.argument ≡ argument) × (another ≡ frequency)
 same_parts_found text inside names frequency argument brackets parts own kind another hint is =
     let same = one_bracketed text inside is.inside frequency another brackets is.brackets in
@@ -222,19 +204,16 @@ same_parts_found text inside names frequency argument brackets parts own kind an
 
 -- without names there is no item
 pub no_names_none : (text inside names : Text) (frequency : Frequency) (argument : Option Text)
-    → IsBracketed text inside frequency → HasParts inside names argument
-    → ((are : Names) → ¬ (AreNames are names))
-    → (own : Names) (kind : HasArg) (another : Frequency) (hint : Text)
-    → ¬ (IsItem text own kind another hint)
+    → IsBracketed text inside frequency → HasParts inside names argument → ((are : Names) → ¬ (AreNames are names))
+    → (own : Names) (kind : HasArg) (another : Frequency) (hint : Text) → ¬ (IsItem text own kind another hint)
 no_names_none text inside names frequency argument brackets parts none own kind another hint is =
     search (rules, same_parts_found text inside names frequency argument brackets parts own kind another hint is)
 
 -- nor if it has no valid argument
 pub no_argument_none : (text inside names : Text) (frequency : Frequency) (argument : Option Text)
     → IsBracketed text inside frequency → HasParts inside names argument
-    → ((kind : HasArg) (hint : Text) → ¬ (IsArgument kind hint argument))
-    → (own : Names) (kind : HasArg) (another : Frequency) (hint : Text)
-    → ¬ (IsItem text own kind another hint)
+    → ((kind : HasArg) (hint : Text) → ¬ (IsArgument kind hint argument)) → (own : Names) (kind : HasArg)
+    (another : Frequency) (hint : Text) → ¬ (IsItem text own kind another hint)
 no_argument_none text inside names frequency argument brackets parts none own kind another hint is =
     search (rules, same_parts_found text inside names frequency argument brackets parts own kind another hint is)
 
@@ -254,8 +233,7 @@ pub yes_hinted : (result : Option (HasArg × Bor Text)) (text : Text) → slice_
     (λ found. (is_hint text ≡ true) × (found.0 ≡ Yes) × (found.1.now ≡ text))
     → MatchOption result ((kind : HasArg) (hint : Text) → ¬ (IsArgument kind hint (Some text)))
     (λ found. IsArgument found.0 found.1.now (Some text))
-yes_hinted None text plain none = search rules
-yes_hinted (Some found) text plain some = search rules
+yes_hinted result text plain some = search rules
 
 -- the same of an argument in brackets
 pub maybe_hinted : (result : Option (HasArg × Bor Text)) (text inside : Text)
@@ -264,12 +242,9 @@ pub maybe_hinted : (result : Option (HasArg × Bor Text)) (text inside : Text)
     (λ found. (is_hint inside ≡ true) × (found.0 ≡ Maybe) × (found.1.now ≡ inside))
     → MatchOption result ((kind : HasArg) (hint : Text) → ¬ (IsArgument kind hint (Some text)))
     (λ found. IsArgument found.0 found.1.now (Some text))
-maybe_hinted None text inside opens none = search (rules, append_cancel_right)
-maybe_hinted (Some found) text inside opens some = search rules
+maybe_hinted result text inside opens some = search (rules, append_cancel_right)
 
 -- a text that begins with `[` and doesn't end in `]` is no argument
 pub no_hint : (text rest : Text) → text ≡ 91 ∷ rest → ((front : Text) → rest ≢ front ++ (93 ∷ []))
     → (kind : HasArg) (hint : Text) → ¬ (IsArgument kind hint (Some text))
-no_hint text rest opens none No hint is = is
-no_hint text rest opens none Yes hint is = search rules
-no_hint text rest opens none Maybe hint is = search rules
+no_hint text rest opens kind hint hint1 is = search rules

@@ -12,8 +12,7 @@ use Rattle.getopts_shell.proofs.Plain.{ArePlainlyNamed}
 use Rattle.getopts_shell.proofs.Written.{sets_words}
 
 -- no main name contains `=`
-plain_at : (groups : List Group) → ArePlainlyNamed groups → (place : ℕ)
-    → holds_equals (main_at groups place) ≡ false
+plain_at : (groups : List Group) → ArePlainlyNamed groups → (place : ℕ) → holds_equals (main_at groups place) ≡ false
 plain_at [] plain zero = refl
 plain_at [] plain (suc place) = refl
 plain_at (group ∷ groups) plain zero = plain.0
@@ -32,8 +31,7 @@ never_unwritable options words plain is = search (rules, always_plain)
 
 -- the canonical word of a main name isn't the stop
 main_no_stop : (groups : List Group) → EmptyResolvesNot (names_of groups) → (m : Mention)
-    → resolution (names_of groups) (main_at groups m.group) ≡ Some m.group
-    → canonical_word groups m ≢ stop_word
+    → resolution (names_of groups) (main_at groups m.group) ≡ Some m.group → canonical_word groups m ≢ stop_word
 main_no_stop groups empty m sound = λ same. by_main (main_at groups m.group) sound same
   where
     by_main : (main : Text) → resolution (names_of groups) main ≡ Some m.group
@@ -43,8 +41,7 @@ main_no_stop groups empty m sound = λ same. by_main (main_at groups m.group) so
     by_main (byte ∷ main) sound same = cc
 
 no_stops : (groups : List Group) → EmptyResolvesNot (names_of groups) → (mentioned : List Mention)
-    → AllByRecursion (λ (m : Mention). resolution (names_of groups) (main_at groups m.group)
-    ≡ Some m.group) mentioned
+    → AllByRecursion (λ (m : Mention). resolution (names_of groups) (main_at groups m.group) ≡ Some m.group) mentioned
     → AllByRecursion (λ (m : Mention). canonical_word groups m ≢ stop_word) mentioned
 no_stops groups empty [] sound = tt
 no_stops groups empty (m ∷ mentioned) sound = search (rules, main_no_stop, no_stops groups empty mentioned sound.1)

@@ -1,8 +1,7 @@
 -- Lines of a table.
 use Rattle.std.proofs.Common.{◌≡◌, ℕ, ◌<◌, ◌+◌, Bool, true, false, List, [], ◌∷◌, ◌++◌, length, take, drop, get_or}
-use Rattle.std.proofs.Common.{map, refl, sym, ap, ◌∙◌, arith, append-nil, append_assoc, subst, length-append, rules}
-use Rattle.std.specs.Prelude.{◌&&◌, OnOk, Result, Ok, Err, ◌||◌, ◌==◌, IfSome, Option, Some, None, slice_index, min}
-use Rattle.std.specs.Prelude.{◌-◌, ◌^◌}
+use Rattle.std.proofs.Common.{map, refl, ap, ◌∙◌, arith, append-nil, append_assoc, subst, length-append, rules}
+use Rattle.std.specs.Prelude.{◌&&◌, OnOk, Result, ◌||◌, ◌==◌, IfSome, Option, Some, None, slice_index, min, ◌-◌, ◌^◌}
 use Rattle.std.specs.List.{list_any}
 use Rattle.std.specs.Option.{option_to_list}
 use Rattle.std.proofs.lemmas.List.{at_drop_more, take_more}
@@ -35,14 +34,8 @@ trimmed_is text other is = trim_ascii_is text other (after_blanks text) refl is
 
 -- ---- gaps
 
-past : (before : Text) (byte : ℕ) (more : Text) → is_gap before (byte ∷ more) ≡ false
-    → (front_after before (byte ∷ more) ≡ byte ∷ front_after (before ++ byte ∷ []) more)
-    × (gap_after before (byte ∷ more) ≡ gap_after (before ++ byte ∷ []) more)
-past before byte more is = search rules
-
 -- no gap begins with a byte that isn't blank
-pub no_blank : (text : Text) (at : ℕ) → at < length text
-    → (get_or text at 0 == 9 || get_or text at 0 == 32) ≡ false
+pub no_blank : (text : Text) (at : ℕ) → at < length text → (get_or text at 0 == 9 || get_or text at 0 == 32) ≡ false
     → is_gap (take at text) (drop at text) ≡ false
 no_blank text at below is =
     ap (is_gap (take at text)) (at_drop_more (λ (t : Text). t) text at 0 below)
@@ -79,11 +72,9 @@ pub no_operand_at : (line text item : Text) → text ≡ trimmed line → skips 
 no_operand_at line text item text_is there item_is plain = search rules
 
 -- a line of an operand
-pub declares_operand : (line text item rest description : Text) → text ≡ trimmed line
-    → skips text ≡ false → item ≡ trimmed (before_gap text) → rest ≡ from_gap text
-    → description ≡ trimmed rest → is_operand item ≡ true
-    → (declares_no_option line ≡ true)
-    × (operand_at line ≡ Some (record { item = item; description = description }))
+pub declares_operand : (line text item rest description : Text) → text ≡ trimmed line → skips text ≡ false
+    → item ≡ trimmed (before_gap text) → rest ≡ from_gap text → description ≡ trimmed rest → is_operand item ≡ true
+    → (declares_no_option line ≡ true) × (operand_at line ≡ Some (record { item = item; description = description }))
 declares_operand line text item rest description text_is there item_is rest_is description_is
     operand = search rules
 
@@ -94,13 +85,10 @@ pub operands_around : (lines : List Text) (line : Text) (more : List Text)
 operands_around lines line more = simp flat_map-append
 
 -- a line that isn't passed over and has an option declares it
-pub declares_entry : (number : ℕ) (line text item rest description : Text) (entry : Entry)
-    → entry.line ≡ number → text ≡ trimmed line → skips text ≡ false
-    → item ≡ trimmed (before_gap text) → is_operand item ≡ false → rest ≡ from_gap text
-    → description ≡ trimmed rest
-    → entry.description ≡ description
-    → IsItem item entry.names entry.kind entry.frequency entry.hint
-    → DeclaresEntry number line entry
+pub declares_entry : (number : ℕ) (line text item rest description : Text) (entry : Entry) → entry.line ≡ number
+    → text ≡ trimmed line → skips text ≡ false → item ≡ trimmed (before_gap text) → is_operand item ≡ false
+    → rest ≡ from_gap text → description ≡ trimmed rest → entry.description ≡ description
+    → IsItem item entry.names entry.kind entry.frequency entry.hint → DeclaresEntry number line entry
 declares_entry number line text item rest description entry number_is text_is there item_is plain
     rest_is description_is is of_item = search rules
 
@@ -143,17 +131,10 @@ places (first ∷ before) [] after rest x y same = earlier before cc
 places (first ∷ before) (other ∷ others) after rest x y same =
     one_further before others x y first other (cc) (places before others after rest x y (cc))
 
--- with one more element that has the property
-each_push : {X : Type 0} (Is : List X → X → Type 0) (xs : List X) (x : X) → EachAfter Is xs
-    → Is xs x → EachAfter Is (xs ++ x ∷ [])
-each_push {X} Is xs x each is before after other parts = grind (arith, common_steps, places)
-
 -- and with what one more line declares
-each_append : {X : Type 0} (Is : List X → X → Type 0) (xs : List X) (declared : Option X)
-    → EachAfter Is xs → IfSome declared (λ x. Is xs x)
-    → EachAfter Is (xs ++ option_to_list declared)
-each_append Is xs None each is = subst (EachAfter Is) (sym (append-nil xs)) each
-each_append Is xs (Some x) each is = each_push Is xs x each is
+each_append : {X : Type 0} (Is : List X → X → Type 0) (xs : List X) (declared : Option X) → EachAfter Is xs
+    → IfSome declared (λ x. Is xs x) → EachAfter Is (xs ++ option_to_list declared)
+each_append Is xs declared each is = grind (arith, common_steps, append-nil, places)
 
 -- one more line
 one_more_line : (before : ℕ) (lines : List Text) (line : Text) (number : ℕ) (entries : List Entry)
@@ -227,15 +208,10 @@ table_fault table lines line number next entries operands fault so_far_are below
     next_is operands_are is = search (rules, in_parts (lines_of table) (length lines) line below line_is)
 
 -- two facts of what succeeds give a third
-pub ok_of_both : {T E P Q R : Type 0} (r : Result T E) → OnOk r P → OnOk r Q → (P → Q → R)
-    → OnOk r R
-ok_of_both (Ok value) is also gives = gives is also
-ok_of_both (Err error) is also gives = tt
+pub ok_of_both : {T E P Q R : Type 0} (r : Result T E) → OnOk r P → OnOk r Q → (P → Q → R) → OnOk r R
+ok_of_both r is also gives = search rules
 
 -- what an error reports has a weaker property
 pub tells_weaker : (error : TableError) (P Q : TableFault → Type 0) → IsOutOfMemoryOrFault error P
     → ((fault : TableFault) → P fault → Q fault) → IsOutOfMemoryOrFault error Q
-tells_weaker (error.NoOption number item) P Q tells weaker = weaker _ tells
-tells_weaker (error.NameTwice number name) P Q tells weaker = weaker _ tells
-tells_weaker (error.LateOperand number operand other) P Q tells weaker = weaker _ tells
-tells_weaker error.OutOfMemory P Q tells weaker = tells
+tells_weaker error P Q tells weaker = search rules

@@ -1,6 +1,6 @@
 -- Words have one answer, with a status of 0, 2 or 5.
-use Rattle.std.proofs.Common.{◌≡◌, ◌≢◌, ◌≤◌, ℕ, Bool, true, false, Result, Ok, Err, List, [], ◌∷◌, Option, Some, None}
-use Rattle.std.proofs.Common.{ap, refl, subst, sym, ◌∙◌, rules}
+use Rattle.std.proofs.Common.{◌≡◌, ◌≢◌, ℕ, Bool, Result, Ok, Err, List, [], ◌∷◌, Option, Some, None, ap, refl, subst}
+use Rattle.std.proofs.Common.{sym, ◌∙◌, rules}
 use Rattle.std.specs.Prelude.{MatchOption, MatchResult, codes}
 use Rattle.std.specs.Bool.{MatchBool}
 use Rattle.std.specs.Option.{option_map_or}
@@ -9,10 +9,10 @@ use Rattle.getopts.specs.Names.{Text}
 use Rattle.getopts.specs.Only.{IsTheOnly}
 use Rattle.getopts.specs.Results.{parse_result}
 use Rattle.getopts_shell.specs.Program.{Answer, AnswersAlone, AnswersCounted, AnswersDeclared, AnswersFree}
-use Rattle.getopts_shell.specs.Program.{AnswersOffer, AnswersOwn, AnswersRead, AnswersScript, AnswersTable}
-use Rattle.getopts_shell.specs.Program.{AnswersWords, Asked, IsAnswer, IsHelp, IsOutput, IsStatus, OneAnswer}
-use Rattle.getopts_shell.specs.Program.{PrintsHelp, Script, asked_by, brief_text, declared, done, faulty, help_front}
-use Rattle.getopts_shell.specs.Program.{shown_options, help_code, is_given, misused, own_options, sets_nothing}
+use Rattle.getopts_shell.specs.Program.{AnswersOffer, AnswersOwn, AnswersScript, AnswersTable, AnswersWords, Asked}
+use Rattle.getopts_shell.specs.Program.{IsAnswer, IsHelp, IsOutput, IsStatus, OneAnswer, PrintsHelp, Script, asked_by}
+use Rattle.getopts_shell.specs.Program.{brief_text, declared, done, faulty, help_front, shown_options, help_code}
+use Rattle.getopts_shell.specs.Program.{is_given, misused, own_options, sets_nothing}
 use Rattle.getopts.specs.Usage.{IsUsageText}
 use Rattle.getopts_shell.specs.Table.{Entry, is_word, operands_in}
 use Rattle.getopts_shell.proofs.Only.{one_table, one_fault, no_fault}
@@ -24,9 +24,6 @@ pub record AnswersBy (status : ℕ) : Type 0 where
   pub known : IsStatus status
   pub memory : status ≢ 3
   pub written : status ≢ 4
-
-by_status : (status : ℕ) → status ≤ 5 → status ≢ 1 → status ≢ 3 → status ≢ 4 → AnswersBy status
-by_status status low one three four = record { known = (low, one); memory = three; written = four }
 
 is_done : AnswersBy 0
 is_done = search rules
@@ -52,17 +49,14 @@ one_equal answer by = record {
 
 one_bool : (test : Bool) {Then Else : Answer → Type 0} → IsOne Then → IsOne Else
     → IsOne (λ answer. MatchBool test (Then answer) (Else answer))
-one_bool true then else = then
-one_bool false then else = else
+one_bool test then else = search rules
 
-one_option : {X : Type 0} (option : Option X) {Nothing : Answer → Type 0} {Is : X → Answer → Type 0}
-    → IsOne Nothing → ((x : X) → IsOne (Is x))
-    → IsOne (λ answer. MatchOption option (Nothing answer) (λ x. Is x answer))
+one_option : {X : Type 0} (option : Option X) {Nothing : Answer → Type 0} {Is : X → Answer → Type 0} → IsOne Nothing
+    → ((x : X) → IsOne (Is x)) → IsOne (λ answer. MatchOption option (Nothing answer) (λ x. Is x answer))
 one_option None nothing one = nothing
 one_option (Some x) nothing one = one x
 
-one_result : {X E : Type 0} (result : Result X E) {Is : X → Answer → Type 0} {Fails : E → Answer
-    → Type 0}
+one_result : {X E : Type 0} (result : Result X E) {Is : X → Answer → Type 0} {Fails : E → Answer → Type 0}
     → ((x : X) → IsOne (Is x)) → ((error : E) → IsOne (Fails error))
     → IsOne (λ answer. MatchResult result (λ x. Is x answer) (λ error. Fails error answer))
 one_result (Ok x) one fails = one x
@@ -70,12 +64,10 @@ one_result (Err error) one fails = fails error
 
 -- ---- the answers
 
-only_text : (Fact : Text → Type 0) (text other : Text) → IsTheOnly Fact text → IsTheOnly Fact other
-    → other ≡ text
+only_text : (Fact : Text → Type 0) (text other : Text) → IsTheOnly Fact text → IsTheOnly Fact other → other ≡ text
 only_text Fact text other is also = (is other).0 ((also other).1 refl)
 
-only_help : (script : Script) (help other : Text) → IsHelp script help → IsHelp script other
-    → other ≡ help
+only_help : (script : Script) (help other : Text) → IsHelp script help → IsHelp script other → other ≡ help
 only_help script help other is also =
     let rows_same = (is.1 also.0).0 ((also.1 also.0).1 refl) in
     only_text (IsUsageText (shown_options script) (help_front (brief_text script) is.0)) help other
@@ -91,9 +83,6 @@ one_help script {Is} one = record {
   by = λ answer is. (one is.0).by answer is.2;
 }
 
-one_alone : (script : Script) (entry : Entry) → IsOne (AnswersAlone script entry)
-one_alone script entry = search rules
-
 one_counted : (script : Script) (words : List Text) → IsOne (AnswersCounted script words)
 one_counted script words = search rules
 
@@ -108,33 +97,24 @@ one_printed script = record {
 one_uncounted : (script : Script) (words : List Text) (alone : Option Entry)
     → IsOne (λ answer. MatchOption alone (AnswersCounted script words answer)
     (λ entry. AnswersAlone script entry answer))
-one_uncounted script words alone = one_option alone (one_counted script words) (one_alone script)
-
-one_read : (script : Script) (words : List Text) (matches : Matched)
-    → IsOne (AnswersRead script words matches)
-one_read script words matches = search (rules, one_bool, one_printed, one_uncounted)
+one_uncounted script words alone = one_option alone (one_counted script words) (search rules)
 
 one_words : (script : Script) (words : List Text) → IsOne (AnswersWords script words)
-one_words script words = search (rules, one_result, one_read, one_equal, is_refused)
+one_words script words = search (rules, one_result, one_equal, is_refused, one_bool, one_printed, one_uncounted)
 
-one_at_word : (script : Script) (shell : Text) (words : List Text)
-    → IsOne (AnswersOffer script shell words)
+one_at_word : (script : Script) (shell : Text) (words : List Text) → IsOne (AnswersOffer script shell words)
 one_at_word script shell words = search rules
 
 one_script : (script : Script) (words : List Text) → IsOne (AnswersScript script words)
 one_script script words = search (rules, one_bool, one_help, one_equal, is_done, one_option, one_words, one_at_word)
 
-by_completion : (fault : Text) (code : Option Text)
-    → AnswersBy (option_map_or done code (misused fault)).status
-by_completion fault (Some text) = is_done
-by_completion fault None = is_misused
+by_completion : (fault : Text) (code : Option Text) → AnswersBy (option_map_or done code (misused fault)).status
+by_completion fault code = search (rules, is_done, is_misused)
 
-one_declared : (script : Script) (table : Text) (words : List Text)
-    → IsOne (AnswersDeclared script table words)
+one_declared : (script : Script) (table : Text) (words : List Text) → IsOne (AnswersDeclared script table words)
 one_declared script table words = search (rules, one_option, one_script, one_equal, is_misused, by_completion)
 
-one_of_table : (asked : Asked) (name table : Text) (words : List Text)
-    → IsOne (AnswersTable asked name table words)
+one_of_table : (asked : Asked) (name table : Text) (words : List Text) → IsOne (AnswersTable asked name table words)
 one_of_table asked name table words = record { only = only; by = by }
   where
     script : List Entry → Script
@@ -184,11 +164,9 @@ pub one_answer : OneAnswer
 one_answer words = (one words).only
 
 -- and it has one of these statuses
-pub answers_by : (words : List Text) (answer : Answer) → IsAnswer words answer
-    → AnswersBy answer.status
+pub answers_by : (words : List Text) (answer : Answer) → IsAnswer words answer → AnswersBy answer.status
 answers_by words = (one words).by
 
 -- and so has what is written
-pub output_by : (words : List Text) (bytes : List ℕ) (status : ℕ) → IsOutput words bytes status
-    → AnswersBy status
+pub output_by : (words : List Text) (bytes : List ℕ) (status : ℕ) → IsOutput words bytes status → AnswersBy status
 output_by words bytes status is = answers_by words (record { text = is.0; status = status }) is.1

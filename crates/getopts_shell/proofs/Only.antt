@@ -76,10 +76,9 @@ data DeclaresAt (number : ℕ) (line : Text) (entries all : List Entry) : Type 0
       → all ≡ entries ++ (option_to_list declared ++ others) → DeclaresAt number line entries all
 
 -- a line declares something if the lines around it do
-declares_at : (count number : ℕ) (before after : List Text) (line : Text)
-    (entries all : List Entry) → number ≡ line_number (count + length before)
-    → DeclareEntries count before entries → DeclareEntries count (before ++ line ∷ after) all
-    → DeclaresAt number line entries all
+declares_at : (count number : ℕ) (before after : List Text) (line : Text) (entries all : List Entry)
+    → number ≡ line_number (count + length before) → DeclareEntries count before entries
+    → DeclareEntries count (before ++ line ∷ after) all → DeclaresAt number line entries all
 declares_at count number [] after line entries all number_is is also =
     stands also.0 also.1
     (subst (λ (n : ℕ). Declares n line also.0) (omega (arith, number_is)) also.2) (rw is also.4)
@@ -94,8 +93,7 @@ declares_at count number (first ∷ before) after line entries all number_is is 
         (also.4 ∙ rw (same, all_is, is.4) (sym (append_assoc (option_to_list is.0) is.1 _)))
 
 -- a line among lines that declare options has no error
-no_fault_at : (before after : List Text) (line : Text) (entries all : List Entry)
-    (fault : TableFault)
+no_fault_at : (before after : List Text) (line : Text) (entries all : List Entry) (fault : TableFault)
     → DeclareOptions before entries → DeclareOptions (before ++ line ∷ after) all
     → ¬ (IsLineFault (line_number (length before)) entries (operands_among before) line fault)
 no_fault_at before after line entries all fault so_far whole =
@@ -117,8 +115,7 @@ no_fault_at before after line entries all fault so_far whole =
     by_line _ (late operand blocking is conflicts) = search (rules, operands_around before line after)
 
 -- a table that declares options has no error
-pub no_fault : (table : Text) (entries : List Entry) (fault : TableFault)
-    → DeclaresOptions table entries
+pub no_fault : (table : Text) (entries : List Entry) (fault : TableFault) → DeclaresOptions table entries
     → ¬ (IsTableFault table fault)
 no_fault table entries fault declares is = search (rules, no_fault_at)
 
@@ -150,7 +147,6 @@ one_line_fault number entries operands line fault other (twice entry name of aga
     (late operand blocking at conflicts) = search rules
 
 -- a table has at most one error
-pub one_fault : (table : Text) (fault other : TableFault) → IsTableFault table fault
-    → IsTableFault table other
+pub one_fault : (table : Text) (fault other : TableFault) → IsTableFault table fault → IsTableFault table other
     → other ≡ fault
 one_fault table fault other is also = search (rules, places, one_list, one_line_fault, no_fault_at)

@@ -1,6 +1,6 @@
 -- Operands, one after the other.
 use Rattle.std.proofs.Common.{◌≡◌, ℕ, ◌<◌, ◌≤◌, ◌+◌, Bool, List, [], ◌∷◌, ◌++◌, length, drop, get_or, map, take, Some}
-use Rattle.std.proofs.Common.{None, refl, ap, ◌∙◌, arith, ◌-◌, suc, zero, rules}
+use Rattle.std.proofs.Common.{None, ap, ◌∙◌, arith, ◌-◌, suc, zero, rules}
 use Rattle.std.specs.Prelude.{◌||◌, codes, if◌then◌else◌, nat_lt}
 use Rattle.std.specs.List.{AllZip}
 use Rattle.getopts.specs.Only.{IsTheOnly}
@@ -19,8 +19,7 @@ use Rattle.getopts_shell.specs.declared.operand.Operand.{Operand as StoredOperan
 -- if a table has operands, the error of free words is theirs
 pub fault_of_some : (operands : List StoredOperand) (free : List Text) → 0 < length operands
     → free_fault (operands_of operands) free ≡ operand_fault (operands_of operands) free
-fault_of_some [] free some = absurd (omega arith)
-fault_of_some (operand ∷ operands) free some = refl
+fault_of_some operands free some = grind (arith, common_steps)
 
 -- a word is the operand's, or all from there on are
 pub fault_from : (operands : List StoredOperand) (free : List Text) (at : ℕ) (d : StoredOperand)
@@ -39,10 +38,8 @@ fault_from operands free at d again below more again_is =
     (drop (at + 1) free)) again_is
 
 -- if each operand has its word, the next word is one too many
-pub fault_past : (operands : List StoredOperand) (free : List Text) (at : ℕ)
-    → length operands ≤ at → at < length free
-    → operand_fault (operands_of (drop at operands)) (drop at free)
-    ≡ Some (unexpected (get_or free at []))
+pub fault_past : (operands : List StoredOperand) (free : List Text) (at : ℕ) → length operands ≤ at → at < length free
+    → operand_fault (operands_of (drop at operands)) (drop at free) ≡ Some (unexpected (get_or free at []))
 fault_past operands free at past more = grind (arith, common_steps)
 
 -- the items of operands
@@ -72,15 +69,13 @@ drop_spaces (suc m) n zero e = absurd (omega arith)
 drop_spaces (suc m) n (suc total) e = drop_spaces m n total (omega arith)
 
 -- the padding of a short item is the end of the next row
-pub padding_short : (columns : ℕ) → columns < margin - 4 → drop (5 + columns) next_row
-    ≡ spaces (margin - 4 - columns)
+pub padding_short : (columns : ℕ) → columns < margin - 4 → drop (5 + columns) next_row ≡ spaces (margin - 4 - columns)
 padding_short columns short = search (rules, drop_spaces (4 + columns) (margin - 4 - columns) margin (omega arith))
 
 -- a row made of the only description rows is the only row
 pub row_made : (operand : Operand) (description : List Text) (row : Text)
     → IsTheOnly (IsDescriptionRows (description_columns usual_columns) operand.description) description
-    → row ≡ operand_head operand.item ++ joined next_row description
-    → IsTheOnly (IsOperandRow operand) row
+    → row ≡ operand_head operand.item ++ joined next_row description → IsTheOnly (IsOperandRow operand) row
 row_made operand description row only row_is =
     made_of_the_only (IsDescriptionRows (description_columns usual_columns) operand.description)
     (λ (rows : List Text). operand_head operand.item ++ joined next_row rows) description row only
@@ -98,17 +93,12 @@ pub rows_push : (operands : List Operand) (rows : List Text) (operand : Operand)
 rows_push [] [] operand row all is = (is, tt)
 rows_push [] (other ∷ rows) operand row all is = absurd all
 rows_push (other ∷ operands) [] operand row all is = absurd all
-rows_push (other ∷ operands) (first ∷ rows) operand row all is =
-    (all.0, rows_push operands rows operand row all.1 is)
+rows_push (other ∷ operands) (first ∷ rows) operand row all is = (all.0, rows_push operands rows operand row all.1 is)
 
 -- what precedes the options in a help, without rows and with some
-pub front_without : (brief : Text) (rows : List Text) → length rows ≡ 0
-    → help_front brief rows ≡ brief
-front_without brief [] none = refl
-front_without brief (row ∷ rows) none = absurd (omega (arith, none))
+pub front_without : (brief : Text) (rows : List Text) → length rows ≡ 0 → help_front brief rows ≡ brief
+front_without brief rows h2 = search rules
 
 pub front_with : (brief : Text) (rows : List Text) → 0 < length rows
-    → help_front brief rows
-    ≡ brief ++ (codes "\n\nArguments:\n" ++ joined (codes "\n") rows)
-front_with brief [] some = absurd (omega arith)
-front_with brief (row ∷ rows) some = refl
+    → help_front brief rows ≡ brief ++ (codes "\n\nArguments:\n" ++ joined (codes "\n") rows)
+front_with brief rows some = search rules

@@ -21,10 +21,8 @@ module _ (one : ℕ) (other : Text) (write : Text → Text) (write_byte : ℕ �
     (at : write_byte one ≡ other) where
   -- a byte before the first part is written first
   onto_part : (byte : ℕ) (parts : List Text) → 0 < length parts → eqb byte one ≡ false
-      → joined other (map write (onto_first byte parts)) ≡ write_byte byte
-      ++ joined other (map write parts)
-  onto_part byte [] some apart = absurd (omega arith)
-  onto_part byte (part ∷ parts) some apart = search (rules, append_assoc)
+      → joined other (map write (onto_first byte parts)) ≡ write_byte byte ++ joined other (map write parts)
+  onto_part byte parts some apart = search (rules, append_assoc)
 
   -- the parts, as they are written, are the word as it is written
   pub parts_written : (word : Text)
@@ -50,8 +48,7 @@ itself : (one : ℕ) → eqb one one ≡ true
 itself one = grind (arith, nat_tests)
 
 -- after the last part, the word was appended with the other text in each place
-pub all_replaced : (one : ℕ) (other word : Text) (parts : List Text) (begun : Bool)
-    (old text : Text)
+pub all_replaced : (one : ℕ) (other word : Text) (parts : List Text) (begun : Bool) (old text : Text)
     → JoinedSoFar other parts begun old text → parts ≡ slice_split (λ b. eqb b one) word
     → text ≡ old ++ flat_map (replaced one other) word
 all_replaced one other word parts begun old text so_far all =
@@ -65,8 +62,7 @@ all_replaced one other word parts begun old text so_far all =
 
 -- and if both quotes and backslashes are replaced, it is in quotes
 pub all_stub_quoted : (word : Text) (parts : List Text) (begun : Bool) (old text : Text)
-    → JoinedSoFar (39 ∷ 92 ∷ 92 ∷ 39 ∷ []) (map (flat_map quoted_byte) parts) begun (old ++ 39 ∷ [])
-    text
+    → JoinedSoFar (39 ∷ 92 ∷ 92 ∷ 39 ∷ []) (map (flat_map quoted_byte) parts) begun (old ++ 39 ∷ []) text
     → parts ≡ slice_split (λ b. eqb b 92) word → text ++ 39 ∷ [] ≡ old ++ stub_quoted word
 all_stub_quoted word parts begun old text so_far all =
     ap (λ (text : Text). text ++ 39 ∷ []) (so_far.text_is

@@ -32,8 +32,7 @@ append_gives {text} {more} {bytes} {others} is also = search (rules, IsUtf8-appe
 are_ascii : (text : List ℕ) → list_all is_ascii text ≡ true → IsAscii text
 are_ascii [] are i = omega arith
 are_ascii (byte ∷ text) are zero = search rules
-are_ascii (byte ∷ text) are (suc i) =
-    are_ascii text (and_parts (is_ascii byte) (list_all is_ascii text) are).1 i
+are_ascii (byte ∷ text) are (suc i) = are_ascii text (and_parts (is_ascii byte) (list_all is_ascii text) are).1 i
 
 -- the bytes of an ASCII text are the text
 pub ascii_gives : (text : List ℕ) → list_all is_ascii text ≡ true → Gives text text
@@ -65,14 +64,8 @@ written_past c large = search (rules, encode_past)
 
 -- ---- words in quotes
 
--- an ASCII byte in quotes
-quoted_ascii : (c : ℕ) → is_ascii c ≡ true
-    → list_all is_ascii (flat_map quoted_byte (c ∷ [])) ≡ true
-quoted_ascii c ascii = search rules
-
 -- a character in quotes
-quoted_char : (c : ℕ) → scalar c ≡ true
-    → Gives (flat_map quoted_byte (encode c)) (flat_map quoted_byte (written c))
+quoted_char : (c : ℕ) → scalar c ≡ true → Gives (flat_map quoted_byte (encode c)) (flat_map quoted_byte (written c))
 quoted_char c is = by (is_ascii c) refl
   where
     by : (small : Bool) → is_ascii c ≡ small
@@ -81,7 +74,7 @@ quoted_char c is = by (is_ascii c) refl
         let ascii : c < 128 = grind (arith, nat_tests) in
         let unmarked : is_mark c ≡ false = grind (arith, nat_tests) in
         simp (unmarked, encode_ascii c ascii)
-        (ascii_gives (flat_map quoted_byte (c ∷ [])) (quoted_ascii c small))
+        (ascii_gives (flat_map quoted_byte (c ∷ [])) (search rules))
     by false large = search (rules, past_stays, encode_past, written_past, char_gives)
 
 -- characters in quotes
@@ -117,16 +110,9 @@ spaced_gives (word ∷ words) are =
     (append_gives (ascii_gives (codes " ") refl) (quoted_gives (text_gives word are.0)))
     (spaced_gives words are.1)
 
-pub words_give : (words : List Text) → AreTexts words
-    → Gives (quoted_words words) (quoted_words (map bytes_of words))
+pub words_give : (words : List Text) → AreTexts words → Gives (quoted_words words) (quoted_words (map bytes_of words))
 words_give [] are = ascii_gives [] refl
-words_give (word ∷ words) are =
-    append_gives (quoted_gives (text_gives word are.0)) (spaced_gives words are.1)
-
--- a shell turns the bytes of quoted words into the bytes of the words
-pub bytes_same : (words : List Text) → AreTexts words
-    → shell_words (bytes_of (quoted_words words)) ≡ Some (map bytes_of words)
-bytes_same words are = search (rules, words_give, words_same)
+words_give (word ∷ words) are = append_gives (quoted_gives (text_gives word are.0)) (spaced_gives words are.1)
 
 -- the texts of words have the words as their bytes
 texts_back : (words : List (List ℕ)) → AllByRecursion AreBytes words
@@ -138,4 +124,4 @@ texts_back (word ∷ words) are =
 -- a shell turns words in quotes, read as texts and written as bytes, into the same words
 pub words_given : (words : List (List ℕ)) → AllByRecursion AreBytes words
     → shell_words (bytes_of (quoted_words (map text_of words))) ≡ Some words
-words_given words are = search (rules, texts_back, bytes_same)
+words_given words are = search (rules, texts_back, words_give, words_same)

@@ -21,26 +21,22 @@ read_quoted_bytes words word (byte ∷ bytes) more =
 
 -- a word in quotes is read as that word
 read_quoted : (words : List Text) (word more : Text)
-    → fold read_byte (outside words None) (quoted word ++ more)
-    ≡ fold read_byte (outside words (Some word)) more
+    → fold read_byte (outside words None) (quoted word ++ more) ≡ fold read_byte (outside words (Some word)) more
 read_quoted words word more = simp (append_assoc, read_quoted_bytes)
 
 -- words in quotes, each after a space, are read as these words
 read_spaced : (words : List Text) (word : Text) (others : List Text)
-    → words_read (fold read_byte (outside words (Some word)) (flat_map spaced others))
-    ≡ Some (words ++ word ∷ others)
+    → words_read (fold read_byte (outside words (Some word)) (flat_map spaced others)) ≡ Some (words ++ word ∷ others)
 read_spaced words word [] = refl
 read_spaced words word (other ∷ others) =
     search (rules, read_quoted, append_assoc, read_spaced (words ++ word ∷ []) other others)
 
 -- a shell turns words in quotes into the same words
 pub words_same : (words : List Text) → shell_words (quoted_words words) ≡ Some words
-words_same [] = refl
-words_same (word ∷ words) = simp (read_quoted, read_spaced)
+words_same words = search (rules, read_quoted, read_spaced)
 
 -- words that are written alike are the same
-pub words_only : (words others : List Text) → quoted_words words ≡ quoted_words others
-    → words ≡ others
+pub words_only : (words others : List Text) → quoted_words words ≡ quoted_words others → words ≡ others
 words_only words others alike = search (rules, words_same)
 
 -- a shell turns one word in quotes into that word

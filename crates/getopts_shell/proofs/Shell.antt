@@ -38,8 +38,7 @@ set_again : (shell : Shell) (name : Text) (value : Option Value)
 set_again shell name value = search rules
 
 -- the line that gives a value to a variable that is unset, if it has one
-after_value_line : (shell after : Shell) (name : Text) (value : Option Value) (more : Text)
-    → is_variable name ≡ true
+after_value_line : (shell after : Shell) (name : Text) (value : Option Value) (more : Text) → is_variable name ≡ true
     → RunsText (with_variable (with_variable shell name None) name value) more after
     → RunsText (with_variable shell name None) (value_line name value ++ more) after
 after_value_line shell after name None more is runs = search (rules, set_again shell name None)
@@ -56,8 +55,7 @@ after_value_line shell after name (Some (many words)) more is runs =
 -- the commands for an option, and what follows
 after_option : (prefix : Text) (arrays : Bool) (shell after : Shell) (option : Given) (more : Text)
     → is_variable (variable_of prefix option.entry) ≡ true
-    → RunsText
-    (with_variable shell (variable_of prefix option.entry) (own_value arrays option)) more after
+    → RunsText (with_variable shell (variable_of prefix option.entry) (own_value arrays option)) more after
     → RunsText shell (option_code prefix arrays option ++ more) after
 after_option prefix arrays shell after option more is runs =
     let name = variable_of prefix option.entry in
@@ -104,8 +102,7 @@ code_runs prefix arrays options free make before =
     }
 
 -- a shell that runs the command holds the words
-pub line_runs : (words : List Text) (before : Shell)
-    → Runs before (line_code words) (record before { words = words })
+pub line_runs : (words : List Text) (before : Shell) → Runs before (line_code words) (record before { words = words })
 line_runs words before = code_runs [] false [] words tt before
 
 -- the values that a text of words gives

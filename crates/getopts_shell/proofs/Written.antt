@@ -22,7 +22,7 @@ use Rattle.getopts_shell.specs.Program.{IsOneWord}
 use Rattle.getopts_shell.specs.Table.{Entry}
 use Rattle.getopts_shell.specs.Variables.{AreTextValues, CodeSetsVariables, found_in_bytes, Given, count_text}
 use Rattle.getopts_shell.specs.Variables.{given_alone, HaveOwnVariables, held_value, holds_all, HoldTexts, in_bytes}
-use Rattle.getopts_shell.specs.Variables.{is_variable, is_variable_byte, line_code, many, once, one, option_code}
+use Rattle.getopts_shell.specs.Variables.{is_variable, is_variable_byte, line_code, many, one, option_code}
 use Rattle.getopts_shell.specs.Variables.{SetsVariables, SetsWords, texts_found, Value, value_line, variable_of}
 use Rattle.getopts_shell.proofs.Assignments.{each_makes}
 use Rattle.getopts_shell.proofs.Quoting.{word_same}
@@ -32,8 +32,7 @@ use Rattle.getopts_shell.proofs.Shell.{code_runs, line_runs, once_more}
 -- ---- ASCII
 
 -- the bytes that a variable's name may contain are ASCII
-variable_bytes_ascii : (name : Text) → list_all is_variable_byte name ≡ true
-    → list_all is_ascii name ≡ true
+variable_bytes_ascii : (name : Text) → list_all is_variable_byte name ≡ true → list_all is_ascii name ≡ true
 variable_bytes_ascii [] is = refl
 variable_bytes_ascii (byte ∷ name) is =
     let each = and_parts (is_variable_byte byte) (list_all is_variable_byte name) is in
@@ -47,16 +46,13 @@ variable_gives [] is = ascii_gives [] refl
 variable_gives (byte ∷ name) is = ascii_gives (byte ∷ name) (variable_bytes_ascii (byte ∷ name)
     (and_parts (not (is_ascii_digit byte)) (list_all is_variable_byte (byte ∷ name)) is).1)
 
-digit_small : (n : ℕ) → is_ascii (digit_glyph false (n % 10)) ≡ true
-digit_small n = grind (arith, nat_tests)
-
 -- the digits of a number are ASCII
 digits_ascii : (k n : ℕ) (onto : Text) → list_all is_ascii onto ≡ true
     → list_all is_ascii (digits_onto k 10 false n onto) ≡ true
 digits_ascii zero n onto are = are
 digits_ascii (suc k) n onto are =
     let last = digit_glyph false (n % 10) in
-    let more = and_from (is_ascii last) (list_all is_ascii onto) (digit_small n) are in
+    let more = and_from (is_ascii last) (list_all is_ascii onto) (search rules) are in
     cond_both (eqb (n / 10) 0) (last ∷ onto) (digits_onto k 10 false (n / 10) (last ∷ onto))
     (λ (text : Text). list_all is_ascii text ≡ true)
     (λ _. more) (λ _. digits_ascii k (n / 10) (last ∷ onto) more)
@@ -85,8 +81,7 @@ texts_in_bytes (found ∷ founds) = search (rules, ascii_gives, texts_in_bytes f
 
 -- so is the last value
 last_in_bytes : (texts : List Text) (before : Option Text)
-    → last_or (option_map bytes_of before) (map bytes_of texts)
-    ≡ option_map bytes_of (last_or before texts)
+    → last_or (option_map bytes_of before) (map bytes_of texts) ≡ option_map bytes_of (last_or before texts)
 last_in_bytes [] before = refl
 last_in_bytes (text ∷ texts) before = last_in_bytes texts (Some text)
 
@@ -97,8 +92,7 @@ one_gives name text bytes named is = search (rules, append_gives, ascii_gives, q
 
 -- the line that gives a variable many words
 many_give : (name : Text) (texts : List Text) → Gives name name → AreTexts texts
-    → Gives (value_line name (Some (many texts)))
-    (value_line name (Some (many (map bytes_of texts))))
+    → Gives (value_line name (Some (many texts))) (value_line name (Some (many (map bytes_of texts))))
 many_give name texts named are =
     append_gives named (append_gives (ascii_gives (codes "=") refl)
     (append_gives (append_gives (ascii_gives (codes "(${") refl)
@@ -135,8 +129,7 @@ value_gives name arrays all Maybe founds named are = argument_gives name arrays 
 -- ---- the text
 
 -- the command that sets the words
-line_code_gives : (words : List Text) → AreTexts words
-    → Gives (line_code words) (line_code (map bytes_of words))
+line_code_gives : (words : List Text) → AreTexts words → Gives (line_code words) (line_code (map bytes_of words))
 line_code_gives words are = search (rules, append_gives, ascii_gives, words_give)
 
 -- the commands for all options
@@ -158,8 +151,7 @@ codes_give prefix arrays (option ∷ options) make hold =
 
 -- the entries are the same if values are taken in bytes
 entries_kept : (options : List Given)
-    → map (λ (option : Given). option.entry) (map in_bytes options)
-    ≡ map (λ (option : Given). option.entry) options
+    → map (λ (option : Given). option.entry) (map in_bytes options) ≡ map (λ (option : Given). option.entry) options
 entries_kept [] = refl
 entries_kept (option ∷ options) = simp (entries_kept options)
 
@@ -190,16 +182,8 @@ code_sets prefix arrays options free own =
 
 -- ---- one option alone
 
--- what a variable holds is UTF-8 if its option was given once without a value, or not at all
-argument_texts : (all given : Bool) → AreTextValues Yes all (cond given once [])
-argument_texts true true = ((ascii_gives [] refl).utf8, tt)
-argument_texts true false = tt
-argument_texts false true = (ascii_gives [] refl).utf8
-argument_texts false false = tt
-
 -- what the variables hold is UTF-8 if only one option was given
-pub alone_holds_texts : (entries : List Entry) (alone : Entry)
-    → HoldTexts (given_alone entries alone)
+pub alone_holds_texts : (entries : List Entry) (alone : Entry) → HoldTexts (given_alone entries alone)
 alone_holds_texts [] alone = tt
 alone_holds_texts (entry ∷ entries) alone = search (rules, alone_holds_texts entries alone)
 

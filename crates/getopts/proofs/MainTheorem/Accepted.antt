@@ -17,10 +17,8 @@ module _ (options : Declared) (declared : MayBeDeclared options.groups) (words :
   pub accepted_reading-keeps : (reading : Reading) → IsCountKeeping options reading words
       → accepted_reading options words ≡ Ok reading
   unfolding accepted_reading
-  accepted_reading-keeps reading is =
-      search (rules, reading_read, text_names_here, first_count_fault-kept)
+  accepted_reading-keeps reading is = search (rules, reading_read, text_names_here, first_count_fault-kept)
 
   -- accepted words have this result
-  pub parse_result-accepted : (m : Matched) → IsAccepted options words m
-      → parse_result options words ≡ Ok m
+  pub parse_result-accepted : (m : Matched) → IsAccepted options words m → parse_result options words ≡ Ok m
   parse_result-accepted m is = search (rules, accepted_reading-keeps, meets)

@@ -3,10 +3,9 @@ use Rattle.std.proofs.Common.{◌≡◌, List, [], ◌∷◌, ◌++◌, None, re
 use Rattle.std.specs.List.{AllByRecursion}
 use Rattle.getopts.specs.Names.{Text}
 use Rattle.getopts.specs.Options.{Declared, Grammar, MayBeDeclared, grammar_of}
-use Rattle.getopts.specs.Reading.{Item, free, long, cluster, Tail, line_end, stop, rest, Reading}
-use Rattle.getopts.specs.Reading.{IsLawfulItem, AreWellFollowed, free_items, spelled_all, stop_word}
-use Rattle.getopts.specs.Reading.{tail_frees, tail_words}
-use Rattle.getopts.specs.Matches.{Matched, matches_of}
+use Rattle.getopts.specs.Reading.{Item, free, long, cluster, Tail, line_end, stop, rest, Reading, IsLawfulItem}
+use Rattle.getopts.specs.Reading.{AreWellFollowed, free_items, spelled_all, stop_word, tail_frees, tail_words}
+use Rattle.getopts.specs.Matches.{Matched}
 use Rattle.getopts.specs.Parse.{Reads, HasReading, IsAccepted}
 use Rattle.getopts.specs.Holds.{HaveLastWordsFree, Accepts}
 use Rattle.getopts.proofs.parse.Holds.{EndsInTrailing-read}
@@ -27,14 +26,11 @@ no_free_items : (grammar : Grammar) → grammar.style ≡ StopAtFirstFree → (i
     → AllByRecursion (IsLawfulItem grammar) items → free_items items ≡ []
 no_free_items grammar style [] lawful = refl
 no_free_items grammar style (free word ∷ items) lawful = search rules
-no_free_items grammar style (long dashes name argument ∷ items) lawful =
-    no_free_items grammar style items lawful.1
-no_free_items grammar style (cluster names end ∷ items) lawful =
-    no_free_items grammar style items lawful.1
+no_free_items grammar style (long dashes name argument ∷ items) lawful = no_free_items grammar style items lawful.1
+no_free_items grammar style (cluster names end ∷ items) lawful = no_free_items grammar style items lawful.1
 
 words_cut : (items : List Item) (tail : Tail)
-    → spelled_all items (tail_words tail)
-    ≡ spelled_all items (tail_words (cut_tail tail)) ++ tail_frees tail
+    → spelled_all items (tail_words tail) ≡ spelled_all items (tail_words (cut_tail tail)) ++ tail_frees tail
 words_cut items line_end = sym (append-nil (spelled_all items []))
 words_cut items (stop words) = spelled_all-append items (stop_word ∷ []) words
 words_cut items (rest words) = spelled_all-append items [] words
@@ -42,18 +38,10 @@ words_cut items (rest words) = spelled_all-append items [] words
 followed_cut : (items : List Item) (tail : Tail) → AreWellFollowed items (tail_words tail)
     → AreWellFollowed items (tail_words (cut_tail tail))
 followed_cut [] tail followed = tt
-followed_cut (item ∷ items) tail followed =
-    search (rules, words_cut items tail, followed_cut items tail followed.1)
+followed_cut (item ∷ items) tail followed = search (rules, words_cut items tail, followed_cut items tail followed.1)
 
--- the shortened reading has no free words and no trailing start
-cut_matches : (options : Declared) (items : List Item) (tail : Tail) → free_items items ≡ []
-    → record (matches_of options (record { items = items; tail = tail })) { free = []; trailing_start = None }
-    ≡ matches_of options (record { items = items; tail = cut_tail tail })
-cut_matches options items tail empty = search rules
-
-HaveLastWordsFree-accepted : (options : Declared) → MayBeDeclared options.groups
-    → (words : List Text) (m : Matched) → IsAccepted options words m
-    → HaveLastWordsFree options words m
+HaveLastWordsFree-accepted : (options : Declared) → MayBeDeclared options.groups → (words : List Text) (m : Matched)
+    → IsAccepted options words m → HaveLastWordsFree options words m
 HaveLastWordsFree-accepted options declared words m accepted style =
     let has = accepted.read in
     let reading = has.reading in
@@ -65,7 +53,7 @@ HaveLastWordsFree-accepted options declared words m accepted style =
     let read : HasReading options before (record m { free = []; trailing_start = None }) = record {
       reading = cut;
       only = only_reads options declared before cut (search (rules, followed_cut));
-      matches_are = search (rules, cut_matches);
+      matches_are = search rules;
     } in
     record {
       before = before;

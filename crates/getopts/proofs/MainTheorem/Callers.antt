@@ -1,6 +1,6 @@
 -- Lemmas for callers: matches that hold the same, and canonical lines.
-use Rattle.std.proofs.Common.{◌≡◌, ℕ, zero, suc, Bool, true, false, List, [], ◌∷◌, length, nat_lt}
-use Rattle.std.proofs.Common.{Option, Some, None, Ok, refl, ap, sym, ◌∙◌, not, rules, arith}
+use Rattle.std.proofs.Common.{◌≡◌, ℕ, zero, suc, Bool, true, false, List, [], ◌∷◌, length, nat_lt, Option, Some, Ok}
+use Rattle.std.proofs.Common.{None, refl, ap, sym, ◌∙◌, not, rules, arith}
 use Rattle.std.specs.List.{filter_map, cons_option, AllByRecursion, list_all}
 use Rattle.std.proofs.lemmas.List.{length-map}
 use Rattle.std.specs.Result.{result_map_both}
@@ -13,12 +13,11 @@ use Rattle.getopts.specs.Reading.{Reading, Mention, holds_equals}
 use Rattle.getopts.specs.Canon.{content_of, canonical_reading, with_setting, main_at}
 use Rattle.getopts.specs.CanonAnswers.{IsWritten, KeepsLineLaws, IsUnwritable}
 use Rattle.getopts.specs.Matches.{GroupOccurrence, Matched, matches_of}
-use Rattle.getopts.specs.Accessors.{occurrences_of_name, each_value, first_value, is_present}
-use Rattle.getopts.specs.Accessors.{values_of}
+use Rattle.getopts.specs.Accessors.{occurrences_of_name, each_value, first_value, is_present, values_of}
 use Rattle.getopts.specs.Parse.{HasReading}
 use Rattle.getopts.specs.Theorem.{HaveSameValues}
 use Rattle.getopts.specs.Fail.{Fault}
-use Rattle.getopts.specs.Results.{parse_result, canonical_result, made_of, written_line}
+use Rattle.getopts.specs.Results.{parse_result, canonical_result, written_line}
 use Rattle.getopts.specs.declared.kinds.ParsingStyle.{ParsingStyle}
 use Rattle.getopts.proofs.canon.Lines.{is_plain-from}
 use Rattle.getopts.proofs.MainTheorem.SameContent.{LinesReadAgain_lem}
@@ -31,11 +30,9 @@ first_of_values : List (Option Text) → Option Text
 first_of_values [] = None
 first_of_values (value ∷ more) = value
 
-first_value-each : (founds : List GroupOccurrence) → first_value founds
-    ≡ first_of_values (each_value founds)
+first_value-each : (founds : List GroupOccurrence) → first_value founds ≡ first_of_values (each_value founds)
 unfolding first_of_values
-first_value-each [] = refl
-first_value-each (found ∷ founds) = refl
+first_value-each founds = search rules
 
 values_of-each : (founds : List GroupOccurrence)
     → values_of founds ≡ filter_map (λ (value : Option Text). value) (each_value founds)
@@ -45,20 +42,17 @@ values_of-each (found ∷ founds) = ap (cons_option found.value) (values_of-each
 module _ (matches other : Matched) (same : HaveSameValues matches other) where
   -- In matches that hold the same, an option has the same first value.
   pub same_first : (name : Text)
-      → first_value (occurrences_of_name other.groups name)
-      ≡ first_value (occurrences_of_name matches.groups name)
+      → first_value (occurrences_of_name other.groups name) ≡ first_value (occurrences_of_name matches.groups name)
   same_first name = first_value-each _ ∙ ap first_of_values (same.values name) ∙ sym (first_value-each _)
 
   -- In matches that hold the same, an option has the same values.
   pub same_values : (name : Text)
-      → values_of (occurrences_of_name other.groups name)
-      ≡ values_of (occurrences_of_name matches.groups name)
+      → values_of (occurrences_of_name other.groups name) ≡ values_of (occurrences_of_name matches.groups name)
   same_values name = search (rules, values_of-each)
 
   -- In matches that hold the same, an option has the same count.
   pub same_count : (name : Text)
-      → length (occurrences_of_name other.groups name)
-      ≡ length (occurrences_of_name matches.groups name)
+      → length (occurrences_of_name other.groups name) ≡ length (occurrences_of_name matches.groups name)
   same_count name = search (rules, length-map)
 
   -- In matches that hold the same, an option was given in both or in neither.
@@ -107,16 +101,13 @@ all_plain groups plain (m ∷ ms) = (plain_at groups plain m.group, all_plain gr
 
 -- If no main name contains `=`, accepted words have a canonical line. This is about what
 -- `canonical` returns for these options, which are the caller's own.
-pub always_some : {X : Type 0} (line : Option X) (options own : Declared) (words : List Text)
-    → options ≡ own → are_mains_plain own.groups ≡ true
-    → IfNone line (IsUnwritable options words) → IsSome line
-always_some None options own words is plain none = search (rules, all_plain)
-always_some (Some line) options own words is plain none = refl
+pub always_some : {X : Type 0} (line : Option X) (options own : Declared) (words : List Text) → options ≡ own
+    → are_mains_plain own.groups ≡ true → IfNone line (IsUnwritable options words) → IsSome line
+always_some line options own words is plain none = search (rules, all_plain)
 
 -- The canonical line of a canonical line is that line, in each style and mode.
 pub canonical_again : (options : Declared) → MayBeDeclared options.groups → KeepsLineLaws options
-    → (words line : List Text) → IsWritten options words line
-    → (style : ParsingStyle) (long_only : Bool)
+    → (words line : List Text) → IsWritten options words line → (style : ParsingStyle) (long_only : Bool)
     → canonical_result (with_setting options style long_only) line ≡ Ok (Some line)
 canonical_again options declared laws words line written style long_only =
     let other = with_setting options style long_only in
@@ -125,6 +116,4 @@ canonical_again options declared laws words line written style long_only =
     let make : Reading → Option (List Text) =
     λ reading. written_line options.groups (content_of other reading) in
     let said : make reading ≡ Some line = grind (arith, common_steps, is_plain-from) in
-    ap (made_of make) (accepted_reading-keeps other declared line reading
-    (rw (← written.line_is) at back.reads))
-    ∙ ap (λ (l : Option (List Text)). Ok l) said
+    search (rules, accepted_reading-keeps other declared line reading (rw (← written.line_is) at back.reads))

@@ -19,8 +19,7 @@ module _ (options : Declared) (words : List Text) (matches : Matched)
   counted fault first = search (rules, made_of-ok)
 
   -- if these matches keep the counts, they are the result
-  pub parse_result-kept : Spec.first_count_fault matches.groups ≡ None
-      → Spec.parse_result options words ≡ Ok matches
+  pub parse_result-kept : Spec.first_count_fault matches.groups ≡ None → Spec.parse_result options words ≡ Ok matches
   parse_result-kept kept = search (rules, counted None kept)
 
   -- and otherwise their count error is

@@ -1,6 +1,6 @@
 -- Which options words give, and the results of `parse_unless` and `parse_request`.
-use Rattle.std.proofs.Common.{◌≡◌, ◌==◌, ℕ, Bool, true, false, List, [], ◌∷◌, length, rules, Option}
-use Rattle.std.proofs.Common.{Some, None, Result, Ok, Err, refl, ap, sym, subst, ◌∙◌, inl}
+use Rattle.std.proofs.Common.{◌≡◌, ◌==◌, ℕ, Bool, true, false, List, [], ◌∷◌, length, rules, Option, Some, None}
+use Rattle.std.proofs.Common.{Result, Ok, Err, refl, ap, sym, subst, ◌∙◌, inl}
 use Rattle.std.specs.Prelude.{codes, if◌then◌else◌, nat_lt}
 use Rattle.std.specs.List.{Any, list_any}
 use Rattle.std.specs.Option.{option_map_or}
@@ -12,8 +12,7 @@ use Rattle.getopts.specs.Names.{Text, resolution}
 use Rattle.getopts.specs.Options.{Declared, names_of, grammar_of}
 use Rattle.getopts.specs.Fail.{Fault}
 use Rattle.getopts.specs.Reading.{Reading, Occurrence, occurrences_of}
-use Rattle.getopts.specs.Matches.{GroupOccurrence, MatchedGroup, Matched, matches_of}
-use Rattle.getopts.specs.Matches.{occurrences_mentioning}
+use Rattle.getopts.specs.Matches.{GroupOccurrence, MatchedGroup, Matched, matches_of, occurrences_mentioning}
 use Rattle.getopts.specs.Accessors.{is_present}
 use Rattle.getopts.specs.Parse.{HasReading, HasNoReading}
 use Rattle.getopts.specs.CanonAnswers.{IsParseAnswer}
@@ -30,8 +29,7 @@ some_mentioning : (place : ℕ) (occurrences : List Occurrence)
     → nat_lt 0 (length (occurrences_mentioning place occurrences))
     ≡ list_any (λ o. o.mention.group == place) occurrences
 some_mentioning place [] = refl
-some_mentioning place (o ∷ occurrences) =
-    search (rules, cases_Bool, lt-ltb, some_mentioning place occurrences)
+some_mentioning place (o ∷ occurrences) = search (rules, cases_Bool, lt-ltb, some_mentioning place occurrences)
 
 module _ (options : Declared) (reading : Reading) (name : Text) where
   abbrev groups : List MatchedGroup
@@ -63,14 +61,6 @@ module _ (options : Declared) (reading : Reading) (name : Text) where
         let found = Any-from_list_any (λ (o : Occurrence). o.mention.group == place) occurrences
         (sym (present (Some place) resolves) ∙ is) in search (rules, eqb-true)
 
-  -- and a name that occurs is present
-  occurring : Occurs → is_present groups name ≡ true
-  occurring found =
-      let place = found.1.mention.group in
-      present (Some place) found.4
-      ∙ list_any-from_Any (λ (o : Occurrence). o.mention.group == place) occurrences
-      (found.0, found.1, found.2, found.3, eq-eqb place place refl)
-
 -- what a test tells about a fact
 abbrev Told : Bool → Type 0 → Type 0
 Told true Fact = Fact
@@ -78,8 +68,7 @@ Told false Fact = ¬ Fact
 
 module _ (options : Declared) (words : List Text) where
   -- words that have no reading give nothing
-  nothing_given : (fault : Fault) → HasNoReading options words fault → (name : Text)
-      → ¬ (Gives options words name)
+  nothing_given : (fault : Fault) → HasNoReading options words fault → (name : Text) → ¬ (Gives options words name)
   nothing_given fault none name given = none.no_reading given.reading given.reads
 
   module _ (matches : Matched) (has : HasReading options words matches) (name : Text) where
@@ -92,7 +81,7 @@ module _ (options : Declared) (words : List Text) where
           (ap (λ (m : Matched). is_present m.groups name) (sym has.matches_are) ∙ is);
     }
     told false isnt = λ gives.
-        true≢false (search (rules, occurring))
+        true≢false (search (rules, present, list_any-from_Any, eq-eqb))
 
   module _ (usual : Result Matched Fault) (parse : IsTheOnly (IsParseAnswer options words) usual)
     where

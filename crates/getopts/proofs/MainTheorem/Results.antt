@@ -1,6 +1,5 @@
 -- The functions that compute results return what the relations describe.
-use Rattle.std.proofs.Common.{◌≡◌, Bool, true, false, List, Option, Some, None, Result, Ok}
-use Rattle.std.proofs.Common.{Err, refl, sym, inl, ◌∙◌, rules}
+use Rattle.std.proofs.Common.{◌≡◌, Bool, true, false, List, Option, Some, None, Result, Ok, Err, refl, sym, inl, ◌∙◌, rules}
 use Rattle.std.specs.List.{list_all}
 use Rattle.std.specs.Prelude.{MatchResult, not, if◌then◌else◌}
 use Rattle.getopts.specs.Only.{IsTheOnly}
@@ -11,8 +10,7 @@ use Rattle.getopts.specs.Reading.{Reading, IsReading, holds_equals, order_of_rea
 use Rattle.getopts.specs.Matches.{Matched, matches_of}
 use Rattle.getopts.specs.Parse.{Reads, IsRefused, HasReading, HasNoReading}
 use Rattle.getopts.specs.Holds.{Accepts}
-use Rattle.getopts.specs.Canon.{Content, content_of, main_at, canonical_line, IsAcceptedWith}
-use Rattle.getopts.specs.Canon.{IsCountKeeping}
+use Rattle.getopts.specs.Canon.{Content, content_of, main_at, canonical_line, IsAcceptedWith, IsCountKeeping}
 use Rattle.getopts.specs.CanonAnswers.{IsCanonicalAnswer, IsOrder}
 use Rattle.getopts.specs.Results as Spec
 use Rattle.getopts.specs.Returns.{IsLineOf, HasResults}
@@ -23,8 +21,7 @@ use Rattle.getopts.proofs.counts.FirstFault.{HaveFault, first_count_fault-is}
 use Rattle.getopts.proofs.MainTheorem.BeforeFree.{Accepts-accepted}
 use Rattle.getopts.proofs.MainTheorem.Given.{only_unless, only_request}
 use Rattle.getopts.proofs.Only.{IsTheOnly-from}
-use Rattle.getopts.proofs.parse.Parsed.{only_reads, text_names_here, HasNoReading-fault}
-use Rattle.getopts.proofs.parse.Parsed.{HasReading-reading, IsAccepted-reading}
+use Rattle.getopts.proofs.parse.Parsed.{only_reads, text_names_here, HasNoReading-fault, HasReading-reading, IsAccepted-reading}
 use Rattle.getopts.proofs.Reading.Positions.{options_in-order, frees_in-order}
 use Rattle.getopts.proofs.Reading.Readings.{IsSoundOutcome, read_sound}
 use Rattle.std.proofs.lemmas.Bool.{true≢false}
@@ -40,14 +37,12 @@ the_only {Is = Is} only value is = IsTheOnly-from Is value is (λ other also. on
 made_of-is : {X : Type 0} (Is : X → Type 0) (No : Fault → Type 0) (Reads : Reading → Type 0)
     (make : Reading → X) (outcome : Result Reading Fault) → ((r : Reading) → Reads r → Is (make r))
     → MatchResult outcome Reads No → MatchResult (Spec.made_of make outcome) Is No
-made_of-is Is No Reads make (Ok reading) so reads = so reading reads
-made_of-is Is No Reads make (Err fault) so fails = fails
+made_of-is Is No Reads make outcome so reads = search rules
 
 module _ (options : Declared) (declared : MayBeDeclared options.groups) (words : List Text) where
   written_answer : (content : Content) → IsAcceptedWith options words content → (plain : Bool)
       → list_all (λ m. not (holds_equals (main_at options.groups m.group))) content.mentions ≡ plain
-      → IsCanonicalAnswer options words
-      (Ok (if plain then Some (canonical_line options.groups content) else None))
+      → IsCanonicalAnswer options words (Ok (if plain then Some (canonical_line options.groups content) else None))
   written_answer content accepted true plain = search (rules, is_plain-true)
   written_answer content accepted false some = record {
     content = content;
@@ -60,15 +55,12 @@ module _ (options : Declared) (declared : MayBeDeclared options.groups) (words :
   }
 
   -- the reading that keeps the counts, or the first error
-  counted : (reading : Reading) → IsReading (grammar_of options) reading words
-      → (fault : Option Fault) → HaveFault (matches_of options reading).groups fault
-      → IsLineOf options words (Spec.unless_fault reading fault)
+  counted : (reading : Reading) → IsReading (grammar_of options) reading words → (fault : Option Fault)
+      → HaveFault (matches_of options reading).groups fault → IsLineOf options words (Spec.unless_fault reading fault)
   counted reading reads None kept = record { reads = reads; keeps = kept }
-  counted reading reads (Some fault) breaks =
-      search (rules, HasReading-reading options declared words reading reads)
+  counted reading reads (Some fault) breaks = search (rules, HasReading-reading options declared words reading reads)
 
-  line_answer : AreTexts words → (outcome : Result Reading Fault)
-      → IsSoundOutcome (grammar_of options) words outcome
+  line_answer : AreTexts words → (outcome : Result Reading Fault) → IsSoundOutcome (grammar_of options) words outcome
       → IsLineOf options words (Spec.with_counts_kept options outcome)
   line_answer texts (Ok reading) reads = search (rules, counted, first_count_fault-is)
   line_answer texts (Err fault) fails = inl (HasNoReading-fault options declared words texts fault fails)
@@ -83,8 +75,7 @@ module _ (options : Declared) (declared : MayBeDeclared options.groups) (words :
     content_is = refl;
   }
 
-  once : (reading other : Reading) → Reads options words reading → Reads options words other
-      → reading ≡ other
+  once : (reading other : Reading) → Reads options words reading → Reads options words other → reading ≡ other
   once reading other reads also = (only_reads options declared words other also reading).0 reads
 
   -- the results are the computed ones
@@ -132,8 +123,7 @@ module _ (options : Declared) (words : List Text) where
   -- an error, with counts ignored, is the only scan error
   pub isnt_read : (fault : Fault) → Spec.parse_ignoring_counts_result options words ≡ Err fault
       → MayBeDeclared options.groups → AreTexts words → HasNoReading options words fault
-  isnt_read fault is declared texts =
-      ((HasResults-declared options declared words texts).read (Err fault)).1 (sym is)
+  isnt_read fault is declared texts = ((HasResults-declared options declared words texts).read (Err fault)).1 (sym is)
 
   -- which rejects the words
   pub unread_refused : (fault : Fault) → Spec.parse_ignoring_counts_result options words ≡ Err fault

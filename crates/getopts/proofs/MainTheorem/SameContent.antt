@@ -9,11 +9,9 @@ use Rattle.getopts.specs.Canon.{Content, content_of, canonical_reading, with_set
 use Rattle.getopts.specs.CanonAnswers.{KeepsLineLaws}
 use Rattle.getopts.specs.Matches.{Matched, matched, matches_of, KeepsCounts}
 use Rattle.getopts.specs.Accessors.{occurrences_of_name, each_value}
-use Rattle.getopts.specs.Theorem.{AcceptedExactlyWhen, HaveSameValues, OneContentHoldsSame}
-use Rattle.getopts.specs.Theorem.{LinesReadAgain}
+use Rattle.getopts.specs.Theorem.{AcceptedExactlyWhen, HaveSameValues, OneContentHoldsSame, LinesReadAgain}
 use Rattle.getopts.specs.declared.kinds.ParsingStyle.{ParsingStyle}
-use Rattle.getopts.proofs.canon.Lines.{KeepsCounts-mentions, values_at}
-use Rattle.getopts.proofs.canon.Lines.{values-occurrences_mentioning}
+use Rattle.getopts.proofs.canon.Lines.{KeepsCounts-mentions, values_at, values-occurrences_mentioning}
 use Rattle.getopts.proofs.canon.Answered.{reads_of}
 use Rattle.getopts.proofs.parse.Holds.{found-named}
 use Rattle.getopts.proofs.parse.Parsed.{IsAccepted-reading}
@@ -27,19 +25,14 @@ values-named options os = found-named each_value _ options os
     (λ place. values-occurrences_mentioning place os)
 
 -- readings with the same content give matches that hold the same
-HaveSameValues-content : (options : Declared) (style : ParsingStyle) (long_only : Bool)
-    → (old new : Reading)
-    → mentions_of (grammar_of (with_setting options style long_only)) new
-    ≡ mentions_of (grammar_of options) old
+HaveSameValues-content : (options : Declared) (style : ParsingStyle) (long_only : Bool) → (old new : Reading)
+    → mentions_of (grammar_of (with_setting options style long_only)) new ≡ mentions_of (grammar_of options) old
     → free_words new ≡ free_words old
-    → HaveSameValues (matches_of options old)
-    (matches_of (with_setting options style long_only) new)
-HaveSameValues-content options style long_only old new same free =
-    search (rules, values-named, values_at)
+    → HaveSameValues (matches_of options old) (matches_of (with_setting options style long_only) new)
+HaveSameValues-content options style long_only old new same free = search (rules, values-named, values_at)
 
 -- words with the content of accepted words are accepted, with matches that hold the same
-pub OneContentHoldsSame_lem : (options : Declared) → AcceptedExactlyWhen options
-    → OneContentHoldsSame options
+pub OneContentHoldsSame_lem : (options : Declared) → AcceptedExactlyWhen options → OneContentHoldsSame options
 OneContentHoldsSame_lem options accepted_when words others old new matches accepted
     reads reads_new same =
     let grammar = grammar_of options in
@@ -65,8 +58,7 @@ LinesReadAgain_lem options declared line_laws words line matches written has sty
     let other = with_setting options style long_only in
     let back = (line_laws words line written).reads_back style long_only in
     let matches_are : matches ≡ matches_of options with.reading =
-    has.matches_are
-    ∙ ap (matches_of options) ((with.only has.reading).0 (reads_of options words matches has)) in
+    search (rules, reads_of options words matches has) in
     let reading = canonical_reading options.groups written.content in
     let said : content_of other reading ≡ content_of options with.reading =
     back.same ∙ with.content_is in

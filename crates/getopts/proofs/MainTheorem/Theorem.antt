@@ -9,8 +9,7 @@ use Rattle.getopts.specs.Parse.{IsAccepted, IsRefused}
 use Rattle.getopts.specs.Theorem.{OneReading, AcceptedExactlyWhen, RefusedExactlyWhen}
 use Rattle.getopts.proofs.canon.Answered.{reads_of, keeps_accepted, not_refused}
 use Rattle.getopts.proofs.Only.{meets}
-use Rattle.getopts.proofs.parse.Parsed.{text_names_here, HasNoReading-fault, HasReading-reading}
-use Rattle.getopts.proofs.parse.Parsed.{IsAccepted-reading}
+use Rattle.getopts.proofs.parse.Parsed.{text_names_here, HasNoReading-fault, HasReading-reading, IsAccepted-reading}
 use Rattle.getopts.proofs.Reading.Readings.{only_reading}
 
 module _ (options : Declared) (declared : MayBeDeclared options.groups) where
@@ -33,17 +32,13 @@ module _ (options : Declared) (declared : MayBeDeclared options.groups) where
       ⊎ ((reading : Reading) × IsReading (grammar_of options) reading words
       × IsCountFault (matches_of options reading).groups fault)
 
-  first_fault : (words : List Text) (fault : Fault) → IsRefused options words fault
-      → IsFirstFault words fault
-  first_fault words fault (inl is) = search (rules, meets)
-  first_fault words fault (inr is) = search (rules, reads_of options words is.matches is.read)
+  first_fault : (words : List Text) (fault : Fault) → IsRefused options words fault → IsFirstFault words fault
+  first_fault words fault first = search (rules, meets, reads_of)
 
   refused : (words : List Text) (fault : Fault) → AreTexts words → IsFirstFault words fault
       → IsRefused options words fault
-  refused words fault texts (inl scan) =
-      inl (HasNoReading-fault options declared words texts fault scan)
-  refused words fault texts (inr count) =
-      search (rules, HasReading-reading options declared words count.0 count.1)
+  refused words fault texts (inl scan) = inl (HasNoReading-fault options declared words texts fault scan)
+  refused words fault texts (inr count) = search (rules, HasReading-reading options declared words count.0 count.1)
 
   -- rejected exactly when none does
   pub RefusedExactlyWhen-options : RefusedExactlyWhen options

@@ -1,6 +1,6 @@
 -- The laws of readings, proved for every grammar.
-use Rattle.std.proofs.Common.{◌≡◌, ◌≢◌, ℕ, zero, suc, ◌+◌, ◌≤◌, true, false, List, [], ◌∷◌, ◌++◌}
-use Rattle.std.proofs.Common.{length, map, Some, refl, sym, ap, ◌∙◌, subst, rules, arith}
+use Rattle.std.proofs.Common.{◌≡◌, ◌≢◌, ℕ, zero, suc, ◌+◌, ◌≤◌, true, false, List, [], ◌∷◌, ◌++◌, length, map, Some}
+use Rattle.std.proofs.Common.{refl, sym, ap, subst, rules, arith}
 use Rattle.std.specs.Prelude.{⊤}
 use Rattle.std.proofs.lemmas.Bool.{cases_Bool}
 use Rattle.std.proofs.Math.Seq.{drop-append_seam}
@@ -11,13 +11,11 @@ use Rattle.std.proofs.lemmas.Grind.{flat_map-append, common_steps}
 use Rattle.std.proofs.lemmas.List.Sorted.{IsNonDecreasingBy-from_all_adjacent}
 use Rattle.getopts.specs.Names.{Text}
 use Rattle.getopts.specs.Options.{Signature, Grammar, long_kind}
-use Rattle.getopts.specs.Reading.{item_words, tail_words, Occurrence, at_position, word_count}
-use Rattle.getopts.specs.Reading.{ends_in, free_items, tail_frees, free_words, begins_with_dash}
-use Rattle.getopts.specs.Reading.{spelled_all, occurrences_after, Argument, IsLawfulEnd}
-use Rattle.getopts.specs.Reading.{IsLawfulLong, IsLawfulItem, end_text, FitsLong, line_end}
-use Rattle.getopts.specs.Reading.{IsReading, Dashes, cluster, FitsEnd, is_bare, Reading, Mention}
-use Rattle.getopts.specs.Reading.{mentions, End, flags, Item, free, long, Tail, stop, rest}
-use Rattle.getopts.specs.Reading.{EndsOrIsDashed, AreWellFollowed, occurrences_of}
+use Rattle.getopts.specs.Reading.{item_words, tail_words, Occurrence, at_position, word_count, ends_in, free_items}
+use Rattle.getopts.specs.Reading.{tail_frees, free_words, begins_with_dash, spelled_all, occurrences_after, Argument}
+use Rattle.getopts.specs.Reading.{IsLawfulEnd, IsLawfulLong, IsLawfulItem, end_text, FitsLong, line_end, IsReading}
+use Rattle.getopts.specs.Reading.{Dashes, cluster, FitsEnd, is_bare, Reading, Mention, mentions, End, flags, Item}
+use Rattle.getopts.specs.Reading.{free, long, Tail, stop, rest, EndsOrIsDashed, AreWellFollowed, occurrences_of}
 use Rattle.getopts.specs.Matches.{GroupOccurrence, matched, occurrences_mentioning}
 use Rattle.getopts.specs.ReadingLaws as Spec
 use Rattle.getopts.specs.declared.kinds.HasArg.TheVariants.{Yes}
@@ -25,8 +23,7 @@ use Rattle.std.proofs.Permutation.{every_append}
 use Rattle.std.proofs.Recursive.{every_back, every_front}
 use Rattle.getopts.proofs.counts.Groups.{AllByRecursion-matched}
 use Rattle.getopts.proofs.Reading.Positions.{mentions_of-items, positions_in-one_higher}
-use Rattle.getopts.proofs.Reading.Readings.{EndsOrIsDashed-spelled, spelled_all-append}
-use Rattle.getopts.proofs.Reading.Readings.{spelled_all-joined}
+use Rattle.getopts.proofs.Reading.Readings.{EndsOrIsDashed-spelled, spelled_all-append, spelled_all-joined}
 use Rattle.getopts.proofs.Reading.Steps.{lawful_short}
 use Rattle.getopts.proofs.Reading.Texts.{is_dashed-text}
 
@@ -41,12 +38,10 @@ record FitInPlace (grammar : Grammar) (old new : List Item) (more : List Text) :
   followed : AreWellFollowed old more → AreWellFollowed new more
 
 -- items in front still begin with a dashed word
-EndsOrIsDashed-in_place : (front old new : List Item) (more : List Text)
-    → EndsOrIsDashed (spelled_all new more) → EndsOrIsDashed (spelled_all (front ++ old) more)
-    → EndsOrIsDashed (spelled_all (front ++ new) more)
+EndsOrIsDashed-in_place : (front old new : List Item) (more : List Text) → EndsOrIsDashed (spelled_all new more)
+    → EndsOrIsDashed (spelled_all (front ++ old) more) → EndsOrIsDashed (spelled_all (front ++ new) more)
 EndsOrIsDashed-in_place [] old new more dashed begins = dashed
-EndsOrIsDashed-in_place (item ∷ front) old new more dashed begins =
-    EndsOrIsDashed-spelled item _ _ begins
+EndsOrIsDashed-in_place (item ∷ front) old new more dashed begins = EndsOrIsDashed-spelled item _ _ begins
 
 -- items in front are still well followed
 AreWellFollowed-in_place : (grammar : Grammar) (front old new : List Item) (more : List Text)
@@ -61,34 +56,29 @@ AreWellFollowed-in_place grammar (item ∷ front) old new more lawful dashed fol
 
 -- if new items that fit replace old ones, a reading stays a reading of the words that it
 -- spells
-IsReading-in_place : (grammar : Grammar) (front old new : List Item) (tail : Tail)
-    (words : List Text) → FitInPlace grammar old new (tail_words tail)
+IsReading-in_place : (grammar : Grammar) (front old new : List Item) (tail : Tail) (words : List Text)
+    → FitInPlace grammar old new (tail_words tail)
     → IsReading grammar (record { items = front ++ old; tail = tail }) words
-    → IsReading grammar (record { items = front ++ new; tail = tail })
-    (spelled_all (front ++ new) (tail_words tail))
+    → IsReading grammar (record { items = front ++ new; tail = tail }) (spelled_all (front ++ new) (tail_words tail))
 IsReading-in_place grammar front old new tail words fit reads =
     let ahead : AllByRecursion (IsLawfulItem grammar) front =
     every_front (IsLawfulItem grammar) _ front old reads.items refl in
     let lawful : AllByRecursion (IsLawfulItem grammar) new =
     fit.lawful (every_back (IsLawfulItem grammar) _ front old reads.items refl) in
-    record {
-      spells = refl;
-      items = every_append (IsLawfulItem grammar) front new ahead lawful;
-      tail = reads.tail;
-      followed = AreWellFollowed-in_place grammar front old new (tail_words tail) ahead
-          (fit.dashed lawful) fit.followed reads.followed;
-    }
+    search (
+      rules,
+      every_append (IsLawfulItem grammar) front new ahead lawful,
+      AreWellFollowed-in_place grammar front old new (tail_words tail) ahead (fit.dashed lawful) fit.followed
+          reads.followed,
+    )
 
 -- items in front preserve equal occurrences
 occurrences_after-in_place : (grammar : Grammar) (front old new : List Item)
-    → ((before : ℕ) → occurrences_after before grammar new ≡ occurrences_after before grammar old)
-    → (before : ℕ)
-    → occurrences_after before grammar (front ++ new)
-    ≡ occurrences_after before grammar (front ++ old)
+    → ((before : ℕ) → occurrences_after before grammar new ≡ occurrences_after before grammar old) → (before : ℕ)
+    → occurrences_after before grammar (front ++ new) ≡ occurrences_after before grammar (front ++ old)
 occurrences_after-in_place grammar [] old new same before = same before
 occurrences_after-in_place grammar (item ∷ front) old new same before =
-    ap (λ later. map (at_position before) (mentions grammar item) ++ later)
-    (occurrences_after-in_place grammar front old new same (before + word_count (item ∷ [])))
+    simp (occurrences_after-in_place grammar front old new same (before + word_count (item ∷ [])))
 
 -- the free items of two lists
 pub free_items-append : (items others : List Item)
@@ -164,8 +154,7 @@ IsLawfulLong-yes grammar dashes name argument new_argument kind fits lawful = se
 
 -- a long option's argument, attached or separate
 pub LongAttachedOrSeparate_lem : (grammar : Grammar) → Spec.LongAttachedOrSeparate grammar
-LongAttachedOrSeparate_lem grammar =
-    search (rules, FitInPlace-long, IsLawfulLong-yes, AreOneWordApart-fit)
+LongAttachedOrSeparate_lem grammar = search (rules, FitInPlace-long, IsLawfulLong-yes, AreOneWordApart-fit)
 
 -- one dash or two
 pub OneDashOrTwo_lem : (grammar : Grammar) → Spec.OneDashOrTwo grammar
@@ -210,11 +199,9 @@ is_bare-rest : (flag : ℕ) (names : List ℕ) (end : End) → is_bare (cluster 
 is_bare-rest flag names end bare = search rules
 
 -- the rest of a cluster has a valid end, if it isn't empty
-IsLawfulEnd-rest : (grammar : Grammar) (flag : ℕ) (names : List ℕ) (end : End)
-    → names ++ end_text end ≢ [] → IsLawfulEnd grammar (flag ∷ names) end
-    → IsLawfulEnd grammar names end
-IsLawfulEnd-rest grammar flag names flags filled lawful = λ nil. filled (append-nil names ∙ nil)
-IsLawfulEnd-rest grammar flag names (ends_in option argument) filled lawful = lawful
+IsLawfulEnd-rest : (grammar : Grammar) (flag : ℕ) (names : List ℕ) (end : End) → names ++ end_text end ≢ []
+    → IsLawfulEnd grammar (flag ∷ names) end → IsLawfulEnd grammar names end
+IsLawfulEnd-rest grammar flag names end filled lawful = search (rules, append-nil)
 
 -- a cluster may be split after its first flag
 pub ClusterSplits_lem : (grammar : Grammar) → Spec.ClusterSplits grammar
@@ -230,8 +217,7 @@ ClusterSplits_lem grammar = record {
 -- bare clusters stay well followed if other items follow the last item, and this isn't
 -- bare
 AreWellFollowed-append : (items others : List Item) (more : List Text) → Spec.is_last_bare items ≡ false
-    → AreWellFollowed items [] → AreWellFollowed others more
-    → AreWellFollowed (items ++ others) more
+    → AreWellFollowed items [] → AreWellFollowed others more → AreWellFollowed (items ++ others) more
 AreWellFollowed-append [] others more last before after = after
 AreWellFollowed-append (item ∷ []) others more last before after = (λ bare. cc (last, bare), after)
 AreWellFollowed-append (item ∷ next ∷ items) others more last before after =
@@ -255,19 +241,15 @@ HasContentOfBoth-joined grammar first second ends =
 -- a first line read to its end, and the items and the tail of a second, are read together
 IsReading-joined : (grammar : Grammar) (first second : Reading) (words more : List Text)
     → IsReading grammar first words → first.tail ≡ line_end → Spec.is_last_bare first.items ≡ false
-    → IsReading grammar second more
-    → IsReading grammar (Spec.joined_reading first second) (words ++ more)
-IsReading-joined grammar first second words more reads ends last after = record {
-  spells = rw (
-    spelled_all-joined first.items second.items (tail_words second.tail),
-    after.spells,
-    spelled_all-append first.items [] more,
-    rw ends at reads.spells,
-  );
-  items = search (rules, every_append);
-  tail = after.tail;
-  followed = search (rules, AreWellFollowed-append);
-}
+    → IsReading grammar second more → IsReading grammar (Spec.joined_reading first second) (words ++ more)
+IsReading-joined grammar first second words more reads ends last after =
+    search (
+      rules,
+      spelled_all-joined first.items second.items (tail_words second.tail),
+      spelled_all-append first.items [] more,
+      every_append,
+      AreWellFollowed-append,
+    )
 
 -- lines compose, if a line has at most one reading
 pub LinesCompose_lem : (grammar : Grammar)
@@ -321,8 +303,7 @@ IsSubsequence-items : (items : List Item) (tail : Tail) → Spec.IsSubsequence
     (free_items items ++ tail_frees tail) (spelled_all items (tail_words tail))
 IsSubsequence-items [] tail = IsSubsequence-tail tail
 IsSubsequence-items (free word ∷ items) tail = kept word _ _ (IsSubsequence-items items tail)
-IsSubsequence-items (item ∷ items) tail =
-    IsSubsequence-after (item_words item) _ _ (IsSubsequence-items items tail)
+IsSubsequence-items (item ∷ items) tail = IsSubsequence-after (item_words item) _ _ (IsSubsequence-items items tail)
 
 -- free words are a subsequence of the words
 pub FreeWordsAreSubsequence_lem : (grammar : Grammar) → Spec.FreeWordsAreSubsequence grammar
@@ -385,8 +366,7 @@ NeverDecrease-reading grammar reading place =
     (RiseFrom-adjacent 0 _ (RiseFrom-items grammar place 0 reading.items))
 
 -- the positions of groups in a reading's matches are in order
-pub HavePositionsInOrder-matched : (grammar : Grammar) (reading : Reading) (place : ℕ)
-    (signatures : List Signature)
+pub HavePositionsInOrder-matched : (grammar : Grammar) (reading : Reading) (place : ℕ) (signatures : List Signature)
     → Spec.HavePositionsInOrder (matched place signatures (occurrences_of grammar reading))
 HavePositionsInOrder-matched grammar reading place signatures =
     search (rules, AllByRecursion-matched, NeverDecrease-reading)

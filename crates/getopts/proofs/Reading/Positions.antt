@@ -1,23 +1,16 @@
 -- Positions: how many words items spell, which occurrences move up by one, and what is at a
 -- position. Orders: the options and free words in the order of a reading.
-use Rattle.std.proofs.Common.{◌≡◌, ℕ, ◌+◌, ◌<◌, true, false, List, [], ◌∷◌, append_assoc, ◌++◌}
-use Rattle.std.proofs.Common.{length, map, refl, ap, ◌∙◌, sym, inl, inr, add-zero, zero-add, arith}
-use Rattle.std.proofs.Common.{Some, rules}
+use Rattle.std.proofs.Common.{◌≡◌, ℕ, ◌+◌, ◌<◌, true, false, List, [], ◌∷◌, append_assoc, ◌++◌, length, map, refl, ap, ◌∙◌, sym, inl, inr, add-zero, zero-add, arith, Some, rules}
 use Rattle.std.specs.Prelude.{nat_le, slice_get, Contains}
 use Rattle.std.specs.List.{AllByRecursion, flat_map}
 use Rattle.std.proofs.lemmas.List.{map-append, length-append, map-id, append-nil}
-use Rattle.std.proofs.lemmas.List.Elements.{Contains-append_cases, All-contains, All-map}
-use Rattle.std.proofs.lemmas.List.Elements.{All-contains_itself, All-weaker, recursion_from_All}
+use Rattle.std.proofs.lemmas.List.Elements.{Contains-append_cases, All-contains, All-map, All-contains_itself, All-weaker, recursion_from_All}
 use Rattle.std.proofs.lemmas.Simd.{map-map}
 use Rattle.std.proofs.lemmas.Bool.Decides.{nat_tests}
 use Rattle.std.proofs.lemmas.Option.{slice_get_within}
 use Rattle.getopts.specs.Names.{Text}
 use Rattle.getopts.specs.Options.{Signature, Grammar}
-use Rattle.getopts.specs.Reading.{Item, free, long, cluster, item_words, spelled_all, Tail}
-use Rattle.getopts.specs.Reading.{tail_words, Reading, IsReading, Mention, mentions, Occurrence}
-use Rattle.getopts.specs.Reading.{at_position, word_count, occurrences_after, occurrences_of}
-use Rattle.getopts.specs.Reading.{Given, option, free_word, given_by, order_of_items, tail_frees}
-use Rattle.getopts.specs.Reading.{order_of_reading, options_in, frees_in, free_items, free_words}
+use Rattle.getopts.specs.Reading.{Item, free, long, cluster, item_words, spelled_all, Tail, tail_words, Reading, IsReading, Mention, mentions, Occurrence, at_position, word_count, occurrences_after, occurrences_of, Given, option, free_word, given_by, order_of_items, tail_frees, order_of_reading, options_in, frees_in, free_items, free_words}
 use Rattle.getopts.specs.Matches.{matched}
 use Rattle.getopts.specs.ReadingLaws as Spec
 use Rattle.getopts.proofs.Lists.{AllByRecursion-filter, AllByRecursion-map, slice_get-append}
@@ -28,8 +21,7 @@ use Rattle.getopts.proofs.Reading.Readings.{spelled_all-append, spelled_all-join
 -- the words of items, and the following words
 pub length-spelled_all : (items : List Item) (more : List Text)
     → length (spelled_all items more) ≡ word_count items + length more
-length-spelled_all items more = ap length (spelled_all-append items [] more)
-    ∙ length-append (spelled_all items []) more
+length-spelled_all items more = cc (spelled_all-append items [] more, length-append (spelled_all items []) more)
 
 -- the words of an item, and of the items after it
 pub word_count-cons : (item : Item) (items : List Item)
@@ -38,8 +30,7 @@ word_count-cons item items = length-spelled_all (item ∷ []) (spelled_all items
 
 -- the mentions of the occurrences of items are those of the items
 mention-occurrences_after : (before : ℕ) (grammar : Grammar) (items : List Item)
-    → map (λ (o : Occurrence). o.mention) (occurrences_after before grammar items)
-    ≡ flat_map (mentions grammar) items
+    → map (λ (o : Occurrence). o.mention) (occurrences_after before grammar items) ≡ flat_map (mentions grammar) items
 mention-occurrences_after before grammar [] = refl
 mention-occurrences_after before grammar (item ∷ items) =
     simp (map-map, map-id, map-append, mention-occurrences_after (before + word_count (item ∷ [])) grammar items)
@@ -64,8 +55,7 @@ raised_after-mentions at position told = map-map (raised_after at) (at_position 
 
 -- the occurrences of items after this position are one higher
 occurrences_after-moves : (grammar : Grammar) (at before : ℕ) (items : List Item) → at < before
-    → map (raised_after at) (occurrences_after before grammar items)
-    ≡ occurrences_after (before + 1) grammar items
+    → map (raised_after at) (occurrences_after before grammar items) ≡ occurrences_after (before + 1) grammar items
 occurrences_after-moves grammar at before [] past = refl
 occurrences_after-moves grammar at before (item ∷ items) past =
     let next = before + word_count (item ∷ []) in
@@ -78,18 +68,13 @@ occurrences_after-moves grammar at before (item ∷ items) past =
 module _ (grammar : Grammar) (item other : Item) (back : List Item)
     (same : mentions grammar other ≡ mentions grammar item)
     (longer : word_count (other ∷ []) ≡ word_count (item ∷ []) + 1) where
-  -- if the item is the first
-  occurrences_after-here : (before : ℕ)
-      → map (raised_after before) (occurrences_after before grammar (item ∷ back))
-      ≡ occurrences_after before grammar (other ∷ back)
-  occurrences_after-here before = search (rules, map-append, raised_after-mentions, occurrences_after-moves)
-
   -- if there are items before it
   occurrences_after-one_higher : (front : List Item) (before : ℕ)
       → map (raised_after (before + word_count front))
       (occurrences_after before grammar (front ++ item ∷ back))
       ≡ occurrences_after before grammar (front ++ other ∷ back)
-  occurrences_after-one_higher [] before = rw add-zero (occurrences_after-here before)
+  occurrences_after-one_higher [] before =
+      rw add-zero (search (rules, map-append, raised_after-mentions, occurrences_after-moves))
   occurrences_after-one_higher (first ∷ front) before =
       let at = before + word_count (first ∷ front) in
       let next = before + word_count (first ∷ []) in
@@ -106,11 +91,6 @@ module _ (grammar : Grammar) (item other : Item) (back : List Item)
       let whole = rw zero-add at (occurrences_after-one_higher front 0) in
       rw (← whole) (map-map (λ (o : Occurrence). o.position) (raised_after (word_count front)) _
       ∙ sym (map-map (Spec.one_higher_after (word_count front)) (λ (o : Occurrence). o.position) _))
-
--- the first word of an item is the same whatever follows it
-first_word-spelled : (item : Item) (more : List Text)
-    → slice_get (spelled item more) 0 ≡ slice_get (item_words item) 0
-first_word-spelled item more = search rules
 
 -- an occurrence of the later items of a reading, after these items
 belongs : (grammar : Grammar) (reading : Reading) (words : List Text) (occurrence : Occurrence)
@@ -138,7 +118,7 @@ belongs grammar reading words occurrence before (item ∷ items) reads are held 
               spelled_all-joined before (item ∷ items) (tail_words reading.tail),
               spelled_all-append before [] (spelled item more),
               slice_get-append (spelled_all before []) (spelled item more),
-            ) (first_word-spelled item more);
+            ) (search rules);
           }
       | inr later ↦
           let count : word_count before + word_count (item ∷ []) ≡ word_count (before ++ item ∷ []) =
@@ -161,8 +141,7 @@ first_word (long dashes name argument) = (_, refl)
 first_word (cluster names end) = (_, refl)
 
 -- the positions of a reading are below the number of words
-below-occurrences_of : (grammar : Grammar) (reading : Reading) (words : List Text)
-    → IsReading grammar reading words
+below-occurrences_of : (grammar : Grammar) (reading : Reading) (words : List Text) → IsReading grammar reading words
     → AllByRecursion (λ o. o.position < length words) (occurrences_of grammar reading)
 below-occurrences_of grammar reading words reads =
     let occurrences = occurrences_of grammar reading in

@@ -1,6 +1,6 @@
 -- Whole lines: `read` gives the only reading of a line, or its only error.
-use Rattle.std.proofs.Common.{◌≡◌, List, [], ◌∷◌, ◌++◌, length, drop, Result, Ok, Err, refl, sym}
-use Rattle.std.proofs.Common.{ap, ◌∙◌, append_assoc, append-nil, rules}
+use Rattle.std.proofs.Common.{◌≡◌, List, [], ◌∷◌, ◌++◌, length, drop, Result, Ok, Err, refl, sym, ap, ◌∙◌}
+use Rattle.std.proofs.Common.{append_assoc, append-nil, rules}
 use Rattle.std.specs.List.{AllByRecursion}
 use Rattle.std.proofs.Math.Seq.{drop-append_seam}
 use Rattle.std.specs.Str.{IsUtf8}
@@ -8,14 +8,12 @@ use Rattle.std.specs.Prelude.{MatchResult}
 use Rattle.getopts.specs.Names.{Text, AreTexts}
 use Rattle.getopts.specs.Options.{Grammar}
 use Rattle.getopts.specs.Fail.{Fault}
-use Rattle.getopts.specs.Reading.{Argument, separate, line_end, IsReading, Item, Tail, Reading}
-use Rattle.getopts.specs.Reading.{argument_words, IsLawfulItem, EndsOrIsDashed, AreWellFollowed}
-use Rattle.getopts.specs.Reading.{spelled_all, tail_words, IsLawfulTail, IsScanFault}
+use Rattle.getopts.specs.Reading.{Argument, line_end, IsReading, Item, Tail, Reading, argument_words, IsLawfulItem}
+use Rattle.getopts.specs.Reading.{EndsOrIsDashed, AreWellFollowed, spelled_all, tail_words, IsLawfulTail, IsScanFault}
 use Rattle.std.proofs.Recursive.{every_back}
 use Rattle.getopts.specs.Results.{made_of}
 use Rattle.getopts.specs.Step.{Step, takes}
-use Rattle.getopts.proofs.Reading.Reader.{HasTextNames, step, spelled, free_step, with_items, after_step}
-use Rattle.getopts.proofs.Reading.Reader.{read_both, read}
+use Rattle.getopts.proofs.Reading.Reader.{HasTextNames, step, spelled, free_step, with_items, after_step, read_both, read}
 use Rattle.getopts.proofs.Reading.Steps as Steps
 
 -- `read` on one word, by its step.
@@ -31,8 +29,7 @@ module _ (grammar : Grammar) (word : Text) (more : List Text) where
       → read grammar (word ∷ more)
       ≡ with_items (item ∷ []) (read grammar (drop (length (argument_words argument)) more))
   unfolding read
-  read_item item (separate next) said = search (rules, read_step, with_items)
-  read_item item argument said = read_step (takes item argument) said
+  read_item item argument said = search (rules, with_items)
 
 -- the end of the line
 pub read_nil : (grammar : Grammar) → read grammar [] ≡ Ok (record { items = []; tail = line_end })
@@ -41,22 +38,19 @@ read_nil grammar = refl
 
 -- an item goes in front of the outcome of the words after it
 pub taken_read : (grammar : Grammar) (words : List Text) (item : Item) (others : List Text)
-    → Steps.TakesItem grammar words item others
-    → read grammar words ≡ with_items (item ∷ []) (read grammar others)
+    → Steps.TakesItem grammar words item others → read grammar words ≡ with_items (item ∷ []) (read grammar others)
 taken_read grammar [] item others taken = absurd taken
 taken_read grammar (word ∷ more) item others taken =
     cc (read_item grammar word more item taken.0 taken.1, drop-append_seam (argument_words taken.0) others)
 
 -- no item before an outcome
 pub with_items-none : (outcome : Result Reading Fault) → outcome ≡ with_items [] outcome
-with_items-none (Ok reading) = refl
-with_items-none (Err fault) = refl
+with_items-none outcome = search rules
 
 -- items before others
 pub with_items-append : (items others : List Item) (outcome : Result Reading Fault)
     → with_items (items ++ others) outcome ≡ with_items items (with_items others outcome)
-with_items-append items others (Ok reading) = rw append_assoc refl
-with_items-append items others (Err fault) = refl
+with_items-append items others outcome = search (rules, append_assoc)
 
 -- valid items go in front of the outcome of the words after them
 pub items_read : (grammar : Grammar) → HasTextNames grammar → (items : List Item) (more : List Text)
@@ -80,31 +74,22 @@ reading_read grammar named reading words is =
 pub spelled_all-append : (items : List Item) (xs ys : List Text)
     → spelled_all items (xs ++ ys) ≡ spelled_all items xs ++ ys
 spelled_all-append [] xs ys = refl
-spelled_all-append (item ∷ items) xs ys =
-    search (rules, spelled, append_assoc, spelled_all-append items xs ys)
+spelled_all-append (item ∷ items) xs ys = search (rules, spelled, append_assoc, spelled_all-append items xs ys)
 
 -- the words of two lists of items
 pub spelled_all-joined : (items others : List Item) (more : List Text)
     → spelled_all (items ++ others) more ≡ spelled_all items (spelled_all others more)
 spelled_all-joined [] others more = refl
-spelled_all-joined (item ∷ items) others more =
-    ap (spelled item) (spelled_all-joined items others more)
+spelled_all-joined (item ∷ items) others more = ap (spelled item) (spelled_all-joined items others more)
 
 -- the first word of an item is the same whatever follows it
 pub EndsOrIsDashed-spelled : (item : Item) (words others : List Text)
     → EndsOrIsDashed (spelled item words) → EndsOrIsDashed (spelled item others)
 EndsOrIsDashed-spelled item words others begins = search rules
 
--- words that end or are dashed, before others that do
-ends-append : (xs ys : List Text) → EndsOrIsDashed xs → EndsOrIsDashed ys
-    → EndsOrIsDashed (xs ++ ys)
-ends-append [] ys front more = more
-ends-append (x ∷ xs) ys front more = front
-
 -- the first of such words
 pub ends-front : (xs ys : List Text) → EndsOrIsDashed (xs ++ ys) → EndsOrIsDashed xs
-ends-front [] ys whole = tt
-ends-front (x ∷ xs) ys whole = whole
+ends-front xs ys whole = search rules
 
 -- items that may end a line may also precede a dashed word
 followed-append : (items : List Item) (more : List Text) → AreWellFollowed items []
@@ -120,8 +105,7 @@ fault_read grammar named words fault texts is =
     let utf8 : AreTexts (is.word ∷ is.after) =
     every_back IsUtf8 words is.before (is.word ∷ is.after) texts is.words_are in
     let line : words ≡ spelled_all is.items (is.word ∷ is.after) =
-    is.words_are ∙ ap (λ (front : List Text). front ++ is.word ∷ is.after) (sym is.reads.spells)
-    ∙ sym (spelled_all-append is.items [] (is.word ∷ is.after)) in
+    search (rules, spelled_all-append is.items [] (is.word ∷ is.after)) in
     let stopped = Steps.fault_step grammar named is.word is.after fault utf8.0 is.fault_at in
     let followed : AreWellFollowed is.items (is.word ∷ is.after) =
     search (rules, followed-append, Steps.faults_dashed) in
@@ -129,10 +113,8 @@ fault_read grammar named words fault texts is =
 
 -- a value made of an outcome is made of a reading
 pub made_of-ok : {X : Type 0} (make : Reading → X) (outcome : Result Reading Fault) (x : X)
-    → made_of make outcome ≡ Ok x
-    → (reading : Reading) × (outcome ≡ Ok reading) × (make reading ≡ x)
-made_of-ok make (Ok reading) x same = (reading, refl, cc)
-made_of-ok make (Err fault) x same = cc
+    → made_of make outcome ≡ Ok x → (reading : Reading) × (outcome ≡ Ok reading) × (make reading ≡ x)
+made_of-ok make outcome x same = search rules
 
 -- The laws of a line: at most one reading, at most one error, and never both.
 module _ (grammar : Grammar) (named : HasTextNames grammar) (words : List Text) where
@@ -142,8 +124,7 @@ module _ (grammar : Grammar) (named : HasTextNames grammar) (words : List Text) 
       cc (reading_read grammar named r words first, reading_read grammar named s words second)
 
   -- two errors of a line are equal
-  pub only_fault : (f g : Fault) → AreTexts words → IsScanFault grammar words f
-      → IsScanFault grammar words g → f ≡ g
+  pub only_fault : (f g : Fault) → AreTexts words → IsScanFault grammar words f → IsScanFault grammar words g → f ≡ g
   only_fault f g texts first second =
       cc (fault_read grammar named words f texts first, fault_read grammar named words g texts second)
 
@@ -165,9 +146,8 @@ pub reading_after_item : (grammar : Grammar) (words : List Text) (item : Item) (
 reading_after_item grammar words item others reading begins is = search (rules, spelled)
 
 -- an error of the words after an item is an error of the line
-fault_after_item : (grammar : Grammar) (words : List Text) (item : Item) (others : List Text)
-    (fault : Fault) → Steps.BeginsWith grammar words item others → IsScanFault grammar others fault
-    → IsScanFault grammar words fault
+fault_after_item : (grammar : Grammar) (words : List Text) (item : Item) (others : List Text) (fault : Fault)
+    → Steps.BeginsWith grammar words item others → IsScanFault grammar others fault → IsScanFault grammar words fault
 fault_after_item grammar words item others fault begins is = record {
   before = spelled item is.before;
   word = is.word;
@@ -183,8 +163,7 @@ item_sound : (grammar : Grammar) (words : List Text) (item : Item) (others : Lis
     (outcome : Result Reading Fault) → Steps.BeginsWith grammar words item others
     → IsSoundOutcome grammar others outcome
     → IsSoundOutcome grammar words (with_items (item ∷ []) outcome)
-item_sound grammar words item others (Ok reading) begins sound = search (rules, reading_after_item)
-item_sound grammar words item others (Err fault) begins sound = search (rules, fault_after_item)
+item_sound grammar words item others outcome begins sound = search (rules, reading_after_item, fault_after_item)
 
 -- a line that consists of a tail
 tail_sound : (grammar : Grammar) (words : List Text) (tail : Tail) → IsLawfulTail grammar tail
@@ -202,7 +181,6 @@ both_sound grammar named (word ∷ more) texts =
 
 -- the outcome of `read` is right for a line of texts
 pub read_sound : (grammar : Grammar) → HasTextNames grammar → (words : List Text) → AreTexts words
-    → (outcome : Result Reading Fault) → read grammar words ≡ outcome
-    → IsSoundOutcome grammar words outcome
+    → (outcome : Result Reading Fault) → read grammar words ≡ outcome → IsSoundOutcome grammar words outcome
 unfolding read
 read_sound grammar named words texts outcome e = search (rules, both_sound)

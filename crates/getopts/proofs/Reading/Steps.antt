@@ -1,7 +1,7 @@
 -- One word: `step` agrees with the definitions.
-use Rattle.std.proofs.Common.{◌≡◌, ◌≢◌, ◌==◌, ℕ, ◌<◌, Bool, true, false, List, [], ◌∷◌, ◌++◌, rules}
-use Rattle.std.proofs.Common.{length, Option, Some, None, Ok, refl, sym, ap, ◌∙◌, subst, inl, inr}
-use Rattle.std.proofs.Common.{arith, encode_utf8, unwrap_or, append_assoc, append-nil}
+use Rattle.std.proofs.Common.{◌≡◌, ◌≢◌, ◌==◌, ℕ, ◌<◌, Bool, true, false, List, [], ◌∷◌, ◌++◌, rules, length, Option}
+use Rattle.std.proofs.Common.{Some, None, Ok, refl, sym, ap, ◌∙◌, subst, inl, inr, arith, encode_utf8, unwrap_or}
+use Rattle.std.proofs.Common.{append_assoc, append-nil}
 use Rattle.std.proofs.lemmas.Bool.{cases_Bool, cases_lt, eqb-true, false≢true, true_from_ne_false}
 use Rattle.std.specs.List.{AllByRecursion}
 use Rattle.std.specs.Str.{IsUtf8}
@@ -10,18 +10,16 @@ use Rattle.std.proofs.lemmas.Str.{encode_ascii, length-encode, len_utf8_bounds}
 use Rattle.getopts.specs.Names.{Text}
 use Rattle.getopts.specs.Options.{Grammar, long_kind}
 use Rattle.getopts.specs.Fail.{Fault, unrecognized_option}
-use Rattle.getopts.specs.Reading.{dash, Dashes, flags, ends_in, cluster, FitsEnd, IsFlag, is_bare}
-use Rattle.getopts.specs.Reading.{is_dashed, stop_word, attached, long_word, tail_words, IsLongForm}
-use Rattle.getopts.specs.Reading.{holds_equals, one, argument_words, MayPrecede, EndsOrIsDashed}
-use Rattle.getopts.specs.Reading.{Argument, attached_argument, unknown_byte, unwanted_argument}
-use Rattle.getopts.specs.Reading.{none, two, End, Item, free, long, stop, separate, end_text}
-use Rattle.getopts.specs.Reading.{end_words, FitsLong, dash_text, IsFaultAt, item_words}
-use Rattle.getopts.specs.Reading.{IsLawfulEnd, IsLawfulItem, IsLawfulTail, unknown_name}
-use Rattle.getopts.specs.Reading.{wide_character, IsLawfulCluster, HasAfterFlags, long_unfinished}
+use Rattle.getopts.specs.Reading.{dash, Dashes, flags, ends_in, cluster, FitsEnd, IsFlag, is_bare, is_dashed}
+use Rattle.getopts.specs.Reading.{stop_word, long_word, tail_words, IsLongForm, holds_equals, one, argument_words}
+use Rattle.getopts.specs.Reading.{MayPrecede, EndsOrIsDashed, Argument, attached_argument, unknown_byte}
+use Rattle.getopts.specs.Reading.{unwanted_argument, none, two, End, Item, free, long, stop, end_text, end_words}
+use Rattle.getopts.specs.Reading.{FitsLong, dash_text, IsFaultAt, item_words, IsLawfulEnd, IsLawfulItem, IsLawfulTail}
+use Rattle.getopts.specs.Reading.{unknown_name, wide_character, IsLawfulCluster, HasAfterFlags, long_unfinished}
 use Rattle.getopts.specs.Reading.{short_unfinished}
-use Rattle.getopts.specs.Step.{with_equals, Step, ends, takes, faults, IsInLongForm, IsShortForm}
-use Rattle.getopts.specs.Step.{chosen_long, chosen_end, chosen_step, long_name_step, cut_at_equals}
-use Rattle.getopts.specs.Step.{long_step, first_char, byte_step, cluster_step}
+use Rattle.getopts.specs.Step.{with_equals, Step, ends, takes, faults, IsInLongForm, IsShortForm, chosen_long}
+use Rattle.getopts.specs.Step.{chosen_end, chosen_step, long_name_step, cut_at_equals, long_step, first_char, byte_step}
+use Rattle.getopts.specs.Step.{cluster_step}
 use Rattle.getopts.specs.declared.kinds.HasArg.{HasArg}
 use Rattle.getopts.specs.declared.kinds.HasArg.TheVariants.{Yes, No, Maybe}
 use Rattle.std.proofs.Permutation.{every_append}
@@ -49,15 +47,13 @@ IsSoundStep grammar word more (faults fault) = IsUtf8 word → IsFaultAt grammar
 -- dashes that may precede a text may precede a name at its front
 before_front : (long_only : Bool) (dashes : Dashes) (name more : Text)
     → MayPrecede long_only dashes (name ++ more) → MayPrecede long_only dashes name
-before_front long_only one name more before = (before.0, Texts.begins_with_dash-front name more before.1)
-before_front long_only two name more before = tt
+before_front long_only dashes name more before = search (rules, Texts.begins_with_dash-front)
 
 -- Words in long form with this name.
 module _ (grammar : Grammar) (dashes : Dashes) (word name : Text)
     (plain : holds_equals name ≡ false) where
   -- its dashes precede it, and `=` and an argument follow if there is one
-  long_form : (argument : Option Text)
-      → IsInLongForm grammar dashes word (name ++ with_equals argument)
+  long_form : (argument : Option Text) → IsInLongForm grammar dashes word (name ++ with_equals argument)
       → IsLongForm grammar word name argument
   long_form argument form = search (rules, before_front)
 
@@ -65,22 +61,18 @@ module _ (grammar : Grammar) (dashes : Dashes) (word name : Text)
   takes_long : (kind : HasArg) (argument : Argument) (more : List Text)
       → IsInLongForm grammar dashes word (name ++ with_equals (attached_argument argument))
       → long_kind grammar name ≡ Some kind → FitsLong kind argument
-      → IsSoundStep grammar word (argument_words argument ++ more)
-      (takes (long dashes name argument) argument)
+      → IsSoundStep grammar word (argument_words argument ++ more) (takes (long dashes name argument) argument)
   takes_long kind argument more form resolved fits = search (rules, before_front, false≢true)
 
   -- each kind, and an unknown name
   long_name_sound : (kind : Option HasArg) (argument : Option Text) (more : List Text)
-      → IsInLongForm grammar dashes word (name ++ with_equals argument)
-      → long_kind grammar name ≡ kind
+      → IsInLongForm grammar dashes word (name ++ with_equals argument) → long_kind grammar name ≡ kind
       → IsSoundStep grammar word more (long_name_step grammar kind dashes name argument more)
-  long_name_sound None argument more form resolved =
-      λ utf8. unknown_name name argument (long_form argument form) resolved
+  long_name_sound None argument more form resolved = λ utf8. unknown_name name argument (long_form argument form) resolved
   long_name_sound (Some No) None more form resolved = takes_long No none more form resolved tt
   long_name_sound (Some No) (Some argument) more form resolved =
       λ utf8. unwanted_argument name argument (long_form (Some argument) form) resolved
-  long_name_sound (Some Yes) None [] form resolved =
-      λ utf8. long_unfinished name (long_form None form) resolved refl
+  long_name_sound (Some Yes) None [] form resolved = λ utf8. long_unfinished name (long_form None form) resolved refl
   long_name_sound (Some Yes) None (next ∷ others) form resolved = search (rules, takes_long)
   long_name_sound (Some Maybe) None more form resolved = takes_long Maybe none more form resolved tt
   long_name_sound (Some kind) (Some argument) more form resolved = search (rules, takes_long)
@@ -96,8 +88,7 @@ IsUtf8-past_flags grammar named (byte ∷ bytes) text each utf8 =
     IsUtf8-past_flags grammar named bytes text each.1 (Texts.IsUtf8-past_ascii byte (bytes ++ text) ascii utf8)
 
 IsUtf8-after_flags : (grammar : Grammar) → HasTextNames grammar → (word : Text) (bytes text : Text)
-    → IsShortForm grammar word (bytes ++ text) → AllByRecursion (IsFlag grammar) bytes
-    → IsUtf8 word → IsUtf8 text
+    → IsShortForm grammar word (bytes ++ text) → AllByRecursion (IsFlag grammar) bytes → IsUtf8 word → IsUtf8 text
 IsUtf8-after_flags grammar named word bytes text form each utf8 =
     IsUtf8-past_flags grammar named bytes text each
     (Texts.IsUtf8-past_ascii dash (bytes ++ text) (omega arith) (subst IsUtf8 form.word_is utf8))
@@ -121,8 +112,7 @@ module _ (grammar : Grammar) (word : Text) (bytes : List ℕ)
   takes_end option kind argument more form resolved fits followed = search (rules, begins_cluster)
 
   -- a text that follows the flags
-  after_flags : (rest : Text) → IsShortForm grammar word (bytes ++ rest)
-      → HasAfterFlags grammar word rest
+  after_flags : (rest : Text) → IsShortForm grammar word (bytes ++ rest) → HasAfterFlags grammar word rest
   after_flags rest form = search rules
 
   -- a name that doesn't resolve
@@ -143,31 +133,26 @@ module _ (grammar : Grammar) (word : Text) (bytes : List ℕ)
       ])
 
   -- one more byte, by its kind, given the result of one more flag
-  byte_sound : HasTextNames grammar → (byte : ℕ) (kind : Option HasArg) (text : Text) (more : List Text)
-      (after : Step) → IsShortForm grammar word (bytes ++ byte ∷ text)
-      → grammar.kind (byte ∷ []) ≡ kind
+  byte_sound : HasTextNames grammar → (byte : ℕ) (kind : Option HasArg) (text : Text) (more : List Text) (after : Step)
+      → IsShortForm grammar word (bytes ++ byte ∷ text) → grammar.kind (byte ∷ []) ≡ kind
       → (kind ≡ Some No → IsSoundStep grammar word more after)
       → IsSoundStep grammar word more (byte_step kind bytes byte text more after)
   byte_sound named byte None text more after form resolved flag = search (rules, unknown_flag)
   byte_sound named byte (Some No) text more after form resolved flag = flag refl
-  byte_sound named byte (Some kind) (c ∷ text) more after form resolved flag =
-      takes_end byte kind (attached (c ∷ text)) more form resolved (λ e. cc e) (λ bare. cc bare)
+  byte_sound named byte (Some kind) (c ∷ text) more after form resolved flag = search rules
   byte_sound named byte (Some Yes) [] [] after form resolved flag =
       λ utf8. short_unfinished byte (after_flags (byte ∷ []) form) resolved refl
-  byte_sound named byte (Some Yes) [] (next ∷ others) after form resolved flag =
-      takes_end byte Yes (separate next) others form resolved tt (λ bare. cc bare)
+  byte_sound named byte (Some Yes) [] (next ∷ others) after form resolved flag = search rules
   byte_sound named byte (Some Maybe) [] [] after form resolved flag = search (rules, takes_end)
   byte_sound named byte (Some Maybe) [] (next ∷ others) after form resolved flag =
       search (rules, cases_Bool, takes_end)
 
 -- a cluster, by the flags that were read and the remaining text
-cluster_sound : (grammar : Grammar) → HasTextNames grammar
-    → (word : Text) (bytes : List ℕ) (text : Text) (more : List Text)
-    → IsShortForm grammar word (bytes ++ text) → AllByRecursion (IsFlag grammar) bytes
+cluster_sound : (grammar : Grammar) → HasTextNames grammar → (word : Text) (bytes : List ℕ) (text : Text)
+    (more : List Text) → IsShortForm grammar word (bytes ++ text) → AllByRecursion (IsFlag grammar) bytes
     → IsSoundStep grammar word more (cluster_step grammar bytes text more)
 unfolding cluster_step
-cluster_sound grammar named word bytes [] more form each =
-    search (rules, begins_cluster, false≢true)
+cluster_sound grammar named word bytes [] more form each = search (rules, begins_cluster, false≢true)
 cluster_sound grammar named word bytes (byte ∷ text) more form each =
     byte_sound grammar word bytes each named byte (grammar.kind (byte ∷ [])) text more
     (cluster_step grammar (bytes ++ byte ∷ []) text more) form refl
@@ -184,15 +169,13 @@ unfolding step
 step_free grammar word more plain = search rules
 
 -- the step of `--`
-pub step_stop : (grammar : Grammar) (more : List Text)
-    → step grammar stop_word more ≡ ends (stop more)
+pub step_stop : (grammar : Grammar) (more : List Text) → step grammar stop_word more ≡ ends (stop more)
 unfolding step
 step_stop grammar more = refl
 
 -- the step of a word in long form
 pub step_long : (grammar : Grammar) (dashes : Dashes) (word text : Text) (more : List Text)
-    → IsInLongForm grammar dashes word text
-    → step grammar word more ≡ long_step grammar dashes text more
+    → IsInLongForm grammar dashes word text → step grammar word more ≡ long_step grammar dashes text more
 unfolding step
 step_long grammar dashes word text more form = search rules
 
@@ -200,8 +183,7 @@ step_long grammar dashes word text more form = search rules
 pub step_short : (grammar : Grammar) (word text : Text) (more : List Text)
     → IsShortForm grammar word text → step grammar word more ≡ cluster_step grammar [] text more
 unfolding step
-step_short grammar word [] more form = absurd (form.filled refl)
-step_short grammar word (c ∷ text) more form = rw (form.word_is, form.second, form.ordinary) refl
+step_short grammar word text more form = search rules
 
 plain_sound : (grammar : Grammar) (word : Text) (more : List Text) → is_dashed word ≡ false
     → IsSoundStep grammar word more (step grammar word more)
@@ -249,15 +231,12 @@ pub long_step_cut : (grammar : Grammar) (dashes : Dashes) (name : Text) (argumen
     → long_kind grammar name ≡ kind
     → long_step grammar dashes (name ++ with_equals argument) more
     ≡ long_name_step grammar kind dashes name argument more
-long_step_cut grammar dashes name argument more kind plain resolved =
-    rw (Texts.cut_at_equals-append name argument plain, resolved) refl
+long_step_cut grammar dashes name argument more kind plain resolved = search (rules, Texts.cut_at_equals-append)
 
 -- dashes that may precede a name may precede it and its argument
 before_more : (long_only : Bool) (dashes : Dashes) (name : Text) (argument : Option Text)
-    → MayPrecede long_only dashes name
-    → MayPrecede long_only dashes (name ++ with_equals argument)
-before_more long_only one name argument before = search (rules, Texts.begins_with_dash-append)
-before_more long_only two name argument before = tt
+    → MayPrecede long_only dashes name → MayPrecede long_only dashes (name ++ with_equals argument)
+before_more long_only dashes name argument before = search (rules, Texts.begins_with_dash-append)
 
 -- the step of a word in long form, by its name, its kind and its attached argument
 pub long_form_step : (grammar : Grammar) (word name : Text) (argument : Option Text)
@@ -265,16 +244,12 @@ pub long_form_step : (grammar : Grammar) (word name : Text) (argument : Option T
     → long_kind grammar name ≡ kind
     → step grammar word more ≡ long_name_step grammar kind form.dashes name argument more
 long_form_step grammar word name argument more kind form resolved =
-    step_long grammar form.dashes word (name ++ with_equals argument) more
-    (search (rules, before_more))
-    ∙ long_step_cut grammar form.dashes name argument more kind form.cut_once resolved
+    search (rules, step_long, before_more, long_step_cut)
 
 -- So `--` is only the stop: if the empty name resolved, it would be a long item, too.
 -- the word of a name that resolves is longer than its dashes
-resolved_word : (grammar : Grammar) → HasTextNames grammar
-    → (dashes : Dashes) (name : Text) (argument : Option Text) (kind : HasArg)
-    → long_kind grammar name ≡ Some kind
-    → long_word dashes name argument ≢ dash_text dashes
+resolved_word : (grammar : Grammar) → HasTextNames grammar → (dashes : Dashes) (name : Text) (argument : Option Text)
+    (kind : HasArg) → long_kind grammar name ≡ Some kind → long_word dashes name argument ≢ dash_text dashes
 resolved_word grammar named dashes [] argument kind resolved = search rules
 resolved_word grammar named one (c ∷ name) argument kind resolved = λ e. cc e
 resolved_word grammar named two (c ∷ name) argument kind resolved = λ e. cc e
@@ -283,21 +258,18 @@ resolved_word grammar named two (c ∷ name) argument kind resolved = λ e. cc e
 -- flags precede the rest
 pub cluster_flags : (grammar : Grammar) (before names : List ℕ) (text : Text) (more : List Text)
     → AllByRecursion (IsFlag grammar) names
-    → cluster_step grammar before (names ++ text) more
-    ≡ cluster_step grammar (before ++ names) text more
+    → cluster_step grammar before (names ++ text) more ≡ cluster_step grammar (before ++ names) text more
 unfolding cluster_step
 cluster_flags grammar before [] text more each = rw (append-nil before) refl
 cluster_flags grammar before (byte ∷ names) text more each =
     search (rules, append_assoc, cluster_flags grammar (before ++ byte ∷ []) names text more each.1)
 
 -- the step of a word in short form, after its flags
-pub short_step_flags : (grammar : Grammar) (word : Text) (names : List ℕ) (text : Text)
-    (more : List Text) → IsShortForm grammar word (names ++ text)
-    → AllByRecursion (IsFlag grammar) names
+pub short_step_flags : (grammar : Grammar) (word : Text) (names : List ℕ) (text : Text) (more : List Text)
+    → IsShortForm grammar word (names ++ text) → AllByRecursion (IsFlag grammar) names
     → step grammar word more ≡ cluster_step grammar names text more
 short_step_flags grammar word names text more form each =
-    step_short grammar word (names ++ text) more form
-    ∙ cluster_flags grammar [] names text more each
+    cc (step_short grammar word (names ++ text) more form, cluster_flags grammar [] names text more each)
 
 -- the step of a word in short form, at a byte after its flags
 pub short_step_byte : (grammar : Grammar) (word : Text) (names : List ℕ) (byte : ℕ) (text : Text)
@@ -318,26 +290,21 @@ TakesItem grammar (word ∷ more) item others = (argument : Argument)
 -- `FitsLong` leaves no choice: without `=`, only `Yes` takes the next word, and always does. If
 -- `Maybe` could take it, `--color x` would have two readings.
 -- an argument that fits in long form is chosen
-long_chosen : (kind : HasArg) (name : Text) (argument : Argument) (more : List Text)
-    → FitsLong kind argument
-    → chosen_long kind name (attached_argument argument) (argument_words argument ++ more)
-    ≡ Ok argument
+long_chosen : (kind : HasArg) (name : Text) (argument : Argument) (more : List Text) → FitsLong kind argument
+    → chosen_long kind name (attached_argument argument) (argument_words argument ++ more) ≡ Ok argument
 long_chosen kind name argument more fits = search rules
 
 -- Each condition excludes a second reading: of `-o x`, if an attached argument could be empty; of
 -- `-c -v`, if a separate argument of `Maybe` could be dashed; of `-c x`, if a word that isn't
 -- dashed could follow a bare cluster.
 -- an argument that fits at the end of a cluster is chosen
-end_chosen : (kind : HasArg) (name : Text) (argument : Argument) (more : List Text)
-    → FitsEnd kind argument → (argument ≡ none → EndsOrIsDashed more)
-    → chosen_end kind name (unwrap_or (attached_argument argument) [])
-    (argument_words argument ++ more)
-    ≡ Ok argument
+end_chosen : (kind : HasArg) (name : Text) (argument : Argument) (more : List Text) → FitsEnd kind argument
+    → (argument ≡ none → EndsOrIsDashed more)
+    → chosen_end kind name (unwrap_or (attached_argument argument) []) (argument_words argument ++ more) ≡ Ok argument
 end_chosen kind name argument more fits followed = search rules
 
 -- a valid cluster's word is in short form
-pub lawful_short : (grammar : Grammar) (names : List ℕ) (end : End)
-    → IsLawfulCluster grammar names end
+pub lawful_short : (grammar : Grammar) (names : List ℕ) (end : End) → IsLawfulCluster grammar names end
     → IsShortForm grammar (dash ∷ (names ++ end_text end)) (names ++ end_text end)
 lawful_short grammar names end lawful = search (rules, append-nil, filled-append)
 
@@ -346,8 +313,7 @@ pub byte_step-end : (kind : HasArg) (bytes : List ℕ) (byte : ℕ) (text : Text
     (after : Step) → kind ≢ No
     → byte_step (Some kind) bytes byte text more after
     ≡ chosen_step (λ a. cluster bytes (ends_in byte a)) (chosen_end kind (byte ∷ []) text more)
-byte_step-end No bytes byte text more after other = absurd (other refl)
-byte_step-end kind bytes byte text more after other = refl
+byte_step-end kind bytes byte text more after other = search rules
 
 -- This is why readings are unique: a step is a function of the words, so only one valid item can
 -- begin there.
@@ -392,16 +358,13 @@ spelled_step grammar named (cluster bytes (ends_in option argument)) more lawful
 
 -- a wide character is unknown, by its first byte
 wide_unknown : (grammar : Grammar) → HasTextNames grammar → (c byte : ℕ) (others text : Text)
-    → byte ∷ others ≡ encode_utf8 c ++ text → 1 < length (encode_utf8 c)
-    → grammar.kind (byte ∷ []) ≡ None
+    → byte ∷ others ≡ encode_utf8 c ++ text → 1 < length (encode_utf8 c) → grammar.kind (byte ∷ []) ≡ None
 wide_unknown grammar named c byte others text e wide = search (rules, Texts.encode-ascii_byte)
 
 -- a word with a wide character after its flags
-wide_step : (grammar : Grammar) → HasTextNames grammar
-    → (word : Text) (names : List ℕ) (c : ℕ) (text whole : Text) (more : List Text)
-    → whole ≡ encode_utf8 c ++ text → IsUtf8 whole → IsShortForm grammar word (names ++ whole)
-    → AllByRecursion (IsFlag grammar) names
-    → 1 < length (encode_utf8 c)
+wide_step : (grammar : Grammar) → HasTextNames grammar → (word : Text) (names : List ℕ) (c : ℕ) (text whole : Text)
+    (more : List Text) → whole ≡ encode_utf8 c ++ text → IsUtf8 whole → IsShortForm grammar word (names ++ whole)
+    → AllByRecursion (IsFlag grammar) names → 1 < length (encode_utf8 c)
     → step grammar word more ≡ faults (unrecognized_option (encode_utf8 c))
 wide_step grammar named word names c text [] more e utf8 form each wide =
     absurd (omega (arith, ap length e, length-append (encode_utf8 c) text, length-encode c, len_utf8_bounds c))
@@ -413,8 +376,7 @@ wide_step grammar named word names c text (byte ∷ others) more e utf8 form eac
 
 -- a text that begins with a character isn't empty
 filled-character : (bytes : List ℕ) (c : ℕ) (text : Text) → bytes ++ (encode_utf8 c ++ text) ≢ []
-filled-character bytes c text nil =
-    absurd (omega (arith, ap length nil, length-append {A = ℕ}, length-encode c, len_utf8_bounds c))
+filled-character bytes c text nil = search (rules, length-append {A = ℕ}, length-encode c, len_utf8_bounds c)
 
 -- a word with a text after flags is in short form
 short_of : (grammar : Grammar) (word text : Text) (has : HasAfterFlags grammar word text)
@@ -422,17 +384,15 @@ short_of : (grammar : Grammar) (word text : Text) (has : HasAfterFlags grammar w
 short_of grammar word text has filled = search rules
 
 -- a text that begins with a byte of ASCII begins with that character
-first_byte : (byte : ℕ) (text : Text) → byte < 128 → IsUtf8 (byte ∷ text)
-    → first_char (byte ∷ text) ≡ byte ∷ []
+first_byte : (byte : ℕ) (text : Text) → byte < 128 → IsUtf8 (byte ∷ text) → first_char (byte ∷ text) ≡ byte ∷ []
 first_byte byte text ascii utf8 =
     let encoded = encode_ascii byte ascii in
     let whole : encode_utf8 byte ++ text ≡ byte ∷ text = ap (λ (t : Text). t ++ text) encoded in
     ap first_char (sym whole) ∙ Texts.first_char-append byte text (subst IsUtf8 (sym whole) utf8) ∙ encoded
 
 -- a word with an error
-pub fault_step : (grammar : Grammar) → HasTextNames grammar
-    → (word : Text) (more : List Text) (fault : Fault) → IsUtf8 word
-    → IsFaultAt grammar word more fault → step grammar word more ≡ faults fault
+pub fault_step : (grammar : Grammar) → HasTextNames grammar → (word : Text) (more : List Text) (fault : Fault)
+    → IsUtf8 word → IsFaultAt grammar word more fault → step grammar word more ≡ faults fault
 fault_step grammar named word more fault utf8 (unknown_name name argument form unknown) =
     long_form_step grammar word name argument more None form unknown
 fault_step grammar named word more fault utf8 (unknown_byte byte text ascii has unknown) =

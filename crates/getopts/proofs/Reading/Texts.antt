@@ -1,6 +1,6 @@
 -- Texts: a text in long form, split at its first `=`.
-use Rattle.std.proofs.Common.{◌≡◌, ◌≢◌, ◌==◌, ℕ, ◌<◌, ◌≤◌, true, false, List, [], ◌∷◌, ◌++◌, length}
-use Rattle.std.proofs.Common.{Option, Some, None, refl, sym, subst, arith, rules, encode_utf8}
+use Rattle.std.proofs.Common.{◌≡◌, ◌≢◌, ◌==◌, ℕ, ◌<◌, ◌≤◌, true, false, List, [], ◌∷◌, ◌++◌, length, Option, Some}
+use Rattle.std.proofs.Common.{None, refl, sym, subst, arith, rules, encode_utf8}
 use Rattle.std.proofs.lemmas.Bool.{cases_Bool, cases_lt, eqb-true, or_parts, and_parts}
 use Rattle.getopts.specs.Names.{Text}
 use Rattle.getopts.specs.Reading.{equals_sign, begins_with_dash, holds_equals, dash, is_dashed}
@@ -12,8 +12,7 @@ use Rattle.std.proofs.lemmas.Grind.{common_steps}
 use lib.Utf8.{scalars, encodes, scalar as scalar_test}
 
 -- a text in long form is its name, followed by `=` and its argument if it has one
-pub cut_at_equals-joined : (text : Text)
-    → (cut_at_equals text).0 ++ with_equals (cut_at_equals text).1 ≡ text
+pub cut_at_equals-joined : (text : Text) → (cut_at_equals text).0 ++ with_equals (cut_at_equals text).1 ≡ text
 cut_at_equals-joined [] = refl
 cut_at_equals-joined (c ∷ text) = search (rules, cases_Bool, eqb-true, cut_at_equals-joined text)
 
@@ -39,13 +38,11 @@ begins_with_dash-append name argument plain = search rules
 -- the name begins with a dash only if the text does
 pub begins_with_dash-front : (name more : Text) → begins_with_dash (name ++ more) ≡ false
     → begins_with_dash name ≡ false
-begins_with_dash-front [] more plain = refl
-begins_with_dash-front (c ∷ name) more plain = plain
+begins_with_dash-front name more plain = search rules
 
 -- `-` followed by a nonempty text is a dashed word
 pub is_dashed-text : (text : Text) → text ≢ [] → is_dashed (dash ∷ text) ≡ true
-is_dashed-text [] filled = absurd (filled refl)
-is_dashed-text (c ∷ text) filled = refl
+is_dashed-text text filled = search rules
 
 -- a text after an ASCII byte
 pub IsUtf8-past_ascii : (byte : ℕ) (text : Text) → byte < 128 → IsUtf8 (byte ∷ text) → IsUtf8 text
@@ -53,8 +50,7 @@ IsUtf8-past_ascii byte text ascii utf8 =
     Strings.IsUtf8-past_char (byte ∷ text) text byte utf8 (rw (Strings.encode_ascii byte ascii) refl)
 
 -- the first character of a text, from its characters
-first_char-chars : (text : Text) (c : ℕ) (cs : List ℕ) → chars text ≡ c ∷ cs
-    → first_char text ≡ encode_utf8 c
+first_char-chars : (text : Text) (c : ℕ) (cs : List ℕ) → chars text ≡ c ∷ cs → first_char text ≡ encode_utf8 c
 first_char-chars text c cs e = rw e refl
 
 -- a text begins with this character
@@ -85,8 +81,7 @@ begins_with_char byte text (cs, spelled) = from_chars cs spelled.0 spelled.1 whe
 -- the first character of a text that begins with a character
 pub first_char-append : (c : ℕ) (rest : Text) → IsUtf8 (encode_utf8 c ++ rest)
     → first_char (encode_utf8 c ++ rest) ≡ encode_utf8 c
-first_char-append c rest utf8 =
-    cc (Strings.chars_past_char (encode_utf8 c ++ rest) rest c utf8 refl)
+first_char-append c rest utf8 = cc (Strings.chars_past_char (encode_utf8 c ++ rest) rest c utf8 refl)
 
 -- a character whose first byte is ASCII is that byte alone
 pub encode-ascii_byte : (c byte : ℕ) (more rest : Text) → byte ∷ more ≡ encode_utf8 c ++ rest

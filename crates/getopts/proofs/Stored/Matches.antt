@@ -1,6 +1,6 @@
 -- What is in matches, in terms of the groups and the list of occurrences that the code stores.
-use Rattle.std.proofs.Common.{◌≡◌, ℕ, suc, zero, ◌+◌, ◌<◌, true, List, [], ◌∷◌, map, rules, length}
-use Rattle.std.proofs.Common.{get_or, refl, ap, sym, ◌∙◌, inl, inr, arith, zero-add}
+use Rattle.std.proofs.Common.{◌≡◌, ℕ, suc, zero, ◌+◌, ◌<◌, true, List, [], ◌∷◌, map, rules, length, get_or, refl, ap}
+use Rattle.std.proofs.Common.{sym, ◌∙◌, inl, inr, arith, zero-add}
 use Rattle.std.specs.Cmp.Lexicographic.{pointwise}
 use Rattle.std.specs.List.{AllByRecursion}
 use Rattle.std.proofs.lemmas.Bool.{cases_lt, and_parts, and_from, le-ltb, lt-ltb}
@@ -13,18 +13,16 @@ use Rattle.getopts.specs.Options.{Signature}
 use Rattle.getopts.specs.Stored.Signatures.{names_in}
 use Rattle.getopts.specs.Stored.Index.{index_of}
 use Rattle.getopts.specs.Reading.{Occurrence}
-use Rattle.getopts.specs.Matches.{GroupOccurrence, MatchedGroup, occurrences_mentioning, matched}
-use Rattle.getopts.specs.Matches.{without_group}
+use Rattle.getopts.specs.Matches.{GroupOccurrence, MatchedGroup, occurrences_mentioning, matched, without_group}
 use Rattle.getopts.specs.Accessors.{occurrences_of_group, place_of, values_of, pairs_of}
 use Rattle.getopts.specs.Same.{same_signature, same_group_occurrence, same_matched_group}
 use Rattle.getopts.proofs.counts.Groups.{length-matched}
 use Rattle.getopts.specs.Stored.Occurrences.{no_occurrence, occurrences_at_places}
-use Rattle.getopts.proofs.Stored.Index.{map-places_of, places_of-within}
+use Rattle.getopts.proofs.Stored.Index.{map-places_of, places_from-within}
 
 -- the signatures of the groups in the matches
 pub signatures-matched : (first : ℕ) (signatures : List Signature) (occurrences : List Occurrence)
-    → map (λ (group : MatchedGroup). group.signature) (matched first signatures occurrences)
-    ≡ signatures
+    → map (λ (group : MatchedGroup). group.signature) (matched first signatures occurrences) ≡ signatures
 signatures-matched first [] occurrences = refl
 signatures-matched first (signature ∷ signatures) occurrences =
     search (rules, signatures-matched (first + 1) signatures occurrences)
@@ -32,8 +30,7 @@ signatures-matched first (signature ∷ signatures) occurrences =
 -- the occurrences of the group at a place
 pub found-matched : (first : ℕ) (signatures : List Signature) (occurrences : List Occurrence) (i : ℕ)
     → i < length signatures
-    → occurrences_of_group (matched first signatures occurrences) i
-    ≡ occurrences_mentioning (first + i) occurrences
+    → occurrences_of_group (matched first signatures occurrences) i ≡ occurrences_mentioning (first + i) occurrences
 found-matched first [] occurrences i within = absurd (omega arith)
 found-matched first (signature ∷ signatures) occurrences zero within = search rules
 found-matched first (signature ∷ signatures) occurrences (suc i) within =
@@ -47,10 +44,8 @@ place_of-signatures groups signatures are name = search (rules, map-map)
 
 module _ (signatures : List Signature) (occurrences : List Occurrence) (place : ℕ) where
   -- the places of the occurrences of the group at this place are within the occurrences
-  pub indexed-within : AllByRecursion (λ p. p < length occurrences)
-      (index_of (length signatures) occurrences place)
-  indexed-within =
-      search (rules, cases_lt, lt-ltb, length-map, recursion_from_All, places_of-within, le-ltb)
+  pub indexed-within : AllByRecursion (λ p. p < length occurrences) (index_of (length signatures) occurrences place)
+  indexed-within = search (rules, cases_lt, lt-ltb, length-map, recursion_from_All, le-ltb, places_from-within)
 
   -- they are the occurrences of that group
   pub indexed-found :

@@ -1,7 +1,5 @@
 -- Occurrences: as they are stored, with their values in one text, and those of one group.
-use Rattle.std.proofs.Common.{◌≡◌, ◌≢◌, ◌<◌, ◌+◌, ℕ, zero, suc, ◌==◌, ◌&&◌, Bool, true, false, List, [], rules, ◌∷◌}
-use Rattle.std.proofs.Common.{◌++◌, map, length, get_or, take, slice_get, Option, Bor, Some, refl}
-use Rattle.std.proofs.Common.{ap, sym, ◌∙◌, arith, length-append}
+use Rattle.std.proofs.Common.{◌≡◌, ◌≢◌, ◌<◌, ◌+◌, ℕ, zero, suc, ◌==◌, ◌&&◌, Bool, true, false, List, [], rules, ◌∷◌, ◌++◌, map, length, get_or, take, slice_get, Option, Bor, Some, refl, ap, sym, ◌∙◌, arith, length-append}
 use Rattle.std.specs.List.{AllByRecursion}
 use Rattle.std.specs.Cmp.Lexicographic.{pointwise}
 use Rattle.std.specs.Option.{option_eq, option_map}
@@ -17,8 +15,8 @@ use Rattle.getopts.specs.Matches.{GroupOccurrence, without_group}
 use Rattle.getopts.specs.Accessors.{values_of, pair_of, pairs_of, borrowed_occurrence}
 use Rattle.getopts.specs.Reading.{Occurrence}
 use Rattle.getopts.specs.Same.{same_group_occurrence}
-use Rattle.getopts.specs.Stored.Occurrences.{text_at, IsSpanOf, IsTextAt, occurrence_in}
-use Rattle.getopts.specs.Stored.Occurrences.{no_occurrence, occurrences_at_places}
+use Rattle.getopts.specs.Stored.Occurrences.{text_at, IsSpanOf, IsTextAt, occurrence_in, no_occurrence}
+use Rattle.getopts.specs.Stored.Occurrences.{occurrences_at_places}
 use Rattle.getopts.specs.declared.occurrences.Span.{Span}
 use Rattle.getopts.specs.declared.occurrences.OccurrenceRecord.{OccurrenceRecord}
 use Rattle.getopts.proofs.Lists as Lists
@@ -60,8 +58,7 @@ module _ (occurrences : List Occurrence) (places : List ℕ)
   length-founds = length-map places (λ place. without_group (get_or occurrences place no_occurrence))
 
   -- an existing occurrence has its place
-  pub place_within : (seen : List GroupOccurrence) (i : ℕ) → founds ≡ seen → i < length seen
-      → i < length places
+  pub place_within : (seen : List GroupOccurrence) (i : ℕ) → founds ≡ seen → i < length seen → i < length places
   place_within seen i are within =
       omega (arith, within, length-founds, ap (λ (fs : List GroupOccurrence). length fs) are)
 
@@ -73,13 +70,11 @@ module _ (occurrences : List Occurrence) (places : List ℕ)
 -- one more occurrence of a prefix: its value, and its position with its value
 module _ (founds : List GroupOccurrence) (i : ℕ) (found : GroupOccurrence)
     (at : slice_get founds i ≡ Some found) where
-  pub values-more : values_of (take (i + 1) founds)
-      ≡ values_of (take i founds) ++ values_of (found ∷ [])
+  pub values-more : values_of (take (i + 1) founds) ≡ values_of (take i founds) ++ values_of (found ∷ [])
   values-more = ap values_of (Lists.take_more_at founds i found at)
       ∙ filter_map-append (λ (found : GroupOccurrence). found.value) (take i founds) (found ∷ [])
 
-  pub pairs-more : pairs_of (take (i + 1) founds)
-      ≡ pairs_of (take i founds) ++ pairs_of (found ∷ [])
+  pub pairs-more : pairs_of (take (i + 1) founds) ≡ pairs_of (take i founds) ++ pairs_of (found ∷ [])
   pairs-more = ap pairs_of (Lists.take_more_at founds i found at)
       ∙ filter_map-append pair_of (take i founds) (found ∷ [])
 
@@ -97,24 +92,17 @@ same_read =
     option_eq (λ a b. a.0 == b.0 && option_eq
     (λ text other. pointwise ◌==◌ text.now other.now) a.1 b.1)
 
--- this comparison is that of occurrences
-same_read-found : (a b : Option (ℕ × Option (Bor Text)))
-    → option_eq same_group_occurrence (option_map borrowed_occurrence a)
-    (option_map borrowed_occurrence b) ≡ same_read a b
-same_read-found a b = search rules
-
 module _ (founds others : List GroupOccurrence) (i : ℕ) (a b : Option (ℕ × Option (Bor Text)))
     (is : option_map borrowed_occurrence a ≡ slice_get founds i)
     (other_is : option_map borrowed_occurrence b ≡ slice_get others i) where
   here : option_eq same_group_occurrence (slice_get founds i) (slice_get others i) ≡ same_read a b
-  here = (λ j. option_eq same_group_occurrence (sym is j) (sym other_is j)) ∙ same_read-found a b
+  here = (λ j. option_eq same_group_occurrence (sym is j) (sym other_is j)) ∙ (search rules)
 
   -- occurrences that read as different
   pub founds-differ : same_read a b ≡ false → pointwise same_group_occurrence founds others ≡ false
   founds-differ differ = Lists.pointwise-differ same_group_occurrence founds others i (here ∙ differ)
 
   -- one more occurrence that reads as equal
-  pub founds-same : same_read a b ≡ true
-      → pointwise same_group_occurrence (take i founds) (take i others) ≡ true
+  pub founds-same : same_read a b ≡ true → pointwise same_group_occurrence (take i founds) (take i others) ≡ true
       → pointwise same_group_occurrence (take (i + 1) founds) (take (i + 1) others) ≡ true
   founds-same same before = search (rules, Lists.pointwise-take_more, here)

@@ -8,8 +8,8 @@ use Rattle.std.proofs.lemmas.Bool.Decides.{Decides-and, Decides-like, Decides-eq
 use Rattle.std.proofs.lemmas.Grind.{common_steps}
 use Rattle.std.specs.Cmp.{booleans_Decides}
 use Rattle.getopts.specs.Matches.{GroupOccurrence, MatchedGroup, Matched}
-use Rattle.getopts.specs.Same.{same_group_occurrence, same_matched_group, same_matches, style_index}
-use Rattle.getopts.specs.Same.{same_signature, same_group, same_options}
+use Rattle.getopts.specs.Same.{same_group_occurrence, same_matched_group, same_matches, style_index, same_signature}
+use Rattle.getopts.specs.Same.{same_group, same_options}
 use Rattle.getopts.specs.Options.{Signature, Group, Declared}
 use Rattle.getopts.specs.declared.kinds.ParsingStyle.{ParsingStyle}
 
@@ -50,10 +50,8 @@ pub options_decide : {X : Type 0} (E : X → X → Bool) → ((a b : X) → Deci
 options_decide E decides o p = search (rules, false≢true)
 
 -- the comparison of two occurrences decides equality
-pub same_group_occurrence-decides : (a b : GroupOccurrence)
-    → Decides (same_group_occurrence a b) (a ≡ b)
-same_group_occurrence-decides a b =
-    search (rules, Decides-like, Decides-and, Decides-eqb, options_decide, ◌==◌)
+pub same_group_occurrence-decides : (a b : GroupOccurrence) → Decides (same_group_occurrence a b) (a ≡ b)
+same_group_occurrence-decides a b = search (rules, Decides-like, Decides-and, Decides-eqb, options_decide, ◌==◌)
 
 -- the comparison of two groups decides equality
 pub same_matched_group-decides : (a b : MatchedGroup) → Decides (same_matched_group a b) (a ≡ b)
@@ -73,7 +71,6 @@ same_matches-decides a b = Decides-like (same_matches a b)
     (options_decide ◌==◌ Decides-eqb a.trailing_start b.trailing_start)))
 
 -- values differ if what is made of them does
-pub differ : {X Y : Type 0} (E : X → X → Bool) (F : Y → Y → Bool)
-    → ((a b : X) → Decides (E a b) (a ≡ b)) → ((a b : Y) → Decides (F a b) (a ≡ b))
-    → (make : X → Y) (a b : X) → F (make a) (make b) ≡ false → E a b ≡ false
+pub differ : {X Y : Type 0} (E : X → X → Bool) (F : Y → Y → Bool) → ((a b : X) → Decides (E a b) (a ≡ b))
+    → ((a b : Y) → Decides (F a b) (a ≡ b)) → (make : X → Y) (a b : X) → F (make a) (make b) ≡ false → E a b ≡ false
 differ E F decides made_decides make a b apart = search (rules, false_from_ne_true, false≢true)

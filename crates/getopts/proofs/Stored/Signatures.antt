@@ -1,7 +1,7 @@
 -- Signatures and groups as they are stored: which one is at a place, and what appending one
 -- changes.
-use Rattle.std.proofs.Common.{◌≡◌, ℕ, zero, suc, ◌<◌, List, [], ◌∷◌, map, ◌++◌, length, get_or}
-use Rattle.std.proofs.Common.{slice_get, Some, refl, ap, sym, ◌∙◌, arith, rules}
+use Rattle.std.proofs.Common.{◌≡◌, ℕ, zero, suc, ◌<◌, List, [], ◌∷◌, map, ◌++◌, length, get_or, slice_get, Some, refl}
+use Rattle.std.proofs.Common.{ap, ◌∙◌, arith, rules}
 use Rattle.std.specs.List.{AllByRecursion}
 use Rattle.std.specs.Option.{option_map}
 use Rattle.std.specs.Str.{IsUtf8}
@@ -9,22 +9,20 @@ use Rattle.std.specs.String.{string_bytes}
 use Rattle.std.proofs.lemmas.List.{length-map}
 use Rattle.std.proofs.lemmas.List.Elements.{All-nil}
 use Rattle.std.proofs.lemmas.Simd.{map-map}
-use Rattle.std.proofs.lemmas.Option.{same_Some, slice_get-map, slice_get_read}
-use Rattle.std.proofs.lemmas.Option.{get_or_from_slice_get}
+use Rattle.std.proofs.lemmas.Option.{same_Some, slice_get-map, slice_get_read, get_or_from_slice_get}
 use Rattle.getopts.specs.Names.{Text, IsLawfullyNamed, main_name}
 use Rattle.getopts.specs.Options.{Signature, Group, MayBeDeclared, signatures_of, names_of}
 use Rattle.getopts.specs.Canon.{main_at}
 use Rattle.getopts.specs.Stored.Names.{names_at, HaveNamesOfBytes}
-use Rattle.getopts.specs.Stored.Signatures.{signature_with, names_in, pair_at, AreEndsOf, IsPairAt}
-use Rattle.getopts.specs.Stored.Signatures.{ends_of, signature_in, AreLawfulSignatures, IsStored}
-use Rattle.getopts.specs.Stored.Signatures.{kinds_of}
+use Rattle.getopts.specs.Stored.Signatures.{signature_with, names_in, pair_at, AreEndsOf, IsPairAt, ends_of}
+use Rattle.getopts.specs.Stored.Signatures.{signature_in, AreLawfulSignatures, IsStored, kinds_of}
 use Rattle.getopts.specs.Stored.Groups.{group_with, groups_with, groups_view, HoldGroups}
 use Rattle.getopts.specs.declared.groups.Groups.TheInside.{Inside}
 use Rattle.getopts.specs.declared.signatures.PairEnds.{PairEnds}
 use Rattle.getopts.specs.declared.signatures.SignatureRecord.{SignatureRecord}
 use Rattle.getopts.specs.declared.kinds.Kinds.{Kinds}
-use Rattle.getopts.proofs.Lists.{AllByRecursion-map, AllByRecursion-unmap, AllByRecursion-at}
-use Rattle.getopts.proofs.Lists.{AllByRecursion-follows, each_pushed}
+use Rattle.getopts.proofs.Lists.{AllByRecursion-map, AllByRecursion-unmap, AllByRecursion-at, AllByRecursion-follows}
+use Rattle.getopts.proofs.Lists.{each_pushed}
 use Rattle.getopts.proofs.Stored.Texts.{IsOfBytes-utf8, two-append}
 
 -- the names of the signatures are those of the groups
@@ -41,9 +39,8 @@ kind-signatures_of (group ∷ groups) zero kinds is = search (rules, same_Some)
 kind-signatures_of (group ∷ groups) (suc place) kinds is = kind-signatures_of groups place kinds is
 
 -- the record of an existing signature
-pub record_within : (text : Text) (records : List SignatureRecord) (signatures : List Signature)
-    (place : ℕ) → map (signature_in text) records ≡ signatures → place < length signatures
-    → place < length records
+pub record_within : (text : Text) (records : List SignatureRecord) (signatures : List Signature) (place : ℕ)
+    → map (signature_in text) records ≡ signatures → place < length signatures → place < length records
 record_within text records signatures place are within = search (rules, length-map)
 
 -- the record at a place, and the signature there
@@ -53,14 +50,18 @@ pub stored_at : (text : Text) (records : List SignatureRecord) (signatures : Lis
     → r ≡ get_or records place r
     → IsStored text r × (slice_get signatures place ≡ Some (signature_in text r))
 stored_at text records signatures place r held are within is =
-    search (rules, slice_get_read, record_within, AllByRecursion-at, slice_get-map)
+    let at = slice_get_read records _ place r refl
+    (record_within text records signatures place are within) is in (
+      AllByRecursion-at (IsStored text) records place r held at,
+      rw (← are) (slice_get-map (signature_in text) records place
+          ∙ ap (option_map (signature_in text)) at),
+    )
 
 -- ---- names
 
 -- the names at a place are those of its signature
 pub names_at-signature : (signatures : List Signature) (place : ℕ) (signature : Signature)
-    → slice_get signatures place ≡ Some signature
-    → names_at (names_in signatures) place ≡ signature.names
+    → slice_get signatures place ≡ Some signature → names_at (names_in signatures) place ≡ signature.names
 names_at-signature signatures place signature is =
     get_or_from_slice_get (names_in signatures) place signature.names
     (record { short = []; long = [] })
@@ -126,8 +127,7 @@ pub groups_with-at : (signatures : List Signature) (twos : List (Text × Text)) 
     ≡ Some (group_with signature texts)
 groups_with-at [] twos i signature texts at there = cc at
 groups_with-at (first ∷ signatures) [] i signature texts at there = cc there
-groups_with-at (first ∷ signatures) (two ∷ twos) zero signature texts at there =
-    λ k. Some (group_with (same_Some first signature at k) (same_Some two texts there k))
+groups_with-at (first ∷ signatures) (two ∷ twos) zero signature texts at there = search (rules, same_Some)
 groups_with-at (first ∷ signatures) (two ∷ twos) (suc i) signature texts at there =
     groups_with-at signatures twos i signature texts at there
 
@@ -140,15 +140,12 @@ signatures_of-with (first ∷ signatures) (two ∷ twos) as_many =
     search (rules, signatures_of-with signatures twos (omega (arith, as_many)))
 
 -- the signatures that are held are those of the groups
-pub signatures_stored : (inside : Inside) (groups : List Group) → HoldGroups inside
-    → groups_view inside ≡ groups
+pub signatures_stored : (inside : Inside) (groups : List Group) → HoldGroups inside → groups_view inside ≡ groups
     → (inside.signatures ≡ signatures_of groups) × (length groups ≡ length inside.signatures)
 signatures_stored inside groups holds are =
     let twos = map (pair_at (string_bytes inside.texts)) inside.ends.items in
     let as_many = length-map inside.ends.items (pair_at (string_bytes inside.texts))
-    ∙ holds.as_many in
-    let same = sym (ap signatures_of (sym are) ∙ signatures_of-with inside.signatures twos as_many) in
-    search (rules, length-map)
+    ∙ holds.as_many in search (rules, signatures_of-with inside.signatures twos as_many, length-map)
 
 -- the main name at a place
 pub main_at-names : (groups : List Group) (place : ℕ)
@@ -158,6 +155,5 @@ main_at-names (group ∷ groups) zero = refl
 main_at-names (group ∷ groups) (suc place) = main_at-names groups place
 
 -- groups with valid signatures may be declared
-pub MayBeDeclared-lawful : (groups : List Group) → AreLawfulSignatures (signatures_of groups)
-    → MayBeDeclared groups
+pub MayBeDeclared-lawful : (groups : List Group) → AreLawfulSignatures (signatures_of groups) → MayBeDeclared groups
 MayBeDeclared-lawful groups lawful = search (rules, AllByRecursion-unmap, AllByRecursion-follows)

@@ -1,7 +1,5 @@
 -- Words have one result.
-use Rattle.std.proofs.Common.{◌≡◌, ◌<◌, ℕ, Bool, true, false, List, rules, length, get_or}
-use Rattle.std.proofs.Common.{Option, Some, None, Result, Ok, Err, refl, sym, ap, ◌∙◌, subst, inl}
-use Rattle.std.proofs.Common.{inr}
+use Rattle.std.proofs.Common.{◌≡◌, ◌<◌, ℕ, Bool, true, List, rules, length, get_or, Option, Some, None, Result, Ok, Err, refl, sym, ap, ◌∙◌, subst, inl, inr}
 use Rattle.std.proofs.lemmas.Bool.{true≢false}
 use Rattle.std.proofs.lemmas.List.Folds.{list_any_at}
 use Rattle.getopts.specs.Names.{Text}
@@ -14,8 +12,8 @@ use Rattle.std.specs.Prelude.{MatchOption, MatchResult}
 use Rattle.getopts.specs.Parse.{Reads, IsAccepted, HasReading, HasNoReading, IsRefused}
 use Rattle.getopts.specs.Returns.{IsReadAnswer}
 use Rattle.getopts.specs.Canon.{Content, IsCountKeeping, IsPlain, IsAcceptedWith}
-use Rattle.getopts.specs.CanonAnswers.{IsWritten, IsUnwritable, IsParseAnswer, IsCanonicalAnswer}
-use Rattle.getopts.specs.CanonAnswers.{IsOrderAnswer, IsOrder, KeepsLineLaws}
+use Rattle.getopts.specs.CanonAnswers.{IsWritten, IsUnwritable, IsParseAnswer, IsCanonicalAnswer, IsOrderAnswer}
+use Rattle.getopts.specs.CanonAnswers.{IsOrder, KeepsLineLaws}
 use Rattle.getopts.proofs.canon.Lines.{HasCanonicalLine-says, Says-accepted}
 use Rattle.getopts.proofs.counts.FirstFault.{first_count_fault-kept, first_count_fault-broken}
 use Rattle.getopts.proofs.Only.{meets}
@@ -25,10 +23,8 @@ use Rattle.getopts.proofs.scan.Words.{holds_equals-none}
 -- a test that finds `=` exactly if it is there
 pub holds_equals-found : (text : Text) (found : Bool)
     → (found ≡ true → (k : ℕ) × (k < length text) × (get_or text k 0 ≡ equals_sign))
-    → ((k : ℕ) → k < length text → get_or text k 0 ≡ equals_sign → found ≡ true)
-    → found ≡ holds_equals text
-holds_equals-found text true there at = search (rules, list_any_at)
-holds_equals-found text false there at = search (rules, holds_equals-none, true≢false)
+    → ((k : ℕ) → k < length text → get_or text k 0 ≡ equals_sign → found ≡ true) → found ≡ holds_equals text
+holds_equals-found text found there at = search (rules, list_any_at, holds_equals-none, true≢false)
 
 -- words are accepted with the content of a reading that keeps the counts
 pub count_keeping : (options : Declared) (words : List Text) (content : Content)
@@ -36,19 +32,16 @@ pub count_keeping : (options : Declared) (words : List Text) (content : Content)
 count_keeping options words content is = search (rules, meets)
 
 -- answered lines keep their laws
-pub KeepsLineLaws-lawful : (options : Declared) → MayBeDeclared options.groups
-    → KeepsLineLaws options
+pub KeepsLineLaws-lawful : (options : Declared) → MayBeDeclared options.groups → KeepsLineLaws options
 KeepsLineLaws-lawful options declared words line written =
     HasCanonicalLine-says options words written.content declared.named (text_names_here options declared)
     (Says-accepted options options.style options.long_only words written.content written.accepted)
     written.plain
 
 -- two results are equal if values are, errors are, and no value has an error beside it
-only_result : {X : Type 0} {Is : X → Type 0} (No : Fault → Type 0)
-    → ((x : X) (fault : Fault) → Is x → No fault → ⊥)
-    → ((fault other : Fault) → No fault → No other → fault ≡ other)
-    → ((x y : X) → Is x → Is y → x ≡ y) → (answer other : Result X Fault)
-    → MatchResult answer Is No → MatchResult other Is No → answer ≡ other
+only_result : {X : Type 0} {Is : X → Type 0} (No : Fault → Type 0) → ((x : X) (fault : Fault) → Is x → No fault → ⊥)
+    → ((fault other : Fault) → No fault → No other → fault ≡ other) → ((x y : X) → Is x → Is y → x ≡ y)
+    → (answer other : Result X Fault) → MatchResult answer Is No → MatchResult other Is No → answer ≡ other
 only_result No apart only_no only (Ok x) (Ok y) is also = ap Ok (only x y is also)
 only_result No apart only_no only (Ok x) (Err fault) is refused = absurd (apart x fault is refused)
 only_result No apart only_no only (Err fault) (Ok x) refused is = absurd (apart x fault is refused)
@@ -60,20 +53,17 @@ module _ (options : Declared) (words : List Text) where
   reads_of m has = meets (Reads options words) has.reading has.only
 
   -- the reading of accepted words keeps the counts
-  pub keeps_accepted : (m : Matched) (is : IsAccepted options words m)
-      → IsCountKeeping options is.read.reading words
+  pub keeps_accepted : (m : Matched) (is : IsAccepted options words m) → IsCountKeeping options is.read.reading words
   keeps_accepted m is = record {
     reads = reads_of m is.read;
     keeps = subst (λ (m : Matched). KeepsCounts m.groups) is.read.matches_are is.counts;
   }
 
   -- words have one reading's matches
-  pub only_matches : (m n : Matched) → HasReading options words m → HasReading options words n
-      → m ≡ n
+  pub only_matches : (m n : Matched) → HasReading options words m → HasReading options words n → m ≡ n
   only_matches m n has other = search (rules, reads_of m has)
 
-  only_refusal : (fault other : Fault) → IsRefused options words fault
-      → IsRefused options words other → fault ≡ other
+  only_refusal : (fault other : Fault) → IsRefused options words fault → IsRefused options words other → fault ≡ other
   only_refusal fault other (inl is) (inl is_other) =
       (is_other.only fault).0 (meets (IsScanFault (grammar_of options) words) fault is.only)
   only_refusal fault other (inl is) (inr is_other) =
@@ -115,9 +105,8 @@ module _ (options : Declared) (words : List Text) where
 
   -- words have one scan error, and none if they have a reading
   pub only_of_reading : {X : Type 0} {Is : X → Type 0}
-      → ((x : X) → Is x → (reading : Reading) × Reads options words reading)
-      → ((x y : X) → Is x → Is y → x ≡ y) → (answer other : Result X Fault)
-      → MatchResult answer Is (HasNoReading options words)
+      → ((x : X) → Is x → (reading : Reading) × Reads options words reading) → ((x y : X) → Is x → Is y → x ≡ y)
+      → (answer other : Result X Fault) → MatchResult answer Is (HasNoReading options words)
       → MatchResult other Is (HasNoReading options words) → answer ≡ other
   only_of_reading {Is = Is} reading = only_result {Is = Is} (HasNoReading options words)
       (λ x fault is none. let reads = reading x is in none.no_reading reads.0 reads.1)
@@ -135,8 +124,7 @@ module _ (options : Declared) (words : List Text) where
 
   pub only_line : (line other : List Text) → IsWritten options words line
       → IsWritten options words other → line ≡ other
-  only_line line other is is_other =
-      cc (only_content is.content is_other.content is.accepted is_other.accepted)
+  only_line line other is is_other = cc (only_content is.content is_other.content is.accepted is_other.accepted)
 
   -- words have one result of `parse_in_order`
   pub only_order_answer : (answer other : Result (List Given) Fault)
@@ -154,8 +142,7 @@ module _ (options : Declared) (words : List Text) where
 
   -- words have one result of `canonical`
   pub only_canonical_answer : (answer other : Result (Option (List Text)) Fault)
-      → IsCanonicalAnswer options words answer → IsCanonicalAnswer options words other
-      → answer ≡ other
+      → IsCanonicalAnswer options words answer → IsCanonicalAnswer options words other → answer ≡ other
   only_canonical_answer =
       only_answer {Is = λ written. MatchOption written (IsUnwritable options words) (IsWritten options words)}
       keeps only where

@@ -1,41 +1,34 @@
 -- The laws of the canonical line.
-use Rattle.std.proofs.Common.{◌≡◌, ◌<◌, ◌≢◌, ◌↔◌, ℕ, suc, ◌+◌, ◌==◌, Bool, true, false, rules, not}
-use Rattle.std.proofs.Common.{List, [], ◌∷◌, ◌++◌, drop, length, map, Option, Some, None, refl, sym}
-use Rattle.std.proofs.Common.{ap, ◌∙◌, inl, inr, arith, append-nil}
-use Rattle.std.proofs.lemmas.Bool.{cases_Bool, and_parts, not-true, not-false, or_cases, or_left}
-use Rattle.std.proofs.lemmas.Bool.{or_right, true≢false}
+use Rattle.std.proofs.Common.{◌≡◌, ◌<◌, ◌≢◌, ◌↔◌, ℕ, suc, ◌+◌, ◌==◌, Bool, true, false, rules, not, List, [], ◌∷◌}
+use Rattle.std.proofs.Common.{◌++◌, drop, length, map, Option, Some, None, refl, sym, ap, ◌∙◌, inl, inr, arith}
+use Rattle.std.proofs.Common.{append-nil}
+use Rattle.std.proofs.lemmas.Bool.{cases_Bool, and_parts, not-true, not-false, or_cases, or_left, or_right, true≢false}
 use Rattle.std.proofs.lemmas.List.{append_cancel_right, length-map}
-use Rattle.std.proofs.lemmas.Option.{none-some, option_and_then_some, slice_get-get_or}
-use Rattle.std.proofs.lemmas.Option.{slice_get-map, slice_get_within}
+use Rattle.std.proofs.lemmas.Option.{none-some, option_and_then_some, slice_get-get_or, slice_get-map}
+use Rattle.std.proofs.lemmas.Option.{slice_get_within}
 use Rattle.std.proofs.lemmas.Simd.{map-map}
 use Rattle.std.proofs.lemmas.Grind.{common_steps}
 use Rattle.std.specs.Prelude.{slice_get, if◌then◌else◌}
 use Rattle.std.specs.List.{AllByRecursion, Contains, filter, flat_map, list_all}
 use Rattle.std.specs.Option.{option_map, unwrap_or}
 use Rattle.getopts.specs.Names.{Text, IsLawfullyNamed, resolution}
-use Rattle.getopts.specs.Options.{Signature, Group, Declared, AreLawfullyNamed, names_of, Grammar}
-use Rattle.getopts.specs.Options.{kind_of, grammar_of}
-use Rattle.getopts.specs.Reading.{holds_equals, stop_word, Argument, separate, flags, ends_in}
-use Rattle.getopts.specs.Reading.{value_of, FitsKind, Item, free, long, cluster, FitsLong, FitsEnd}
-use Rattle.getopts.specs.Reading.{IsFlag, IsLawfulItem, Reading, IsReading, Mention, mention_of}
-use Rattle.getopts.specs.Reading.{mentions, Occurrence, occurrences_of, free_items}
+use Rattle.getopts.specs.Options.{Signature, Group, Declared, AreLawfullyNamed, names_of, Grammar, kind_of, grammar_of}
+use Rattle.getopts.specs.Reading.{holds_equals, stop_word, Argument, flags, ends_in, value_of, FitsKind, Item, free}
+use Rattle.getopts.specs.Reading.{long, cluster, FitsLong, FitsEnd, IsFlag, IsLawfulItem, Reading, IsReading, Mention}
+use Rattle.getopts.specs.Reading.{mention_of, mentions, Occurrence, occurrences_of, free_items}
 use Rattle.getopts.specs.Step.{cut_at_equals}
 use Rattle.getopts.specs.ReadingLaws.{mentions_of}
 use Rattle.getopts.specs.Matches.{occurrences_mentioning, matched, KeepsCounts}
-use Rattle.getopts.specs.Canon.{Content, content_of, main_at, IsPlain, IsSound, canonical_word}
-use Rattle.getopts.specs.Canon.{canonical_line, attached_value, canonical_item, canonical_reading}
-use Rattle.getopts.specs.Canon.{with_setting, IsAcceptedWith, Says, ReadsBack, HasCanonicalLine}
-use Rattle.getopts.specs.Canon.{HasNoItem, HasUnwritable}
+use Rattle.getopts.specs.Canon.{Content, content_of, main_at, IsPlain, IsSound, canonical_word, canonical_line}
+use Rattle.getopts.specs.Canon.{attached_value, canonical_item, canonical_reading, with_setting, IsAcceptedWith, Says}
+use Rattle.getopts.specs.Canon.{ReadsBack, HasCanonicalLine, HasNoItem, HasUnwritable}
 use Rattle.getopts.specs.Theorem.{OneLineOneContent}
 use Rattle.getopts.specs.declared.kinds.HasArg.{HasArg}
-use Rattle.getopts.specs.declared.kinds.HasArg.TheVariants.{Maybe}
 use Rattle.getopts.specs.declared.kinds.ParsingStyle.{ParsingStyle}
 use Rattle.getopts.specs.Accessors.{each_value}
 use Rattle.std.proofs.Permutation.{every_append}
-use Rattle.getopts.proofs.Lists.{AllByRecursion-follows, AllByRecursion-map}
-use Rattle.getopts.proofs.Lists.{filter-map}
-use Rattle.getopts.proofs.table.Names.{main_at-Some, resolution-main_name, resolution-nil}
-use Rattle.getopts.proofs.table.Names.{resolution_within}
+use Rattle.getopts.proofs.Lists.{AllByRecursion-follows, AllByRecursion-map, filter-map}
+use Rattle.getopts.proofs.table.Names.{main_at-Some, resolution-main_name, resolution-nil, resolution_within}
 use Rattle.getopts.proofs.Reading.Positions.{mentions_of-items}
 use Rattle.getopts.proofs.Reading.Reader.{HasTextNames}
 use Rattle.getopts.proofs.Reading.Readings.{only_reading, reading_after_item}
@@ -78,8 +71,7 @@ abbrev pub FitsGroup : List Group → Mention → Type 0
 FitsGroup groups m = (kind : HasArg) × (kind_at groups m.group ≡ Some kind) × FitsKind kind m.value
 
 -- such a group is there
-pub FitsGroup-within : (groups : List Group) (m : Mention) → FitsGroup groups m
-    → m.group < length groups
+pub FitsGroup-within : (groups : List Group) (m : Mention) → FitsGroup groups m → m.group < length groups
 FitsGroup-within groups m fits = search (rules, slice_get-map, slice_get_within, length-map)
 
 -- fitting content: each mentioned group is there, and its kind may have the value
@@ -106,35 +98,26 @@ IsGood-mention options name kind value signature fits =
           rw same (search (rules, AnswersMain-resolution))
 
 -- a valid argument gives a value that the kind may have
-FitsKind-long : (kind : HasArg) (argument : Argument) → FitsLong kind argument
-    → FitsKind kind (value_of argument)
-FitsKind-long Maybe (separate word) fits = absurd fits
-FitsKind-long kind argument fits = fits
+FitsKind-long : (kind : HasArg) (argument : Argument) → FitsLong kind argument → FitsKind kind (value_of argument)
+FitsKind-long kind argument fits = search rules
 
-FitsKind-end : (kind : HasArg) (argument : Argument) → FitsEnd kind argument
-    → FitsKind kind (value_of argument)
+FitsKind-end : (kind : HasArg) (argument : Argument) → FitsEnd kind argument → FitsKind kind (value_of argument)
 FitsKind-end kind argument fits = search rules
 
 -- the mentions of flags, of a valid item and of valid items
-IsGood-flags : (options : Declared) (names : List ℕ)
-    → AllByRecursion (IsFlag (grammar_of options)) names
-    → AllByRecursion (IsGood options.groups)
-    (map (λ name. mention_of (grammar_of options) (name ∷ []) None) names)
-IsGood-flags options names each =
-    search (rules, AllByRecursion-map, AllByRecursion-follows, IsGood-mention)
+IsGood-flags : (options : Declared) (names : List ℕ) → AllByRecursion (IsFlag (grammar_of options)) names
+    → AllByRecursion (IsGood options.groups) (map (λ name. mention_of (grammar_of options) (name ∷ []) None) names)
+IsGood-flags options names each = search (rules, AllByRecursion-map, AllByRecursion-follows, IsGood-mention)
 
 IsGood-item : (options : Declared) (item : Item) → IsLawfulItem (grammar_of options) item
     → AllByRecursion (IsGood options.groups) (mentions (grammar_of options) item)
 IsGood-item options (free word) lawful = tt
-IsGood-item options (long dashes name argument) lawful =
-    search (rules, IsGood-mention, FitsKind-long)
-IsGood-item options (cluster names flags) lawful =
-    every_append (IsGood options.groups) _ [] (IsGood-flags options names lawful.each) tt
+IsGood-item options (long dashes name argument) lawful = search (rules, IsGood-mention, FitsKind-long)
+IsGood-item options (cluster names flags) lawful = search (rules, every_append, IsGood-flags)
 IsGood-item options (cluster names (ends_in option argument)) lawful =
     search (rules, every_append, IsGood-flags, IsGood-mention, FitsKind-end)
 
-IsGood-items : (options : Declared) (items : List Item)
-    → AllByRecursion (IsLawfulItem (grammar_of options)) items
+IsGood-items : (options : Declared) (items : List Item) → AllByRecursion (IsLawfulItem (grammar_of options)) items
     → AllByRecursion (IsGood options.groups) (flat_map (mentions (grammar_of options)) items)
 IsGood-items options [] lawful = tt
 IsGood-items options (item ∷ items) lawful =
@@ -147,28 +130,23 @@ IsGood-reading options reading lawful = search (rules, mentions_of-items, IsGood
 
 -- the content of any reading is fitting
 pub IsFitting-reading : (options : Declared) (reading : Reading) (words : List Text)
-    → IsReading (grammar_of options) reading words
-    → IsFitting options.groups (content_of options reading)
-IsFitting-reading options reading words reads =
-    search (rules, AllByRecursion-follows, IsGood-reading)
+    → IsReading (grammar_of options) reading words → IsFitting options.groups (content_of options reading)
+IsFitting-reading options reading words reads = search (rules, AllByRecursion-follows, IsGood-reading)
 
 -- ---- the canonical reading
 
 value_of-attached_value : (value : Option Text) → value_of (attached_value value) ≡ value
-value_of-attached_value None = refl
-value_of-attached_value (Some value) = refl
+value_of-attached_value value = search rules
 
 -- canonical items mention what they were written for
-mentions-canonical_all : (options : Declared) (ms : List Mention)
-    → AllByRecursion (IsGood options.groups) ms
+mentions-canonical_all : (options : Declared) (ms : List Mention) → AllByRecursion (IsGood options.groups) ms
     → flat_map (mentions (grammar_of options)) (map (canonical_item options.groups) ms) ≡ ms
 mentions-canonical_all options [] good = refl
 mentions-canonical_all options (m ∷ ms) good =
     rw (good.0.own, value_of-attached_value m.value, mentions-canonical_all options ms good.1) refl
 
 -- no canonical item is free
-free_items-canonical : (groups : List Group) (ms : List Mention)
-    → free_items (map (canonical_item groups) ms) ≡ []
+free_items-canonical : (groups : List Group) (ms : List Mention) → free_items (map (canonical_item groups) ms) ≡ []
 free_items-canonical groups [] = refl
 free_items-canonical groups (m ∷ ms) = free_items-canonical groups ms
 
@@ -187,8 +165,7 @@ IsReading-canonical options (m ∷ ms) frees good plain =
 content_of-canonical : (options : Declared) (content : Content)
     → AllByRecursion (IsGood options.groups) content.mentions
     → content_of options (canonical_reading options.groups content) ≡ content
-content_of-canonical options content good =
-    simp (mentions_of-items, mentions-canonical_all, free_items-canonical)
+content_of-canonical options content good = simp (mentions_of-items, mentions-canonical_all, free_items-canonical)
 
 -- ---- counts
 
@@ -197,14 +174,12 @@ abbrev pub values_at : ℕ → List Mention → List (Option Text)
 values_at place ms = map (λ (m : Mention). m.value) (filter (λ (m : Mention). m.group == place) ms)
 
 pub values-occurrences_mentioning : (place : ℕ) (os : List Occurrence)
-    → each_value (occurrences_mentioning place os)
-    ≡ values_at place (map (λ (o : Occurrence). o.mention) os)
+    → each_value (occurrences_mentioning place os) ≡ values_at place (map (λ (o : Occurrence). o.mention) os)
 values-occurrences_mentioning place os = simp (map-map, filter-map)
 
 -- a group has as many occurrences as mentions
 length-occurrences_mentioning : (place : ℕ) (os : List Occurrence)
-    → length (occurrences_mentioning place os)
-    ≡ length (values_at place (map (λ (o : Occurrence). o.mention) os))
+    → length (occurrences_mentioning place os) ≡ length (values_at place (map (λ (o : Occurrence). o.mention) os))
 length-occurrences_mentioning place os = search (rules, length-map, values-occurrences_mentioning)
 
 -- the counts depend on the number of occurrences for each place
@@ -252,9 +227,8 @@ ReadsBackEverywhere options content = (style : ParsingStyle) (long_only : Bool)
     → ReadsBack (with_setting options style long_only) content
 
 -- the content of a line reads back, if it is plain
-ReadsBackEverywhere-says : (options : Declared) (words : List Text) (content : Content)
-    → Says options words content → IsPlain options.groups content
-    → ReadsBackEverywhere options content
+ReadsBackEverywhere-says : (options : Declared) (words : List Text) (content : Content) → Says options words content
+    → IsPlain options.groups content → ReadsBackEverywhere options content
 ReadsBackEverywhere-says options words content says plain style long_only =
     let said = with_setting options says.style says.long_only in
     let set = with_setting options style long_only in
@@ -264,13 +238,7 @@ ReadsBackEverywhere-says options words content says plain style long_only =
     let told : mentions_of (grammar_of said) says.reading ≡ mentions_of (grammar_of set)
     (canonical_reading options.groups content) =
     ap (λ c. c.mentions) (sym says.content_is ∙ sym back) in
-    record {
-      reads = record {
-        reads = IsReading-canonical set content.mentions content.free good plain;
-        keeps = search (rules, KeepsCounts-mentions);
-      };
-      same = back;
-    }
+    search (rules, IsReading-canonical set content.mentions content.free good plain, KeepsCounts-mentions)
 
 -- a canonical line that reads back says nothing else, since a line has one reading at most
 says_nothing_else-reads_back : (options : Declared) (content : Content)
@@ -304,11 +272,9 @@ content_in groups (word ∷ words) =
     else record { mentions = mention ∷ others.mentions; free = others.free }
 
 -- a name without `=` can end in only one place, so the line determines the content
-content_in-canonical : (groups : List Group) (ms : List Mention) (frees : List Text)
-    → AreLawfullyNamed groups → AllByRecursion (λ m. AnswersMain groups m.group) ms
-    → AllByRecursion (λ m. HasPlainMain groups m.group) ms
-    → content_in groups (map (canonical_word groups) ms ++ stop_word ∷ frees)
-    ≡ record { mentions = ms; free = frees }
+content_in-canonical : (groups : List Group) (ms : List Mention) (frees : List Text) → AreLawfullyNamed groups
+    → AllByRecursion (λ m. AnswersMain groups m.group) ms → AllByRecursion (λ m. HasPlainMain groups m.group) ms
+    → content_in groups (map (canonical_word groups) ms ++ stop_word ∷ frees) ≡ record { mentions = ms; free = frees }
 content_in-canonical groups [] frees lawful own plain = refl
 content_in-canonical groups (m ∷ ms) frees lawful own plain =
     search (rules, main_at-filled, cut_at_equals-append, content_in-canonical groups ms frees lawful own.1 plain.1)
@@ -344,26 +310,30 @@ HasCanonicalLine-says options words content lawful named says plain =
     }
 
 -- two canonical lines are equal exactly if they have the same content
-pub OneLineOneContent-lawful : (options : Declared) → AreLawfullyNamed options.groups
-    → OneLineOneContent options
+pub OneLineOneContent-lawful : (options : Declared) → AreLawfullyNamed options.groups → OneLineOneContent options
 OneLineOneContent-lawful options lawful words others content other
     says plain says_other plain_other = search (rules, canonical_line-same, IsSound-says)
 
 -- ---- contents that can't be written
 
--- a text whose front contains `=` contains it
-holds_equals-append : (a b : Text) → holds_equals a ≡ true → holds_equals (a ++ b) ≡ true
-holds_equals-append a b holds = grind (arith, common_steps, or_cases, or_left, or_right)
-
 -- if the main name contains `=`, no valid item with this one mention spells the canonical word
 pub HasNoItem-equals : (options : Declared) (m : Mention)
     → holds_equals (main_at options.groups m.group) ≡ true → HasNoItem options m
 HasNoItem-equals options m holds style long_only item lawful just same =
-    search (rules, true≢false, begins_with_dash-append, append_cancel_right, holds_equals-append, append-nil)
+    grind (
+      arith,
+      common_steps,
+      true≢false,
+      begins_with_dash-append,
+      append_cancel_right,
+      append-nil,
+      or_cases,
+      or_left,
+      or_right,
+    )
 
 -- if not all pass a test, one fails it
-not_all : {X : Type 0} (p : X → Bool) (xs : List X) → list_all p xs ≡ false
-    → (x : X) × Contains xs x × (p x ≡ false)
+not_all : {X : Type 0} (p : X → Bool) (xs : List X) → list_all p xs ≡ false → (x : X) × Contains xs x × (p x ≡ false)
 not_all p [] fails = absurd (true≢false fails)
 not_all p (x ∷ xs) fails = elim (cases_Bool (p x)) [
   | inl passes ↦

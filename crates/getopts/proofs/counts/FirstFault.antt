@@ -26,8 +26,7 @@ HaveFault-more group groups (Some fault) kept is = record {
 }
 
 -- the computed error is the groups' error
-pub first_count_fault-is : (groups : List MatchedGroup)
-    → HaveFault groups (first_count_fault groups)
+pub first_count_fault-is : (groups : List MatchedGroup) → HaveFault groups (first_count_fault groups)
 first_count_fault-is [] = tt
 first_count_fault-is (group ∷ groups) =
     here (fits_count group.signature.occur (length group.found)) refl
@@ -47,8 +46,7 @@ first_count_fault-is (group ∷ groups) =
       }
 
 -- groups that keep their counts have no error
-pub first_count_fault-kept : (groups : List MatchedGroup) → KeepsCounts groups
-    → first_count_fault groups ≡ None
+pub first_count_fault-kept : (groups : List MatchedGroup) → KeepsCounts groups → first_count_fault groups ≡ None
 first_count_fault-kept [] kept = refl
 first_count_fault-kept (group ∷ groups) kept = search (rules, first_count_fault-kept groups kept.1)
 

@@ -1,6 +1,6 @@
 -- Matched groups: what holds for each, and their counts.
-use Rattle.std.proofs.Common.{◌≡◌, ◌<◌, ◌+◌, ℕ, zero, suc, rules, List, [], ◌∷◌, length, drop}
-use Rattle.std.proofs.Common.{slice_get, Some, option_map, refl, ap, arith, add-zero}
+use Rattle.std.proofs.Common.{ap, ◌≡◌, ◌<◌, ◌+◌, ℕ, zero, suc, rules, List, [], ◌∷◌, length, drop, slice_get, Some}
+use Rattle.std.proofs.Common.{option_map, refl, arith, add-zero}
 use Rattle.std.specs.Prelude.{if◌then◌else◌}
 use Rattle.std.specs.List.{AllByRecursion}
 use Rattle.std.proofs.lemmas.Bool.{lt-ltb}
@@ -8,8 +8,7 @@ use Rattle.std.proofs.lemmas.List.{length-map}
 use Rattle.getopts.specs.Names.{main_name}
 use Rattle.getopts.specs.Options.{Signature}
 use Rattle.getopts.specs.Reading.{Occurrence}
-use Rattle.getopts.specs.Matches.{MatchedGroup, occurrences_mentioning, matched, fits_count}
-use Rattle.getopts.specs.Matches.{count_fault}
+use Rattle.getopts.specs.Matches.{MatchedGroup, occurrences_mentioning, matched, fits_count, count_fault}
 use Rattle.getopts.specs.Results.{first_count_fault}
 use Rattle.getopts.specs.Stored.Index.{index_of, count_in, first_wrong}
 use Rattle.getopts.specs.Stored.Names.{names_at}
@@ -19,17 +18,14 @@ use Rattle.getopts.proofs.Stored.Index.{length-places_of}
 
 -- the number of a group's occurrences, from the index
 pub length-occurrences_mentioning : (count : ℕ) (occurrences : List Occurrence) (i : ℕ) → i < count
-    → count_in (index_of count occurrences) i
-    ≡ length (occurrences_mentioning i occurrences)
-length-occurrences_mentioning count occurrences i within =
-    search (rules, length-map, lt-ltb, length-places_of)
+    → count_in (index_of count occurrences) i ≡ length (occurrences_mentioning i occurrences)
+length-occurrences_mentioning count occurrences i within = search (rules, length-map, lt-ltb, length-places_of)
 
 -- there are as many matched groups as signatures
 pub length-matched : (first : ℕ) (signatures : List Signature) (occurrences : List Occurrence)
     → length (matched first signatures occurrences) ≡ length signatures
 length-matched first [] occurrences = refl
-length-matched first (signature ∷ signatures) occurrences =
-    ap suc (length-matched (first + 1) signatures occurrences)
+length-matched first (signature ∷ signatures) occurrences = ap suc (length-matched (first + 1) signatures occurrences)
 
 -- a property of each signature, with the occurrences of its place, holds for the matched groups
 pub AllByRecursion-matched : (P : MatchedGroup → Type 0) (first : ℕ) (signatures : List Signature)

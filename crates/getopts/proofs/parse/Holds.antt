@@ -1,23 +1,18 @@
 -- What accepted matches say about the declared names.
-use Rattle.std.proofs.Common.{◌≡◌, ◌<◌, ℕ, zero, suc, true, List, [], rules, ◌∷◌, drop, length, map}
-use Rattle.std.proofs.Common.{slice_get, Option, Some, None, IfSome, IsSome, refl, ap, sym, subst}
-use Rattle.std.proofs.Common.{◌∙◌, arith, zero-add}
+use Rattle.std.proofs.Common.{◌≡◌, ◌<◌, ℕ, zero, suc, true, List, [], rules, ◌∷◌, drop, length, map, slice_get}
+use Rattle.std.proofs.Common.{Option, Some, None, IfSome, IsSome, refl, ap, sym, subst, ◌∙◌, arith, zero-add}
 use Rattle.std.specs.List.{AllByRecursion}
 use Rattle.std.specs.Option.{option_and_then, option_map, option_map_or}
 use Rattle.std.proofs.lemmas.Bool.{eqb-true}
 use Rattle.std.proofs.lemmas.Option.{option_and_then_some, same_Some}
 use Rattle.getopts.specs.Names.{Text, resolution}
-use Rattle.getopts.specs.Options.{Signature, Group, Declared, names_of, signatures_of, grammar_of}
-use Rattle.getopts.specs.Options.{kind_of, occur_of}
-use Rattle.getopts.specs.Reading.{Occurrence, spelled_all, occurrences_of, stop, FitsKind}
-use Rattle.getopts.specs.Reading.{free_words, IsReading}
-use Rattle.getopts.specs.Matches.{GroupOccurrence, Matched, MatchedGroup, occurrences_mentioning}
-use Rattle.getopts.specs.Matches.{matched, fits_count, KeepsCounts}
-use Rattle.getopts.specs.Accessors.{place_of, occurrences_of_name, occurrences_of_group}
-use Rattle.getopts.specs.Accessors.{first_value}
+use Rattle.getopts.specs.Options.{Signature, Group, Declared, names_of, signatures_of, grammar_of, kind_of, occur_of}
+use Rattle.getopts.specs.Reading.{Occurrence, spelled_all, occurrences_of, stop, FitsKind, free_words, IsReading}
+use Rattle.getopts.specs.Matches.{GroupOccurrence, Matched, MatchedGroup, occurrences_mentioning, matched, fits_count}
+use Rattle.getopts.specs.Matches.{KeepsCounts}
+use Rattle.getopts.specs.Accessors.{place_of, occurrences_of_name, occurrences_of_group, first_value}
 use Rattle.getopts.specs.Parse.{IsAccepted, HasReading}
-use Rattle.getopts.specs.Holds.{AreGroupsOf, HaveValuesByKind, FitOptions, FitOptionsAndCounts}
-use Rattle.getopts.specs.Holds.{EndsInTrailing}
+use Rattle.getopts.specs.Holds.{AreGroupsOf, HaveValuesByKind, FitOptions, FitOptionsAndCounts, EndsInTrailing}
 use Rattle.getopts.specs.Stored.Signatures.{kinds_of}
 use Rattle.getopts.specs.declared.kinds.HasArg.{HasArg}
 use Rattle.getopts.specs.declared.kinds.HasArg.TheVariants.{Yes}
@@ -56,8 +51,7 @@ found-named f g options occurrences each name =
 module _ {X : Type 0} (f : Signature → X) (P : X → List GroupOccurrence → Type 0) where
   at_place : (groups : List Group) (others : List MatchedGroup)
       → map (λ (group : MatchedGroup). group.signature) others ≡ signatures_of groups
-      → AllByRecursion (λ (group : MatchedGroup). P (f group.signature) group.found) others
-      → (place : ℕ) (x : X)
+      → AllByRecursion (λ (group : MatchedGroup). P (f group.signature) group.found) others → (place : ℕ) (x : X)
       → option_map (λ (group : Group). f group.signature) (slice_get groups place) ≡ Some x
       → P x (occurrences_of_group others place)
   at_place [] others are each place x there = cc there
@@ -74,13 +68,11 @@ module _ {X : Type 0} (f : Signature → X) (P : X → List GroupOccurrence → 
       → option_and_then (λ place. option_map (λ (group : Group). f group.signature)
       (slice_get options.groups place)) (resolution (names_of options.groups) name) ≡ Some x
       → P x (occurrences_of_name groups name)
-  at_name options groups are each name x is =
-      search (rules, option_and_then_some, place_of-groups, at_place)
+  at_name options groups are each name x is = search (rules, option_and_then_some, place_of-groups, at_place)
 
 module _ (options : Declared) (groups : List MatchedGroup) (are : AreGroupsOf options groups) where
   -- each option was given as often as its kind of occurrence allows
-  counted-groups : KeepsCounts groups → (name : Text) (occur : Occur)
-      → occur_of options.groups name ≡ Some occur
+  counted-groups : KeepsCounts groups → (name : Text) (occur : Occur) → occur_of options.groups name ≡ Some occur
       → fits_count occur (length (occurrences_of_name groups name)) ≡ true
   counted-groups keeps = at_name (λ signature. signature.occur)
       (λ occur found. fits_count occur (length found) ≡ true) options groups are keeps
@@ -88,20 +80,17 @@ module _ (options : Declared) (groups : List MatchedGroup) (are : AreGroupsOf op
   -- occurrences that have values have a first one
   first_there : (founds : List GroupOccurrence) → HaveValuesFor Yes founds → 0 < length founds
       → IsSome (first_value founds)
-  first_there [] each some = absurd (omega arith)
-  first_there (found ∷ founds) each some = search rules
+  first_there founds each some = search rules
 
   -- each option that needs an argument and was given has a value
   needed-groups : HaveValuesByKind groups → (name : Text) → kind_of options.groups name ≡ Some Yes
-      → 0 < length (occurrences_of_name groups name)
-      → IsSome (first_value (occurrences_of_name groups name))
+      → 0 < length (occurrences_of_name groups name) → IsSome (first_value (occurrences_of_name groups name))
   needed-groups have name needs = first_there (occurrences_of_name groups name)
       (at_name (λ signature. signature.kind) HaveValuesFor options groups are have name Yes needs)
 
 -- an occurrence of a group of a kind
-FitsKind-place : (groups : List Group) (o : Occurrence) (place : ℕ) (kind : HasArg)
-    → kind_at groups place ≡ Some kind → FitsGroup groups o.mention → o.mention.group ≡ place
-    → FitsKind kind o.mention.value
+FitsKind-place : (groups : List Group) (o : Occurrence) (place : ℕ) (kind : HasArg) → kind_at groups place ≡ Some kind
+    → FitsGroup groups o.mention → o.mention.group ≡ place → FitsKind kind o.mention.value
 FitsKind-place groups o place kind there fits here = search (rules, same_Some, kind_at)
 
 -- the occurrences of one group have values as its kind requires
@@ -159,8 +148,7 @@ FitOptionsAndCounts-accepted options words matches accepted =
 
 -- the words end with the free words from the trailing start on, after `--`
 pub EndsInTrailing-read : (options : Declared) (words : List Text) (matches : Matched)
-    → HasReading options words matches
-    → IfSome matches.trailing_start (EndsInTrailing words matches)
+    → HasReading options words matches → IfSome matches.trailing_start (EndsInTrailing words matches)
 EndsInTrailing-read options words matches has = here matches.trailing_start refl where
   here : (start : Option ℕ) → matches.trailing_start ≡ start
       → IfSome start (EndsInTrailing words matches)

@@ -1,6 +1,5 @@
 -- What is made of a line that was read.
-use Rattle.std.proofs.Common.{◌≡◌, ◌<◌, ℕ, Bool, not, List, length, map, Option, Some, None, Result}
-use Rattle.std.proofs.Common.{Ok, refl, sym, arith, rules}
+use Rattle.std.proofs.Common.{◌≡◌, ◌<◌, ℕ, Bool, not, List, length, map, Option, Some, None, Result, Ok, refl, sym, arith, rules}
 use Rattle.std.specs.List.{AllByRecursion, list_all}
 use Rattle.std.specs.Prelude.{if◌then◌else◌}
 use Rattle.std.specs.String.{string_bytes}
@@ -11,8 +10,7 @@ use Rattle.getopts.specs.Fail.{Fault}
 use Rattle.getopts.specs.Reading.{Reading, holds_equals, Occurrence, occurrences_of}
 use Rattle.getopts.specs.Matches.{matched, matches_of}
 use Rattle.getopts.specs.Canon.{Content, content_of, main_at, canonical_line}
-use Rattle.getopts.specs.Results.{made_of, accepted_reading, with_counts_kept, unless_fault}
-use Rattle.getopts.specs.Results.{written_line}
+use Rattle.getopts.specs.Results.{made_of, accepted_reading, with_counts_kept, unless_fault, written_line}
 use Rattle.getopts.specs.Returns.{HasResults}
 use Rattle.getopts.specs.Stored.Index.{count_in, first_wrong, places_in, index_of}
 use Rattle.getopts.specs.Stored.Matches.{IsReadLine}
@@ -52,8 +50,7 @@ module _ {options : Declared} {outcome : Result Reading Fault} {read : ReadLine}
 
   -- what is made of its content
   pub made_of-content : {X : Type 0} (make : Content → X)
-      → made_of (λ reading. make (content_of options reading)) outcome
-      ≡ Ok (make (line_content read.line))
+      → made_of (λ reading. make (content_of options reading)) outcome ≡ Ok (make (line_content read.line))
   made_of-content make = rw (is.gives.outcome_is, is.gives.occurrences, is.gives.free) refl
 
   -- its canonical line, if no main name in it contains `=`

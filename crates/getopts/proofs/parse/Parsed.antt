@@ -23,15 +23,13 @@ module _ (options : Declared) (declared : MayBeDeclared options.groups) where
 
   module _ (words : List Text) where
     -- a reading is unique
-    pub only_reads : (reading : Reading) → Reads options words reading
-        → IsTheOnly (Reads options words) reading
+    pub only_reads : (reading : Reading) → Reads options words reading → IsTheOnly (Reads options words) reading
     only_reads reading reads = search (rules, IsTheOnly-from, only_reading, text_names_here)
 
     -- a scan error leaves no reading and no other error
     pub HasNoReading-fault : AreTexts words → (fault : Fault)
         → IsScanFault (grammar_of options) words fault → HasNoReading options words fault
-    HasNoReading-fault texts fault fault_is =
-        search (rules, IsTheOnly-from, only_fault, text_names_here, no_reading)
+    HasNoReading-fault texts fault fault_is = search (rules, IsTheOnly-from, only_fault, text_names_here, no_reading)
 
     -- words with a reading have its matches
     pub HasReading-reading : (reading : Reading) → Reads options words reading

@@ -1,14 +1,12 @@
 -- The result of a cluster, by the flags that were read and the remaining text.
-use Rattle.std.proofs.Common.{◌≡◌, ◌≢◌, ◌<◌, ◌≤◌, ◌+◌, ℕ, List, [], ◌∷◌, ◌++◌, length, map, take}
-use Rattle.std.proofs.Common.{drop, slice_index, Option, Some, None, refl, ◌∙◌, rules, append_assoc}
-use Rattle.std.proofs.Common.{add-one, drop-cons}
+use Rattle.std.proofs.Common.{◌≡◌, ◌≢◌, ◌<◌, ◌≤◌, ◌+◌, ℕ, List, [], ◌∷◌, ◌++◌, length, map, take, drop, slice_index}
+use Rattle.std.proofs.Common.{Option, Some, None, refl, ◌∙◌, rules, append_assoc, add-one, drop-cons}
 use Rattle.std.specs.Str.{IsCharBoundary, IsUtf8}
 use Rattle.std.proofs.lemmas.List.{take_more, append-nil, map-append, take_all, drop_all}
 use Rattle.std.proofs.lemmas.Str.{IsCharBoundary-start, IsCharBoundary-after_ascii}
 use Rattle.getopts.specs.Names.{Text}
 use Rattle.getopts.specs.Options.{Grammar}
-use Rattle.getopts.specs.Reading.{flags, ends_in, cluster, IsFlag, Occurrence, at_position}
-use Rattle.getopts.specs.Reading.{mention_of, mentions}
+use Rattle.getopts.specs.Reading.{flags, ends_in, cluster, IsFlag, Occurrence, at_position, mention_of, mentions}
 use Rattle.getopts.specs.Step.{chosen_end, chosen_step, byte_step, cluster_step, Chooses, AddsItem}
 use Rattle.getopts.specs.declared.kinds.HasArg.{HasArg}
 use Rattle.getopts.specs.declared.kinds.HasArg.TheVariants.{No}
@@ -29,14 +27,12 @@ pub record FlagsRead (grammar : Grammar) (position : ℕ) (text : Text) (after :
   pub added : new ≡ old ++ flag_occurrences grammar position (take at text)
 
 -- the rest of a text from a place on is the byte there, and what follows
-pub text_from : (text : Text) (at : ℕ) → at < length text
-    → drop at text ≡ slice_index text at ∷ drop (at + 1) text
+pub text_from : (text : Text) (at : ℕ) → at < length text → drop at text ≡ slice_index text at ∷ drop (at + 1) text
 text_from text at within = rw (add-one, drop-cons text at 0) refl
 
 module _ {grammar : Grammar} {position : ℕ} {text : Text} {after : List Text} where
   -- before the first byte nothing was read
-  pub FlagsRead-none : (old : List Occurrence) → IsUtf8 text
-      → FlagsRead grammar position text after 0 old old
+  pub FlagsRead-none : (old : List Occurrence) → IsUtf8 text → FlagsRead grammar position text after 0 old old
   FlagsRead-none old utf8 = search (rules, IsCharBoundary-start, append-nil)
 
   -- flags to the end of the word
@@ -73,13 +69,11 @@ module _ {grammar : Grammar} {position : ℕ} {text : Text} {after : List Text} 
         → newer ≡ old ++ map (at_position position)
         (map (λ byte. mention_of grammar (byte ∷ []) None) (take at text)
         ++ mention_of grammar (slice_index text at ∷ []) value ∷ [])
-    occurrences_more newer group value place pushed =
-        rw (pushed, before.added, place) (simp (append-nil, map-append, append_assoc))
+    occurrences_more newer group value place pushed = search (rules, append-nil, map-append, append_assoc)
 
     -- one more flag
-    pub FlagsRead-more : (group : ℕ) (newer : List Occurrence) → IsUtf8 text
-        → slice_index text at < 128 → grammar.place (slice_index text at ∷ []) ≡ Some group
-        → IsFlag grammar (slice_index text at)
+    pub FlagsRead-more : (group : ℕ) (newer : List Occurrence) → IsUtf8 text → slice_index text at < 128
+        → grammar.place (slice_index text at ∷ []) ≡ Some group → IsFlag grammar (slice_index text at)
         → newer ≡ new ++ at_position position (record { group = group; value = None }) ∷ []
         → FlagsRead grammar position text after (at + 1) old newer
     FlagsRead-more group newer utf8 ascii place flag pushed =

@@ -1,13 +1,11 @@
 -- The option that begins with a word in long form, by its name, its kind and its argument.
-use Rattle.std.proofs.Common.{map, ◌≡◌, ◌+◌, ℕ, false, List, [], ◌∷◌, ◌++◌, length, drop, Option}
-use Rattle.std.proofs.Common.{Some, None, Ok, refl, ◌∙◌, slice_get, rules}
+use Rattle.std.proofs.Common.{map, ◌≡◌, ◌+◌, ℕ, false, List, [], ◌∷◌, ◌++◌, length, drop, Option, Some, None, Ok}
+use Rattle.std.proofs.Common.{refl, ◌∙◌, slice_get, rules}
 use Rattle.getopts.specs.Names.{Text}
 use Rattle.getopts.specs.Options.{Grammar, long_kind, long_place}
-use Rattle.getopts.specs.Reading.{Argument, none, attached, Dashes, argument_words, value_of}
-use Rattle.getopts.specs.Reading.{holds_equals, Occurrence, at_position}
+use Rattle.getopts.specs.Reading.{Argument, Dashes, argument_words, value_of, holds_equals, Occurrence, at_position}
 use Rattle.getopts.specs.Fail.{Fault, IsOutOfMemoryOr}
-use Rattle.getopts.specs.Step.{with_equals, faults, chosen_long, long_name_step, long_step, Chooses}
-use Rattle.getopts.specs.Step.{AddsItem}
+use Rattle.getopts.specs.Step.{with_equals, faults, chosen_long, long_name_step, long_step, Chooses, AddsItem}
 use Rattle.getopts.specs.declared.fail.Fail.{Fail}
 use Rattle.getopts.specs.declared.kinds.HasArg.{HasArg}
 use Rattle.getopts.specs.declared.kinds.HasArg.TheVariants.{Maybe}
@@ -15,8 +13,7 @@ use Rattle.getopts.proofs.Weaker.{IsOutOfMemoryOr-one}
 use Rattle.getopts.proofs.Reading.Steps.{long_step_cut}
 
 -- a chosen argument, with its value and its number of words
-pub Chooses-ok : (argument : Argument)
-    → Chooses (Ok argument) (value_of argument) (length (argument_words argument))
+pub Chooses-ok : (argument : Argument) → Chooses (Ok argument) (value_of argument) (length (argument_words argument))
 Chooses-ok argument = search rules
 
 -- an item of one word and its argument's has one word more than the argument
@@ -27,8 +24,7 @@ length-argument word argument = search rules
 -- an option that may have an argument takes an attached one
 pub Chooses-maybe : (name : Text) (value : Option Text) (after : List Text)
     → Chooses (chosen_long Maybe name value after) value 0
-Chooses-maybe name None after = Chooses-ok none
-Chooses-maybe name (Some text) after = Chooses-ok (attached text)
+Chooses-maybe name value after = search (rules, Chooses-ok)
 
 -- A text in long form, by its name and its attached argument.
 module _ (grammar : Grammar) (dashes : Dashes) (text name : Text) (argument : Option Text)
@@ -40,18 +36,15 @@ module _ (grammar : Grammar) (dashes : Dashes) (text name : Text) (argument : Op
   long_step-long_name kind kind_is = search (rules, long_step_cut)
 
   -- a `Fail` with its error
-  pub IsOutOfMemoryOr-long : (kind : Option HasArg) → long_kind grammar name ≡ kind
-      → (fail : Fail) (fault : Fault)
-      → long_name_step grammar kind dashes name argument after ≡ faults fault
-      → IsOutOfMemoryOr fail (λ f. f ≡ fault)
+  pub IsOutOfMemoryOr-long : (kind : Option HasArg) → long_kind grammar name ≡ kind → (fail : Fail) (fault : Fault)
+      → long_name_step grammar kind dashes name argument after ≡ faults fault → IsOutOfMemoryOr fail (λ f. f ≡ fault)
       → IsOutOfMemoryOr fail (λ f. long_step grammar dashes text after ≡ faults f)
   IsOutOfMemoryOr-long kind kind_is fail fault is told = IsOutOfMemoryOr-one fail fault
       (λ f. long_step grammar dashes text after ≡ faults f) told (long_step-long_name kind kind_is ∙ is)
 
   -- an item, after its occurrence was added
-  pub AddsItem-long : (kind : HasArg) (group position used : ℕ) (value : Option Text)
-      (old new : List Occurrence) → long_kind grammar name ≡ Some kind
-      → long_place grammar name ≡ Some group
+  pub AddsItem-long : (kind : HasArg) (group position used : ℕ) (value : Option Text) (old new : List Occurrence)
+      → long_kind grammar name ≡ Some kind → long_place grammar name ≡ Some group
       → Chooses (chosen_long kind name argument after) value used
       → new ≡ old ++ at_position position (record { group = group; value = value }) ∷ []
       → AddsItem grammar (long_step grammar dashes text after) position used old new
@@ -65,7 +58,6 @@ texts-first text [] word h = cc
 texts-first {X} text (x ∷ words) word h = search rules
 
 -- an empty list of borrowed words
-pub texts-none : {X : Type 0} (text : X → Text) (words : List X) → slice_get words 0 ≡ None
-    → map text words ≡ []
+pub texts-none : {X : Type 0} (text : X → Text) (words : List X) → slice_get words 0 ≡ None → map text words ≡ []
 texts-none text [] h = refl
 texts-none text (x ∷ words) h = cc

@@ -1,8 +1,7 @@
 -- A line that was read up to a place: what it has so far, one more item, and all ways in which it
 -- ends.
-use Rattle.std.proofs.Common.{Err, ◌≡◌, ◌+◌, ◌-◌, ◌<◌, ℕ, List, [], ◌∷◌, ◌++◌, length, rules, map}
-use Rattle.std.proofs.Common.{drop, refl, ◌∙◌, sym, append_assoc, take, get_or, false, add-zero}
-use Rattle.std.proofs.Common.{not, eqb, Ok, Option, Result}
+use Rattle.std.proofs.Common.{Err, ◌≡◌, ◌+◌, ◌-◌, ◌<◌, ℕ, List, [], ◌∷◌, ◌++◌, length, rules, map, drop, refl, ◌∙◌}
+use Rattle.std.proofs.Common.{sym, append_assoc, take, get_or, false, add-zero, not, eqb, Ok, Option, Result, arith}
 use Rattle.std.specs.Bool.{then_some}
 use Rattle.std.specs.String.{string_bytes}
 use Rattle.std.proofs.lemmas.List.{drop-map, append-nil, drop_more, take_rest}
@@ -20,6 +19,7 @@ use Rattle.getopts.proofs.Reading.Laws.{free_items-append}
 use Rattle.getopts.proofs.Reading.Reader.{step, with_items, read}
 use Rattle.getopts.proofs.Reading.Readings.{read_item, read_step, made_of-ok}
 use Rattle.getopts.proofs.Reading.Steps.{step_free, step_stop}
+use Rattle.std.proofs.lemmas.Grind.{common_steps}
 
 -- what a line has: its occurrences, its free words, and where those after a stop begin
 record Parts : Type 0 where
@@ -55,21 +55,18 @@ with_reading-item : (grammar : Grammar) (at : ℕ) (found : List Spec.Occurrence
     ≡ made_of (with_reading grammar (at + Spec.word_count (item ∷ []))
     (found ++ map (Spec.at_position at) (Spec.mentions grammar item)) (frees ++ Spec.free_items (item ∷ [])))
     outcome
-with_reading-item grammar at found frees item (Err fault) = refl
-with_reading-item grammar at found frees item (Ok reading) = simp (append_assoc, free_items-append)
+with_reading-item grammar at found frees item outcome = search (rules, append_assoc, free_items-append)
 
 -- the rest of borrowed words from a place on is the word there, and the slice of the others
-pub texts_from : {X : Type 0} (text : X → Text) (words : List X) (at : ℕ) (here : X) (word : Text)
-    → at < length words → here ≡ get_or words at here → word ≡ text here
-    → drop at (map text words)
-    ≡ word ∷ map text (take (length words - (at + 1)) (drop (at + 1) words))
+pub texts_from : {X : Type 0} (text : X → Text) (words : List X) (at : ℕ) (here : X) (word : Text) → at < length words
+    → here ≡ get_or words at here → word ≡ text here
+    → drop at (map text words) ≡ word ∷ map text (take (length words - (at + 1)) (drop (at + 1) words))
 texts_from text words at here word within there is = search (rules, take_rest, drop-map, drop_more)
 
 -- the start of the words after a stop
 pub trailing_after-stop : {X : Type 0} (text : X → Text) (start : ℕ) (words : List X)
     → then_some (not (eqb (length words) 0)) start ≡ Spec.trailing_after start (Spec.stop (map text words))
-trailing_after-stop text start [] = refl
-trailing_after-stop text start (word ∷ words) = search rules
+trailing_after-stop text start words = grind (arith, common_steps)
 
 -- A line that begins with this word.
 module _ (grammar : Grammar) (words : List Text) (word : Text) (after : List Text)
@@ -89,10 +86,9 @@ module _ {grammar : Grammar} {words : List Text} {at : ℕ} {found : List Spec.O
     {frees : List Text} (before : ReadSoFar grammar words at found frees) where
   -- the rest is a tail
   pub GivesLine-tail : (line : Line) (tail : Spec.Tail)
-      → read grammar (drop at words) ≡ Ok (record { items = []; tail = tail })
-      → line.found ≡ found → map string_bytes line.free.items ≡ frees ++ Spec.tail_frees tail
-      → line.trailing_start ≡ Spec.trailing_after (length frees) tail
-      → GivesLine grammar (read grammar words) line
+      → read grammar (drop at words) ≡ Ok (record { items = []; tail = tail }) → line.found ≡ found
+      → map string_bytes line.free.items ≡ frees ++ Spec.tail_frees tail
+      → line.trailing_start ≡ Spec.trailing_after (length frees) tail → GivesLine grammar (read grammar words) line
   GivesLine-tail line tail left founds freed trailing = search (rules, made_of-ok, read, append-nil)
 
   -- There is a word.
@@ -114,18 +110,16 @@ module _ {grammar : Grammar} {words : List Text} {at : ℕ} {found : List Spec.O
         )
 
     -- a free word
-    pub ReadSoFar-free : (new_frees : List Text) → Spec.is_dashed word ≡ false
-        → grammar.style ≡ FloatingFrees → new_frees ≡ frees ++ word ∷ []
-        → ReadSoFar grammar words (at + 1) found new_frees
+    pub ReadSoFar-free : (new_frees : List Text) → Spec.is_dashed word ≡ false → grammar.style ≡ FloatingFrees
+        → new_frees ≡ frees ++ word ∷ [] → ReadSoFar grammar words (at + 1) found new_frees
     ReadSoFar-free new_frees plain floating pushed = rw add-zero at
         (ReadSoFar-item (Spec.free word) Spec.none 0 found new_frees
         (step_free grammar word after plain ∙ rw floating refl) refl refl (sym (append-nil found))
         pushed)
 
     -- an item that a dashed word begins
-    pub ReadSoFar-added : (said : Step) (used : ℕ) (newer : List Spec.Occurrence)
-        → step grammar word after ≡ said → AddsItem grammar said at used found newer
-        → ReadSoFar grammar words (at + 1 + used) newer frees
+    pub ReadSoFar-added : (said : Step) (used : ℕ) (newer : List Spec.Occurrence) → step grammar word after ≡ said
+        → AddsItem grammar said at used found newer → ReadSoFar grammar words (at + 1 + used) newer frees
     ReadSoFar-added said used newer is adds = search (rules, ReadSoFar-item, append-nil)
 
     -- an error

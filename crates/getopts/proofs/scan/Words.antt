@@ -16,6 +16,5 @@ holds_equals-none text h = list_any_none (λ c. eqb c equals_sign) text
     get_or_default text k 0 d l in grind (arith, nat_tests))
 
 -- one byte of a text, as a text
-pub slice_range-one : (text : Text) (i : ℕ) → i < length text
-    → slice_range text i (i + 1) ≡ slice_index text i ∷ []
+pub slice_range-one : (text : Text) (i : ℕ) → i < length text → slice_range text i (i + 1) ≡ slice_index text i ∷ []
 slice_range-one text i within = grind (arith, common_steps)

@@ -1,7 +1,7 @@
 -- The rows of a usage text.
-use Rattle.std.proofs.Common.{◌≡◌, ℕ, zero, suc, ◌+◌, ◌-◌, ◌<◌, Bool, not, ◌||◌, List, refl, []}
-use Rattle.std.proofs.Common.{◌∷◌, Some, take, drop, ap, arith, rules}
-use Rattle.std.specs.Prelude.{Result, Ok, Err, OnOk, slice_get}
+use Rattle.std.proofs.Common.{◌≡◌, ℕ, zero, suc, ◌+◌, ◌-◌, ◌<◌, Bool, not, ◌||◌, List, refl, [], ◌∷◌, Some, take}
+use Rattle.std.proofs.Common.{drop, ap, arith, rules}
+use Rattle.std.specs.Prelude.{Result, OnOk, slice_get}
 use Rattle.std.specs.Str.{IsCharBoundary}
 use Rattle.std.proofs.Math.Bool.{or-false}
 use Rattle.std.proofs.lemmas.List.Folds.{list_any-append}
@@ -9,9 +9,8 @@ use Rattle.std.proofs.lemmas.Str.{IsCharBoundary-from_ascii}
 use Rattle.getopts.specs.Names.{Text, is_empty}
 use Rattle.getopts.specs.Options.{Group, Declared}
 use Rattle.getopts.specs.Only.{IsTheOnly}
-use Rattle.getopts.specs.Usage.{any_short, spaces, head, margin, next_row, padding, row_text}
-use Rattle.getopts.specs.Usage.{IsUsageRowIn, AreUsageRowsIn, IsUsageTextIn, description_columns}
-use Rattle.getopts.specs.Usage.{usage_text}
+use Rattle.getopts.specs.Usage.{any_short, spaces, head, margin, next_row, padding, row_text, IsUsageRowIn}
+use Rattle.getopts.specs.Usage.{AreUsageRowsIn, IsUsageTextIn, description_columns, usage_text}
 use Rattle.getopts.specs.Wrap.{width_of, IsDescriptionRows}
 use Rattle.getopts.specs.UsageResults.{usage_row_in, usage_rows_in_result, usage_in_result}
 use Rattle.getopts.proofs.Lists.{take_more_at}
@@ -20,18 +19,16 @@ use Rattle.getopts.proofs.wrap.Lines.{description_rows-only}
 
 -- a property that always holds, holds if the result is `Ok`
 pub on_ok : {T E P : Type 0} (r : Result T E) → P → OnOk r P
-on_ok (Ok x) holds = holds
-on_ok (Err e) holds = tt
+on_ok r holds = search rules
 
 -- whether a group has a short name
 abbrev pub has_short : Group → Bool
 has_short group = not (is_empty group.signature.names.short)
 
 -- whether any group has a short name, with one more group
-pub any_short_more : (groups : List Group) (place : ℕ) (group : Group)
-    → slice_get groups place ≡ Some group
-    → (so_far now : Bool) → so_far ≡ any_short (take place groups)
-    → now ≡ (so_far || has_short group) → now ≡ any_short (take (place + 1) groups)
+pub any_short_more : (groups : List Group) (place : ℕ) (group : Group) → slice_get groups place ≡ Some group
+    → (so_far now : Bool) → so_far ≡ any_short (take place groups) → now ≡ (so_far || has_short group)
+    → now ≡ any_short (take (place + 1) groups)
 any_short_more groups place group at so_far now so_far_is now_is =
     search (
       rules,

@@ -1,31 +1,26 @@
 -- Breakings of a line's words: filling rows from the left gives the one tight breaking, and no
 -- fitting breaking has fewer runs.
-use Rattle.std.proofs.Common.{◌≡◌, ℕ, ◌<◌, ◌≤◌, true, false, List, [], ◌∷◌, ◌++◌, rules, length}
-use Rattle.std.proofs.Common.{sym, refl, ap, ◌∙◌, subst, inl, inr, ⊎_elim, append_assoc, append-nil}
-use Rattle.std.proofs.Common.{arith, length-append}
+use Rattle.std.proofs.Common.{◌≡◌, ℕ, ◌<◌, ◌≤◌, true, false, List, [], ◌∷◌, ◌++◌, rules, length, sym, refl, ap, ◌∙◌}
+use Rattle.std.proofs.Common.{subst, inl, inr, ⊎_elim, append_assoc, append-nil, arith, length-append}
 use Rattle.std.specs.Prelude.{All}
 use Rattle.std.specs.List.{flat_map}
-use Rattle.std.proofs.lemmas.Bool.{cases_Bool, cond-true, cond-false, leb-true, le-leb}
-use Rattle.std.proofs.lemmas.Bool.{false_from_ne_true}
+use Rattle.std.proofs.lemmas.Bool.{cases_Bool, cond-true, cond-false, leb-true, le-leb, false_from_ne_true}
 use Rattle.std.proofs.lemmas.List.Elements.{All-nil, All-cons, All-head, All-tail}
 use Rattle.std.proofs.lemmas.List.Sums.{sum_by-append}
 use Rattle.std.proofs.lemmas.Grind.{common_steps}
 use Rattle.getopts.specs.Names.{Text}
-use Rattle.getopts.specs.Wrap.{Run, FitsIn, IsFittingBreaking, NoneTakesMore, IsTightBreaking}
-use Rattle.getopts.specs.Wrap.{IsFewestBreaking}
+use Rattle.getopts.specs.Wrap.{Run, FitsIn, IsFittingBreaking, NoneTakesMore, IsTightBreaking, IsFewestBreaking}
 use Rattle.getopts.specs.UsageResults.{has_room, runs_from, runs_of}
 use Rattle.getopts.proofs.Lists.{Within, cuts}
 
 -- ---- filling row after row
 
 -- one more word: it is taken, or begins a row
-pub runs_from-taken : (limit : ℕ) (run : Run) (word : Text) (words : List Text)
-    → has_room limit run word ≡ true
+pub runs_from-taken : (limit : ℕ) (run : Run) (word : Text) (words : List Text) → has_room limit run word ≡ true
     → runs_from limit run (word ∷ words) ≡ runs_from limit (run ++ word ∷ []) words
 runs_from-taken limit run word words e = cond-true (has_room limit run word) _ _ e
 
-pub runs_from-refused : (limit : ℕ) (run : Run) (word : Text) (words : List Text)
-    → has_room limit run word ≡ false
+pub runs_from-refused : (limit : ℕ) (run : Run) (word : Text) (words : List Text) → has_room limit run word ≡ false
     → runs_from limit run (word ∷ words) ≡ run ∷ runs_from limit (word ∷ []) words
 runs_from-refused limit run word words e = cond-false (has_room limit run word) _ _ e
 
@@ -36,13 +31,6 @@ pub FitsIn-inside : (limit : ℕ) (front run back : Run) → 0 < length run
 FitsIn-inside limit front run back has_word fits = search (rules, length-append, sum_by-append)
 
 -- ---- filling gives a tight breaking
-
--- a run without room for the first word of a tight breaking extends it to a tight breaking
-tight-cons : (limit : ℕ) (run : Run) (word : Text) (words : List Text) (runs : List Run)
-    → 0 < length run → FitsIn limit run → ¬ FitsIn limit (run ++ word ∷ [])
-    → IsTightBreaking limit (word ∷ words) runs
-    → IsTightBreaking limit (run ++ word ∷ words) (run ∷ runs)
-tight-cons limit run word words runs has_word fits long is = search (rules, All-head, All-cons)
 
 -- a run with a word more that fits had room for the word
 room_if_fits : (limit : ℕ) (run : Run) (word : Text) → 0 < length run
@@ -64,16 +52,15 @@ runs_from-tight limit run (word ∷ words) has_word fits =
           let rest = runs_from-tight limit (run ++ word ∷ []) words longer
           (inr (leb-true _ _ taken)) in
           rw (runs_from-taken limit run word words taken) (rw append_assoc at rest)
+      -- a run without room for the first word of a tight breaking extends it to a tight breaking
       | inr refused ↦
           let rest = runs_from-tight limit (word ∷ []) words (omega arith) (inl refl) in
-          search (rules, runs_from-refused, tight-cons, refused_does_not_fit, rest)
+          search (rules, runs_from-refused, refused_does_not_fit, rest, All-head, All-cons)
     ]
 
-pub runs_of-tight : (limit : ℕ) (words : List Text)
-    → IsTightBreaking limit words (runs_of limit words)
+pub runs_of-tight : (limit : ℕ) (words : List Text) → IsTightBreaking limit words (runs_of limit words)
 runs_of-tight limit [] = search (rules, All-nil)
-runs_of-tight limit (word ∷ words) =
-    runs_from-tight limit (word ∷ []) words (omega arith) (inl refl)
+runs_of-tight limit (word ∷ words) = runs_from-tight limit (word ∷ []) words (omega arith) (inl refl)
 
 -- ---- all tight breakings
 
@@ -82,9 +69,8 @@ abbrev words_in : List Run → List Text
 words_in runs = flat_map (λ run. run) runs
 
 -- if no run has room for the next word, filling from the front of the first run gives these runs
-filled : (limit : ℕ) (run more : Run) (runs : List Run) → 0 < length run
-    → FitsIn limit (run ++ more) → NoneTakesMore limit ((run ++ more) ∷ runs)
-    → All (λ run. 0 < length run) runs → All (FitsIn limit) runs
+filled : (limit : ℕ) (run more : Run) (runs : List Run) → 0 < length run → FitsIn limit (run ++ more)
+    → NoneTakesMore limit ((run ++ more) ∷ runs) → All (λ run. 0 < length run) runs → All (FitsIn limit) runs
     → (run ++ more) ∷ runs ≡ runs_from limit run (more ++ words_in runs)
 filled limit run [] [] has_word fit tight nonempty fits = ap (λ run. run ∷ []) (append-nil run)
 filled limit run [] ([] ∷ runs) has_word fit tight nonempty fits = search (rules, All-head)
@@ -166,6 +152,5 @@ fewest_runs limit [] others fitting = omega arith
 fewest_runs limit (word ∷ words) others fitting =
     few_runs limit (word ∷ []) words [] others (omega arith) fitting.all_words fitting.fits
 
-pub runs_of-is_fewest : (limit : ℕ) (words : List Text)
-    → IsFewestBreaking limit words (runs_of limit words)
+pub runs_of-is_fewest : (limit : ℕ) (words : List Text) → IsFewestBreaking limit words (runs_of limit words)
 runs_of-is_fewest limit words = search (rules, runs_of-tight, fewest_runs)

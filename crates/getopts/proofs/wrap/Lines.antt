@@ -7,8 +7,7 @@ use Rattle.std.proofs.lemmas.List.{map-append}
 use Rattle.std.proofs.lemmas.List.Concat.{flat_map-append}
 use Rattle.getopts.specs.Names.{Text}
 use Rattle.getopts.specs.Only.{IsTheOnly}
-use Rattle.getopts.specs.Wrap.{Run, text_of, IsTightBreaking, IsFewestBreaking, words_of, BreaksInto}
-use Rattle.getopts.specs.Wrap.{IsDescriptionRows}
+use Rattle.getopts.specs.Wrap.{Run, text_of, IsTightBreaking, IsFewestBreaking, words_of, BreaksInto, IsDescriptionRows}
 use Rattle.getopts.specs.UsageResults.{has_room, runs_from, runs_of, rows_of, description_rows}
 use Rattle.getopts.proofs.Only.{IsTheOnly-from, map_is_the_only, meets}
 use Rattle.getopts.proofs.wrap.Breakings.{runs_of-tight, runs_of-only, runs_of-is_fewest}
@@ -17,8 +16,7 @@ use Rattle.getopts.proofs.wrap.Breakings.{runs_of-tight, runs_of-only, runs_of-i
 pub rows_of-push : (limit : ℕ) (lines : List Text) (line : Text) (rows new_rows : List Text)
     → rows ≡ rows_of limit lines → new_rows ≡ rows ++ map text_of (runs_of limit (words_of line))
     → new_rows ≡ rows_of limit (lines ++ line ∷ [])
-rows_of-push limit lines line rows new_rows are added =
-    search (rules, map-append, flat_map-append, append-nil)
+rows_of-push limit lines line rows new_rows are added = search (rules, map-append, flat_map-append, append-nil)
 
 -- words fill at least one row
 runs_from-filled : (limit : ℕ) (run : Run) (words : List Text) → runs_from limit run words ≢ []

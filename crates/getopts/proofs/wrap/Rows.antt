@@ -1,6 +1,6 @@
 -- The rows of a line, while they are filled word after word.
-use Rattle.std.proofs.Common.{◌≡◌, ℕ, ◌+◌, ◌<◌, ◌≤◌, false, List, [], ◌∷◌, ◌++◌, length, map, refl}
-use Rattle.std.proofs.Common.{sym, ap, append_assoc, append-nil, arith, length-append, rules}
+use Rattle.std.proofs.Common.{◌≡◌, ℕ, ◌+◌, ◌<◌, ◌≤◌, false, List, [], ◌∷◌, ◌++◌, length, map, refl, sym, ap}
+use Rattle.std.proofs.Common.{append_assoc, append-nil, arith, length-append, rules}
 use Rattle.std.specs.Str.{IsUtf8}
 use Rattle.std.proofs.lemmas.Bool.{le-leb, lt-leb}
 use Rattle.std.proofs.lemmas.List.Sums.{sum_by-append, sum_by-cons}
@@ -58,8 +58,7 @@ module _ {limit : ℕ} {line : Text} {before rows : List Text} {row : Text} {col
   -- a word that fits joins the current row
   pub rows_take : columns + (1 + width_of word) ≤ limit
       → RowsSoFar limit line before rows ((row ++ 32 ∷ []) ++ word) (columns + (1 + width_of word)) after
-  rows_take fits =
-      search (rules, columns_of-push, le-leb, length-append, text_of-push, runs_from-taken)
+  rows_take fits = search (rules, columns_of-push, le-leb, length-append, text_of-push, runs_from-taken)
 
   -- a word that doesn't fit ends the current row and begins a new one
   pub rows_end : limit < columns + (1 + width_of word)

@@ -1,6 +1,5 @@
 -- The words of a line, one after the other, as `split_whitespace` returns them.
-use Rattle.std.proofs.Common.{◌≡◌, ◌≢◌, ℕ, ◌<◌, Bool, true, false, List, [], ◌∷◌, ◌++◌, length, Some}
-use Rattle.std.proofs.Common.{sym, refl, ap, ◌∙◌, subst, append_assoc, append-nil, arith, rules}
+use Rattle.std.proofs.Common.{◌≡◌, ◌≢◌, ℕ, ◌<◌, Bool, false, List, [], ◌∷◌, ◌++◌, length, Some, sym, refl, ap, ◌∙◌, subst, append_assoc, append-nil, arith, rules}
 use Rattle.std.specs.Prelude.{nat_lt, filter, chars, encode_utf8, encode_utf8_all, not}
 use Rattle.std.specs.Borrow.{Bor}
 use Rattle.std.specs.Char.{is_whitespace, is_not_whitespace}
@@ -13,6 +12,7 @@ use Rattle.std.proofs.lemmas.List.Elements.{All-nil, All-cons}
 use Rattle.std.proofs.lemmas.List.Splits.{slice_split-cons_yes, slice_split_none, slice_split_at}
 use Rattle.std.proofs.lemmas.Str.{IsUtf8-past_char, chars_past_char, chars-nil}
 use Rattle.getopts.specs.Wrap.{words_of}
+use Rattle.std.proofs.lemmas.Grind.{common_steps}
 
 -- the nonempty parts between the characters that pass
 abbrev pub parts_by : (ℕ → Bool) → List ℕ → List (List ℕ)
@@ -22,27 +22,15 @@ parts_by p cs = filter (λ part. nat_lt 0 (length part)) (slice_split p cs)
 parts_by-gap : (p : ℕ → Bool) (gap cs : List ℕ) → NonePass (λ c. not (p c)) gap
     → parts_by p (gap ++ cs) ≡ parts_by p cs
 parts_by-gap p [] cs none = refl
-parts_by-gap p (c ∷ gap) cs none =
-    search (rules, slice_split-cons_yes, not-false, parts_by-gap p gap cs none.1)
+parts_by-gap p (c ∷ gap) cs none = search (rules, slice_split-cons_yes, not-false, parts_by-gap p gap cs none.1)
 
 all_from_none : (p : ℕ → Bool) (cs : List ℕ) → NonePass p cs → All (λ c. p c ≡ false) cs
 all_from_none p [] none = All-nil (λ c. p c ≡ false)
 all_from_none p (c ∷ cs) none = All-cons (λ c. p c ≡ false) c cs none.0 (all_from_none p cs none.1)
 
 nonempty : (part : List ℕ) (parts : List (List ℕ)) → 0 < length part
-    → filter (λ part. nat_lt 0 (length part)) (part ∷ parts)
-    ≡ part ∷ filter (λ part. nat_lt 0 (length part)) parts
+    → filter (λ part. nat_lt 0 (length part)) (part ∷ parts) ≡ part ∷ filter (λ part. nat_lt 0 (length part)) parts
 nonempty part parts not_empty = search (rules, cond-true, lt-ltb)
-
--- a part at the end, or before a character that passes, is the first part
-parts_by-last : (p : ℕ → Bool) (part : List ℕ) → 0 < length part → NonePass p part
-    → parts_by p part ≡ part ∷ []
-parts_by-last p part not_empty none = search (rules, slice_split_none, all_from_none, nonempty)
-
-parts_by-first : (p : ℕ → Bool) (part : List ℕ) (c : ℕ) (cs : List ℕ) → 0 < length part
-    → NonePass p part → p c ≡ true → parts_by p (part ++ c ∷ cs) ≡ part ∷ parts_by p (c ∷ cs)
-parts_by-first p part c cs not_empty none passes =
-    search (rules, slice_split_at, all_from_none, nonempty, slice_split-cons_yes)
 
 -- ---- a text that begins with the text of given characters
 
@@ -55,8 +43,7 @@ past_chars (c ∷ front) bs rest utf8 e =
     (IsUtf8-past_char bs (encode_utf8_all front ++ rest) c utf8 split) refl in search (rules, chars_past_char)
 
 some_chars : (cs : List ℕ) → 0 < length (encode_utf8_all cs) → 0 < length cs
-some_chars [] not_empty = not_empty
-some_chars (c ∷ cs) not_empty = omega arith
+some_chars cs not_empty = grind (arith, common_steps)
 
 -- ---- the two results of `next`
 
@@ -65,11 +52,17 @@ parts_by-next : (part rest more : List ℕ) → IsUtf8 rest → 0 < length part
     → NonePass is_whitespace part → EmptyOrStartsWithPassing is_whitespace rest more
     → parts_by is_whitespace (part ++ chars rest) ≡ part ∷ parts_by is_whitespace (chars rest)
 parts_by-next part [] more utf8 not_empty solid next =
-    simp (chars-nil, append-nil) (parts_by-last is_whitespace part not_empty solid)
+    simp (chars-nil, append-nil) (search (rules, slice_split_none, all_from_none, nonempty))
 parts_by-next part (b ∷ rest) more utf8 not_empty solid next =
     let white = next (omega arith) in
-    let begins : chars (b ∷ rest) ≡ white.0 ∷ chars more =
-    chars_past_char (b ∷ rest) more white.0 utf8 white.2 in search (rules, parts_by-first)
+    search (
+      rules,
+      chars_past_char (b ∷ rest) more white.0 utf8 white.2,
+      slice_split_at,
+      all_from_none,
+      nonempty,
+      slice_split-cons_yes,
+    )
 
 -- no words are left
 pub words_of-none : (bs : List ℕ) → IsUtf8 bs → NoCharPasses is_not_whitespace bs → words_of bs ≡ []

@@ -1,5 +1,5 @@
 -- Each occurrence is tested, up to one that fails.
-use Rattle.std.proofs.Common.{rules, ◌<◌, ◌∷◌, [], not, take, refl, sym, ap, ◌∙◌, arith}
+use Rattle.std.proofs.Common.{rules, ◌∷◌, [], not, take, refl, sym, ap, ◌∙◌}
 use Rattle.std.proofs.lemmas.List.{take_all}
 use Rattle.std.proofs.lemmas.List.Folds.{list_all-append, list_all_at}
 use Rattle.std.proofs.lemmas.List.Sums.{list_all-from_AllPass}
@@ -16,9 +16,7 @@ returns-then-not-declare_equals c = sym (list_all-from_AllPass _ c.args.found.no
     (λ k o within. ap not (c.declare_equals.ensures (search rules) _)))
 
 pub main-requires : goal.main-requires
-main-requires c =
-    AllByRecursion-at (λ (o : Occurrence). o.mention.group < _) c.args.found.now c.loop-place.place _
-    c.requires c.at.ensures
+main-requires c = search (rules, AllByRecursion-at)
 
 -- the test of the occurrence at the place
 pub returns-then-holds_equals : goal.returns-then-holds_equals
@@ -40,6 +38,4 @@ loop-place-preserved c =
     ∙ rw (c.loop-place.invariant, ← c.main.ensures, ← c.holds_equals.ensures, c.if-holds_equals.false) refl
 
 pub returns : goal.returns
-returns c =
-    sym (sym (ap (list_all (λ o. not (holds_equals (main_at c.args.groups.now o.mention.group))))
-    (take_all c.loop-place.place c.args.found.now (omega arith))) ∙ c.loop-place.invariant)
+returns c = search (rules, take_all)

@@ -1,5 +1,5 @@
 -- One more occurrence has its word.
-use Rattle.std.proofs.Common.{◌≡◌, ◌<◌, ◌++◌, ◌∷◌, [], length, map, take, sym, ap, ◌∙◌}
+use Rattle.std.proofs.Common.{◌≡◌, ◌++◌, ◌∷◌, [], map, take, sym, ap, ◌∙◌, rules}
 use Rattle.std.proofs.lemmas.List.{map-append}
 use Rattle.std.specs.Option.{option_copied}
 use Rattle.std.specs.String.{string_bytes}
@@ -10,9 +10,7 @@ use Rattle.getopts.proofs.Lists.{map-take_more, AllByRecursion-at}
 use Rattle.getopts.proofs.canon.option_words.Goals as goal
 
 pub main-requires : goal.main-requires
-main-requires c =
-    AllByRecursion-at (λ (o : Occurrence). o.mention.group < length c.args.groups.now)
-    c.args.found.now c.loop-place.place _ c.requires c.at-occurrence.ensures
+main-requires c = search (rules, AllByRecursion-at)
 
 pub loop-place-preserved : goal.loop-place-preserved
 loop-place-preserved c =

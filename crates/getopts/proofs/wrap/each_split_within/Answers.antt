@@ -31,8 +31,7 @@ returns-in_err-push_line-clause-absent c none =
     cc (c.in_err-push_line.ensures.absent (rows_of-none c.args.lim _ _ _ turn.0 turn.1 none))
 
 -- the lines from `split` are all the lines
-computed : (c : goal.In-None)
-    → map string_bytes c.loop-line.rows.items ≡ description_rows c.args.lim c.args.desc.now
+computed : (c : goal.In-None) → map string_bytes c.loop-line.rows.items ≡ description_rows c.args.lim c.args.desc.now
 computed c =
     let start = c.into_iter-line-iterator.ensures.into_iter_gives in
     let split = c.split-line-items.ensures in

@@ -1,6 +1,6 @@
-use Rattle.std.proofs.Common.{Some, ap, string_bytes, sym, ◌∙◌}
+use Rattle.std.proofs.Common.{Some, ap, string_bytes, sym, ◌∙◌, rules}
 use Rattle.std.specs.Option.{option_map}
-use Rattle.getopts_shell.specs.Program.{alone_line, done}
+use Rattle.getopts_shell.specs.Program.{done}
 use Rattle.getopts_shell.specs.Stored.{asked_of, entries_of, entry_of_row}
 use Rattle.getopts_shell.proofs.Asked.{asked_own}
 use Rattle.getopts_shell.proofs.Chosen.{at_none, at_some}
@@ -28,8 +28,4 @@ returns-in_ok-code-in-Some c =
     })
 
 pub returns-in_ok-alone_line-in-None : goal.returns-in_ok-alone_line-in-None
-returns-in_ok-alone_line-in-None c =
-    at_none _ _ (ap (option_map string_bytes) c.in-None.is) (
-      sets_words (alone_line (entry_of_row c.args.row)) c.in_ok-alone_line-in-None.ensures.words,
-      c.done-in-None.ensures ∙ ap done c.in_ok-alone_line-in-None.ensures.text,
-    )
+returns-in_ok-alone_line-in-None c = search (rules, at_none, string_bytes, sets_words)

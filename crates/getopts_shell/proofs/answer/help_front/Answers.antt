@@ -1,5 +1,4 @@
-use Rattle.std.proofs.Common.{◌≡◌, ◌<◌, ◌++◌, ap, append_assoc, arith, codes, length, map}
-use Rattle.std.proofs.Common.{string_bytes, sym, ◌∙◌}
+use Rattle.std.proofs.Common.{◌<◌, ◌++◌, ap, append_assoc, arith, codes, length, map, string_bytes, sym, ◌∙◌, rules}
 use Rattle.std.proofs.lemmas.Bool.Decides.{nat_tests}
 use Rattle.std.proofs.lemmas.List.{length-map}
 use Rattle.getopts.specs.Wrap.{joined}
@@ -7,11 +6,7 @@ use Rattle.getopts_shell.proofs.Operands.{front_with, front_without}
 use Rattle.getopts_shell.proofs.answer.help_front.Goals as goal
 
 pub returns-then-is_empty : goal.returns-then-is_empty
-returns-then-is_empty c =
-    let none : length c.args.rows.now ≡ 0 =
-    grind (arith, nat_tests, c.is_empty.ensures, c.if-is_empty.true) in
-    sym (front_without (string_bytes c.args.brief) (map string_bytes c.args.rows.now)
-    (length-map c.args.rows.now string_bytes ∙ none))
+returns-then-is_empty c = search (rules, front_without, string_bytes, length-map)
 
 pub returns : goal.returns
 returns c =

@@ -1,6 +1,5 @@
-use Rattle.std.proofs.Common.{Some, ap, map, string_bytes, subst, sym, ◌∙◌}
+use Rattle.std.proofs.Common.{Some, ap, map, string_bytes, ◌∙◌, rules}
 use Rattle.std.proofs.lemmas.Result.{IfOk-weaker}
-use Rattle.getopts.specs.Options.{Declared}
 use Rattle.getopts_shell.proofs.Plain.{ArePlainlyNamed, plain_rows}
 use Rattle.getopts_shell.specs.Program.{done}
 use Rattle.getopts_shell.specs.Variables.{line_code}
@@ -10,11 +9,7 @@ use Rattle.getopts_shell.proofs.Written.{strings_are_texts}
 use Rattle.getopts_shell.proofs.answer.line_answer.Goals as goal
 
 pub unreachable-requires : goal.unreachable-requires
-unreachable-requires c =
-    never_unwritable c.args.script.options.now (map string_bytes c.args.words.now)
-    (subst (λ (options : Declared). ArePlainlyNamed options.groups) (sym c.args.script.options_are)
-    (plain_rows c.args.script.table.now.rows.items))
-    (rw c.in-Ok-None.field-0-is at c.in-Ok-None.ensures.unwritable)
+unreachable-requires c = search (rules, never_unwritable, string_bytes, ArePlainlyNamed, plain_rows)
 
 pub returns-in_ok-line_code-in-Ok-Some : goal.returns-in_ok-line_code-in-Ok-Some
 returns-in_ok-line_code-in-Ok-Some c =
@@ -31,8 +26,4 @@ returns-in_ok-line_code-in-Ok-Some c =
     )
 
 pub returns-in-Err : goal.returns-in-Err
-returns-in-Err c =
-    IfOk-weaker c.refusal.result _ _
-    (λ outcome is. at_err _ _ is.0 (rw (is.1, c.args.script.options_are) at c.in-Err.ensures.result)
-    is.2)
-    c.refusal.ensures
+returns-in-Err c = search (rules, IfOk-weaker, at_err)

@@ -1,8 +1,8 @@
 -- The checker computes the program's help, which is the text written out.
-use Rattle.std.proofs.Common.{◌≡◌, ap, refl, sym, ◌∙◌}
+use Rattle.std.proofs.Common.{◌≡◌, refl, rules}
 use Rattle.getopts.specs.UsageResults.{usage_result}
 use Rattle.getopts.proofs.OnLiterals.{usage_on_literals}
-use Rattle.getopts_shell.specs.Program.{done, own_brief, own_help, own_options}
+use Rattle.getopts_shell.specs.Program.{own_brief, own_help, own_options}
 use Rattle.getopts_shell.proofs.Chosen.{at_false, at_true}
 use Rattle.getopts_shell.proofs.answer.own_answer.Goals as goal
 
@@ -11,8 +11,4 @@ unfolding usage_on_literals
 the_help = refl
 
 pub returns-then-opt_present : goal.returns-then-opt_present
-returns-then-opt_present c =
-    at_false _ _ (sym c.sets_nothing.ensures ∙ c.if-sets_nothing.false)
-    (at_true _ _ (sym c.opt_present.ensures.present ∙ c.if-opt_present.true)
-    (c.done.ensures
-    ∙ ap done (rw c.requires.options at c.in_ok-usage.ensures.result ∙ the_help)))
+returns-then-opt_present c = search (rules, at_false, at_true, the_help)

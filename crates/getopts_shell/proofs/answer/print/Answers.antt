@@ -1,8 +1,6 @@
-use Rattle.std.proofs.Common.{◌≡◌, [], ◌++◌, take, drop, refl, sym, ap, subst, ◌∙◌, rules}
-use Rattle.std.proofs.Common.{append-nil, drop_of_length-le}
+use Rattle.std.proofs.Common.{◌≡◌, [], ◌++◌, take, refl, sym, ap, subst, ◌∙◌, rules, append-nil, drop_of_length-le}
 use Rattle.std.specs.Io.KnownBytes.{Appends}
-use Rattle.getopts_shell.proofs.Fronts.{appends_none, appends_kept, appends_more, one_more_piece}
-use Rattle.getopts_shell.proofs.Fronts.{cut_piece, on_ok}
+use Rattle.getopts_shell.proofs.Fronts.{appends_none, appends_kept, appends_more, one_more_piece, cut_piece, on_ok}
 use Rattle.getopts_shell.proofs.answer.print.Goals as goal
 use Rattle.getopts_shell.proofs.answer.print.Goals.{in-Ok, in-Err+else-ne}
 
@@ -17,25 +15,13 @@ returns-then-is_empty-clause-whole g c =
     (appends_kept _ _ _ done appended c.flush.ensures.bytes))
 
 pub returns-then-is_empty-clause-front : goal.returns-then-is_empty-clause-front
-returns-then-is_empty-clause-front g c =
-    let (done, split, appended) = c.loop.invariant in
-    (done, c.loop.rest.now, split, appends_kept _ _ _ done appended c.flush.ensures.bytes)
+returns-then-is_empty-clause-front g c = search (rules, appends_kept)
 
 pub returns-in-Ok-eq0-clause-front : goal.returns-in-Ok-eq0-clause-front
-returns-in-Ok-eq0-clause-front g c =
-    let (done, split, appended) = c.loop.invariant in
-    let rest = c.loop.rest.now in
-    let count = c.in-Ok-eq0.field-0 in (
-      done ++ take count rest,
-      drop count rest,
-      one_more_piece _ done rest count split,
-      appends_more _ _ _ done (take count rest) appended c.in-Ok-eq0.ensures.bytes,
-    )
+returns-in-Ok-eq0-clause-front g c = search (rules, one_more_piece, appends_more)
 
 pub returns-then-ne-clause-front : goal.returns-then-ne-clause-front
-returns-then-ne-clause-front g c =
-    let (done, split, appended) = c.loop.invariant in
-    (done, c.loop.rest.now, split, appends_kept _ _ _ done appended c.in-Err.ensures.bytes)
+returns-then-ne-clause-front g c = search (rules, appends_kept)
 
 pub loop-preserved : goal.loop-preserved
 loop-preserved g c =
@@ -56,6 +42,4 @@ loop-preserved g c =
     ]
 
 pub returns-clause-front : goal.returns-clause-front
-returns-clause-front g c =
-    let (done, split, appended) = c.loop.invariant in
-    (done, c.loop.rest.now, split, appended)
+returns-clause-front g c = search rules

@@ -7,8 +7,7 @@ use Rattle.std.proofs.lemmas.Iterator.Search.{position_from_yields_List}
 use Rattle.std.proofs.lemmas.List.Sums.{prefix_len-le-length}
 use Rattle.getopts_shell.proofs.item.place_of.Goals as goal
 
-place_or_end : (place end : ℕ) → place ≤ end
-    → unwrap_or (cond (nat_lt place end) (Some place) None) end ≡ place
+place_or_end : (place end : ℕ) → place ≤ end → unwrap_or (cond (nat_lt place end) (Some place) None) end ≡ place
 place_or_end place end within = grind (arith, nat_tests)
 
 pub returns-clause-place : goal.returns-clause-place

@@ -9,8 +9,7 @@ abbrev Reasons : Type 0
 Reasons = List (Bool × Text)
 
 -- the same condition, before the same reasons
-same : (claim other : Bool) (reason : Text) (reasons others : Reasons) → claim ≡ other → reasons
-    ≡ others
+same : (claim other : Bool) (reason : Text) (reasons others : Reasons) → claim ≡ other → reasons ≡ others
     → (claim, reason) ∷ reasons ≡ (other, reason) ∷ others
 same claim other reason reasons others is rest = cc
 

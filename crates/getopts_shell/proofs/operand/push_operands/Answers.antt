@@ -1,7 +1,6 @@
-use Rattle.std.proofs.Common.{◌++◌, ap, arith, string_bytes, ◌∙◌, codes, get_or}
+use Rattle.std.proofs.Common.{◌++◌, ap, arith, string_bytes, ◌∙◌, codes, get_or, rules}
 use Rattle.std.proofs.lemmas.Bool.Decides.{nat_tests}
 use Rattle.std.proofs.lemmas.List.{take_all}
-use Rattle.getopts_shell.specs.Program.{continued}
 use Rattle.getopts_shell.proofs.Operands.{items_of, items_push, no_operand}
 use Rattle.getopts_shell.proofs.operand.push_operands.Goals as goal
 
@@ -18,7 +17,4 @@ loop-operand-preserved c = (
 )
 
 pub returns : goal.returns
-returns c =
-    c.loop-operand.invariant.1
-    ∙ ap (λ operands. string_bytes c.args.text.now ++ continued c.args.begun (codes " ")
-    (items_of operands)) (take_all _ c.args.operands.now (omega (arith, c.loop-operand-test.false)))
+returns c = search (rules, string_bytes, codes, items_of, take_all)

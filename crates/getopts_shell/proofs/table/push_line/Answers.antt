@@ -1,11 +1,11 @@
-use Rattle.std.proofs.Common.{◌≡◌, None, Some, ap, sym, ◌∙◌}
+use Rattle.std.proofs.Common.{◌≡◌, None, Some, ap, sym, ◌∙◌, rules}
 use Rattle.std.specs.Prelude.{IfSome}
 use Rattle.std.proofs.lemmas.Result.{IfErr-weaker}
 use Rattle.getopts_shell.specs.Stored.{entry_of_row, operands_of}
 use Rattle.getopts_shell.specs.Table.{conflicting_operand, late, operand_at, trimmed, twice}
 use Rattle.getopts_shell.proofs.Fronts.{on_ok}
-use Rattle.getopts_shell.proofs.Lines.{declares_entry, declares_operand, faulty_line, no_operand_at}
-use Rattle.getopts_shell.proofs.Lines.{ok_of_both, tells_weaker}
+use Rattle.getopts_shell.proofs.Lines.{declares_entry, declares_operand, faulty_line, no_operand_at, ok_of_both}
+use Rattle.getopts_shell.proofs.Lines.{tells_weaker}
 use Rattle.getopts_shell.proofs.table.push_line.Goals as goal
 
 pub returns-then-is_operand-clause-fault : goal.returns-then-is_operand-clause-fault
@@ -57,8 +57,4 @@ returns-in-Some-clause-fault c =
     c.push_row.ensures.fault
 
 pub returns-in-None-clause-fault : goal.returns-in-None-clause-fault
-returns-in-None-clause-fault c =
-    faulty_line c.args.line.now c.trimmed-line.result.now _ c.args.number _ _
-    c.trimmed-line.ensures (sym c.declares_nothing.ensures ∙ c.if-declares_nothing.false)
-    (c.trimmed-item.ensures ∙ ap trimmed c.cut_at_gap.ensures.before)
-    (sym c.is_operand.ensures ∙ c.if-is_operand.false) c.in-None.ensures.option
+returns-in-None-clause-fault c = search (rules, faulty_line)

@@ -5,8 +5,7 @@ use Rattle.getopts_shell.proofs.Assignments.{fault_from}
 use Rattle.getopts_shell.proofs.variables.variable_error.Goals as goal
 
 pub returns-then-not-is_prefix : goal.returns-then-not-is_prefix
-returns-then-not-is_prefix c = let begins =
-    sym c.is_prefix.ensures ∙ c.if-not-is_prefix.true in rw begins refl
+returns-then-not-is_prefix c = let begins = sym c.is_prefix.ensures ∙ c.if-not-is_prefix.true in rw begins refl
 
 pub returns-in-Some : goal.returns-in-Some
 returns-in-Some c =

@@ -1,7 +1,6 @@
-use Rattle.std.proofs.Common.{ap, append-nil, take, ◌∙◌}
+use Rattle.std.proofs.Common.{append-nil, take, ◌∙◌, rules}
 use Rattle.std.proofs.lemmas.List.Concat.{flat_map-append}
 use Rattle.std.proofs.Permutation.{every_append}
-use Rattle.getopts.specs.Matches.{Matched}
 use Rattle.getopts_shell.specs.Stored.{entries_of}
 use Rattle.getopts_shell.specs.Variables.{AreTextValues, Given, given_from, holds_all}
 use Rattle.getopts_shell.proofs.Assignments.{given_more}
@@ -26,6 +25,4 @@ loop-place-preserved c =
     )
 
 pub returns-clause-free : goal.returns-clause-free
-returns-clause-free c =
-    rw (← ap (λ (matches : Matched). matches.free) c.matches.view_is)
-    (strings_are_texts c.matches.inside.free.items)
+returns-clause-free c = search (rules, strings_are_texts)

@@ -1,5 +1,5 @@
 -- A group's ends say where its hint and description are.
-use Rattle.std.proofs.Common.{◌≡◌, Some, slice_get, refl, sym, ap, ◌∙◌, arith}
+use Rattle.std.proofs.Common.{◌≡◌, Some, slice_get, refl, sym, ap, ◌∙◌, arith, rules}
 use Rattle.std.proofs.lemmas.Option.{slice_get-map, slice_get_read}
 use Rattle.std.specs.Option.{option_map}
 use Rattle.std.specs.String.{string_bytes}
@@ -12,23 +12,18 @@ use Rattle.getopts.proofs.groups.Groups.get.Goals.{After-index-pair}
 
 pub index-pair-requires : goal.index-pair-requires
 index-pair-requires c =
-    let many = (signatures_stored c.self.inside c.args.self.now c.self.invariant c.self.view_is).1 in
-    omega (arith, many, c.requires, c.self.invariant.as_many)
+    search (rules, signatures_stored c.self.inside c.args.self.now c.self.invariant c.self.view_is)
 
 pub get-requires : goal.get-requires
-get-requires c =
-    let many = (signatures_stored c.self.inside c.args.self.now c.self.invariant c.self.view_is).1 in
-    omega (arith, many, c.requires)
+get-requires c = search (rules, signatures_stored c.self.inside c.args.self.now c.self.invariant c.self.view_is)
 
-pair_there : (c : After-index-pair)
-    → slice_get c.self.inside.ends.items c.args.place ≡ Some c.index-pair.result.now
+pair_there : (c : After-index-pair) → slice_get c.self.inside.ends.items c.args.place ≡ Some c.index-pair.result.now
 pair_there c =
     let many = (signatures_stored c.self.inside c.args.self.now c.self.invariant c.self.view_is).1 in
     slice_get_read c.self.inside.ends.items _ c.args.place c.index-pair.result.now refl
     (omega (arith, many, c.requires, c.self.invariant.as_many)) c.index-pair.ensures
 
-ends : (c : After-index-pair)
-    → AreEndsOf (string_bytes c.self.inside.texts) c.index-pair.result.now
+ends : (c : After-index-pair) → AreEndsOf (string_bytes c.self.inside.texts) c.index-pair.result.now
 ends c = AllByRecursion-at _ c.self.inside.ends.items c.args.place c.index-pair.result.now
     c.self.invariant.held (pair_there c)
 

@@ -1,9 +1,7 @@
 -- There are as many ends as groups.
-use Rattle.std.proofs.Common.{arith}
+use Rattle.std.proofs.Common.{rules}
 use Rattle.getopts.proofs.Stored.Signatures.{signatures_stored}
 use Rattle.getopts.proofs.groups.Groups.len.Goals as goal
 
 pub returns : goal.returns
-returns c =
-    let many = (signatures_stored c.self.inside c.args.self.now c.self.invariant c.self.view_is).1 in
-    omega (arith, many, c.self.invariant.as_many, c.len.ensures)
+returns c = search (rules, signatures_stored c.self.inside c.args.self.now c.self.invariant c.self.view_is)

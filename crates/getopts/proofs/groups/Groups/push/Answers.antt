@@ -1,6 +1,6 @@
 -- The appended group has its signature, and its texts at the end of the common text.
-use Rattle.std.proofs.Common.{◌≡◌, ◌+◌, List, [], ◌∷◌, ◌++◌, map, length, ap, ◌∙◌, sym, arith, refl}
-use Rattle.std.proofs.Common.{length-append}
+use Rattle.std.proofs.Common.{◌≡◌, ◌+◌, List, [], ◌∷◌, ◌++◌, map, length, ap, ◌∙◌, sym, arith, refl, length-append}
+use Rattle.std.proofs.Common.{rules}
 use Rattle.std.proofs.lemmas.Grind.{common_steps}
 use Rattle.std.proofs.lemmas.List.{length-map}
 use Rattle.std.proofs.lemmas.Str.{IsUtf8-append}
@@ -9,7 +9,6 @@ use Rattle.std.specs.String.{string_bytes}
 use Rattle.getopts.specs.Names.{Text}
 use Rattle.getopts.specs.Options.{Signature}
 use Rattle.getopts.specs.Stored.Signatures.{signature_with, pair_at, AreEndsOf, IsLawfulSignature}
-use Rattle.getopts.specs.Stored.Groups.{group_with, groups_with}
 use Rattle.getopts.specs.declared.signatures.PairEnds.{PairEnds}
 use Rattle.std.proofs.Permutation.{every_append}
 use Rattle.getopts.proofs.Stored.Signatures.{groups_with-push, twos-push}
@@ -17,13 +16,12 @@ use Rattle.getopts.proofs.groups.Groups.push.Goals as goal
 
 items : (c : goal.After-push_reserved)
     → c.push_reserved.new.self.items ≡ c.self.inside.ends.items ++ c.push_pair-pair.result ∷ []
-items c = c.push_reserved.ensures.items
-    ∙ ap (λ (ends : List PairEnds). ends ++ c.push_pair-pair.result ∷ []) (elim c.if-is_empty.branch [
-      | goal.then-is_empty+in_ok-reserve+in_ok-reserve-2 w ↦
-          rw w.self-inside-is w.in_ok-reserve.ensures.items
-      | goal.else-is_empty+in_ok-reserve-3+in_ok-reserve-4 w ↦
-          rw w.self-inside-is w.in_ok-reserve-3.ensures.items
-    ])
+items c =
+    search (
+      rules,
+      goal.then-is_empty+in_ok-reserve+in_ok-reserve-2,
+      goal.else-is_empty+in_ok-reserve-3+in_ok-reserve-4,
+    )
 
 -- the added signature
 abbrev added : goal.After-push_reserved → Signature
@@ -67,13 +65,4 @@ invariant_of-self-2 c = record {
 }
 
 pub returns-clause-ok : goal.returns-clause-ok
-returns-clause-ok c =
-    let signature = signature_with c.args.kinds c.args.short.now c.args.long.now in
-    let twos = map (pair_at (string_bytes c.self.inside.texts)) c.self.inside.ends.items in
-    let as_many = length-map c.self.inside.ends.items (pair_at (string_bytes c.self.inside.texts))
-    ∙ c.self.invariant.as_many in
-    (λ k. groups_with (signatures c k) ((pushed c).1 k))
-    ∙ groups_with-push signature (c.args.hint.now, c.args.desc.now) c.self.inside.signatures twos
-    as_many
-    ∙ ap (λ groups. groups ++ group_with signature (c.args.hint.now, c.args.desc.now) ∷ [])
-    c.self.view_is
+returns-clause-ok c = search (rules, length-map, signatures, pushed, groups_with-push)

@@ -53,8 +53,7 @@ returns-else-are_plain-clause-laws g c = KeepsLineLaws-lawful _ c.in_ok-accepted
 
 pub returns-in_ok-canonical_line-clause-read_again : goal.returns-in_ok-canonical_line-clause-read_again
 returns-in_ok-canonical_line-clause-read_again g c =
-    LinesReadAgain_lem _ c.in_ok-accepted.ensures.declared
-    (returns-in_ok-canonical_line-clause-laws g c)
+    search (rules, LinesReadAgain_lem, returns-in_ok-canonical_line-clause-laws)
 
 pub returns-else-are_plain-clause-read_again : goal.returns-else-are_plain-clause-read_again
 returns-else-are_plain-clause-read_again g c =

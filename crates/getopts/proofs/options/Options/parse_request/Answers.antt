@@ -1,6 +1,6 @@
 -- If nothing is requested, matches that keep the counts are the result of parsing, and otherwise
 -- their count error is.
-use Rattle.std.proofs.Common.{rules, refl, sym, ◌∙◌}
+use Rattle.std.proofs.Common.{rules}
 use Rattle.getopts.proofs.MainTheorem.Counted.{parse_result-broken, parse_result-kept}
 use Rattle.getopts.proofs.MainTheorem.Results.{is_accepted, is_refused, unread_refused}
 use Rattle.getopts.proofs.Weaker.{IsOutOfMemoryOr-exit}
@@ -12,8 +12,7 @@ returns-in_err-matches-clause-refused g c = search (rules, unread_refused)
 
 pub returns-in_err-check_all-clause-result : goal.returns-in_err-check_all-clause-result
 returns-in_err-check_all-clause-result g c =
-    let error = parse_result-broken _ _ _ c.in_ok-matches.ensures.result _ c.in_err-check_all.ensures.err in
-    search rules
+    search (rules, parse_result-broken _ _ _ c.in_ok-matches.ensures.result _ c.in_err-check_all.ensures.err)
 
 pub returns-in_err-check_all-clause-refused : goal.returns-in_err-check_all-clause-refused
 returns-in_err-check_all-clause-refused g c =
@@ -27,18 +26,10 @@ returns-clause-parsed g c =
     parse_result-kept _ _ _ c.in_ok-matches.ensures.result c.in_ok-check_all.ensures.ok
 
 pub returns-clause-result : goal.returns-clause-result
-returns-clause-result g c =
-    rw (
-      c.in_ok-matches.ensures.result,
-      sym c.has.ensures ∙ c.if-has.false,
-      sym c.has-2.ensures ∙ c.if-has-2.false,
-      returns-clause-parsed g c,
-    ) refl
+returns-clause-result g c = search (rules, returns-clause-parsed)
 
 pub returns-clause-accepted : goal.returns-clause-accepted
-returns-clause-accepted g c =
-    let read = c.in_ok-matches.ensures in
-    is_accepted _ _ _ (returns-clause-parsed g c) read.declared read.texts
+returns-clause-accepted g c = search (rules, is_accepted, returns-clause-parsed)
 
 pub returns-clause-declared : goal.returns-clause-declared
 returns-clause-declared g c = FitOptionsAndCounts-accepted _ _ _ (returns-clause-accepted g c).accepted

@@ -12,8 +12,7 @@ returns-in_err-read-clause-refused g c = search (rules, unread_refused)
 
 pub returns-in_err-check_all-clause-result : goal.returns-in_err-check_all-clause-result
 returns-in_err-check_all-clause-result g c =
-    let error = parse_result-broken _ _ _ c.in_ok-read.ensures.result _ c.in_err-check_all.ensures.err in
-    search rules
+    search (rules, parse_result-broken _ _ _ c.in_ok-read.ensures.result _ c.in_err-check_all.ensures.err)
 
 pub returns-in_err-check_all-clause-refused : goal.returns-in_err-check_all-clause-refused
 returns-in_err-check_all-clause-refused g c =
@@ -31,9 +30,7 @@ returns-clause-result g c =
     rw (c.in_ok-read.ensures.result, sym c.has.ensures ∙ c.if-has.false, returns-clause-parsed g c) refl
 
 pub returns-clause-accepted : goal.returns-clause-accepted
-returns-clause-accepted g c =
-    let read = c.in_ok-read.ensures in
-    is_accepted _ _ _ (returns-clause-parsed g c) read.declared read.texts
+returns-clause-accepted g c = search (rules, is_accepted, returns-clause-parsed)
 
 pub returns-clause-declared : goal.returns-clause-declared
 returns-clause-declared g c = FitOptionsAndCounts-accepted _ _ _ (returns-clause-accepted g c).accepted

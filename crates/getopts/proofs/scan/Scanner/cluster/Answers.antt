@@ -1,6 +1,5 @@
 -- Each name of a cluster is a flag, ends it, or is an error.
 use Rattle.std.proofs.Common.{◌+◌, take, slice_index, sym, ◌∙◌, ap, arith, None, Some, rules}
-use Rattle.std.specs.Option.{option_copied}
 use Rattle.std.specs.Str.{IsCharBoundary}
 use Rattle.std.proofs.lemmas.Str.{IsCharBoundary-after_ascii}
 use Rattle.getopts.specs.Fail.{unrecognized_option}
@@ -41,15 +40,7 @@ pub range_from-requires-in-Some : goal.range_from-requires-in-Some
 range_from-requires-in-Some g c = λ _. after g (goal.at.range_from-requires-in-Some g c).In-Some
 
 pub returns-in-Some-clause-ok : goal.returns-in-Some-clause-ok
-returns-in-Some-clause-ok g c =
-    let option = rw c.as_bytes.ensures.value at c.in-Some.ensures.option in
-    let name = c.range-name.ensures.value
-    ∙ slice_range-one c.args.text.now c.names.at (omega arith) in
-    Clusters.AddsItem-ends (omega arith) c.names.invariant c.in-Some.field-0.place c.in-Some.field-0.kind
-    (option_copied c.in_ok-argument-in-Some.argument.value) c.in_ok-argument-in-Some.argument.used _ option.place
-    (search rules) option.kind
-    (rw (name, c.range_from-in-Some.ensures.value) at c.in_ok-argument-in-Some.ensures.ok)
-    c.in_ok-push-in-Some.ensures
+returns-in-Some-clause-ok g c = search (rules, slice_range-one, Clusters.AddsItem-ends)
 
 pub returns-in_err-argument-in-Some-clause-err : goal.returns-in_err-argument-in-Some-clause-err
 returns-in_err-argument-in-Some-clause-err g c =

@@ -1,26 +1,19 @@
 -- Each iteration reads one more item, and each exit has the outcome of `read`.
-use Rattle.std.proofs.Common.{refl, map, ◌≡◌, length, sym, ap, ◌∙◌, arith, rules}
+use Rattle.std.proofs.Common.{refl, map, ◌≡◌, length, sym, ◌∙◌, rules}
 use Rattle.std.specs.String.{string_bytes}
 use Rattle.std.proofs.lemmas.List.{drop-map, append-nil, drop_all, length-map, take_rest}
-use Rattle.getopts.specs.Reading.{line_end, stop, rest}
-use Rattle.getopts.specs.Stored.Scan.{scanner_grammar}
+use Rattle.getopts.specs.Reading.{stop, rest}
 use Rattle.getopts.specs.declared.kinds.ParsingStyle.TheVariants.{FloatingFrees, StopAtFirstFree}
 use Rattle.getopts.proofs.Reading.Reader.{read}
 use Rattle.getopts.proofs.Reading.Readings.{read_nil}
 use Rattle.getopts.proofs.Reading.Steps.{step_long, step_short}
-use Rattle.getopts.proofs.scan.Loop.{GivesLine-tail, ReadSoFar-free, ReadSoFar-added, read-rest}
-use Rattle.getopts.proofs.scan.Loop.{read-stop, read-fault, texts_from, trailing_after-stop}
+use Rattle.getopts.proofs.scan.Loop.{GivesLine-tail, ReadSoFar-free, ReadSoFar-added, read-rest, read-stop}
+use Rattle.getopts.proofs.scan.Loop.{read-fault, texts_from, trailing_after-stop}
 use Rattle.getopts.proofs.Weaker.{IsOutOfMemoryOr-exit}
 use Rattle.getopts.proofs.scan.Scanner.scan.Goals as goal
 
 pub returns-clause-ok : goal.returns-clause-ok
-returns-clause-ok g c =
-    GivesLine-tail c.items.invariant.read c.items.line line_end
-    (ap (read (scanner_grammar c.args.self.now))
-    (drop_all c.items.at (map g.S.AsStr.text c.args.words.now)
-    (omega (arith, length-map c.args.words.now g.S.AsStr.text)))
-    ∙ read_nil (scanner_grammar c.args.self.now))
-    refl (sym (append-nil _)) c.items.invariant.trailing
+returns-clause-ok g c = search (rules, GivesLine-tail, read, drop_all, length-map, read_nil, append-nil)
 
 pub returns-then-stops-clause-ok : goal.returns-then-stops-clause-ok
 returns-then-stops-clause-ok g c =
