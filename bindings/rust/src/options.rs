@@ -360,8 +360,8 @@ impl Options {
         self.read(args, |options, texts| read_texts(options, texts).map(Matches::of))
     }
 
-    /// Parses a command line like `parse`, and returns its options and positional arguments in the
-    /// order in which they were given. Not in the crate getopts.
+    /// Parses a command line like [`parse`](Self::parse), and returns its options and positional
+    /// arguments in the order in which they were given. Not in the crate getopts.
     ///
     /// Use it if an option applies to the positional arguments after it, or if the order of
     /// different options matters: `opt_positions` can't order options in one word, such as `-vq`.
@@ -383,7 +383,7 @@ impl Options {
     /// ```
     ///
     /// # Errors
-    /// Fails if `parse` would.
+    /// Fails if [`parse`](Self::parse) would.
     pub fn parse_in_order<C: IntoIterator>(
         &self,
         args: C,
@@ -425,7 +425,7 @@ impl Options {
     /// ```
     ///
     /// # Errors
-    /// Fails if `parse` would.
+    /// Fails if [`parse`](Self::parse) would.
     pub fn canonical<C: IntoIterator>(
         &self,
         args: C,

@@ -128,8 +128,8 @@ impl Options {
         self.read_os(args, read_texts, OsMatches::of)
     }
 
-    /// Parses a command line like `parse_os`, and returns its options and positional arguments in
-    /// order, as `parse_in_order` does.
+    /// Parses a command line like [`parse_os`](Self::parse_os), and returns its options and
+    /// positional arguments in order, as [`parse_in_order`](Self::parse_in_order) does.
     ///
     /// ```
     /// use getopts::Given;
@@ -142,7 +142,7 @@ impl Options {
     /// ```
     ///
     /// # Errors
-    /// Fails if `parse_os` would.
+    /// Fails if [`parse_os`](Self::parse_os) would.
     pub fn parse_os_in_order<C: IntoIterator>(
         &self,
         args: C,
