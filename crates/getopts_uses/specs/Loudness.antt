@@ -10,7 +10,7 @@ use Rattle.getopts.specs.declared.kinds.HasArg.TheVariants.{No, Yes}
 use Rattle.getopts.specs.declared.kinds.Occur.TheVariants.{Optional, Multi}
 use Rattle.getopts.specs.declared.kinds.ParsingStyle.TheVariants.{FloatingFrees}
 use Rattle.getopts.specs.declared.request.Request.{Request}
-use Rattle.getopts.specs.declared.request.Request.TheVariants.{Help, Parsed, Version}
+use Rattle.getopts.specs.declared.request.Request.TheVariants.{Help, Parsed}
 use Rattle.getopts_uses.specs.declared.loudness.Loudness.{Loudness}
 use Rattle.getopts_uses.specs.declared.loudness.Loudness.TheVariants.{Normal, Quiet, Verbose}
 use Rattle.getopts_uses.specs.declared.loudness.Report.{Report}
