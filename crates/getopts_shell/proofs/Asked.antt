@@ -1,7 +1,9 @@
 -- The variables that are asked for, and matches if counts are ignored.
-use Rattle.std.proofs.Common.{◌≡◌, ℕ, ◌+◌, List, [], ◌∷◌, Some, None, map, refl, rules}
-use Rattle.getopts.specs.Matches.{MatchedGroup}
+use Rattle.std.proofs.Common.{◌≡◌, ℕ, ◌+◌, List, [], ◌∷◌, Some, None, Ok, map, refl, rules}
+use Rattle.getopts.specs.Matches.{Matched, MatchedGroup}
 use Rattle.getopts.specs.Names.{Text}
+use Rattle.getopts.specs.Options.{Declared}
+use Rattle.getopts.specs.Results.{accepted_reading, parse_result, parse_ignoring_counts_result, reading_or_error}
 use Rattle.getopts_shell.specs.Program.{Asked, asked_fault}
 use Rattle.getopts_shell.specs.Table.{Entry}
 use Rattle.getopts_shell.specs.Variables.{Given, HaveOwnVariables, SetsVariables, given_from}
@@ -24,3 +26,10 @@ pub asked_sets : (asked : Asked) (prefix : Text) (entries : List Entry) (held : 
 asked_sets asked prefix entries held free given none = search (rules, code_sets, given_entries, asked_own)
 
 -- ---- counts
+
+-- words that keep the counts have the same matches if counts are ignored
+pub read_of_parsed : (options : Declared) (words : List Text) (matches : Matched)
+    → parse_result options words ≡ Ok matches
+    → parse_ignoring_counts_result options words ≡ Ok matches
+unfolding reading_or_error accepted_reading
+read_of_parsed options words matches is = search rules

@@ -11,7 +11,6 @@ use Rattle.getopts.specs.declared.kinds.HasArg.{HasArg}
 use Rattle.getopts.specs.Wrap.{lines_of}
 use Rattle.getopts_shell.specs.Stored.{IsOutOfMemoryOrFault}
 use Rattle.getopts_shell.specs.declared.table.TableError.{TableError}
-use Rattle.getopts_shell.specs.declared.table.TableError.TheVariants as error
 use Rattle.std.specs.Str.{IsTrimAscii}
 use Rattle.std.proofs.lemmas.Str.Ascii.{trim_ascii_is}
 use Rattle.getopts_shell.specs.Table.{after_blanks, trimmed, before_gap, from_gap, Entry, declares_no_option, IsItem}
