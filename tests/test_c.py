@@ -11,6 +11,7 @@ import subprocess
 import textwrap
 import time
 
+import laws
 import model
 import pytest
 import texts
@@ -142,6 +143,27 @@ def random_case(rng, occurs=model.OCCURS):
     return 16 * rng.randrange(32), rng.choice([0, 30, 60, 2**32 - 1]), rows, wrong, words
 
 
+def random_texts(rng, rows):
+    """Replaces the descriptions by longer ones, and returns a number of columns."""
+    for row in rows:
+        row[3] = "".join(rng.choices(["a ", "four ", "sevens7 ", "elevenchars ", "\n"], [9, 9, 9, 9, 1], k=rng.randrange(40)))
+    return rng.randrange(100)
+
+
+def random_line(rng, rows):
+    """Words of which most can be read."""
+    flags = [row[0] for row in rows if row[0] and row[4] % 4 == 0] or [""]
+    for _ in range(rng.randrange(8)):
+        (short, long, _, _, kind), value = rng.choice(rows), rng.choice(["x", "x", "-7", "a=b", "é", " ", ""])
+        if rng.random() < 0.2:
+            yield rng.choice([value, "", "-", "--"])
+        elif long and (not short or rng.random() < 0.4):
+            yield f"--{long}" + (f"={value}" if kind % 4 == 1 or kind % 4 == 2 and rng.random() < 0.7 else "")
+        else:
+            yield f"-{''.join(rng.choices(flags, k=rng.randrange(3)))}{short}" + (value if kind % 4 == 2 else "")
+            yield from [value] if kind % 4 == 1 else []
+
+
 def in_bytes(text):
     return (text or "").encode(errors="surrogateescape")
 
@@ -250,6 +272,47 @@ def test_answers_match_model(build, cases, tmp_path):
             fits = got.startswith if str(answer).startswith("b'table[") else got.__eq__
             assert answer is ... or fits(said(answer)), (case, nth, answer, got)
     assert [*printed] == [b""]
+
+
+def reads_of(cases, printed):
+    """What answers.c prints for cases, as laws.py needs it."""
+    texts = iter(None if text == b"-" else text[1:] for text in printed.split(b"\0"))
+    for case in cases:
+        message, given, order = next(texts), {}, []
+        names = [name for row in case.rows for name in row[:2] if name]
+        _, status, _, _ = [next(texts) for _ in names], *(next(texts) for _ in range(3))
+        for name in names:
+            _, count = next(texts), int(next(texts))
+            values = [next(texts) for _ in range(count + 1)][:-1]
+            given[name] = [(int(next(texts)), next(texts), next(texts), next(texts))[:2] for _ in range(count + 2)][:count]
+            assert message == b"" and values == [value for _, value in given[name]], case
+        while int(row := next(texts)) >= 0:
+            order.append((None if int(row) == FREE_WORD else int(row), next(texts)))
+        _, count = next(texts), int(next(texts))
+        free, start = [next(texts) for _ in range(count + 1)][:-1], int(next(texts))
+        assert next(texts) == status
+        line = [*iter(functools.partial(next, texts), None)]
+        usage, usage_in, _ = (next(texts) for _ in range(3))
+        yield laws.Read(status == b"0", order, given, free, None if start < 0 else start, line or None, usage_in, usage)
+
+
+@pytest.mark.parametrize("build", builds("gcc"), indirect=True)
+def test_laws(build, cases):
+    """Laws of what the Rust crate lacks, on random tables and words."""
+    program, rng = build(C / "tests/answers.c"), random.Random(2)
+
+    def ask(chosen):
+        fields = (fields_of(KEEP_ORDER + STOP * case.stop + LONG_ONLY * case.long_only, case.columns, case.rows,
+                            [name for row in case.rows for name in row[:2] if name], case.words) for case in chosen)
+        return reads_of(chosen, subprocess.run(program, input=b"".join(fields), stdout=subprocess.PIPE, check=True).stdout)
+
+    chosen = []
+    for modes, _, rows, wrong, words in (random_case(rng) for _ in range(cases(1000, 3))):
+        columns, words = random_texts(rng, rows), words if wrong is not None or rng.random() < 0.2 else random_line(rng, rows)
+        rows, words = [[*map(in_bytes, row[:4]), row[4]] for row in rows], [*map(in_bytes, words)]
+        if wrong is None:
+            chosen.append(laws.Case(rows, modes & STOP > 0, modes & LONG_ONLY > 0, words, columns))
+    assert laws.check(ask, chosen) > len(chosen)
 
 
 @pytest.mark.parametrize("build", builds("gcc", "clang", "musl"), indirect=True)

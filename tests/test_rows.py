@@ -2,11 +2,15 @@
 
 import functools
 import itertools
+import os
+import random
 import re
 
+import laws
 import pytest
+import test_c
 from conftest import ROOT, ROWS, VECTORS, run
-from model import CALLS, KINDS, OCCURS, answer_rows, parts, rows_of
+from model import CALLS, KINDS, OCCURS, answer_rows, line, parts, rows_of
 
 # Errors, with rows that cause them.
 WRONG = {
@@ -74,6 +78,34 @@ def test_library_matches_stored_rows(vectors):
     status = int((VECTORS / "status").read_text())
     said, _ = run(vectors, *(VECTORS / "args").read_text().split(), status=status, cwd=VECTORS / "data")
     assert said == (VECTORS / "stdout").read_text()
+
+
+def ask_vectors(compare, chosen):
+    """The answers of getopts_vectors to cases: without expected answers, it reports its own."""
+    asked = []
+    for case in chosen:
+        style, mode = "stop" if case.stop else "floating", "long-only" if case.long_only else "ordinary"
+        opts = [("opt", short, long, desc, hint, *kinds) for short, long, hint, desc, *kinds in case.rows]
+        asked += [("case", "random"), ("style", style), ("mode", mode), *opts, *laws.questions(case)]
+    said, _ = compare(b"".join(line(*row) + b"\n" for row in asked), status=1)
+    said = re.sub(rb"\d+ differ\n\Z", b"", os.fsencode(said))
+    said = iter(re.split(rb"^(?:some\.rows: )?line \d+ of random, expected:\nanswered:\n", said, flags=re.M)[1:])
+    for case in chosen:
+        answers = [[parts(one) for one in next(said).splitlines()] for _ in laws.questions(case)]
+        yield laws.read_of(case, [[[word, *fields] for word, fields in answer] for answer in answers])
+
+
+def test_laws(compare, cases):
+    """Laws of what the Rust crate lacks, on random options and words."""
+    rng, chosen = random.Random(3), []
+    for modes, _, rows, wrong, _ in (test_c.random_case(rng) for _ in range(cases(200))):
+        if wrong is None:
+            for row, name in zip(rows, rng.sample(["help", "version", None], 2)):
+                row[1] = name or row[1]
+            columns, words = test_c.random_texts(rng, rows), [*map(test_c.in_bytes, test_c.random_line(rng, rows))]
+            rows = [[*map(test_c.in_bytes, row[:4]), KINDS[row[4] % 4], OCCURS[row[4] // 4]] for row in rows]
+            chosen.append(laws.Case(rows, modes & test_c.STOP > 0, modes & test_c.LONG_ONLY > 0, words, columns))
+    assert laws.check(functools.partial(ask_vectors, compare), chosen) > len(chosen)
 
 
 @pytest.mark.parametrize("error, row", [(error, row) for error, rows in WRONG.items() for row in rows])

@@ -14,6 +14,7 @@ from pathlib import Path
 import model
 import pytest
 import test_c
+import test_rows
 from conftest import LINES, ROOT, ROWS, VECTORS, answer, need_rustfmt, run
 from targets import (REGISTRY, TARGETS, UNWINDS, cargo, cargo_for, commit_repository, copy_folders, need_cargo, offline,
                      passed, runner, rust_minor, shared_folder)
@@ -402,9 +403,28 @@ def ours(reference):
     return reference(RUST, "--features", "canonical")
 
 
+# With this feature, the program calls the proved modules, whose accessors `proved-getopts` doesn't use.
+PROVED = "--features", "proved,getopts/proved"
+
+
+@pytest.fixture(scope="module")
+def proved(reference):
+    return reference(RUST, *PROVED)
+
+
 @pytest.mark.parametrize("rows", ROWS, ids=lambda path: path.stem)
 def test_stored_answers(ours, rows):
     assert ", 0 differ" in run(ours, "check", rows)[0]
+
+
+def test_proved_modules_match_model(proved, tmp_path):
+    (tmp_path / "all.rows").write_bytes(test_rows.written(test_rows.all_rows()))
+    assert run(proved, "check", tmp_path / "all.rows")[0].endswith(" 0 differ, 0 skipped\n")
+
+
+def test_laws(proved, cases):
+    """Laws of the calls that the Rust crate lacks, on random cases."""
+    run(proved, "laws", 7, cases(10_000))
 
 
 def test_build_in_shared_folder(tmp_path):
@@ -438,13 +458,13 @@ def differing(ours, theirs, seed, count):
     return next((pair for pair in itertools.zip_longest(*answers) if pair[0] != pair[1]), None)
 
 
-@pytest.mark.parametrize("flags, seed", [(("--features", "canonical"), 1), (("--no-default-features",), 3)])
+@pytest.mark.parametrize("flags, seed", [(("--features", "canonical"), 1), (("--no-default-features",), 3), (PROVED, 5)])
 def test_random_cases_match_rust_crate(reference, crate, cases, flags, seed):
     without = flags if "--no-default-features" in flags else ()
     ours, theirs = reference(RUST, *flags), reference(crate, *without)
     for of in (seed, seed + 1):
         assert differing(ours, theirs, of, cases(20_000)) is None
-    assert run(ours, "panics") == run(theirs, "panics")
+    assert flags == PROVED or run(ours, "panics") == run(theirs, "panics")
 
 
 def test_difference_is_found(reference, crate):

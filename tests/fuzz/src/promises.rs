@@ -2,165 +2,19 @@
 #![no_main]
 
 use fuzz::heap::{Heap, failing};
-use fuzz::{Case, case_of, check, panic_of, same};
+use fuzz::{Case, case_of, check, panic_of};
 use getopts::alloc::Global;
 use getopts::fallible::TryClone;
-use getopts::proved::{
-    self, Fail, Given, Matches, Options, Request, names_lawful, wrap::each_split_within,
-};
-use getopts::{HasArg, Occur, ParsingStyle};
+use getopts::proved::{Fail, Options, names_lawful};
+use getopts::{HasArg, Occur};
 use std::ffi::OsString;
 use std::os::unix::ffi::{OsStrExt, OsStringExt};
 
+#[path = "../../differential/reference/src/laws.rs"]
+mod laws;
+
 #[global_allocator]
 static HEAP: Heap = Heap;
-
-/// The places of the given options with their values, in order, and the free words.
-type Line = (Vec<(usize, Option<String>)>, Vec<String>);
-
-fn given(matches: &Matches, order: &[usize], rows: usize) -> Line {
-    let mut next = vec![0; rows];
-    let values = order.iter().map(|place| {
-        let (_, value) = matches.occurrences_at(*place).get(next[*place]).unwrap();
-        next[*place] += 1;
-        (*place, value.map(str::to_string))
-    });
-    (values.collect(), matches.free.clone())
-}
-
-/// Parses words by two calls that have to agree.
-fn line_of(options: &Options, words: &[String], rows: usize) -> Result<Line, Fail> {
-    let matches = options.parse_words(Global, words)?;
-    let (mut order, mut free) = (Vec::new(), Vec::new());
-    for given in options.parse_in_order(Global, words)? {
-        match given {
-            Given::Option(place) => order.push(place),
-            Given::Free(word) => free.push(word),
-        }
-    }
-    check!(free == matches.free, words);
-    for place in 0..rows {
-        let count = order.iter().filter(|other| **other == place).count();
-        check!(matches.occurrences_at(place).len() == count, words);
-    }
-    Ok(given(&matches, &order, rows))
-}
-
-/// A canonical line is what its definition says, reads back in each style and mode, and is its own
-/// canonical line.
-fn canonical(case: &Case, options: &mut Options, words: &[String], rows: &[fuzz::Row]) {
-    let line = match options.canonical_words(Global, words) {
-        Err(fail) => {
-            check!(Err(&fail) == options.parse_words(Global, words).as_ref().map(|_| ()), case);
-            return;
-        }
-        Ok(line) => line,
-    };
-    let said = line_of(options, words, rows.len()).unwrap();
-    let main = |place: &usize| {
-        if rows[*place].long.is_empty() { &rows[*place].short } else { &rows[*place].long }
-    };
-    let equals = said.0.iter().any(|(place, _)| main(place).contains('='));
-    check!(equals == line.is_none(), line, case);
-    let Some(line) = line else { return };
-    let words = said.0.iter().map(|(place, value)| match value {
-        Some(value) => format!("--{}={value}", main(place)),
-        None => format!("--{}", main(place)),
-    });
-    let expected: Vec<_> = words.chain(["--".to_string()]).chain(said.1.iter().cloned()).collect();
-    same!(line, expected, case);
-    for (style, long_only) in [(0, false), (0, true), (1, false), (1, true)] {
-        options.parsing_style([ParsingStyle::FloatingFrees, ParsingStyle::StopAtFirstFree][style]);
-        options.long_only(long_only);
-        same!(line_of(options, &line, rows.len()), Ok::<_, Fail>(said.clone()), case);
-        same!(
-            options.canonical(Global, line.iter().map(String::as_str)),
-            Ok::<_, Fail>(Some(line.clone())),
-            case
-        );
-    }
-}
-
-/// The calls that parse agree, and so do the accessors of both packages.
-fn parses(
-    case: &Case,
-    options: &Options,
-    dropin: &getopts::Options,
-    words: &[String],
-    names: &[String],
-) {
-    let parsed = options.parse_words(Global, words);
-    same!(options.parse(Global, words.iter().map(String::as_str)), parsed, case);
-    let ignoring = options.parse_ignoring_counts(Global, words);
-    match (&parsed, &ignoring) {
-        (Ok(one), Ok(other)) => check!(one == other, case),
-        (Err(Fail::OptionMissing(_) | Fail::OptionDuplicated(_)), Ok(_)) => {}
-        (Err(one), Err(other)) => check!(one == other, case),
-        _ => check!(false, parsed, ignoring, case),
-    }
-    // Requests for help, by their definition.
-    let has = |name: &str| ignoring.as_ref().is_ok_and(|matches| matches.opt_present(name));
-    let same_error = |fail: &Fail| parsed.as_ref().err() == Some(fail);
-    match options.parse_request(Global, words) {
-        Ok(Request::Help) => check!(has("help"), case),
-        Ok(Request::Version) => check!(has("version") && !has("help"), case),
-        Ok(Request::Parsed(matches)) => {
-            check!(!has("help") && !has("version") && Ok(&matches) == parsed.as_ref(), case)
-        }
-        Err(fail) => check!(same_error(&fail) && !has("help") && !has("version"), case),
-    }
-    let flag = names.first().map_or("v", String::as_str);
-    match options.parse_unless(Global, words, flag) {
-        Ok(None) => check!(has(flag), case),
-        Ok(Some(matches)) => check!(!has(flag) && Ok(&matches) == parsed.as_ref(), case),
-        Err(fail) => check!(same_error(&fail) && !has(flag), case),
-    }
-    // The crate's methods.
-    let text = |fail: &dyn std::fmt::Display| fail.to_string();
-    let others = dropin.parse(words);
-    check!(
-        others.as_ref().err().map(|fail| text(fail))
-            == parsed.as_ref().err().map(|fail| text(fail)),
-        case
-    );
-    if let (Ok(other), Ok(matches)) = (&others, &parsed) {
-        check!(
-            other.free == matches.free
-                && other.free_trailing_start() == matches.free_trailing_start(),
-            case
-        );
-        for name in names {
-            check!(other.opt_defined(name) == matches.opt_defined(name), case);
-            check!(matches.opt_defined(name) == matches.opt_place(name).is_some(), case);
-            if other.opt_defined(name) {
-                check!(
-                    other.opt_positions(name) == matches.opt_positions(Global, name).unwrap(),
-                    case
-                );
-                check!(other.opt_strs(name) == matches.opt_strs(Global, name).unwrap(), case);
-                check!(
-                    other.opt_default(name, "x") == matches.opt_default(Global, name, "x").unwrap(),
-                    case
-                );
-            } else {
-                check!(
-                    !matches.opt_present(name) && matches.opt_str(Global, name) == Ok(None),
-                    case
-                );
-            }
-        }
-        let list: Vec<_> = names.iter().map(String::as_str).collect();
-        check!(matches.opts_present(names) == matches.opts_present_any(&list), case);
-        check!(matches.opts_str(Global, names) == matches.opts_str_first(Global, &list), case);
-        let mut taken = matches.try_clone().unwrap();
-        check!(taken == *matches, case);
-        let trailing = taken.take_trailing().unwrap();
-        check!([&taken.free[..], &trailing[..]].concat() == matches.free, case);
-        check!(matches.free_trailing_start().is_none() == trailing.is_empty(), case);
-    }
-    let order = dropin.parse_in_order(words).map_err(|fail| text(&fail));
-    check!(order.as_ref().err() == parsed.as_ref().err().map(|fail| text(fail)).as_ref(), case);
-}
 
 /// `parse_os` reads words of any bytes as `parse` reads them encoded, and returns parts of them.
 fn any_bytes(case: &Case, dropin: &getopts::Options, names: &[String]) {
@@ -224,35 +78,6 @@ fn any_bytes(case: &Case, dropin: &getopts::Options, names: &[String]) {
     check!(dropin.parse_os_ignoring_counts(&case.words).is_ok_and(|other| other == read), case);
 }
 
-/// Help texts agree, contain all words, and have rows that fit.
-fn usages(case: &Case, options: &Options) {
-    let usage = |columns| options.usage_in(Global, &case.brief, columns).unwrap();
-    let text = options.usage(Global, &case.brief).unwrap();
-    same!(usage(78), text, case);
-    let rows = options.usage_rows(Global).unwrap();
-    same!(text, format!("{}\n\nOptions:\n{}\n", case.brief, rows.join("\n")), case);
-    let joined = |rows: proved::UsageRows| Ok(rows.collect::<Vec<_>>().join("\n"));
-    same!(options.usage_with_format(Global, joined), Ok(rows.join("\n")), case);
-    let (one, other) = (usage(case.columns), usage(usize::MAX - case.columns));
-    let words = |text: &str| text.split_whitespace().map(str::to_string).collect::<Vec<_>>();
-    check!(words(&one) == words(&text) && words(&other) == words(&text), one, other, case);
-    for row in &case.rows {
-        let split = each_split_within(Global, &row.desc, case.columns).unwrap();
-        let width =
-            |text: &str| text.split_whitespace().map(|word| unicode_width(word) + 1).sum::<usize>();
-        check!(
-            split.iter().all(|row| width(row) <= case.columns + 1 || !row.contains(' ')),
-            split,
-            case
-        );
-        check!(words(&split.join(" ")) == words(&row.desc), split, case);
-    }
-}
-
-fn unicode_width(word: &str) -> usize {
-    unicode_width::UnicodeWidthStr::width(word)
-}
-
 /// A call returns an error if and only if an allocation failed, and has no other effect then.
 fn without_memory(case: &Case, options: &mut Options, words: &[String]) {
     let before = options.try_clone().unwrap();
@@ -293,32 +118,31 @@ fn run(input: &[u8]) {
     let Some(mut case) = case_of(input) else {
         return;
     };
-    let (mut options, mut dropin) = (Options::new(Global), getopts::Options::new());
+    let mut rows = Vec::new();
     case.rows.retain(|row| {
         let hasarg = [HasArg::No, HasArg::Yes, HasArg::Maybe][row.hasarg as usize];
         let occur = [Occur::Optional, Occur::Req, Occur::Multi][row.occur as usize];
         let (short, long, desc, hint) =
             (&row.short[..], &row.long[..], &row.desc[..], &row.hint[..]);
+        let mut options = Options::new(Global);
         let added = panic_of(|| options.add_group(short, long, desc, hint, hasarg, occur).unwrap());
         check!(added.is_ok() == names_lawful(short, long), row);
         if added.is_ok() {
-            dropin.opt(short, long, desc, hint, hasarg, occur);
+            let [short, long, desc, hint] = [short, long, desc, hint].map(str::to_string);
+            rows.push(laws::Row { short, long, desc, hint, hasarg, occur });
         }
         added.is_ok()
     });
-    let style = [ParsingStyle::FloatingFrees, ParsingStyle::StopAtFirstFree][case.stop as usize];
-    options.parsing_style(style).long_only(case.long_only);
-    dropin.parsing_style(style).long_only(case.long_only);
+    let table = laws::Table { rows, stop: case.stop, long_only: case.long_only };
     let case = &case;
     let words: Vec<String> =
         case.words.iter().map(|word| word.to_string_lossy().into_owned()).collect();
     let declared = case.rows.iter().flat_map(|row| [row.short.clone(), row.long.clone()]);
     let names: Vec<String> = case.names.iter().cloned().chain(declared).collect();
-    parses(case, &options, &dropin, &words, &names);
-    any_bytes(case, &dropin, &names);
-    usages(case, &options);
-    without_memory(case, &mut options.try_clone().unwrap(), &words);
-    canonical(case, &mut options, &words, &case.rows);
+    laws::of_line(&table, &words, &names);
+    laws::of_options(&table, &case.brief, case.columns);
+    any_bytes(case, &table.dropin(), &names);
+    without_memory(case, &mut table.options(), &words);
 }
 
 fuzz::target!(run);

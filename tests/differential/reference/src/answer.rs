@@ -1,18 +1,40 @@
 //! The Rust crate's answers to the lines of cases.
 
 use crate::form::Line;
+use crate::library::{copy_of, Fail, HasArg, Matches, Occur, Options, ParsingStyle};
 use crate::options::{Group, CALLS};
 #[cfg(feature = "canonical")]
 use getopts::Given;
-use getopts::{Fail, HasArg, Matches, Occur, Options, ParsingStyle};
 use std::panic::catch_unwind;
 use std::str::FromStr;
 
 /// Options, and the result of the last words.
-#[derive(Clone, Default)]
-struct Side {
-    options: Options,
-    read: Option<Result<Matches, Fail>>,
+#[derive(Default)]
+pub struct Side {
+    pub options: Options,
+    pub read: Option<Result<Matches, Fail>>,
+}
+
+impl Clone for Side {
+    fn clone(&self) -> Side {
+        let read =
+            self.read.as_ref().map(|read| read.as_ref().map(Matches::clone).map_err(copy_of));
+        Side { options: self.options.clone(), read }
+    }
+}
+
+impl Side {
+    /// The result of the last words.
+    pub fn result(&self) -> String {
+        match &self.read {
+            Some(Ok(matches)) => {
+                let start = matches.free_trailing_start().map(|start| start.to_string());
+                line(&["accepted", start.as_deref().unwrap_or("-")], matches.free.clone())
+            }
+            Some(Err(fail)) => line(&["refused"], error_fields(fail)),
+            None => line(&["clear", "nothing"], []),
+        }
+    }
 }
 
 /// The state of a case.
@@ -23,17 +45,21 @@ pub struct Session {
 }
 
 /// `-` without a value, else `=` and the value.
-fn optional(value: Option<String>) -> String {
+pub fn optional(value: Option<String>) -> String {
     value.map_or("-".to_string(), |value| format!("={value}"))
 }
 
-fn line(head: &[&str], rest: impl IntoIterator<Item = String>) -> String {
+pub fn line(head: &[&str], rest: impl IntoIterator<Item = String>) -> String {
     Line(head.iter().map(|field| field.to_string()).chain(rest).collect()).written()
 }
 
 impl Session {
     /// Executes a line, and returns its answer.
     pub fn answer(&mut self, asked: &Line) -> String {
+        #[cfg(feature = "proved")]
+        if let Some(answer) = crate::proved::answer(&mut self.side, asked) {
+            return answer;
+        }
         let fields = asked.fields();
         let options = &mut self.side.options;
         let f = |place: usize| fields[place].as_str();
@@ -70,20 +96,8 @@ impl Session {
             },
         }
         match asked.word() {
-            "words" | "ignoring_counts" | "clear" => self.result_of_words(),
+            "words" | "ignoring_counts" | "clear" => self.side.result(),
             _ => String::new(),
-        }
-    }
-
-    /// The result of the last words.
-    fn result_of_words(&self) -> String {
-        match &self.side.read {
-            Some(Ok(matches)) => {
-                let start = matches.free_trailing_start().map(|start| start.to_string());
-                line(&["accepted", start.as_deref().unwrap_or("-")], matches.free.clone())
-            }
-            Some(Err(fail)) => line(&["refused"], error_fields(fail)),
-            None => line(&["clear", "nothing"], []),
         }
     }
 
@@ -153,7 +167,7 @@ fn canonical(options: &Options, words: &[String]) -> String {
         }
         Ok(None) => line(&["canonical", "none"], []),
         Err(fail) => {
-            assert_eq!(options.parse_in_order(words), Err(fail.clone()));
+            assert_eq!(options.parse_in_order(words).err().as_ref(), Some(&fail));
             line(&["canonical", "refused"], error_fields(&fail))
         }
     }
@@ -174,13 +188,15 @@ fn is_in_order(given: &[Given], line: &[String]) -> bool {
 }
 
 /// The kind of an error and its name.
-fn error_fields(fail: &Fail) -> [String; 2] {
+pub fn error_fields(fail: &Fail) -> [String; 2] {
     let (variant, name) = match fail {
         Fail::ArgumentMissing(name) => ("ArgumentMissing", name),
         Fail::UnrecognizedOption(name) => ("UnrecognizedOption", name),
         Fail::OptionMissing(name) => ("OptionMissing", name),
         Fail::OptionDuplicated(name) => ("OptionDuplicated", name),
         Fail::UnexpectedArgument(name) => ("UnexpectedArgument", name),
+        #[cfg(feature = "proved")]
+        Fail::OutOfMemory => panic!("{fail}"),
     };
     [variant.to_string(), name.clone()]
 }

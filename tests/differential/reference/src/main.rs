@@ -5,10 +5,15 @@ mod answer;
 mod check;
 mod form;
 mod generate;
+#[cfg(feature = "proved")]
+mod laws;
 mod options;
-#[cfg(all(feature = "canonical", unix))]
+#[cfg(all(feature = "canonical", not(feature = "proved"), unix))]
 mod os;
+#[cfg(not(feature = "proved"))]
 mod panics;
+#[cfg(feature = "proved")]
+mod proved;
 mod random;
 mod tables;
 mod texts;
@@ -16,12 +21,26 @@ mod texts;
 use std::io::{BufRead, BufWriter, Write};
 use std::process::ExitCode;
 
+/// What answers cases: the crate `getopts` or, with the feature `proved`, its proved modules.
+mod library {
+    #[cfg(feature = "proved")]
+    pub use crate::proved::{copy_of, Fail, HasArg, Matches, Occur, Options, ParsingStyle};
+    #[cfg(not(feature = "proved"))]
+    pub use getopts::{Fail, HasArg, Matches, Occur, Options, ParsingStyle};
+    #[cfg(not(feature = "proved"))]
+    pub fn copy_of(fail: &Fail) -> Fail {
+        fail.clone()
+    }
+}
+
 const USE: &str = "reference generate SEED COUNT     prints the first COUNT cases of a seed
 reference answer                  prints the cases on its standard input as rows with answers
 reference check ROWS [WORD..]     answers rows and compares stored answers; status 1 if one differs. Skips lines that begin
                                   with one of these words
 reference os                      answers tables and words of any bytes, with the feature canonical on Unix
-reference panics                  prints the messages of panics";
+reference panics                  prints the messages of panics
+reference laws SEED COUNT         with the feature proved, checks laws on COUNT cases of a seed. There is no os and no panics
+                                  then";
 
 fn number(word: Option<&String>) -> u64 {
     word.and_then(|word| word.parse().ok()).unwrap_or_else(|| panic!("{USE}"))
@@ -59,12 +78,22 @@ fn main() -> ExitCode {
                 return ExitCode::FAILURE;
             }
         }
-        #[cfg(all(feature = "canonical", unix))]
+        #[cfg(feature = "proved")]
+        Some("laws") => {
+            let (seed, count) = (number(words.get(1)), number(words.get(2)));
+            let cases: Vec<_> = (0..count).map(|at| generate::case(seed, at as usize)).collect();
+            drop(std::panic::take_hook());
+            let of = |(at, case)| check::laws(case, 20 + at % 70);
+            let lines: usize = cases.into_iter().enumerate().map(of).sum();
+            writeln!(out, "{count} cases, {lines} lines").expect("a write");
+        }
+        #[cfg(all(feature = "canonical", not(feature = "proved"), unix))]
         Some("os") => {
             let mut input = Vec::new();
             std::io::Read::read_to_end(&mut std::io::stdin(), &mut input).expect("an input");
             out.write_all(&os::answers(&input)).expect("a write");
         }
+        #[cfg(not(feature = "proved"))]
         Some("panics") => {
             for line in panics::lines() {
                 writeln!(out, "{line}").expect("a write");

@@ -1,7 +1,7 @@
 //! The groups that a case declares, for generating cases and naming their kinds.
 
 use crate::form::Line;
-use getopts::{HasArg, Occur, Options};
+use crate::library::{HasArg, Occur, Options, ParsingStyle};
 
 #[derive(Clone, Debug, PartialEq, Eq)]
 pub struct Group {
@@ -86,11 +86,11 @@ impl Group {
         self.call == "opt" || self.kind != "no"
     }
 
-    fn kind(&self) -> HasArg {
+    pub fn kind(&self) -> HasArg {
         known(self.kind, KINDS).1
     }
 
-    fn occur(&self) -> Occur {
+    pub fn occur(&self) -> Occur {
         known(self.occur, OCCURS).1
     }
 
@@ -139,7 +139,7 @@ impl Declared {
     fn probed(&self) -> Options {
         let mut options = Options::new();
         if self.stop {
-            options.parsing_style(getopts::ParsingStyle::StopAtFirstFree);
+            options.parsing_style(ParsingStyle::StopAtFirstFree);
         }
         options.long_only(self.long_only);
         for group in &self.groups {
