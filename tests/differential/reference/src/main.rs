@@ -8,7 +8,7 @@ mod generate;
 #[cfg(feature = "proved")]
 mod laws;
 mod options;
-#[cfg(all(feature = "canonical", not(feature = "proved"), unix))]
+#[cfg(all(feature = "canonical", unix))]
 mod os;
 #[cfg(not(feature = "proved"))]
 mod panics;
@@ -39,8 +39,7 @@ reference check ROWS [WORD..]     answers rows and compares stored answers; stat
                                   with one of these words
 reference os                      answers tables and words of any bytes, with the feature canonical on Unix
 reference panics                  prints the messages of panics
-reference laws SEED COUNT         with the feature proved, checks laws on COUNT cases of a seed. There is no os and no panics
-                                  then";
+reference laws SEED COUNT         with the feature proved, checks laws on COUNT cases of a seed. There is no panics then";
 
 fn number(word: Option<&String>) -> u64 {
     word.and_then(|word| word.parse().ok()).unwrap_or_else(|| panic!("{USE}"))
@@ -87,7 +86,7 @@ fn main() -> ExitCode {
             let lines: usize = cases.into_iter().enumerate().map(of).sum();
             writeln!(out, "{count} cases, {lines} lines").expect("a write");
         }
-        #[cfg(all(feature = "canonical", not(feature = "proved"), unix))]
+        #[cfg(all(feature = "canonical", unix))]
         Some("os") => {
             let mut input = Vec::new();
             std::io::Read::read_to_end(&mut std::io::stdin(), &mut input).expect("an input");

@@ -38,7 +38,8 @@ fn answer(input: &mut &[u8], out: &mut Vec<u8>) {
     for _ in 0..number(input) {
         let [short, long, hint, desc, kind, occur] = [(); 6].map(|()| text(input));
         let line = Line::new(&["opt", &short, &long, &desc, &hint, &kind, &occur]);
-        Group::of_line(&line).expect("a group").add(&mut options);
+        let group = Group::of_line(&line).expect("a group");
+        options.opt(&short, &long, &desc, &hint, group.kind(), group.occur());
     }
     let names: Vec<_> = std::iter::from_fn(|| next(input)).collect();
     let words: Vec<_> = std::iter::from_fn(|| next(input)).collect();
