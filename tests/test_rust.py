@@ -358,13 +358,24 @@ def with_named_kinds(rows):
     return [[*row[:4], model.KINDS[row[4] % 4], test_c.OCCURS[row[4] // 4]] for row in rows]
 
 
-def test_answers_of_parse_os(ours, cases):
-    """On random tables and words of any bytes, `parse_os` and what follows it answer as the model does."""
+# Parts of words: characters, bytes that aren't UTF-8, and beginnings of characters.
+PARTS = ["-", "--", "a", "=", "é", "日", "\ufeff", "\U0010ffff", "\udc80", "\udcff", "\udcc3", "\udce2\udc82", "\udced\udca0\udc80"]
+
+
+def os_cases(count):
+    """Random tables and words of any bytes, and what `reference os` reads for them."""
     rng, chosen = random.Random(1), []
-    for modes, columns, rows, wrong, words in (test_c.random_case(rng) for _ in range(cases(10_000))):
+    for modes, columns, rows, wrong, words in (test_c.random_case(rng) for _ in range(count)):
+        if rng.randrange(4) == 0:
+            words = ["".join(rng.choices(PARTS, k=rng.randint(1, 5))), *words]
         names = ["nope", *(name for row in rows for name in row[:2] if name)]
         chosen += [(modes, columns, rows, [*map(test_c.in_bytes, names)], [*map(test_c.in_bytes, words)])] if wrong is None else []
-    fields = b"".join(test_c.fields_of(modes, columns, with_named_kinds(rows), *more) for modes, columns, rows, *more in chosen)
+    return chosen, b"".join(test_c.fields_of(modes, columns, with_named_kinds(rows), *more) for modes, columns, rows, *more in chosen)
+
+
+def test_answers_of_parse_os(ours, cases):
+    """On random tables and words of any bytes, `parse_os` and what follows it answer as the model does."""
+    chosen, fields = os_cases(cases(10_000))
     printed = iter(subprocess.run([ours, "os"], input=fields, stdout=subprocess.PIPE, check=True).stdout.split(b"\0"))
     for case in chosen:
         for nth, wanted in enumerate(answers_of_parse_os(*case)):
