@@ -24,7 +24,7 @@ bindings/build.py --check
 if [ -z "${TESTED:-}" ]; then
     bash test.sh ${crate:+"$crate"}
     bindings/build.py --rebuild
-    bash test.sh -k rejected --release -n 3
+    bash test.sh -k 'rejected or wrong_rules or theorem' --release -n 3
     tests/fresh.sh
     unchanged
 fi

@@ -213,7 +213,8 @@ def test_files_of_a_release(clone):
 
 
 def test_release_runs_all_tests(clone, tmp_path):
-    whole = [*CHECKS, f"test.sh {tmp_path}", "build.py --rebuild", "test.sh -k rejected --release -n 3", "fresh.sh "]
+    whole = [*CHECKS, f"test.sh {tmp_path}", "build.py --rebuild",
+             "test.sh -k rejected or wrong_rules or theorem --release -n 3", "fresh.sh "]
     assert release(clone, VERSION, tmp_path, TESTED="")[1] == whole
     for at, call in enumerate(whole):
         calls = release(clone, VERSION, tmp_path, status=1, TESTED="", FAIL=call)[1]
