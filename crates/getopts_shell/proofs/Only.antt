@@ -1,6 +1,7 @@
 -- A table declares at most one list of options, or has only one error.
 use Rattle.std.proofs.Common.{◌≡◌, ℕ, true, false, List, [], ◌∷◌, ◌++◌, length, Option, Some, None, refl, sym, ap}
-use Rattle.std.proofs.Common.{subst, ◌∙◌, append_assoc, arith, ◌+◌, rules}
+use Rattle.std.proofs.Common.{subst, ◌∙◌, append_assoc, arith, ◌+◌, Bool, rules}
+use Rattle.std.specs.Prelude.{◌||◌, ◌&&◌, if◌then◌else◌, not}
 use Rattle.std.specs.Option.{option_to_list}
 use Rattle.getopts.specs.Names.{Names, Text}
 use Rattle.getopts.specs.declared.kinds.HasArg.{HasArg}
@@ -8,7 +9,7 @@ use Rattle.getopts.specs.Wrap.{lines_of}
 use Rattle.getopts_shell.specs.Table.{Entry, IsItem, HasParts, declares_no_option, Declares, DeclareEntries}
 use Rattle.getopts_shell.specs.Table.{DeclaresOptions, OneTableOneList, DeclareOptions, name_again, TableFault}
 use Rattle.getopts_shell.specs.Table.{IsLineFault, IsTableFault, Operand, late, line_number, none, operand_at}
-use Rattle.getopts_shell.specs.Table.{operands_among, twice}
+use Rattle.getopts_shell.specs.Table.{operands_among, twice, is_operand, is_skipped, item_of}
 use Rattle.getopts_shell.specs.declared.row.Frequency.{Frequency}
 use Rattle.getopts_shell.proofs.Lines.{operands_around, places}
 use Rattle.getopts_shell.proofs.Items.{one_bracketed, one_pair}
@@ -122,7 +123,14 @@ no_fault table entries fault declares is = search (rules, no_fault_at)
 -- the line of an operand declares no option
 operand_declares_no_option : (line : Text) (operand : Operand)
     → operand_at line ≡ Some operand → declares_no_option line ≡ true
-operand_declares_no_option line operand is = search rules
+operand_declares_no_option line operand is = by_tests _ (is_skipped line) (is_operand (item_of line)) is
+  where
+    by_tests : (there : Operand) (skipped of_operand : Bool)
+        → (if not skipped && of_operand then Some there else None) ≡ Some operand
+        → (skipped || of_operand) ≡ true
+    by_tests there true of_operand is = refl
+    by_tests there false true is = refl
+    by_tests there false false is = absurd cc
 
 -- a line has at most one error
 one_line_fault : (number : ℕ) (entries : List Entry) (operands : List Operand) (line : Text)
