@@ -82,6 +82,8 @@ padding: head of 23 columns | head of 24 columns, head of 25 columns
 content_of Content canonical_line: line with a value*, line with an empty value*, line with an option twice*,
   line with free words* | empty line*
 IsPlain: line with a value* | = in a main name*
+order_of_reading Given given_by: option before a free word*, free word before an option*, options in order*,
+  free words in order*, nothing in order*
 """
 CODES = {name: [f"U+{ord(char):04X}" for char in members] for name, members in CLASSES.items()}
 CODES["other line ends"] = [code for code in CODES["line_ends"] if code != "U+000A"]
@@ -262,7 +264,7 @@ def situations(session, word, fields, answers):
     if word in ("words", "parse_words", "parse_filtered"):
         yield from of_words(options, fields, read)
     elif word == "ignoring_counts":
-        yield "counts ignored", len(read) == 3 and len(options.parse(fields)) == 2
+        yield "counts ignored", len(read) > 2 and len(options.parse(fields)) == 2
     elif word == "lawful":
         (short, long), valid = fields, answers == [b"lawful\ttrue"]
         yield "valid names", valid
@@ -272,8 +274,13 @@ def situations(session, word, fields, answers):
         yield "short name of two bytes", len(short) == 2
         yield "long name of one byte", len(long) == 1
         yield "two empty names", not short + long
-    elif word.startswith("canonical") and len(options.parse(fields)) == 3:
-        (given, free, _), line = options.parse(fields), options.canonical(options.parse(fields))
+    elif word == "parse_in_order" and len(options.parse(fields)) > 2:
+        order = ["free word" if place is None else "option" for place, _ in options.parse(fields)[3]]
+        yield "nothing in order", not order
+        yield from ((f"{one}s in order" if one == next else f"{one} before {'an' if next == 'option' else 'a'} {next}", True)
+                    for one, next in zip(order, order[1:]))
+    elif word.startswith("canonical") and len(options.parse(fields)) > 2:
+        (given, free, *_), line = options.parse(fields), options.canonical(options.parse(fields))
         yield "= in a main name", line is None
         yield "empty line", line == [b"--"]
         yield "line with a value", line and any(value for _, _, value in given)
@@ -294,13 +301,13 @@ def situations(session, word, fields, answers):
         yield " ".join(part.decode() for part in answers[0].split(b"\t")[1:]), True
     elif word == "error" and not fields:
         yield read[0] if len(read) == 2 else "no error", True
-    elif len(read) == 3 and word == "take_trailing":
+    elif len(read) > 2 and word == "take_trailing":
         yield "taken" if b"\t" in answers[0] else "nothing taken", True
-    elif len(read) == 3 and word == "any" and not answers[0].endswith(b"undefined"):
+    elif len(read) > 2 and word == "any" and not answers[0].endswith(b"undefined"):
         found = [bool(own and own[0][1] is not None) for own in map(session.given, fields)]
         yield f"value of {'the first' if found[:1] == [True] else 'another'} name", any(found)
         yield "none of the names", not any(found)
-    elif len(read) == 3 and word in ("option", "positions", "number", "truth", "opt_defined"):
+    elif len(read) > 2 and word in ("option", "positions", "number", "truth", "opt_defined"):
         yield from of_name(session, word, fields[0], answers)
 
 

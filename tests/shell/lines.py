@@ -75,10 +75,10 @@ def expected_result(options, words):
     If options to be given alone are among them, only the first of these in the table counts."""
     groups = [Group(short.encode(), long.encode(), kind, COUNTS[often][1]) for short, long, kind, often in options]
     reader, words = Options(groups), [os.fsencode(word) for word in words]
-    for occurrences, free, _ in reader.readings(words):
+    for occurrences, free, *_ in reader.readings(words):
         if alone := [place for place, _, _ in occurrences if options[place][3] == "alone"]:
             return [(min(alone), None)], []
-        if len(reader.parse(words)) == 3:
+        if len(reader.parse(words)) > 2:
             given = [(place, None if value is None else os.fsdecode(value)) for place, _, value in occurrences]
             return given, [os.fsdecode(word) for word in free]
     return None
