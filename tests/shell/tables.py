@@ -63,7 +63,7 @@ def table_error(table):
     """The message for a table's first error, or None."""
     if re.fullmatch("-[^ \t\n]*", table):
         return (f"'{table}' isn't a table: write options of getopts_shell before NAME, and the table after it, in quotes "
-                "(a table of one option needs a line break)")
+                "(a table such as -v needs a line break)")
     seen, before = set(), []
     for number, line in enumerate(table.split("\n"), 1):
         line = line.strip(" \t\r")

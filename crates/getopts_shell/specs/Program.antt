@@ -444,7 +444,7 @@ pub data AnswersTable (asked : Asked) (name table : Text) (words : List Text) (a
 -- because its table was left out, or the front of a table without quotes
 abbrev pub no_table : Text → Answer
 no_table word = misused (codes "getopts_shell: '" ++ (word
-    ++ codes "' isn't a table: write options of getopts_shell before NAME, and the table after it, in quotes (a table of one option needs a line break)\n"))
+    ++ codes "' isn't a table: write options of getopts_shell before NAME, and the table after it, in quotes (a table such as -v needs a line break)\n"))
 
 -- This is the answer to the free words among the program's own.
 abbrev pub AnswersFree : Asked → List Text → Answer → Type 0

@@ -349,7 +349,7 @@ fn no_table(alloc: Global, word: &str) -> Result<Outcome, AllocError>
     let text = format!(in alloc;
         "getopts_shell: '{word}' isn't a table: \
          write options of getopts_shell before NAME, and the table after it, in quotes \
-         (a table of one option needs a line break)\n"
+         (a table such as -v needs a line break)\n"
     )?;
     Ok(Outcome::misused(text))
 }
