@@ -1,6 +1,7 @@
 """test.sh and release.sh, with other programs in the place of those that take long."""
 
 import hashlib
+import json
 import re
 import tarfile
 from concurrent.futures import ThreadPoolExecutor
@@ -192,7 +193,7 @@ def test_files_of_a_release(clone):
     assert release(clone, VERSION) == ("", CHECKS)
     out, name = clone / "tests/out/release", f"getopts-{VERSION}"
     binaries = {f"getopts_shell-{VERSION}-{machine}": machine for machine in ("x86_64", "aarch64")}
-    files = {f"{name}.tar.gz", f"proved-getopts-{VERSION}.crate", *binaries}
+    files = {f"{name}.tar.gz", f"{name}-kit.tar.gz", f"proved-getopts-{VERSION}.crate", *binaries}
     assert {path.name for path in out.iterdir()} == {"SHA256SUMS", *files}
     sums = dict(line.split("  ")[::-1] for line in (out / "SHA256SUMS").read_text().splitlines())
     assert sums == {file: hashlib.sha256((out / file).read_bytes()).hexdigest() for file in files}
@@ -201,6 +202,18 @@ def test_files_of_a_release(clone):
     with tarfile.open(out / f"{name}.tar.gz") as archive:
         modes = {it.name.removeprefix(f"{name}/"): it.mode for it in archive if it.isfile()}
     assert sorted(modes) == sorted(tracked()) and modes["release.sh"] & 0o777 == 0o775
+    uses = ROOT / "crates/getopts_uses"
+    with tarfile.open(out / f"{name}-kit.tar.gz") as archive:
+        kit = {it.name: archive.extractfile(it).read().decode() for it in archive if it.isfile()}
+    taken = [it for it in tracked() if re.match(r"crates/getopts(_uses)?/(\w+\.md|LICENSE|NOTICE|src|specs|proofs)", it)]
+    made = {"getopts/uses/BUILD.bazel", "getopts/uses/src/lib.rt", "getopts/uses/src/tests.rt"}
+    assert set(kit) == made | {re.sub(r"crates/getopts(_uses)?", lambda it: "getopts/uses" if it[1] else "getopts", it)
+                               for it in taken if not it.endswith("/main.rt")}
+    modules = re.findall(r"^mod \w+;", (uses / "src/main.rt").read_text(), re.M)
+    assert re.findall(r"^pub (mod \w+;)", kit["getopts/uses/src/lib.rt"], re.M) == modules
+    cases = [json.loads(f"[{it}]") for it in re.findall(r"^ {8}\((.*)\),$", kit["getopts/uses/src/tests.rt"], re.M)]
+    assert "".join(f"{case}\n" for case, _ in cases) == (uses / "args").read_text()
+    assert "".join(line for _, line in cases) == (uses / "stdout").read_text()
     with tarfile.open(out / f"proved-getopts-{VERSION}.crate") as archive:
         packed = {it.name.partition("/")[2]: archive.extractfile(it).read() for it in archive}
     assert {"LICENSE-MIT", "LICENSE-APACHE", "NOTICE", "src/proved/mod.rs", "Cargo.toml"} <= packed.keys()
