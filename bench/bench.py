@@ -4,9 +4,10 @@
 usage: bench.py OUT [--getopts FOLDER] [JOB..]      prints the tables of all or some jobs: > bench/last_run.txt
        bench.py --count WHAT A B PROGRAM WORD..     prints what one iteration of a program costs
        bench.py --rows LINE                         prints a command line as rows
-       bench.py --shell [PROGRAM]                   prints the instructions of getopts_shell, getopt(1) and true
+       bench.py --shell [PROGRAM]                   prints what calls of getopts_shell, getopt(1) and true cost
 
-The peers' programs are built in OUT, a folder outside the repository. FOLDER contains the Rust crate getopts; without
+It needs rt, cargo, a C compiler and valgrind; without a network, --getopts and the librust-* packages of
+tests/packages.txt. chart.py needs python3-matplotlib. The peers' programs are built in OUT, a folder outside the repository. FOLDER contains the Rust crate getopts; without
 it, cargo downloads the crate. OURS may name a getopts_bench that is already built; otherwise `rt run` proves and builds
 one.
 
@@ -27,6 +28,7 @@ import resource
 import shutil
 import subprocess
 import sys
+import time
 from pathlib import Path
 
 HERE = Path(__file__).resolve().parent
@@ -55,6 +57,22 @@ def job_of(name):
     return on(line, work or (name if name in ("equal", "usage") else "whole"))
 
 
+# What capacities and `inline` attributes save, in percent of a job's instructions. For each figure, one capacity, or the
+# attributes of these functions, were left out of the source as it was then:
+#
+# - `typical`: `FIRST_GROUPS` 32, `FIRST_TEXT` 15, `FIRST_VALUES` 3.5; `SignatureRecord`, `Signatures`, `Kinds` and the
+#   texts that they store 7; `Signatures::push` and `Groups::push` 3.3; `MatchedGroups::occurrences_at`,
+#   `Matches::occurrences_at` and `Index::places` 2.4
+# - `small`: `FIRST_ROOM` (lines of any length count their dashed words) 2.6
+# - `usage`: `ROW_ROOM` 40
+# - `asked-front`: `key_of` 6; `search` and `search_long` 9.6
+# - `none`: `accepted_line` and `read_line` 6.5; `check_counts` 1.5
+# - `long`: `push_value`, `LineOccurrences::at` and `LineOccurrences::push` 9.5; `Occurrences::into_iter` and
+#   `OccurrencesIter::next` 5
+# - `equal`: `Occurrences::get` and `Occurrences::at` 80; `Occurrences::same` 20; `same_at` (`inline(never)`) 15;
+#   `MatchedGroups::same` (`inline(never)`) 14
+# - `files`, in `proved-getopts`: `push_copy` 3
+# - 480 words, half of them options, in C: `Scanner::read_long` and `Scanner::cluster` 6, because two loops call them
 JOBS = {name: job_of(name) for name in """small read-small canonical-small copied-small os-small typical read-typical
     copied-typical long read-long canonical-long copied-long os-long many read-many canonical-many copied-many many11 front
     read-front asked-front none rustc sub60 files equal usage defined-4000""".split()}
@@ -116,6 +134,15 @@ def described():
     return [[*option[:3], "d" * 1000, *option[4:]] for option in options], words
 
 
+# Stored lines: `typical` has options like those of grep; `rustc` those of rustc, and a command line that cargo passes to
+# it; `none` no options, and one word; `front` options whose names begin alike (`asked-front` asks whether each was
+# given). `os-small` is `parse_os` of proved-getopts, `equal` compares two matches, and `usage` formats the help.
+# In Rust, libraries get the words as from `args_os().skip(1)`, and free them or move them into their results; copying
+# them before the first iteration isn't counted. In Rattle and C, libraries borrow them. In Rattle and with
+# proved-getopts, programs borrow values (`opt_place` and `occurrences_at`; `occurrences`), except in the jobs `copied-`.
+# The program for lexopt stores what it reads in a struct. pico-args searches the words for each option, and again for
+# each repetition. In C, the programs for getopt_long and argp add up the results but don't store them; `getopts_new` is
+# counted.
 # Generated lines: their options and their words.
 LINES = {
     "long": lambda: long(250), "memory": lambda: long(25_000),
@@ -274,17 +301,33 @@ def recorded():
     return tables
 
 
-def shell(program=HERE.parent / f"bindings/shell/{platform.machine()}/getopts_shell"):
-    """The instructions of whole runs of three programs, in a fixed environment."""
+BINARY = HERE.parent / f"bindings/shell/{platform.machine()}/getopts_shell"
+SHELL_ENV = {"PATH": os.environ["PATH"], "LC_ALL": "C.UTF-8"}
+
+
+def shell_calls(program=BINARY):
+    """Calls of three programs."""
     table = ("-i|--input FILE       read this file\n[-o|--output FILE]    write to FILE\n"
              "[-v|--verbose]..      say more\n[-c|--color [WHEN]]   colour the output\n"
              "[-L DIR]..            add a folder\n[-h|--help]           print this help")
     words = ["-vi", "a", "--output=b", "x", "--color"]
-    env = {"PATH": os.environ["PATH"], "LC_ALL": "C.UTF-8"}
     getopt = "getopt -n backup -o i:o:vc::L:h --long input:,output:,verbose,color::,help --".split()
-    return {"getopts_shell": counted("instructions", [program, "backup", table, *words], env),
-            "getopt": counted("instructions", [*getopt, *words], env),
-            "true": counted("instructions", [shutil.which("true")], env)}
+    return {"getopts_shell": [program, "backup", table, *words], "getopt": [*getopt, *words], "true": [shutil.which("true")]}
+
+
+def shell(program=BINARY):
+    """The instructions of whole runs of these programs, in a fixed environment."""
+    return {name: counted("instructions", words, SHELL_ENV) for name, words in shell_calls(program).items()}
+
+
+def milliseconds(words):
+    """The least time in which a program started and ended."""
+    times = []
+    for _ in range(100):
+        start = time.perf_counter()
+        subprocess.run(words, env=SHELL_ENV, stdout=subprocess.DEVNULL, check=True)
+        times.append(1000 * (time.perf_counter() - start))
+    return min(times)
 
 
 def main(words):
@@ -293,8 +336,9 @@ def main(words):
     elif words[:1] == ["--rows"]:
         print(rows(words[1]), end="")
     elif words[:1] == ["--shell"]:
+        calls = shell_calls(*words[1:])
         for name, count in shell(*words[1:]).items():
-            print(f"{name}: {count}")
+            print(f"{name}: {count} instructions, {milliseconds(calls[name]):.1f} ms")
     elif words and not words[0].startswith("-"):
         if words[1:] == ["--getopts"]:
             sys.exit("bench.py: --getopts needs a folder with the Rust crate getopts")
