@@ -835,7 +835,7 @@ def test_install_usage(tmp_path):
 def test_page():
     """The page shows parts of head.c, and lists all functions."""
     page, header = (C / "README.md").read_text(), (C / "getopts.h").read_text()
-    listed, declared = re.findall(r"^\| `(\w+)\(", page, re.M), re.findall(r"^[a-z].*[ *](getopts_\w+)\(", header, re.M)
+    listed, declared = re.findall(r"^- `(\w+)\(", page, re.M), re.findall(r"^[a-z].*[ *](getopts_\w+)\(", header, re.M)
     assert sorted(listed) == sorted(declared)
     example = re.search(r"^```c\n(.*?)^```", page, re.M | re.S)[1]
     assert all(part in (C / "head.c").read_text() for part in example.split("\n\n")) and len(example.splitlines()) < 40

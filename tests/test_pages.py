@@ -62,12 +62,6 @@ def shown(groups, brief, **settings):
     return f"```text\n{Options(groups, **settings).usage(brief).decode()}```"
 
 
-def help_text():
-    """README: the help for the options of its example."""
-    return shown([Group(b"o", b"output", "yes", "optional", b"set output file name", b"NAME"),
-                  Group(b"v", b"verbose", "no", "multi", b"say more")], b"Usage: join [options] FILE..")
-
-
 def usage_example():
     """GRAMMAR: a usage text with each kind of row."""
     return shown([Group(b"i", b"input", "yes", "required", b"read this file", b"FILE"),
@@ -140,25 +134,49 @@ def first_output():
     return f"```text\n{read('crates/getopts_show/stdout')}```"
 
 
+def speed_here():
+    """The library's page: some jobs' instructions, beside the Rust crate's."""
+    columns = "this library", "Rust crate"
+    return table(["instructions (valgrind)", "here", "Rust crate"], *(
+        [described(job), *measured("Instructions per iteration", job, *columns)] for job in ("small", "typical", "long", "files")))
+
+
 def compared():
     """The library's page: the recorded cases, in which the Rust crate answered."""
     cases = len(re.findall(r"^case\t", read("crates/getopts_vectors/data/recorded.rows"), re.M))
     return f"The definitions describe the Rust crate: its answers to {cases:,} recorded cases, and to random ones, are the same."
 
 
-def lines_in(folder, *omitted):
-    """The lines of a folder of the library, rounded to hundreds, without comments, imports and blank lines."""
-    start = f"crates/getopts/{folder}/"
+def lines_in(start, *omitted):
+    """The lines of these files, rounded to hundreds, without comments, imports and blank lines."""
     kept = [name for name in tracked if name.startswith(start) and not name[len(start):].startswith(omitted)]
-    code = [line for name in kept for line in read(name).split("\n")
-            if not re.match(r" *(//|--|(pub )?(ghost )?(use|mod) |$)", line)]
+    code = [line for name in kept for line in re.sub(r'/\*.*?\*/|""".*?"""', "", read(name), flags=re.S).split("\n")
+            if not re.match(r" *(//|--|# |#!/|#include|import |from |(pub )?(ghost )?(use|mod) |$)", line)]
     return f"{round(len(code), -2):,}"
 
 
 def sizes():
-    """PROOFS: the lines of the library, and the mutants of all crates."""
-    return table(["definitions", "source", "proofs", "mutants"],
-                 [lines_in("specs", "Results", "Step", "Stored", "UsageResults"), lines_in("src"), lines_in("proofs"), str(len(mutants))])
+    """PROOFS: the lines of the library and of the unproved code, and the mutants of all crates."""
+    library = [lines_in("crates/getopts/specs/", "Results", "Step", "Stored", "UsageResults"),
+               lines_in("crates/getopts/src/"), lines_in("crates/getopts/proofs/")]
+    unproved = [lines_in("bindings/rust/erase.py"), lines_in("bindings/rust/src/", "proved", "bytes"), lines_in("bindings/c/src/"),
+                lines_in(("bindings/shell/start", "bindings/shell/src/host"))]
+    return table(["definitions", "source", "proofs", "mutants", "unproved: `erase.py`", "for Rust", "for C", "for shell"],
+                 [*library, str(len(mutants)), *unproved])
+
+
+def calls():
+    """CALLING: the types of all calls. Those with equal types share a line."""
+    lines = {}
+    for name, text in contracts().items():
+        owner, _, call = name.rpartition("::")
+        head = re.split(r"\n +(?=(?:requires|ensures)\b)", text)[0].removeprefix(f"fn {name}")
+        types = re.sub(r"(?<=\() |,? (?=\))|\b(mut )?[a-z]\w*: ", "", " ".join(head.split()))
+        if "->" in types:
+            lines.setdefault((owner, types), []).append(call)
+    rows = (textwrap.wrap(f"{f'{owner}::' * bool(owner)}{', '.join(names)}{types}", 120, subsequent_indent="    ", break_long_words=False)
+            for (owner, types), names in lines.items())
+    return "```text\n" + "\n".join(line for row in rows for line in row) + "\n```"
 
 
 def quoted_contracts():
@@ -172,8 +190,8 @@ def quoted_contracts():
 
 
 # What --fix writes between `<!-- generated: NAME -->` and `<!-- end -->`.
-GENERATED = {make.__name__: make for make in (help_text, usage_example, speed, speed_in_c, behind, memory, times, first_output,
-                                              compared, sizes, conditions, quoted_contracts)}
+GENERATED = {make.__name__: make for make in (usage_example, speed, speed_here, speed_in_c, behind, memory, times,
+                                              first_output, compared, sizes, conditions, calls, quoted_contracts)}
 
 
 @pytest.mark.parametrize("page", pages)
@@ -289,7 +307,7 @@ def imports_of(text):
     return names
 
 
-blocks = [(page, block) for page in ("README.md", CALLING)
+blocks = [(page, block) for page in ("README.md", CALLING, "crates/getopts/README.md")
           for block in re.findall(r"^```rust\n(.*?)^```", pages[page], re.M | re.S)]
 examples = sources | {name: read(name) for name in tracked if name.startswith("bindings/rust/tests/")}
 

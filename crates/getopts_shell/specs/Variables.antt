@@ -261,6 +261,7 @@ AreTextValues No all founds = ⊤
 AreTextValues kind true founds = AreTexts (texts_found founds)
 AreTextValues kind false founds = MatchOption (last_or None (texts_found founds)) ⊤ IsUtf8
 
+-- The variables of these options hold UTF-8 texts.
 abbrev pub HoldTexts : List Given → Type 0
 HoldTexts options = AllByRecursion
     (λ option. AreTextValues option.entry.kind (holds_all option.entry.frequency) option.found) options

@@ -1,5 +1,5 @@
-//! Compares `bindings/rust` with the crate getopts 0.2.24, except for what docs/DIFFERENCES.md
-//! lists.
+//! Compares `bindings/rust` with the crate getopts 0.2.24: it declares, parses, prints and panics
+//! alike, except for what its README.md lists, and the name at the end of some panics.
 #![no_main]
 
 use fuzz::{Case, Row, case_of, check, panic_of, same};

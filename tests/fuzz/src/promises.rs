@@ -1,4 +1,6 @@
-//! Checks promises of `bindings/rust` with the feature `proved`, also if an allocation fails.
+//! Checks promises of `bindings/rust` with the feature `proved`: calls that the Rust crate lacks
+//! keep their laws (`tests/differential/reference/src/laws.rs`), words of any bytes read back, and
+//! a call that fails to allocate returns an error and changes nothing.
 #![no_main]
 
 use fuzz::heap::{Heap, failing};

@@ -1,6 +1,7 @@
 //! Runs the shell program in this process, on a table and words that contain code. Checks that the
 //! output, which a script evaluates, only assigns quoted words to variables with the script's
-//! prefix, and sets the operands to quoted words.
+//! prefix, and sets the operands to quoted words. If an allocation fails, the program prints
+//! nothing and returns 3.
 #![no_main]
 
 use fuzz::check;

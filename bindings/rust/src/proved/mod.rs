@@ -15,8 +15,6 @@
 //! }
 //! ```
 //!
-//! The crate `getopts_vectors` has a test case for each rule, in `data/rules.rows`.
-//!
 //! Attributes `inline` and initial capacities stay only where measuring showed that they save
 //! instructions.
 

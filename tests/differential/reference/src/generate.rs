@@ -1,4 +1,13 @@
 //! Generates cases from a seed.
+//!
+//! Most cases add a few options, with odd and colliding names, parse a command line, and query the
+//! result. Others test long command lines, usage texts, numbers and comparisons. Names, words and
+//! texts have characters of each class in `characters.txt`, and many differ from another in one
+//! place. Error texts are compared for each rejected command line. The recorded cases are the
+//! shortest for each kind of word, error, name, text and answer, and for each pair of kinds of
+//! words, and for each kind of error with each style, mode and form of name. Those at the end, with
+//! longer names, were written by hand for what random ones seldom have, and answered by the Rust
+//! crate.
 
 use crate::answer::Session;
 use crate::form::{Case, Line};
