@@ -1,6 +1,5 @@
 //! Iterators over the occurrences of an option, and over their values.
 
-use crate::proved;
 use crate::proved::matches::MatchedGroups;
 use std::ffi::{OsStr, OsString};
 use std::fmt;
@@ -20,10 +19,10 @@ use std::ops::Range;
 /// assert_eq!(folders.len(), 2);
 /// assert_eq!(folders.rev().next(), Some((1, Some("b"))));
 /// ```
+#[derive(Clone)]
 pub struct Occurrences<'m> {
     held: &'m MatchedGroups,
     place: usize,
-    given: proved::Occurrences<'m>,
     /// The numbers of the occurrences that are left.
     left: Range<usize>,
 }
@@ -32,14 +31,12 @@ impl<'m> Occurrences<'m> {
     /// The occurrences of the option at this place.
     #[inline]
     pub(crate) fn of(held: &'m MatchedGroups, place: usize) -> Occurrences<'m> {
-        let given = held.occurrences_at(place);
-        Occurrences { held, place, left: 0..given.len(), given }
+        Occurrences { held, place, left: 0..held.occurrences_at(place).len() }
     }
-}
 
-impl Clone for Occurrences<'_> {
-    fn clone(&self) -> Self {
-        Occurrences { left: self.left.clone(), ..Occurrences::of(self.held, self.place) }
+    #[inline]
+    fn get(&self, nth: usize) -> Option<(usize, Option<&'m str>)> {
+        self.held.occurrences_at(self.place).get(nth)
     }
 }
 
@@ -48,7 +45,8 @@ impl<'m> Iterator for Occurrences<'m> {
 
     #[inline]
     fn next(&mut self) -> Option<Self::Item> {
-        self.given.get(self.left.next()?)
+        let nth = self.left.next()?;
+        self.get(nth)
     }
 
     #[inline]
@@ -60,7 +58,8 @@ impl<'m> Iterator for Occurrences<'m> {
 impl DoubleEndedIterator for Occurrences<'_> {
     #[inline]
     fn next_back(&mut self) -> Option<Self::Item> {
-        self.given.get(self.left.next_back()?)
+        let nth = self.left.next_back()?;
+        self.get(nth)
     }
 }
 
