@@ -61,8 +61,8 @@ def build(processor, to):
         stop(f"proving or building {CRATE} failed:\n{(done.stdout + done.stderr)[-3000:]}")
 
 
-def link(processor, to, *words):
-    """Links a static program from start.c, musl and the files and flags in words."""
+def link(processor, to, of):
+    """Links a static program from an object file, start.c and musl."""
     musl, tools = Path(f"/usr/lib/{processor}-linux-musl"), kit() / "toolchain/bin"
     (musl / "libc.a").exists() or stop(f"{musl}/libc.a is missing: apt-get install musl-dev, or musl-dev:arm64")
     flags = "-std=c11 -O2 -Wall -Wextra -Wpedantic -Wshadow -Wconversion -Werror -fno-pic -nostdinc".split()
@@ -70,7 +70,7 @@ def link(processor, to, *words):
     subprocess.run([tools / "clang", f"--target={processor}-linux-musl", *flags, "-isystem",
                     f"/usr/include/{processor}-linux-musl", "-c", FOLDER / "start.c", "-o", start], check=True)
     subprocess.run([tools / "ld.lld", "-static", "-s", "--gc-sections", "--wrap=main", musl / "crt1.o", musl / "crti.o",
-                    start, *words, musl / "libc.a", musl / "crtn.o", "-o", to], check=True)
+                    start, of, musl / "libc.a", musl / "crtn.o", "-o", to], check=True)
     start.unlink()
 
 
@@ -137,8 +137,6 @@ def shell(check):
 def main(words):
     if words[:1] in (["--help"], ["-h"]):
         return print(__doc__.strip())
-    if words[:1] == ["--link"]:
-        return link(*words[1:])
     if words[:1] == ["--rebuild"] and set(words[1:]) <= set(PROCESSORS):
         return rebuild(words[1:] or PROCESSORS)
     check = "--check" in words

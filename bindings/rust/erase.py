@@ -10,32 +10,31 @@ It parses a crate's tokens by this grammar, and rejects everything else, naming 
 with * has no meaning at run time, and is deleted.
 
     file      item..
-    item      attribute.. ( ghost* | law* | use | mod NAME ; | const | type | struct | enum | function | impl )
-    ghost*    ghost use .. ;
+    item      attribute.. ( law* | use | mod NAME ; | struct | enum | impl ) | member
     law*      mod laws ; | pub use laws:: .. ; | use std::marker::Model ;
+    struct    struct NAME generics { field.. }, with fields that may be ghost* NAME : { .. } ,
+    impl      impl generics .. { member.. } | impl* .. Model for .. { member.. } | impl* Drop for .. { destructures it }
+    member    attribute.. ( ghost* use .. ; | ghost* NAME = { .. } ; | const | type | function )
     function  pub fn NAME generics ( .. ) -> .. clause.. { body }
     clause*   requires NAME { .. } | ensures NAME { .. }, without comments; either word may end in a star
-    struct    struct NAME generics { field.. }, with fields that may be ghost* NAME : { .. } ,
-    impl      impl generics .. { member.. } | impl* .. Model for .. { ghost.. } | impl* Drop for .. { destructures it }
-    member    attribute.. ( ghost* | ghost* NAME = { .. } ; | const | type | function )
     generics  < .. >, with Drop* among the bounds
-    attribute #[derive(..)], with Drop* among the names | #[tactic(..)]* | those in ATTRIBUTES
+    attribute #[derive(..)], with Drop* as the last name | #[tactic(..)]* | those in ATTRIBUTES
 
-A module of laws only has functions that return nothing and borrow their arguments immutably. It is left out.
+A module of laws has no impl. It is left out, so rustc rejects code that uses it.
 
 In function bodies it knows no types. It rejects calls and names that aren't listed. KNOWN_CALLS, KNOWN_TYPE_CALLS and
 IMPORTS list those of Rust; each is trusted to do in Rust what its contract in Rattle says. It also rejects code that
 means something else in each language. Rattle's guides list such code, and `tests/eraser` has an example of each:
 
     a range without an end, which in Rust goes past the last number; `S { a, ..v[1] }`, for which Rust evaluates `v[1]`;
-    sizes of types and capacities of lists; casts to `usize`, which lose bits on 32 bits; sorting by no order; fields
-    whose names would change, since `{:?}` prints them; types, imports and paths that mean something else; a `drop` with
-    side effects; traits and impl bounds that could change method resolution; comments and texts that could end a
-    contract in one language only
+    sizes of types; casts to `usize`, which lose bits on 32 bits; sorting by no order; fields whose names would change,
+    since `{:?}` prints them; types, imports and paths that mean something else; a `drop` with side effects; traits and
+    impl bounds that could change method resolution; comments and texts that could end a contract in one language only
 
 It accepts any call of a name that is defined here. If the call means a function of Rust that allocates, rustc rejects
-it: erased source has to compile over `core` and the types in `tests/eraser/types`, which have no such functions. Rustc
-also rejects items that are clones, and `write!` to a text, which can fail in Rattle.
+it: erased source has to compile over `core` and the types in `tests/eraser/types`, which have no such functions, nor
+`capacity`, which gives another number. Rustc also rejects items that are clones, `write!` to a text, which can fail in
+Rattle, and `crate::` in `lib.rt`, whose replacement is another module.
 
 The other differences that Rattle's guides list can't occur here. Errors of `anyhow`, threads, channels, `once`, `empty`
 and bounds by `Index` need an import. `stringify!` isn't among the known calls, nor `try_from` among the names. No
@@ -60,7 +59,7 @@ RUSTFMT = ["rustfmt", "--edition", "2021", "--config", LAYOUT]
 
 # Rattle's functions that allocate, and the functions of `fallible.rs` that replace them.
 CALLS = {name: f"try_{name}" for name in "push push_str sort_by extend_from_slice split_off clone".split()} | {
-    "reserve": "try_grow", "reserve_exact": "try_grow_exact", "with_capacity": "of_capacity",
+    "reserve": "try_grow", "with_capacity": "of_capacity", "shrink_to_fit": "try_shrink",
     "String::new": "String::empty", "String::from_str": "String::copy_of", "Vec::new": "Vec::empty",
     "vec![in alloc; 0; room]": "Vec::filled(alloc, 0, room)", "impl Clone for": "impl TryClone for",
 }
@@ -70,6 +69,7 @@ DISPLAY = {"fmt<W: fmt::Write>": "fmt", "fmt::Formatter<W>": "fmt::Formatter<'_>
 LIBRARY = {f"std::{name}": f"crate::{name}" for name in ("alloc", "convert", "error")} | {
     "std::": "core::", "std::vec": "crate::heap::vec", "str::from_utf8": "core::str::from_utf8",
     "crate::": "super::", "unicode_width": "crate::width", "mod matches;": "pub(crate) mod matches;",
+    "mod scan;": "pub(crate) mod scan;", "mod table;": "pub(crate) mod table;",
     # `names.rs` has a function of the old name, which checks the precondition.
     "pub fn add_group": "pub(crate) fn add_valid_group",
 }
@@ -92,30 +92,29 @@ CRATES = {
 # Words that may not occur in a signature, body or type.
 FORBIDDEN_WORDS = set("""requires ensures ghost tactic Model Drop mod use fn impl trait struct enum union static extern
     unsafe macro_rules async await dyn where crate size_of size_of_val align_of align_of_val""".split())
-ATTRIBUTES = {"inline", "cold", "must_use"}
-DERIVED = {"Clone", "Copy", "Debug", "PartialEq", "Eq", "Drop"}
-# Paths that may be imported: Rust's, or their replacements.
-IMPORTS = set("""std::alloc std::cmp::Ordering std::convert::AsStr std::env std::error::Error std::fmt std::io
-    std::process::ExitCode std::str::FromStr std::vec unicode_width""".split())
+ATTRIBUTES = {"inline", "cold", "must_use", "derive", "tactic"}
+DERIVED = {"Clone", "Copy", "Debug", "PartialEq", "Eq"}
+# What paths that are imported from Rust, or from its replacements, begin with.
+IMPORTS = tuple("""std::alloc:: std::cmp::Ordering:: std::convert::AsStr:: std::env:: std::error::Error:: std::fmt::
+    std::io:: std::process::ExitCode:: std::str::FromStr:: std::vec::""".split())
 # Functions, methods and macros of Rust, or their replacements.
-KNOWN_CALLS = set("""all alloc allocator any arg as_bytes as_slice as_str binary_search_by binary_search_by_key
-    capacity chars clone cmp contains count dedup_by encode_utf8 ends_with enumerate
+KNOWN_CALLS = set("""all alloc allocator and any arg as_bytes as_slice as_str binary_search_by binary_search_by_key
+    chars clone cmp contains count dedup_by encode_utf8 ends_with enumerate
     extend_from_slice first flush format get into_iter is_ascii is_ascii_alphanumeric is_ascii_digit is_empty is_eq
-    is_some iter iter_mut kind len len_utf8 map_or matches max min next ok_or parse position push push_reserved
-    push_str reserve reserve_exact resize rsplit_once saturating_add saturating_mul saturating_sub size_hint
+    is_some iter iter_mut kind len len_utf8 map_or matches max min next parse position push push_reserved
+    push_str reserve resize rsplit_once saturating_add saturating_mul saturating_sub shrink_to_fit size_hint
     sort_by split split_at split_at_mut split_off split_once split_whitespace starts_with stderr strip_prefix strip_suffix
     then_some trim_ascii truncate unreachable unwrap_or vec width write writeln Err FnMut Ok Some bytes""".split())
 # Functions that are called by type, as in `u32::from(..)`.
 KNOWN_TYPE_CALLS = set("""Error::from String::new String::from_str String::with_capacity Vec::new Vec::with_capacity
-    ExitCode::from char::from_u32 io::writer str::from_utf8 u32::from u32::from_be_bytes
-    u64::from_be_bytes""".split())
+    ExitCode::from char::from_u32 io::writer str::from_utf8 u32::from u64::from_be_bytes""".split())
 
 TOKEN = re.compile(
     r"""(?P<lead>(?:\s+|//[^\n]*)*)
     (?P<token>
         b?r(?P<hashes>\#*)"(?:.|\n)*?"(?P=hashes) | b?"(?:[^"\\]|\\(?:.|\n))*"
         | b?'(?:[^'\\\n]|\\[^\n][^'\n]*)' | '[A-Za-z_]\w*
-        | [A-Za-z_]\w* | \d\w*(?:\.\d\w*)? | [{}()\[\]<>;:,.=+*/%&|^!?\#@$-] | (?P<strange>.) | \Z)""",
+        | [A-Za-z_]\w* | \d\w*(?:\.\d\w*)? | . | \Z)""",
     re.X,
 )
 BRACKETS = {"{": "}", "(": ")", "[": "]"}
@@ -125,14 +124,12 @@ KEYWORDS = set("""as break const continue crate else enum fn for if impl in let 
     return self struct super type use while""".split())
 # The new names of the tables above, which sources may not contain.
 NEW_NAMES = re.compile(r"try_\w+|of_capacity|copy_of|TryClone|trimmed_ascii|add_valid_group")
-# Types of Rust, which sources may not define, because renaming would affect their functions.
-RUST_TYPES = set("""bool char f32 f64 i8 i16 i32 i64 i128 isize str u8 u16 u32 u64 u128 usize String Vec Option Some
-    None Ok Err Box Clone Copy Default Drop Eq Iterator IntoIterator Ord PartialEq PartialOrd ToString alloc core
-    std""".split())
 # Types that values may be cast to. `usize` and `isize` would lose bits on 32 bits; `_` and other names may mean these.
 CASTS = {"char", "u8", "u16", "u32", "u64", "u128", "i8", "i16", "i32", "i64", "i128", "f32", "f64"}
-# The closures that lists may be sorted by: these two are orders, as the contract of sorting requires.
-ORDERS = ("|entry, other| entry.order(signatures, other))", "|letter, other| letter.short.cmp(&other.short))")
+# Types and modules that sources may not define: their casts, functions and paths would be taken for Rust's.
+RUST_TYPES = CASTS | {"String", "Vec", "str", "std", "core", "alloc"}
+# The only call that sorts: its closure is an order, as the contract of sorting requires.
+SORTING = ".sort_by(|entry, other| entry.order(signatures, other))"
 
 
 class NotRust(Exception):
@@ -142,8 +139,8 @@ class NotRust(Exception):
 class Token:
     """A token, with the white space and comments before it."""
 
-    def __init__(self, text, lead, line, strange):
-        self.text, self.lead, self.line, self.strange = text, lead, line, strange
+    def __init__(self, text, lead, line):
+        self.text, self.lead, self.line = text, lead, line
 
 
 def tokens_of(source):
@@ -151,7 +148,7 @@ def tokens_of(source):
     tokens, line = [], 1
     for match in TOKEN.finditer(source):
         line += match["lead"].count("\n")
-        tokens.append(Token(match["token"], match["lead"], line, match["strange"]))
+        tokens.append(Token(match["token"], match["lead"], line))
         line += match["token"].count("\n")
     return tokens
 
@@ -164,8 +161,9 @@ def words(pattern):
 class Eraser:
     """The tokens of one file, in which constructs are deleted and names replaced."""
 
-    def __init__(self, name, source):
-        self.file, self.tokens = name, tokens_of(source)
+    def __init__(self, path):
+        self.file, self.tokens = path.relative_to(TOP), tokens_of(path.read_text(encoding="utf-8"))
+        self.at, self.lemmas = 0, []
 
     def stop(self, at, why):
         token = self.tokens[min(at, len(self.tokens) - 1)]
@@ -274,38 +272,28 @@ class Eraser:
     def attributes(self):
         """Attributes. Deletes those that have no meaning in Rust."""
         while self.text(self.at) == "#":
-            start, inner = self.at, self.has(self.at + 1, "!")
-            self.at += 2 if inner else 1
+            start = self.at
+            self.at += 1 + self.has(self.at + 1, "!")
             end, name, derived = self.close(self.at), self.text(self.at + 1), []
             if name == "derive":
                 derived = [token.text for token in self.tokens[self.at + 3 : end - 2] if token.text != ","]
-                if set(derived) - DERIVED or inner:
-                    self.stop(start, "it derives an unknown trait")
-            elif name != "tactic" and (name not in ATTRIBUTES or inner):
+            if set(derived[:-1]) - DERIVED or set(derived) - DERIVED - {"Drop"}:
+                self.stop(start, "it derives an unknown trait, or 'Drop' before others")
+            if name not in ATTRIBUTES:
                 self.stop(start, "unknown attribute")
+            self.at = end
             if name == "tactic" or derived == ["Drop"]:
                 self.delete(start, end)
-                end = start
+                self.at = start
             elif "Drop" in derived:
-                at = next(at for at in range(self.at, end) if self.text(at) == "Drop")
-                self.delete(*(at - 1, at + 1) if self.text(at - 1) == "," else (at, at + 2))
-                end -= 2
-            self.at = end
-
-    def ghost(self, start):
-        """`ghost use .. ;`"""
-        self.expect("ghost use")
-        self.at = self.after(self.at)
-        self.no_comments(start, self.at)
-        self.erase(start)
+                self.delete(end - 4, end - 2)
+                self.at -= 2
 
     def item(self, start):
         for law in ("mod laws;", "pub use laws::", "use std::marker::Model;"):
             if self.has(self.at, law):
                 self.at = self.after(self.at)
                 return self.erase(start)
-        if self.text(self.at) == "ghost":
-            return self.ghost(start)
         self.visibility()
         kind = self.text(self.at)
         if self.take("impl"):
@@ -347,9 +335,11 @@ class Eraser:
             self.at = self.close(self.at)
 
     def member(self, start):
-        """A member of an impl."""
-        if self.has(self.at, "ghost use"):
-            return self.ghost(start)
+        """A member of an impl, or an item that may also be one."""
+        if self.take("ghost use"):
+            self.at = self.after(self.at)
+            self.no_comments(start, self.at)
+            return self.erase(start)
         if self.take("ghost"):
             self.name()
             self.expect("=")
@@ -364,14 +354,14 @@ class Eraser:
             self.function()
 
     def function(self):
+        """A function. It is a lemma if it is public, and neither returns nor changes anything."""
+        start, public = self.at, self.has(self.at - 1, "pub fn")
         self.expect("fn")
         self.name()
         self.generics()
-        if not self.has(self.at, "("):
-            self.stop(self.at, "expected parameters")
-        self.plain(["-", "{", "requires", "ensures"])
-        if self.take("->"):
-            self.plain(["{", "requires", "ensures"])
+        self.plain(["{", "requires", "ensures"])
+        if public and not {"mut", "-"} & {token.text for token in self.tokens[start : self.at]}:
+            self.lemmas.append(self.tokens[start - 1])
         while self.text(self.at) in ("requires", "ensures"):
             start = self.at
             self.at += 1
@@ -388,9 +378,9 @@ class Eraser:
 
     def logic(self):
         """`{ .. }` of the logic."""
-        if not self.has(self.at, "{"):
-            self.stop(self.at, "expected '{'")
-        start, self.at = self.at, self.close(self.at)
+        start = self.at
+        self.expect("{")
+        self.at = self.close(start)
         self.no_comments(start, self.at)
 
     def no_comments(self, start, end):
@@ -405,101 +395,53 @@ class Eraser:
     def imported(self):
         """`use .. ;`, from this crate, another crate of this repository, or a path in IMPORTS."""
         start = self.at
+        if not self.take("crate"):
+            self.name()
         self.at = self.after(self.at)
-        tree = "".join(token.text for token in self.tokens[start : self.at - 1])
-        path, _, names = tree.partition("::{")
-        if tree.startswith("std::"):
-            every = [f"{path}::{name}" for name in names.rstrip("}").split(",")] if names else [path]
-            for one in every:
-                if not any(one == known or one.startswith(known + "::") for known in IMPORTS):
-                    self.stop(start, f"{one} isn't among the known imports")
+        path = "".join(token.text for token in self.tokens[start : self.at - 1]).partition("::{")[0]
+        if self.text(start) in ("std", "core") and not f"{path}::".startswith(IMPORTS):
+            self.stop(start, f"{path} isn't among the known imports")
 
     def implementation(self, start):
+        if self.file.stem == "laws":
+            self.stop(start, "a module of laws is left out, so it may implement nothing")
         self.generics()
         if any(self.has(at, ":") for at in range(start, self.at)):
             self.stop(start, "bounds of an impl may not hold in Rust")
-        trait = self.text(self.at) if self.has(self.at + 1, "for") else ""
-        if trait not in ("Model", "Drop"):
-            self.past("{")
-            self.items(self.member, "}")
-            self.at += 1
-            return
-        named = self.at
-        self.at += 1
+        named, erased = self.at, self.take("Model for") or self.take("Drop for")
         self.past("{")
-        if trait == "Model":
-            self.items(self.ghost_member, "}")
-            self.at += 1
-        else:
-            inside, self.at = self.at, self.close(self.at - 1)
-            # The body has to be `let NAME { field: _, .. } = self;`.
-            drop = " ".join(token.text for token in self.tokens[inside : self.at - 1])
-            if not re.fullmatch(r"fn drop \( self \) { let \w+ { (\w+ : _ , )*(\w+ : _ )?} = self ; }", drop):
-                self.stop(named, "its impl does more than destructure a value")
-        self.erase(start)
+        inside = self.at
+        self.items(self.member, "}")
+        self.at += 1
+        # The body has to be `let NAME { field: _, .. } = self;`.
+        drop = " ".join(token.text for token in self.tokens[inside : self.at - 1])
+        if self.text(named) == "Drop" and not re.fullmatch(
+            r"fn drop \( self \) { let \w+ { (\w+ : _ , )*(\w+ : _ )?} = self ; }", drop
+        ):
+            self.stop(named, "its impl does more than destructure a value")
+        if erased:
+            self.erase(start)
 
-    def ghost_member(self, start):
-        if not self.has(start, "ghost"):
-            self.stop(start, "an impl of `Model` may only have `ghost` members")
-        self.member(start)
-
-    def law(self, start):
-        """An item of a module of laws."""
-        if self.has(self.at, "ghost"):
-            return self.ghost(start)
-        if self.take("use"):
-            return self.imported()
-        self.visibility()
-        begin = self.at
-        self.function()
-        head = next(at for at in range(begin, self.at) if self.text(at) == "{")
-        if any(self.text(at) == "mut" or self.has(at, "->") for at in range(begin, head)):
-            self.stop(begin, "a law may not return or change anything")
-
-    def read(self, one):
-        """Parses the whole file."""
-        for at, token in enumerate(self.tokens):
-            if token.text == "/" and self.text(at + 1) in ("*", "/") and not self.tokens[at + 1].lead:
+    def read(self):
+        """Parses the whole file, and deletes what has no meaning at run time."""
+        for at, text in enumerate([token.text for token in self.tokens]):
+            before = self.text(at - 1)
+            if self.has(at, "/*") and not self.tokens[at + 1].lead:
                 self.stop(at, "block comments aren't allowed")
-            if NEW_NAMES.fullmatch(token.text):
+            if NEW_NAMES.fullmatch(text):
                 self.stop(at, "renaming produces this name")
-            self.form(at, token.text)
-        at = 0
-        while at < len(self.tokens):
-            at = self.close(at) if self.text(at) in BRACKETS else at + 1
-        self.at = 0
-        self.items(one)
+            if text in RUST_TYPES and before in ("struct", "enum", "type", "trait", "mod", "const", "fn"):
+                self.stop(at, "Rust has a type of this name")
+            sorts = re.fullmatch(r"sort(_unstable)?_by|select_nth_unstable_by", text) and before != "fn"
+            if sorts and not self.has(at - 1, SORTING):
+                self.stop(at, "Rust may panic if this isn't an order")
+        self.items(self.item)
         self.dots()
-
-    def form(self, at, text):
-        """Rejects what has different meanings in Rattle and Rust."""
-        before = self.text(at - 1)
-        if text in RUST_TYPES and before in ("struct", "enum", "type", "trait", "mod", "const", "fn"):
-            self.stop(at, "Rust has a type of this name")
-        if text == "capacity" and not self.has(at - 4, "self.records.capacity()"):
-            self.stop(at, "another number in Rust; it may only decide how much to reserve")
-        if self.has(at, "crate::") and self.file.stem in ("lib", "main"):
-            self.stop(at, "it would become the path of another module")
-        ordered = any(self.has(at - 1, ".sort_by(" + order) for order in ORDERS)
-        if re.fullmatch(r"sort(_unstable)?_by|select_nth_unstable_by", text) and not ordered and before != "fn":
-            self.stop(at, "Rust may panic if this isn't an order")
-
-    def hide_lemmas(self):
-        """Hides from the documentation what a library exports for proofs: functions that neither return nor change
-        anything. `same_tokens.py` accepts this attribute only there."""
-        at = 0
-        while at < len(self.tokens):
-            head = self.next("{", at)
-            if self.has(at, "pub fn") and not any(self.text(it) == "mut" or self.has(it, "->") for it in range(at, head)):
-                hidden = tokens_of("#[doc(hidden)]")[:-1]
-                hidden[0].lead, self.tokens[at].lead = self.tokens[at].lead, "\n"
-                self.tokens[at:at] = hidden
-                at += len(hidden)
-            at = self.close(at) if self.text(at) in BRACKETS else at + 1
+        return self
 
     def dots(self):
-        """Rejects ranges without an end that aren't an index, because in Rust they go past the last number, and `..` of
-        a record before anything but names, because Rust evaluates it even if no field is taken from it."""
+        """Rejects ranges without an end that aren't an index, because in Rust they go past the last number, and records
+        that take fields from another, because Rust evaluates it even if no field is taken."""
         opened = []
         for at, token in enumerate(self.tokens):
             if token.text in BRACKETS:
@@ -514,31 +456,23 @@ class Eraser:
             if before not in set("{([,@|=>&") and after in set(")}],;{") and not index:
                 self.stop(at, "a range needs an end")
             if before in set(",{") and after not in set(")}],"):
-                end = next(end for end in range(at + 2, len(self.tokens)) if not re.match(r"[*.\w]", self.text(end)))
-                if self.text(end) != "}":
-                    self.stop(at, "only names may follow '..' in a record")
+                self.stop(at, "a record may not take fields from another")
 
     def calls(self, known, values, methods):
         """Rejects calls and names of functions that neither this repository defines nor the lists above have."""
         imported = 0
         for at, token in enumerate(self.tokens):
             text, after = token.text, self.text(at + 1)
-            if token.strange:
-                self.stop(at, "it isn't Rust")
             if text == "use":
                 imported = self.after(at)
-                if self.text(at + 1) not in known | {"crate", "super", "std", "unicode_width"}:
-                    self.stop(at + 1, "unknown crate")
-            if text == "as" and at < imported:
-                self.stop(at, "imports may not be renamed")
             if (text in CALLS or text in HOST) and self.text(at - 1) not in (".", ":", "fn"):
                 self.stop(at, "renaming would change this name, which `{:?}` may print")
-            if text == "as" and after not in CASTS:
+            if text == "as" and (at < imported or after not in CASTS):
                 self.stop(at, "only casts to numbers of a fixed size are allowed")
             if text in ("std", "core") and at >= imported and not self.has(at, "std::result::Result<"):
                 self.stop(at, "paths of Rust have to be imported")
-            named = self.text(at - 1) == "fn" or self.has(at - 2, "#[") or at < imported
-            if not re.fullmatch(r"[A-Za-z_]\w*", text) or text in KEYWORDS or named:
+            attribute = self.has(at - 2, "#[")
+            if not re.fullmatch(r"[A-Za-z_]\w*", text) or text in KEYWORDS or attribute or at < imported:
                 continue
             macro = after == "!" and not self.has(at + 1, "!=")
             called = after == "(" or macro or self.has(at + 1, "::<")
@@ -569,23 +503,16 @@ class Eraser:
         return called
 
 
-def read(path, one="item"):
-    """A file, without what has no meaning at run time."""
-    eraser = Eraser(path.relative_to(TOP), path.read_text(encoding="utf-8"))
-    eraser.read(getattr(eraser, one))
-    return eraser
-
-
 def defined(eraser):
-    """The names that a file defines: of functions, types, variants and modules; of values, which may be functions; and
-    of methods."""
+    """The names that a file defines: of functions, types, variants and modules; of parameters, which may be functions;
+    and of methods."""
     text, names, values, methods = eraser.text, {"Self"}, set(), set()
     for at in range(len(eraser.tokens)):
         if text(at - 1) == "fn" and "self" in [text(place) for place in range(at, eraser.close(eraser.next("(", at)))]:
             methods.add(text(at))
         if text(at - 1) in ("fn", "struct", "enum", "type", "const", "mod"):
             names.add(text(at))
-        if text(at - 1) in ("let", "mut") or text(at + 1) == ":" and text(at + 2) != ":":
+        if text(at + 1) == ":" and text(at + 2) != ":":
             values.add(text(at))
         if text(at) == "enum":
             body = eraser.next("{", at)
@@ -595,8 +522,8 @@ def defined(eraser):
 
 def rust_of(path, eraser, module, names):
     called = eraser.rename(names)
-    if names is LIBRARY:
-        eraser.hide_lemmas()
+    for token in eraser.lemmas if names is LIBRARY else []:
+        token.text = f"#[doc(hidden)]\n{token.text}"
     # Examples in comments are Rattle; Rust's doctests couldn't compile them.
     shown = functools.partial(re.sub, r"(//[/!] ```)\n((?:.*\n)*?.*//[/!] ```\n)", r"\1text\n\2")
     text = "".join(shown(token.lead) + token.text for token in eraser.tokens)
@@ -614,11 +541,11 @@ def sources():
     crates, known, values, methods = {}, set(CRATES), set(), set()
     for name in CRATES:
         paths = sorted((TOP / "crates" / name / "src").glob("*.rt"))
-        laws = [read(path, "law") for path in paths if path.stem == "laws"]
-        crates[name] = {path: read(path) for path in paths if path.stem != "laws"}
-        for eraser in [*crates[name].values(), *laws]:
+        files = {path: Eraser(path).read() for path in paths}
+        for eraser in files.values():
             names, held, called = defined(eraser)
             known, values, methods = known | names, values | held, methods | called
+        crates[name] = {path: eraser for path, eraser in files.items() if path.stem != "laws"}
     for files in crates.values():
         for eraser in files.values():
             eraser.calls(known, values, methods)

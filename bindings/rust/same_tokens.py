@@ -16,15 +16,16 @@ from pathlib import Path
 # Patterns of how a construct begins, each with what ends it: the closing of its brackets, or a sign outside brackets.
 WHOLE = [(r"(requires|ensures)( \*)?( \w+)? {", "}"), (r"ghost", ";,"), (r"impl (< .*? > )?(Model|Drop) for .*? {", "}")]
 WHOLE += [(r"# (! )?\[ (tactic|derive \( Drop \) \])", "]"), (r"use std :: marker :: Model", ";")]
-WHOLE += [(r"(mod laws|pub use laws)", ";"), (r"[+:,] Drop(?= [>,)])", ""), (r"Drop ,", "")]
+WHOLE += [(r"(mod laws|pub use laws)", ";"), (r"[+:,] Drop(?= [>,)])", "")]
 CALLS = "push push_str sort_by clone extend_from_slice split_off".split()
 RENAMED = {word: "try_" + word for word in CALLS}
-RENAMED |= {"reserve": "try_grow", "reserve_exact": "try_grow_exact", "with_capacity": "of_capacity"}
+RENAMED |= {"reserve": "try_grow", "with_capacity": "of_capacity", "shrink_to_fit": "try_shrink"}
 RENAMED |= {"String :: new": "String :: empty", "Vec :: new": "Vec :: empty", "String :: from_str": "String :: copy_of"}
 RENAMED |= {"vec ! [ in alloc ; 0 ; room ]": "Vec :: filled ( alloc , 0 , room )"}
 RENAMED |= {"impl Clone for": "impl TryClone for"}
 RENAMED |= {"fmt < W : fmt :: Write >": "fmt", "fmt :: Formatter < W >": "fmt :: Formatter < '_ >"}
-PATHS = {"mod matches": "pub ( crate ) mod matches", "crate ::": "super ::", "std :: alloc": "crate :: alloc"}
+PATHS = {f"mod {name}": f"pub ( crate ) mod {name}" for name in ("matches", "scan", "table")}
+PATHS |= {"crate ::": "super ::", "std :: alloc": "crate :: alloc"}
 PATHS |= {"unicode_width": "crate :: width", "pub fn add_group": "pub ( crate ) fn add_valid_group"}
 PATHS |= {"std :: convert": "crate :: convert", "std :: error": "crate :: error", "std :: vec": "crate :: heap :: vec"}
 PATHS |= {"std ::": "core ::", "str :: from_utf8": "core :: str :: from_utf8"}

@@ -10,6 +10,8 @@
 # Files are written below DESTDIR. MACHINE selects another processor, by the name that `uname -m` prints. PROGRAM is a file
 # to install instead of the checked-in binary: the program as built by cargo, which contains nothing of musl.
 set -eu
+# zsh wouldn't split the lists below.
+[ "${ZSH_VERSION:+$(emulate)}" != zsh ] || exec sh "$0" "$@"
 unset CDPATH
 umask 022
 fail() {

@@ -18,6 +18,7 @@ impl crate::error::Error for AllocError {}
 
 /// An allocation failed; the value that couldn't be stored is returned.
 #[derive(Clone, Copy, Debug, PartialEq, Eq)]
+#[doc(hidden)]
 pub struct AllocFailed<T>(pub T);
 
 impl<T> From<AllocFailed<T>> for AllocError {

@@ -77,10 +77,10 @@ arguments matters, use [`parse_in_order`](Options::parse_in_order).
 //!
 //! # The proved source
 //!
-//! The feature `proved` makes the proved source public: the modules `proved`, `bytes`, `alloc` and
-//! `fallible` and, with the feature `std`, the function `bytes_of`. The methods of `proved` take an
-//! allocator, and return an error if an allocation fails. Invalid names panic when they are added,
-//! and names that weren't declared count as not given:
+//! The feature `proved` makes the proved source public: the modules `proved`, `alloc` and
+//! `fallible`. The methods of `proved` take an allocator, and return an error if an allocation
+//! fails. Invalid names panic when they are added, and names that weren't declared count as not
+//! given. What is public but not documented here may change in any version.
 //!
 //! ```
 //! # #[cfg(feature = "proved")] {
@@ -99,6 +99,7 @@ arguments matters, use [`parse_in_order`](Options::parse_in_order).
 //!
 //! `README.md` lists differences from the crate `getopts`, and describes what is proved.
 #![cfg_attr(not(feature = "std"), no_std)]
+#![cfg_attr(docsrs, feature(doc_cfg))]
 #![forbid(unsafe_code)]
 #![warn(missing_docs)]
 
@@ -126,11 +127,14 @@ macro_rules! modules {
     ($seen:vis) => {
         $seen mod alloc;
         $seen mod fallible;
+        /// The proved source. Where it requires a declared name, any other counts as not given.
+        ///
         // The source has parts that this crate doesn't use, and is written in Rattle's style.
         #[allow(unused_variables, unused_labels, unused_imports, dead_code, missing_docs, clippy::all)]
         $seen mod proved;
         // The erased `getopts_bytes`: encodes words that aren't UTF-8 as text.
         #[allow(dead_code, clippy::all)]
+        #[doc(hidden)]
         $seen mod bytes;
     };
 }
@@ -146,6 +150,7 @@ pub use matches::Matches;
 #[cfg(feature = "std")]
 pub use options::{Given, Options};
 #[cfg(all(feature = "std", feature = "proved"))]
+#[doc(hidden)]
 pub use os::bytes_of;
 #[cfg(feature = "std")]
 pub use os::{OsGetError, OsMatches};

@@ -1,7 +1,7 @@
 //! The matches of an accepted command line.
 
 use crate::alloc::Global;
-use crate::debug;
+use crate::debug::{Optval, opts_of};
 use crate::fail::granted;
 use crate::fallible::TryClone;
 use crate::iter::{Occurrences, Values};
@@ -63,7 +63,7 @@ impl Matches {
         Matches { free: proved.free, held: proved.held, trailing_start: proved.trailing_start }
     }
 
-    /// The index of the option with this name.
+    /// The place of the option with this name.
     #[inline]
     #[track_caller]
     pub(crate) fn place(&self, name: &str) -> usize {
@@ -102,8 +102,10 @@ impl Matches {
         free: &dyn fmt::Debug,
         given_at: impl Fn(usize) -> I,
     ) -> fmt::Result {
-        let vals = self.of_each(given_at, |(position, value)| (position, debug::Given(value)));
-        shown.field("opts", &debug::opts_of(&self.held)).field("vals", &vals);
+        let vals = self.of_each(given_at, |(position, value)| {
+            (position, value.map_or(Optval::Given, Optval::Val))
+        });
+        shown.field("opts", &opts_of(&self.held)).field("vals", &vals);
         shown.field("free", free).field("args_end", &self.free_trailing_start()).finish()
     }
 
@@ -338,6 +340,9 @@ impl Matches {
     /// let mut options = getopts::Options::new();
     /// options.optopt("n", "", "", "N");
     /// assert_eq!(options.parse(["-n", "7"]).unwrap().opt_get::<u8>("n"), Ok(Some(7)));
+    /// let jobs = options.parse(["-n", "x"]).unwrap().opt_get::<u8>("n");
+    /// let error = jobs.map_err(|error| format!("-n: {error}")).unwrap_err();
+    /// assert_eq!(error, "-n: invalid digit found in string");
     /// ```
     ///
     /// # Errors

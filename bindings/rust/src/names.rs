@@ -41,6 +41,7 @@ impl Options {
     /// assert_eq!(only, (["o", "output"], "FILE", HasArg::Yes, Occur::Optional));
     /// ```
     #[cfg(feature = "proved")]
+    #[doc(hidden)]
     pub fn declared(&self) -> impl Iterator<Item = ([&str; 2], &str, HasArg, Occur)> {
         let groups = self.groups();
         (0..groups.len()).map(move |place| {

@@ -4,6 +4,8 @@ use crate::alloc::Global;
 use crate::debug::groups_of;
 use crate::fail::granted;
 use crate::fallible::TryClone;
+use crate::proved::scan::{Line, Scanner};
+use crate::proved::table::Table;
 use crate::{Fail, HasArg, Matches, Occur, ParsingStyle, Result, proved};
 use std::collections::HashSet;
 use std::ffi::OsStr;
@@ -64,15 +66,23 @@ impl fmt::Debug for Options {
 /// let mut options = Options::new();
 /// options.optmulti("l", "library", "link with NAME", "NAME");
 /// let given = options.parse_in_order(["a.o", "-lm"]).unwrap();
-/// let library = Given::Option { name: "library", value: Some("m".to_string()) };
-/// assert_eq!(given, [Given::Free("a.o".to_string()), library]);
+/// let inputs = given.into_iter().map(|given| match given {
+///     Given::Option { long: "library", value, .. } => format!("library {}", value.unwrap()),
+///     Given::Option { .. } => unreachable!(),
+///     Given::Free(file) => file,
+/// });
+/// assert!(inputs.eq(["a.o", "library m"]));
 /// ```
 #[derive(Clone, Debug, PartialEq, Eq)]
 pub enum Given<'o, T = String> {
-    /// An option.
+    /// An option, with both names as declared, so that a pattern may use either. Later versions may
+    /// add fields.
+    #[non_exhaustive]
     Option {
-        /// Its main name: the long name or, if it has none, the short one.
-        name: &'o str,
+        /// Its short name, or `""`.
+        short: &'o str,
+        /// Its long name, or `""`.
+        long: &'o str,
         /// Its value, if it has one.
         value: Option<T>,
     },
@@ -84,7 +94,9 @@ impl<'o, T> Given<'o, T> {
     /// The same with another text.
     pub(crate) fn map<U>(self, convert: impl Fn(T) -> U) -> Given<'o, U> {
         match self {
-            Given::Option { name, value } => Given::Option { name, value: value.map(convert) },
+            Given::Option { short, long, value } => {
+                Given::Option { short, long, value: value.map(convert) }
+            }
             Given::Free(word) => Given::Free(convert(word)),
         }
     }
@@ -93,9 +105,9 @@ impl<'o, T> Given<'o, T> {
 /// The first `FEW` items stay on the stack, unless each has more than `SMALL` bytes.
 const FEW: usize = 16;
 const SMALL: usize = 64;
-/// With more words than `MANY`, the iterator is dropped before they are parsed: it may own as much
-/// memory as the parser needs. With fewer, glibc's allocator is faster if it is dropped later.
-const MANY: usize = 4096;
+/// With more words than `MANY`, memory is given back early: `parse` reads words in parts, and drops
+/// each part before it takes more. A list of words is parsed after its iterator was dropped.
+const MANY: usize = 1024;
 /// The most bytes of a list because of `size_hint`, which may promise too many items.
 const MOST: usize = 1 << 22;
 
@@ -267,7 +279,8 @@ impl Options {
         self.opt(short, long, desc, hint, HasArg::Maybe, Occur::Optional)
     }
 
-    /// Adds an option with a mandatory argument that may occur any number of times.
+    /// Adds an option with a mandatory argument that may occur any number of times. If the last one
+    /// should win, as in `-O1 -O2`, take `matches.values("O").next_back()`.
     ///
     /// ```
     /// let mut options = getopts::Options::new();
@@ -316,8 +329,8 @@ impl Options {
     /// ```
     ///
     /// For a program's own arguments, pass `std::env::args_os().skip(1)`; `std::env::args()` panics
-    /// if an argument isn't UTF-8 ([`parse_os`](Self::parse_os) accepts these). All items are taken
-    /// before the first one is parsed, but none after one that isn't UTF-8.
+    /// if an argument isn't UTF-8 ([`parse_os`](Self::parse_os) accepts these). All items are
+    /// taken, but none after one that isn't UTF-8.
     ///
     /// # Errors
     /// See [`Fail`].
@@ -325,7 +338,47 @@ impl Options {
     where
         C::Item: AsRef<OsStr>,
     {
-        self.read(args, |options, texts| parse_texts(options, texts).map(Matches::of))
+        let words = args.into_iter();
+        if words.size_hint().0 > MANY && size_of::<C::Item>() <= SMALL {
+            return self.parse_many(words);
+        }
+        self.read(words, parse_texts)
+    }
+
+    /// Parses a command line of many words: reads the items of some words, and drops these before
+    /// it takes more. From `--` or, if options stop there, the first free word on, keeps them all.
+    #[inline(never)]
+    fn parse_many<A: AsRef<OsStr>>(&self, mut words: impl Iterator<Item = A>) -> Result {
+        let table = granted(Table::of(Global, self.proved.signatures()));
+        let scanner = Scanner { options: &self.proved, table: &table };
+        let mut line = granted(Line::for_words::<&str>(Global, &[], self.proved.style()));
+        let (mut items, mut before, mut kept) = (<[Option<A>; FEW]>::default(), 0, 0);
+        loop {
+            let (mut texts, mut count) = ([""; FEW], 0);
+            for item in &mut items {
+                if count >= kept {
+                    *item = words.next();
+                }
+                match item.as_ref().map(A::as_ref) {
+                    None => return parse_rest(&self.proved, table, line, before, &texts[..count]),
+                    Some(word) => texts[count] = word.to_str().ok_or_else(|| not_text(word))?,
+                }
+                count += 1;
+            }
+            let used = scan_texts(scanner, &texts, before, &mut line).map_err(|fail| {
+                // A word that isn't UTF-8 is reported first.
+                let other = words.find(|word| A::as_ref(word).to_str().is_none());
+                other.map_or(fail, |word| not_text(A::as_ref(&word)))
+            })?;
+            before += used;
+            kept = FEW - used;
+            if kept > 1 {
+                let ask = |texts: &[&str]| parse_rest(&self.proved, table, line, before, texts);
+                let otherwise = |_: &[&str], word: &OsStr, _| Err(not_text(word));
+                return read_list(&texts[used..], words, OsStr::to_str, ask, otherwise);
+            }
+            items.swap(0, FEW - 1);
+        }
     }
 
     /// Parses a command line like [`parse`](Self::parse), but doesn't check how often options
@@ -357,7 +410,7 @@ impl Options {
     where
         C::Item: AsRef<OsStr>,
     {
-        self.read(args, |options, texts| read_texts(options, texts).map(Matches::of))
+        self.read(args, read_texts)
     }
 
     /// Parses a command line like [`parse`](Self::parse), and returns its options and positional
@@ -365,6 +418,7 @@ impl Options {
     ///
     /// Use it if an option applies to the positional arguments after it, or if the order of
     /// different options matters: `opt_positions` can't order options in one word, such as `-vq`.
+    /// Positions, and which arguments followed `--`, are in the matches of `parse`.
     ///
     /// ```
     /// use getopts::{Given, Options};
@@ -374,8 +428,8 @@ impl Options {
     /// let (mut folder, mut paths) = (String::from("."), Vec::new());
     /// for given in options.parse_in_order(["-C", "src", "a", "b", "-Clib", "c"]).unwrap() {
     ///     match given {
-    ///         Given::Option { name: "directory", value } => folder = value.unwrap(),
-    ///         Given::Option { .. } => {}
+    ///         Given::Option { short: "C", value, .. } => folder = value.unwrap(),
+    ///         Given::Option { long, .. } => unreachable!("--{long} has no arm here"),
     ///         Given::Free(file) => paths.push(format!("{folder}/{file}")),
     ///     }
     /// }
@@ -395,27 +449,24 @@ impl Options {
     }
 
     /// Calls `ask` with the proved options and the words. Rejects the first word that isn't UTF-8.
-    fn read<'o, C: IntoIterator, T>(
+    fn read<'o, T>(
         &'o self,
-        args: C,
-        ask: impl Fn(&'o proved::Options, &[&str]) -> std::result::Result<T, proved::Fail>,
-    ) -> std::result::Result<T, Fail>
-    where
-        C::Item: AsRef<OsStr>,
-    {
+        args: impl IntoIterator<Item = impl AsRef<OsStr>>,
+        ask: impl Fn(&'o proved::Options, &[&str]) -> std::result::Result<T, Fail>,
+    ) -> std::result::Result<T, Fail> {
         read_words(
             args.into_iter(),
             OsStr::to_str,
-            |texts| ask(&self.proved, texts).map_err(Fail::of),
-            |_, word, _| Err(Fail::UnrecognizedOption(format!("{word:?}"))),
+            |texts| ask(&self.proved, texts),
+            |_, word, _| Err(not_text(word)),
         )
     }
 
     /// Parses a command line like [`parse`](Self::parse), and rewrites it in canonical form: each
-    /// option as `--name` or `--name=value`, with its main name (see [`Given`]), then `--`, then
-    /// the positional arguments. Not in the crate getopts.
+    /// option as `--name` or `--name=value`, with its long name or, if it has none, its short one,
+    /// then `--`, then the positional arguments. Not in the crate getopts.
     ///
-    /// Returns `None` if the command line gives an option whose main name contains `=`.
+    /// Returns `None` if the command line gives an option for which this name contains `=`.
     ///
     /// ```
     /// let mut options = getopts::Options::new();
@@ -446,11 +497,9 @@ impl Options {
     /// assert_eq!(options.repeated_name(), Some("o"));
     /// ```
     pub fn repeated_name(&self) -> Option<&str> {
-        let (groups, mut seen) = (self.proved.groups(), HashSet::new());
-        let names = (0..groups.len()).flat_map(|place| {
-            let names = groups.get(place).signature.names;
-            [names.short, names.long]
-        });
+        let (signatures, mut seen) = (self.proved.signatures(), HashSet::new());
+        let names = (0..signatures.len()).map(|place| signatures.names(place));
+        let names = names.flat_map(|names| [names.short, names.long]);
         names.filter(|name| !name.is_empty()).find(|name| !seen.insert(*name))
     }
 
@@ -524,28 +573,52 @@ impl Options {
     }
 }
 
+/// The error of a word that isn't UTF-8.
+pub(crate) fn not_text(word: &OsStr) -> Fail {
+    Fail::UnrecognizedOption(format!("{word:?}"))
+}
+
 // The proved methods for borrowed texts. They are generic: here they are compiled once, and not
 // again in each program that calls them.
 
-pub(crate) fn parse_texts(options: &proved::Options, words: &[&str]) -> proved::Result {
-    options.parse_words(Global, words)
+pub(crate) fn parse_texts(options: &proved::Options, words: &[&str]) -> Result {
+    options.parse_words(Global, words).map(Matches::of).map_err(Fail::of)
 }
 
-pub(crate) fn read_texts(options: &proved::Options, words: &[&str]) -> proved::Result {
-    options.parse_ignoring_counts(Global, words)
+fn scan_texts(
+    scanner: Scanner<'_>,
+    words: &[&str],
+    before: usize,
+    line: &mut Line,
+) -> std::result::Result<usize, Fail> {
+    scanner.scan(Global, words, before, words.len() - 1, line).map_err(Fail::of)
+}
+
+fn parse_rest(
+    options: &proved::Options,
+    table: Table,
+    line: Line,
+    before: usize,
+    words: &[&str],
+) -> Result {
+    options.read_rest(Global, table, line, before, words, true).map(Matches::of).map_err(Fail::of)
+}
+
+pub(crate) fn read_texts(options: &proved::Options, words: &[&str]) -> Result {
+    options.parse_ignoring_counts(Global, words).map(Matches::of).map_err(Fail::of)
 }
 
 pub(crate) fn texts_in_order<'o>(
     options: &'o proved::Options,
     words: &[&str],
-) -> std::result::Result<Vec<Given<'o>>, proved::Fail> {
-    let line = options.accepted_in_order(Global, words)?;
-    let mut values = (0..line.found.len()).map(|nth| line.found.at(nth).value);
-    let given = line.order.iter().map(|given| match *given {
-        proved::Given::Option(place) => Given::Option {
-            name: options.groups().main(place),
-            value: values.next().flatten().map(String::from),
-        },
+) -> std::result::Result<Vec<Given<'o>>, Fail> {
+    let order = options.parse_in_order(Global, words).map_err(Fail::of)?;
+    let given = order.iter().map(|given| match *given {
+        proved::Given::Option { place, value } => {
+            let names = options.groups().signatures().names(place);
+            let value = value.map(String::from);
+            Given::Option { short: names.short, long: names.long, value }
+        }
         proved::Given::Free(word) => Given::Free(word.into()),
     });
     Ok(given.collect())
@@ -554,6 +627,6 @@ pub(crate) fn texts_in_order<'o>(
 fn canonical_texts(
     options: &proved::Options,
     words: &[&str],
-) -> std::result::Result<Option<Vec<String>>, proved::Fail> {
-    options.canonical_words(Global, words)
+) -> std::result::Result<Option<Vec<String>>, Fail> {
+    options.canonical_words(Global, words).map_err(Fail::of)
 }

@@ -136,9 +136,12 @@ impl Options {
     ///
     /// let mut options = getopts::Options::new();
     /// options.optmulti("I", "", "add a folder", "DIR");
-    /// let given = options.parse_os_in_order(["in.txt", "-Isrc"]).unwrap();
-    /// let option = Given::Option { name: "I", value: Some("src".into()) };
-    /// assert_eq!(given, [Given::Free("in.txt".into()), option]);
+    /// match &options.parse_os_in_order(["in.txt", "-Isrc"]).unwrap()[..] {
+    ///     [Given::Free(file), Given::Option { short: "I", value: Some(folder), .. }] => {
+    ///         assert!(file == "in.txt" && folder == "src");
+    ///     }
+    ///     given => panic!("{given:?}"),
+    /// }
     /// ```
     ///
     /// # Errors
@@ -158,18 +161,15 @@ impl Options {
 
     /// Calls `ask` with the proved options and the words, and `of` with its answer and whether a
     /// word wasn't text.
-    fn read_os<'o, C: IntoIterator, T, U>(
+    fn read_os<'o, T, U>(
         &'o self,
-        args: C,
-        ask: impl Fn(&'o proved::Options, &[&str]) -> Result<T, proved::Fail>,
+        args: impl IntoIterator<Item = impl AsRef<OsStr>>,
+        ask: impl Fn(&'o proved::Options, &[&str]) -> Result<T, Fail>,
         of: impl Fn(T, bool) -> U,
-    ) -> Result<U, Fail>
-    where
-        C::Item: AsRef<OsStr>,
-    {
+    ) -> Result<U, Fail> {
         let answer = |texts: &[&str], marked| match ask(&self.proved, texts) {
             Ok(given) => Ok(of(given, marked)),
-            Err(fail) => Err(shown(Fail::of(fail))),
+            Err(fail) => Err(shown(fail)),
         };
         read_words(
             args.into_iter(),
@@ -185,10 +185,10 @@ impl Options {
                 // The first mark of an encoded character in a cluster: the character has a name.
                 if matches!(&given, Err(Fail::UnrecognizedOption(name)) if name == "\u{FFFD}") {
                     let texts: Vec<_> = words.iter().map(|word| word.to_string_lossy()).collect();
-                    if let Err(fail @ proved::Fail::UnrecognizedOption(_)) =
+                    if let Err(fail @ Fail::UnrecognizedOption(_)) =
                         ask(&self.proved, &borrowed(&texts))
                     {
-                        return Err(Fail::of(fail));
+                        return Err(fail);
                     }
                 }
                 given
@@ -198,23 +198,16 @@ impl Options {
 }
 
 impl OsMatches {
-    fn of(proved: proved::Matches, marked: bool) -> OsMatches {
-        let mut matches = Matches::of(proved);
-        let free = std::mem::take(&mut matches.free);
-        let values = if marked {
-            matches.of_each(|place| matches.given_at(place), |(_, value)| value.map(os_of))
-        } else {
-            Vec::new()
-        };
-        OsMatches {
-            free: if marked {
-                free.iter().map(|text| os_of(text)).collect()
-            } else {
-                free.into_iter().map(OsString::from).collect()
-            },
-            matches,
-            values,
+    fn of(mut matches: Matches, marked: bool) -> OsMatches {
+        let free = std::mem::take(&mut matches.free).into_iter();
+        if !marked {
+            let free = free.map(OsString::from).collect();
+            return OsMatches { free, matches, values: Vec::new() };
         }
+        let free = free.map(|text| os_of(&text)).collect();
+        let values =
+            matches.of_each(|place| matches.given_at(place), |(_, value)| value.map(os_of));
+        OsMatches { free, matches, values }
     }
 
     /// Whether an option has this name.
@@ -383,14 +376,12 @@ fn borrowed<'t>(texts: &'t [Cow<'_, str>]) -> Vec<&'t str> {
 
 /// A word as text: itself, or encoded by marks.
 fn text_of(word: &OsStr) -> Result<Cow<'_, str>, Fail> {
-    match plain(word) {
-        Some(text) => Ok(Cow::Borrowed(text)),
-        None => {
-            let mut text = String::new();
-            granted(push_text(&mut text, &bytes_of(word)?));
-            Ok(Cow::Owned(text))
-        }
+    if let Some(text) = plain(word) {
+        return Ok(Cow::Borrowed(text));
     }
+    let mut text = String::new();
+    granted(push_text(&mut text, &bytes_of(word)?));
+    Ok(Cow::Owned(text))
 }
 
 /// The word that a text encodes.
@@ -401,23 +392,23 @@ fn os_of(text: &str) -> OsString {
 }
 
 /// The error with its marks decoded, and U+FFFD in place of what isn't Unicode.
-fn shown(fail: Fail) -> Fail {
-    let shown = |name: String| {
-        let mut bytes = Vec::new();
-        granted(push_bytes(&mut bytes, &name));
-        match bytes[..] {
-            // The first byte of a character in a cluster isn't a word.
-            [_] => String::from_utf8_lossy(&bytes).into_owned(),
-            _ => word_of(bytes).to_string_lossy().into_owned(),
+fn shown(mut fail: Fail) -> Fail {
+    match &mut fail {
+        Fail::ArgumentMissing(name)
+        | Fail::UnrecognizedOption(name)
+        | Fail::UnexpectedArgument(name) => {
+            let mut bytes = Vec::new();
+            granted(push_bytes(&mut bytes, name));
+            *name = match bytes[..] {
+                // The first byte of a character in a cluster isn't a word.
+                [_] => String::from_utf8_lossy(&bytes).into_owned(),
+                _ => word_of(bytes).to_string_lossy().into_owned(),
+            };
         }
-    };
-    match fail {
-        Fail::ArgumentMissing(name) => Fail::ArgumentMissing(shown(name)),
-        Fail::UnrecognizedOption(name) => Fail::UnrecognizedOption(shown(name)),
-        Fail::UnexpectedArgument(name) => Fail::UnexpectedArgument(shown(name)),
         // These have declared names, which aren't encoded.
-        Fail::OptionMissing(_) | Fail::OptionDuplicated(_) => fail,
+        Fail::OptionMissing(_) | Fail::OptionDuplicated(_) => {}
     }
+    fail
 }
 
 /// The bytes of an argument.
@@ -474,10 +465,7 @@ fn word_of(bytes: Vec<u8>) -> OsString {
 /// The bytes of an argument, if it is UTF-8.
 #[cfg(not(any(unix, windows)))]
 pub fn bytes_of(word: &OsStr) -> Result<Cow<'_, [u8]>, Fail> {
-    match word.to_str() {
-        Some(text) => Ok(Cow::Borrowed(text.as_bytes())),
-        None => Err(Fail::UnrecognizedOption(format!("{word:?}"))),
-    }
+    word.to_str().map(|text| text.as_bytes().into()).ok_or_else(|| crate::options::not_text(word))
 }
 
 #[cfg(not(any(unix, windows)))]
@@ -491,22 +479,17 @@ mod tests {
 
     use crate::bytes::{plain_text, push_bytes, push_text};
 
-    /// A word, and its text.
-    type Row<'a> = (&'a [u8], &'a str);
-
-    const ROWS: &[Row<'_>] = &[
+    /// Words, each with its text.
+    const ROWS: &[(&[u8], &str)] = &[
         (b"", ""),
         (b"--name=it's", "--name=it's"),
-        (
-            b"gr\xC3\xBCn \xE2\x82\xAC\xF0\x90\x8D\x88",
-            "grün €\u{10348}",
-        ),
+        (b"a\0b", "a\0b"),
+        (b"gr\xC3\xBCn \xE2\x82\xAC\xF0\x90\x8D\x88", "grün €\u{10348}"),
         // the first and last character of each length, the characters next to the surrogates, and
         // the last one before the marks
-        (
-            b"\x7F\xC2\x80\xDF\xBF\xE0\xA0\x80\xED\x9F\xBF\xEE\x80\x80\xEF\xBF\xBF\xF0\x90\x80\x80\xF4\x8F\xBD\xBF",
-            "\u{7F}\u{80}\u{7FF}\u{800}\u{D7FF}\u{E000}\u{FFFF}\u{10000}\u{10FF7F}",
-        ),
+        (b"\x7F\xC2\x80\xDF\xBF\xE0\xA0\x80\xED\x9F\xBF", "\u{7F}\u{80}\u{7FF}\u{800}\u{D7FF}"),
+        (b"\xEE\x80\x80\xEF\xBF\xBF", "\u{E000}\u{FFFF}"),
+        (b"\xF0\x90\x80\x80\xF4\x8F\xBD\xBF", "\u{10000}\u{10FF7F}"),
         (b"\xFF.txt", "\u{10FFFF}.txt"),
         (b"-n\x80", "-n\u{10FF80}"),
         (b"caf\xE9=x", "caf\u{10FFE9}=x"),
@@ -514,19 +497,16 @@ mod tests {
         (b"\xE2\x82a", "\u{10FFE2}\u{10FF82}a"),
         (b"\xE2\x82\xC3\xA9", "\u{10FFE2}\u{10FF82}é"),
         (b"a\xF0\x90\x8D", "a\u{10FFF0}\u{10FF90}\u{10FF8D}"),
+        // a byte order mark
+        (b"\xEF\xBB\xBF\xFF", "\u{FEFF}\u{10FFFF}"),
         // overlong forms, surrogates, and beyond the last character
         (b"\xC0\xAF", "\u{10FFC0}\u{10FFAF}"),
         (b"\xE0\x80\xAF", "\u{10FFE0}\u{10FF80}\u{10FFAF}"),
         (b"\xED\xA0\x80", "\u{10FFED}\u{10FFA0}\u{10FF80}"),
-        (
-            b"\xF4\x90\x80\x80",
-            "\u{10FFF4}\u{10FF90}\u{10FF80}\u{10FF80}",
-        ),
+        (b"\xF4\x90\x80\x80", "\u{10FFF4}\u{10FF90}\u{10FF80}\u{10FF80}"),
         // the first and the last mark
-        (
-            b"\xF4\x8F\xBE\x80\xF4\x8F\xBF\xBF",
-            "\u{10FFF4}\u{10FF8F}\u{10FFBE}\u{10FF80}\u{10FFF4}\u{10FF8F}\u{10FFBF}\u{10FFBF}",
-        ),
+        (b"\xF4\x8F\xBE\x80", "\u{10FFF4}\u{10FF8F}\u{10FFBE}\u{10FF80}"),
+        (b"\xF4\x8F\xBF\xBF", "\u{10FFF4}\u{10FF8F}\u{10FFBF}\u{10FFBF}"),
     ];
 
     #[test]

@@ -4,60 +4,13 @@
 use getopts::alloc::{AllocError, AllocFailed, Global};
 use getopts::fallible::*;
 use getopts::proved::wrap::each_split_within;
-use getopts::proved::{Fail, HasArg, Matches, Occur, Options, Request};
-use std::alloc::{GlobalAlloc, Layout, System};
-use std::cell::Cell;
+use getopts::proved::{Fail, HasArg, Matches, Occur, Options, UsageRows};
+use heap::{Heap, failing};
 
-thread_local! {
-    /// How many allocations still succeed, and whether all later ones fail or only one.
-    static GRANTED: Cell<Option<(usize, bool)>> = const { Cell::new(None) };
-    static FAILED: Cell<bool> = const { Cell::new(false) };
-}
-
-/// The system's allocator, made to fail allocations of this thread.
-struct Failing;
+mod heap;
 
 #[global_allocator]
-static ALLOCATOR: Failing = Failing;
-
-impl Failing {
-    fn fails() -> bool {
-        let (granted, all) = match GRANTED.with(Cell::get) {
-            Some(state) => state,
-            None => return false,
-        };
-        if granted > 0 {
-            GRANTED.with(|state| state.set(Some((granted - 1, all))));
-            return false;
-        }
-        if !all {
-            GRANTED.with(|state| state.set(None));
-        }
-        FAILED.with(|failed| failed.set(true));
-        true
-    }
-}
-
-// SAFETY: calls the system's allocator, or returns null.
-unsafe impl GlobalAlloc for Failing {
-    unsafe fn alloc(&self, layout: Layout) -> *mut u8 {
-        if Failing::fails() {
-            return std::ptr::null_mut();
-        }
-        System.alloc(layout)
-    }
-
-    unsafe fn realloc(&self, block: *mut u8, layout: Layout, size: usize) -> *mut u8 {
-        if Failing::fails() {
-            return std::ptr::null_mut();
-        }
-        System.realloc(block, layout, size)
-    }
-
-    unsafe fn dealloc(&self, block: *mut u8, layout: Layout) {
-        System.dealloc(block, layout);
-    }
-}
+static HEAP: Heap = Heap;
 
 /// Makes each allocation of a call fail in turn, alone and with all later ones. The call gets a new
 /// value each time, and has to fail exactly if an allocation failed; `seen` checks the value
@@ -71,11 +24,8 @@ fn fail_each<V, T, E>(
     for all in [false, true] {
         for granted in 0.. {
             let mut value = made();
-            FAILED.with(|failed| failed.set(false));
-            GRANTED.with(|state| state.set(Some((granted, all))));
-            let failed = call(&mut value).is_err();
-            GRANTED.with(|state| state.set(None));
-            assert_eq!(failed, FAILED.with(Cell::get), "allocation {granted}");
+            let (failed, had_to) = failing(granted, all, || call(&mut value).is_err());
+            assert_eq!(failed, had_to, "allocation {granted}");
             assert!(seen(&value, failed), "allocation {granted}");
             if !failed {
                 most = granted;
@@ -89,6 +39,12 @@ fn fail_each<V, T, E>(
 /// The same for a call that borrows a value.
 fn fail_each_of<V, T, E>(value: &V, call: impl Fn(&V) -> Result<T, E>) -> usize {
     fail_each(|| (), |()| call(value), |(), _| true)
+}
+
+/// Makes a value smaller, if allocations are granted.
+fn shrunk<V>(mut value: V, granted: bool, shrink: impl Fn(&mut V)) -> V {
+    failing(usize::from(granted), true, || shrink(&mut value));
+    value
 }
 
 #[test]
@@ -107,6 +63,12 @@ fn strings_grow_or_stay() {
     assert_eq!(String::of_capacity(Global, 9).map(|t| t.capacity()), Ok(9));
     assert_eq!(String::empty(Global).capacity(), 0);
     assert!(full().try_grow(usize::MAX).is_err());
+    for (granted, capacity) in [(true, 2), (false, 9)] {
+        let text = String::of_capacity(Global, 9).unwrap() + "ab";
+        let text = shrunk(text, granted, |t| t.try_shrink());
+        assert_eq!((&*text, text.capacity()), ("ab", capacity));
+        assert_eq!(shrunk(full(), granted, |t| t.try_shrink()), "ab");
+    }
 }
 
 #[test]
@@ -130,15 +92,18 @@ fn lists_grow_or_stay() {
     list.push_reserved(5);
     assert_eq!((list.as_slice(), list.capacity()), (&[5][..], 2));
     assert!(list.try_grow(usize::MAX).is_err());
+    for (granted, capacity) in [(true, 3), (false, 9)] {
+        let mut list = Vec::of_capacity(Global, 9).unwrap();
+        list.extend(full());
+        let list = shrunk(list, granted, |l| l.try_shrink());
+        assert_eq!((list.as_slice(), list.capacity()), (&[3, 1, 2][..], capacity));
+    }
 }
 
 #[test]
 fn failed_push_returns_item() {
     let mut list = vec![1];
-    GRANTED.with(|state| state.set(Some((0, false))));
-    let failed = list.try_push(2);
-    GRANTED.with(|state| state.set(None));
-    assert_eq!(failed, Err(AllocFailed(2)));
+    assert_eq!(failing(0, false, || list.try_push(2)), (Err(AllocFailed(2)), true));
     assert_eq!(AllocError::from(AllocFailed(2)), AllocError);
 }
 
@@ -164,8 +129,7 @@ fn sort_matches_rust() {
 fn out_of_memory_ends_the_process() {
     if std::env::var_os("OUT_OF_MEMORY").is_some() {
         let options = getopts::Options::new();
-        GRANTED.with(|state| state.set(Some((0, true))));
-        let _ = options.parse(["x"]);
+        let _ = failing(0, true, || options.parse(["x"]));
         return;
     }
     let mut program = std::process::Command::new(std::env::current_exe().unwrap());
@@ -220,11 +184,31 @@ fn parse_reports_every_failed_allocation() {
         reports_failures(&options, |o| o.canonical_words(Global, &WORDS));
         reports_failures(&options, |o| o.parse_in_order(Global, &WORDS));
         reports_failures(&options, |o| o.parse_unless(Global, &WORDS[1..], "v"));
+        reports_failures(&options, |o| o.parse_request(Global, &WORDS));
         reports_failures(&options, |o| o.canonical(Global, WORDS.iter().copied()));
     }
     let many = ["-vofile", "free"].repeat(2000);
     let floating = options(0).parse_ignoring_counts(Global, &many).unwrap();
     assert_eq!(floating.opt_count("v"), 2000);
+}
+
+/// The list of options and the text of values grow to more than they need.
+#[test]
+fn long_lines_keep_memory_that_cannot_be_given_back() {
+    let (options, words) = (options(0), ["-vvLvalue"; 1_100]);
+    let wanted = options.parse_words(Global, &words);
+    let mut kept = 0;
+    for granted in 0.. {
+        let (answer, failed) = failing(granted, false, || options.parse_words(Global, &words));
+        if answer != Err(Fail::OutOfMemory) {
+            assert!(answer == wanted);
+            if !failed {
+                break;
+            }
+            kept += 1;
+        }
+    }
+    assert_eq!(kept, 2);
 }
 
 #[test]
@@ -239,9 +223,8 @@ fn invalid_words_report_error_or_out_of_memory() {
     ] {
         let words: Vec<&str> = line.split(' ').collect();
         for granted in 0.. {
-            GRANTED.with(|state| state.set(Some((granted, false))));
-            let fail = options.parse_words(Global, &words).unwrap_err();
-            GRANTED.with(|state| state.set(None));
+            let (answer, _) = failing(granted, false, || options.parse_words(Global, &words));
+            let fail = answer.unwrap_err();
             if !matches!(fail, Fail::OutOfMemory) {
                 assert!(granted > 0 && fail.to_string().contains(wanted), "{fail}");
                 assert_eq!(fail_each_of(&fail, |fail| fail.try_clone()), 1);
@@ -262,10 +245,7 @@ fn failed_declarations_leave_options_unchanged() {
         let failures = fail_each(
             || before.try_clone().unwrap(),
             add,
-            |seen, failed| {
-                *seen
-                    == if failed { before.try_clone().unwrap() } else { after.try_clone().unwrap() }
-            },
+            |seen, failed| *seen == *if failed { &before } else { &after },
         );
         assert!(failures > 0);
     }
@@ -278,11 +258,8 @@ fn usage_and_clones_report_every_failed_allocation() {
     assert!(fail_each_of(&options, |o| o.usage_in(Global, "Usage: program", 40)) > 0);
     assert!(fail_each_of(&options, |o| o.short_usage(Global, "program")) > 0);
     assert!(fail_each_of(&options, |o| o.usage_rows(Global)) > 7);
-    assert!(
-        fail_each_of(&options, |o| o
-            .usage_with_format(Global, |rows| { Ok(rows.last().unwrap_or_default()) }))
-            > 7
-    );
+    let last = |rows: UsageRows| Ok(rows.last().unwrap_or_default());
+    assert!(fail_each_of(&options, |o| o.usage_with_format(Global, last)) > 7);
     assert!(fail_each_of(&options, |o| o.try_clone()) > 1);
     assert!(fail_each_of(&(), |()| each_split_within(Global, "Mary had a little lamb", 10)) > 2);
 }
@@ -303,25 +280,6 @@ fn matches_report_every_failed_allocation() {
     let left = |m: &Matches, failed: bool| m.free.len() == if failed { 3 } else { 1 };
     assert_eq!(fail_each(self::matches, |m| m.take_trailing(), left), 1);
     assert_eq!(self::matches().take_trailing(), Ok(["-x", "y"].map(String::from).to_vec()));
-}
-
-#[test]
-fn help_and_version_come_before_missing_options() {
-    let mut options = options(0);
-    let mut add = |long: &str, hasarg, occur| options.add_group("", long, "", "", hasarg, occur);
-    add("input", HasArg::Yes, Occur::Req).unwrap();
-    add("help", HasArg::No, Occur::Optional).unwrap();
-    add("version", HasArg::No, Occur::Optional).unwrap();
-    let request = |words: &[&str]| options.parse_request(Global, words);
-    assert!(matches!(request(&["--version", "--help"]), Ok(Request::Help)));
-    assert!(matches!(request(&["--version", "x"]), Ok(Request::Version)));
-    assert!(matches!(request(&["--input=x", "y"]), Ok(Request::Parsed(m)) if m.free == ["y"]));
-    assert!(matches!(request(&[]), Err(Fail::OptionMissing(name)) if name == "input"));
-    assert!(matches!(request(&["--help", "--no"]), Err(Fail::UnrecognizedOption(_))));
-    assert!(matches!(options.parse_unless(Global, &["--version"], "version"), Ok(None)));
-    assert!(matches!(options.parse_unless(Global, &["--input=x"], "undeclared"), Ok(Some(_))));
-    assert!(matches!(self::options(0).parse_request(Global, &WORDS), Ok(Request::Parsed(_))));
-    assert!(fail_each_of(&options, |o| o.parse_request(Global, &["--input=x", "--", "y"])) > 8);
 }
 
 #[cfg(feature = "std")]

@@ -26,7 +26,7 @@ const INVALID: [(&str, &str, &str, &str); 8] = [
 
 /// Unusual names that are valid.
 const VALID: [(&str, &str); 6] =
-    [("-", "--"), ("=", "a="), ("\0", "é"), (" ", "\u{10FFFF}"), ("", "  "), ("\t", "")];
+    [("-", "--"), ("=", "a\0="), ("\0", "é"), (" ", "\u{10FFFF}"), ("", "  "), ("\t", "")];
 
 thread_local!(static PLACE: RefCell<String> = RefCell::default());
 
@@ -48,6 +48,21 @@ fn panic_of<T>(call: impl FnOnce() -> T) -> (String, String) {
     (PLACE.with(RefCell::take), text)
 }
 
+type Add<O> = fn(&mut O, &str, &str);
+
+/// Checks that these calls, on lines from `first` on, panic there if a name is invalid, and then
+/// change nothing.
+fn reject_invalid<O: PartialEq>(options: fn() -> O, first: u32, calls: &[Add<O>]) {
+    for (line, add) in (first..).zip(calls) {
+        let mut changed = options();
+        for (short, long, front, end) in INVALID {
+            let panic = panic_of(|| add(&mut changed, short, long));
+            assert_eq!(panic, (format!("{}:{line}", file!()), format!("{front}{end}")));
+        }
+        assert!(changed == options());
+    }
+}
+
 /// The calls in a source that add an option.
 fn adding(source: &str) -> Vec<&str> {
     let calls = source.split("pub fn ").skip(1);
@@ -58,7 +73,7 @@ fn adding(source: &str) -> Vec<&str> {
 /// The calls that the list in a module of this file has.
 fn listed(module: &str) -> Vec<&'static str> {
     let (_, from) = include_str!("names.rs").split_once(&format!("\nmod {module} ")).unwrap();
-    let calls = from.split("\nmod ").next().unwrap().split("|o, short, long| o.").skip(1);
+    let calls = from.split("\nmod ").next().unwrap().split("|o, short, long| _ = o.").skip(1);
     calls.map(|call| call.split('(').next().unwrap()).collect()
 }
 
@@ -70,40 +85,23 @@ mod of_the_crate {
     #[test]
     fn invalid_names_panic() {
         assert_eq!(listed("of_the_crate"), adding(include_str!("../src/options.rs")));
-        type Add = for<'o> fn(&'o mut Options, &str, &str) -> &'o mut Options;
         let first = line!() + 2;
-        let calls: [Add; 7] = [
-            |o, short, long| o.opt(short, long, "", "", HasArg::Yes, Occur::Req),
-            |o, short, long| o.optflag(short, long, ""),
-            |o, short, long| o.optflagmulti(short, long, ""),
-            |o, short, long| o.optflagopt(short, long, "", ""),
-            |o, short, long| o.optmulti(short, long, "", ""),
-            |o, short, long| o.optopt(short, long, "", ""),
-            |o, short, long| o.reqopt(short, long, "", ""),
+        let calls: [Add<Options>; 7] = [
+            |o, short, long| _ = o.opt(short, long, "", "", HasArg::Yes, Occur::Req),
+            |o, short, long| _ = o.optflag(short, long, ""),
+            |o, short, long| _ = o.optflagmulti(short, long, ""),
+            |o, short, long| _ = o.optflagopt(short, long, "", ""),
+            |o, short, long| _ = o.optmulti(short, long, "", ""),
+            |o, short, long| _ = o.optopt(short, long, "", ""),
+            |o, short, long| _ = o.reqopt(short, long, "", ""),
         ];
-        for (line, add) in (first..).zip(calls) {
-            let mut options = Options::new();
-            for (short, long, front, end) in INVALID {
-                let panic = panic_of(|| _ = add(&mut options, short, long));
-                assert_eq!(panic, (format!("{}:{line}", file!()), format!("{front}{end}")));
-            }
-            assert_eq!(options, Options::new());
-        }
+        reject_invalid(Options::new, first, &calls);
     }
 
     #[test]
     fn payload_without_a_name() {
         let panic = catch_unwind(|| _ = Options::new().optflag("", "", "")).unwrap_err();
         assert_eq!(panic.downcast_ref::<&str>(), Some(&NONE));
-    }
-
-    #[test]
-    fn repeated_names_are_found() {
-        let mut options = Options::new();
-        options.optflag("a", "", "").optflag("", "long", "").optflag("b", "", "");
-        assert_eq!(options.repeated_name(), None);
-        options.optflag("c", "long", "").optflag("a", "", "");
-        assert_eq!(options.repeated_name(), Some("long"));
     }
 
     #[test]
@@ -163,9 +161,6 @@ mod of_the_crate {
             let name = if short.is_empty() { " ".repeat(8) } else { format!("    -{short}") };
             assert!(row.starts_with(&name), "{row:?}");
         }
-        let mut narrow = Options::new();
-        narrow.optflag("\t", "", "").optflag("", "two", "");
-        assert!(narrow.usage("").contains("\n        --two "));
         assert!(options.parse(["-\0= \t-"]).unwrap().opt_present("\0"));
         let matches = options.parse(["--é", "--", "--é"]).unwrap();
         assert!(matches.opt_present("\0") && !matches.opts_present(&["nope".to_string()]));
@@ -175,7 +170,7 @@ mod of_the_crate {
 #[cfg(feature = "proved")]
 mod of_the_proved_source {
     use super::*;
-    use getopts::alloc::{AllocError, Global};
+    use getopts::alloc::Global;
     use getopts::proved::wrap::each_split_within;
     use getopts::proved::{HasArg, Occur, Options, Request, names_lawful};
     use std::cell::Cell;
@@ -195,27 +190,19 @@ mod of_the_proved_source {
         let source =
             concat!(include_str!("../src/names.rs"), include_str!("../src/proved/options.rs"));
         assert_eq!(listed("of_the_proved_source"), adding(source));
-        type Add = fn(&mut Options, &str, &str) -> Result<(), AllocError>;
         let first = line!() + 2;
-        let calls: [Add; 8] = [
-            |o, short, long| o.add_group(short, long, "", "", HasArg::Yes, Occur::Req),
-            |o, short, long| o.opt(short, long, "", "", HasArg::Yes, Occur::Req).map(drop),
-            |o, short, long| o.optflag(short, long, "").map(drop),
-            |o, short, long| o.optflagmulti(short, long, "").map(drop),
-            |o, short, long| o.optflagopt(short, long, "", "").map(drop),
-            |o, short, long| o.optmulti(short, long, "", "").map(drop),
-            |o, short, long| o.optopt(short, long, "", "").map(drop),
-            |o, short, long| o.reqopt(short, long, "", "").map(drop),
+        let calls: [Add<Options>; 8] = [
+            |o, short, long| _ = o.add_group(short, long, "", "", HasArg::Yes, Occur::Req),
+            |o, short, long| _ = o.opt(short, long, "", "", HasArg::Yes, Occur::Req),
+            |o, short, long| _ = o.optflag(short, long, ""),
+            |o, short, long| _ = o.optflagmulti(short, long, ""),
+            |o, short, long| _ = o.optflagopt(short, long, "", ""),
+            |o, short, long| _ = o.optmulti(short, long, "", ""),
+            |o, short, long| _ = o.optopt(short, long, "", ""),
+            |o, short, long| _ = o.reqopt(short, long, "", ""),
         ];
-        for (line, add) in (first..).zip(calls) {
-            let mut options = options();
-            for (short, long, front, end) in INVALID {
-                assert!(!names_lawful(short, long));
-                let panic = panic_of(|| _ = add(&mut options, short, long));
-                assert_eq!(panic, (format!("{}:{line}", file!()), format!("{front}{end}")));
-            }
-            assert!(options == self::options());
-        }
+        reject_invalid(options, first, &calls);
+        assert!(INVALID.iter().all(|(short, long, ..)| !names_lawful(short, long)));
         let shown = options().usage(Global, "").unwrap();
         assert_eq!(shown.lines().count(), 4 + VALID.len());
     }

@@ -1,16 +1,12 @@
 //! What the program needs from the system and from Rattle's library, implemented with Rust's.
 
+pub use ::getopts::alloc;
 pub use ::getopts::fallible::*;
 
 use self::alloc::{AllocError, Global};
 use self::env::{Env, FillError};
 use ::getopts::bytes_of;
 use std::fmt;
-
-/// Rattle's `std::alloc`.
-pub mod alloc {
-    pub use ::getopts::alloc::*;
-}
 
 /// Rattle's `std::env`.
 pub mod env {
@@ -72,7 +68,6 @@ impl Env for HostRuntime {
 }
 
 /// Trims ASCII white space. Rust has its own `trim_ascii` since 1.80.
-#[allow(dead_code)]
 pub trait TrimAscii {
     /// The text without ASCII white space at both ends.
     fn trimmed_ascii(&self) -> &str;
@@ -133,22 +128,14 @@ macro_rules! text {
     }};
 }
 
-/// Appends formatted text to a string.
-#[allow(unused_macros)]
-macro_rules! add {
-    ($text:expr, $($form:tt)*) => { $text.try_add(format_args!($($form)*)) };
-}
-
 /// Appends formatted text and a newline.
-#[allow(unused_macros)]
 macro_rules! add_line {
     ($text:expr, $($form:tt)*) => {
         $text.try_add(format_args!($($form)*)).and_then(|()| $text.try_push('\n'))
     };
 }
 
-#[allow(unused_imports)]
-pub(crate) use {add, add_line, text};
+pub(crate) use {add_line, text};
 
 #[cfg(test)]
 mod tests {

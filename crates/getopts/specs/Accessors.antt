@@ -54,7 +54,7 @@ borrowed_occurrence pair = record { position = pair.0; value = option_copied pai
 
 -- an option or a free word, borrowed
 abbrev pub borrowed_given : Borrowed.Given → Given
-borrowed_given (borrowed.Option place) = option place
+borrowed_given (borrowed.Option place value) = option place (option_copied value)
 borrowed_given (borrowed.Free word) = free_word word.now
 
 -- a position and a value, copied
@@ -103,6 +103,12 @@ abbrev pub IsParsedAs : {T E : Type 0} → (Text → Result T E → Type 0)
     → Option Text → Result (Option T) E → Type 0
 IsParsedAs gives value answer =
     MatchOption value (answer ≡ Ok None) (λ text. IsSomeAnd (result_transpose answer) (gives text))
+
+-- If there is no value, the answer is the default.
+-- The answer is what parsing the value gives: a result or an error.
+abbrev pub IsParsedOr : {T E : Type 0} → (Text → Result T E → Type 0)
+    → Option Text → T → Result T E → Type 0
+IsParsedOr gives value default answer = MatchOption value (answer ≡ Ok default) (λ text. gives text answer)
 
 -- the free words before the trailing start, or all if there is none
 abbrev pub free_before_trailing : Matched → List Text

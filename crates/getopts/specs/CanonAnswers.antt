@@ -1,5 +1,5 @@
 -- The results of `canonical` for accepted words, and the laws of the lines that it returns.
-use Rattle.std.specs.Prelude.{◌≡◌, List, map, Option, MatchOption, Result, MatchResult}
+use Rattle.std.specs.Prelude.{◌≡◌, List, Option, MatchOption, Result, MatchResult}
 use Rattle.getopts.specs.Names.{Text}
 use Rattle.getopts.specs.Options.{Declared, grammar_of}
 use Rattle.getopts.specs.Fail.{Fault}
@@ -50,7 +50,7 @@ pub record IsOrder (options : Declared) (words : List Text) (order : List Given)
   pub content : Content
   pub accepted : IsAcceptedWith options words content
   pub order_is : order ≡ order_of_reading (grammar_of options) accepted.reading
-  pub options_are : options_in order ≡ map (λ m. m.group) content.mentions
+  pub options_are : options_in order ≡ content.mentions
   pub frees_are : frees_in order ≡ content.free
 
 -- This is the result of `parse_in_order` for these words, unless it is out of memory.

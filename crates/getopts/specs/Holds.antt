@@ -1,15 +1,17 @@
 -- What accepted matches say about the names that the options declare.
 use Rattle.std.specs.Prelude.{◌≡◌, ◌<◌, ℕ, List, [], ◌∷◌, ◌++◌, drop, length, map, Some, None}
-use Rattle.std.specs.Prelude.{IfSome, IsSome, Ok}
+use Rattle.std.specs.Prelude.{IfSome, IsSome, Ok, Option, ⊤, slice_get}
 use Rattle.std.specs.List.{AllByRecursion}
+use Rattle.std.specs.Option.{option_map}
 use Rattle.getopts.specs.Names.{Text}
-use Rattle.getopts.specs.Options.{Declared, Declares, signatures_of, kind_of, occur_of}
+use Rattle.getopts.specs.Options.{Declared, Declares, Group, signatures_of, kind_of, occur_of}
 use Rattle.getopts.specs.Matches.{Matched, MatchedGroup, KeepsCounts}
 use Rattle.getopts.specs.Parse.{IsAccepted}
 use Rattle.getopts.specs.Accessors.{IsDefined, occurrences_of_name, first_value}
-use Rattle.getopts.specs.Reading.{FitsKind, stop_word}
+use Rattle.getopts.specs.Reading.{FitsKind, stop_word, Given, option, free_word}
 use Rattle.getopts.specs.Results.{parse_result}
 use Rattle.getopts.specs.ReadingLaws.{HavePositionsInOrder, HavePositionsBelow}
+use Rattle.getopts.specs.declared.kinds.HasArg.{HasArg}
 use Rattle.getopts.specs.declared.kinds.HasArg.TheVariants.{Yes}
 use Rattle.getopts.specs.declared.kinds.Occur.TheVariants.{Req}
 use Rattle.getopts.specs.declared.kinds.ParsingStyle.TheVariants.{StopAtFirstFree}
@@ -42,6 +44,17 @@ pub record FitOptionsAndCounts (options : Declared) (groups : List MatchedGroup)
   pub counts_kept : KeepsCounts groups
   pub required : (name : Text) → occur_of options.groups name ≡ Some Req
       → length (occurrences_of_name groups name) ≡ 1
+
+-- the kind of argument of the group at this place
+abbrev pub kind_at : List Group → ℕ → Option HasArg
+kind_at groups place = option_map (λ (group : Group). group.signature.kind) (slice_get groups place)
+
+-- An option's place is below the number of groups, and its value fits its group's kind.
+-- The groups declare what is given.
+abbrev pub IsDeclared : List Group → Given → Type 0
+IsDeclared groups (option place value) =
+    (place < length groups) × IfSome (kind_at groups place) (λ kind. FitsKind kind value)
+IsDeclared groups (free_word word) = ⊤
 
 -- The words before the free words give the same options by themselves, and no free words.
 -- The words end in the free words.

@@ -98,6 +98,8 @@ grammar_of options = record {
   long_only = options.long_only;
 }
 
+-- Names in long form mean what they mean in a cluster. To give them another meaning, change only
+-- this, `long_kind` and `unknown_long`.
 -- the place of the group that a name in long form means
 abbrev pub long_place : Grammar → Text → Option ℕ
 long_place grammar name = grammar.place name

@@ -8,7 +8,7 @@ pub use Rattle.getopts.specs.Fail.{Fault, IsOutOfMemoryOr, fail_text, fault_of}
 pub use Rattle.getopts.specs.Fail.{argument_missing, unrecognized_option, option_missing}
 pub use Rattle.getopts.specs.Fail.{option_duplicated, unexpected_argument}
 pub use Rattle.getopts.specs.Matches.{Matched}
-pub use Rattle.getopts.specs.Accessors.{IsDefined, IsParsedAs, first_value, first_value_or}
+pub use Rattle.getopts.specs.Accessors.{IsDefined, IsParsedAs, IsParsedOr, first_value, first_value_or}
 pub use Rattle.getopts.specs.Accessors.{borrowed_given, occurrences_of_name}
 pub use Rattle.getopts.specs.Accessors.{free_before_trailing, is_present, trailing_words, values_of}
 pub use Rattle.getopts.specs.Reading.{Given, option, free_word}

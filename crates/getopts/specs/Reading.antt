@@ -132,10 +132,9 @@ FitsLong kind argument = FitsKind kind (value_of argument)
 -- `Maybe` a separate argument isn't dashed.
 -- The argument fits the kind at the end of a cluster.
 abbrev pub FitsEnd : HasArg → Argument → Type 0
-FitsEnd No argument = ⊥
-FitsEnd kind (attached argument) = argument ≢ []
-FitsEnd Maybe (separate word) = is_dashed word ≡ false
-FitsEnd kind argument = FitsKind kind (value_of argument)
+FitsEnd kind none = kind ≡ Maybe
+FitsEnd kind (attached argument) = (kind ≢ No) × (argument ≢ [])
+FitsEnd kind (separate word) = (kind ≢ No) × (kind ≡ Maybe → is_dashed word ≡ false)
 
 -- The name is a flag: one byte that resolves to a group of kind `No`.
 abbrev pub IsFlag : Grammar → ℕ → Type 0
@@ -236,7 +235,7 @@ pub record Mention : Type 0 where
   pub group : ℕ
   pub value : Option Text
 
--- Every name in a valid item resolves, so the 0 is never used.
+-- In the grammar of options, every name in a valid item resolves, so the 0 is never used.
 -- a mention of the group at a place, with this value
 abbrev pub mention_at : Option ℕ → Option Text → Mention
 mention_at place value = record { group = unwrap_or place 0; value = value }
@@ -295,15 +294,20 @@ free_items (item ∷ items) = free_items items
 abbrev pub free_words : Reading → List Text
 free_words reading = free_items reading.items ++ tail_frees reading.tail
 
--- what a command line gives: an option, by the place of its group, or a free word
+-- what a command line gives: an option, by the place of its group, with its value if it has one; or
+-- a free word
 pub data Given : Type 0 where
-  option : ℕ → Given
+  option : ℕ → Option Text → Given
   free_word : Text → Given
+
+-- a mentioned option, with its value
+abbrev pub given_option : Mention → Given
+given_option m = option m.group m.value
 
 -- what an item gives, in the order of its spelling
 abbrev pub given_by : Grammar → Item → List Given
 given_by grammar (free word) = free_word word ∷ []
-given_by grammar item = map (λ m. option m.group) (mentions grammar item)
+given_by grammar item = map given_option (mentions grammar item)
 
 -- what items give, in order
 abbrev pub order_of_items : Grammar → List Item → List Given
@@ -316,16 +320,17 @@ abbrev pub order_of_reading : Grammar → Reading → List Given
 order_of_reading grammar reading =
     order_of_items grammar reading.items ++ map free_word (tail_frees reading.tail)
 
--- the options in an order
-abbrev pub options_in : List Given → List ℕ
+-- the options in an order, each with its value
+abbrev pub options_in : List Given → List Mention
 options_in [] = []
-options_in (option place ∷ order) = place ∷ options_in order
+options_in (option place value ∷ order) =
+    record { group = place; value = value } ∷ options_in order
 options_in (free_word word ∷ order) = options_in order
 
 -- the free words in an order
 abbrev pub frees_in : List Given → List Text
 frees_in [] = []
-frees_in (option place ∷ order) = frees_in order
+frees_in (option place value ∷ order) = frees_in order
 frees_in (free_word word ∷ order) = word ∷ frees_in order
 
 -- The place is the number of free words before the stop. There is none if no word follows the stop.
@@ -360,8 +365,7 @@ pub record HasAfterFlags (grammar : Grammar) (word text : Text) : Type 0 where
 abbrev pub unknown_long : Grammar → Text → Fault
 unknown_long grammar name = unrecognized_option name
 
--- An item begins at the word, and these words are after it.
--- The word has this error.
+-- The word has this error if these words follow it.
 pub data IsFaultAt (grammar : Grammar) (word : Text) (after : List Text) : Fault → Type 0 where
   -- in long form, a name that doesn't resolve
   unknown_name : (name : Text) (argument : Option Text) → IsLongForm grammar word name argument

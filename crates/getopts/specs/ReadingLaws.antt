@@ -1,8 +1,9 @@
 -- Laws of readings: which items may replace others, how command lines compose, and facts about free
--- words, the trailing start and positions. Each law covers every reading of every command line.
+-- words, the trailing start, positions and order. Each law covers every reading of every command
+-- line.
 use Rattle.std.specs.Prelude.{◌≡◌, ◌≢◌, ℕ, ◌+◌, ◌<◌, ⊤, List, [], ◌∷◌, ◌++◌, map, drop, Some, None}
 use Rattle.std.specs.Prelude.{nat_le, if◌then◌else◌, Bool, false, true, length, slice_get, Contains}
-use Rattle.std.specs.List.{AllByRecursion, filter, last_or, zip}
+use Rattle.std.specs.List.{AllByRecursion, filter, flat_map, last_or, zip}
 use Rattle.std.specs.Option.{option_map_or}
 use Rattle.std.specs.List.Sorted.{IsNonDecreasingBy}
 use Rattle.getopts.specs.Names.{Text}
@@ -11,7 +12,8 @@ use Rattle.getopts.specs.Reading.{begins_with_dash, Argument, attached, separate
 use Rattle.getopts.specs.Reading.{ends_in, Item, long, cluster, end_text, item_words, spelled_all}
 use Rattle.getopts.specs.Reading.{is_bare, Tail, line_end, stop, tail_words, Reading, IsReading}
 use Rattle.getopts.specs.Reading.{Mention, mentions, Occurrence, at_position, word_count}
-use Rattle.getopts.specs.Reading.{occurrences_of, free_words, trailing_start}
+use Rattle.getopts.specs.Reading.{occurrences_of, free_items, free_words, trailing_start}
+use Rattle.getopts.specs.Reading.{Given, given_option, options_in, frees_in, order_of_reading}
 use Rattle.getopts.specs.Matches.{MatchedGroup}
 use Rattle.getopts.specs.declared.kinds.HasArg.TheVariants.{Yes}
 
@@ -161,6 +163,17 @@ abbrev pub HavePositionsInOrder : List MatchedGroup → Type 0
 HavePositionsInOrder groups =
     AllByRecursion (λ group. IsNonDecreasingBy (λ found. found.position) group.found) groups
 
+-- The order consists of an earlier part, the item's options and a later part. The earlier part has
+-- the options and free words of the items before this one.
+-- In an order, the item's options follow what the items before it give.
+pub record FollowsItems (grammar : Grammar) (order : List Given) (before : List Item) (item : Item)
+    : Type 0 where
+  pub earlier : List Given
+  pub later : List Given
+  pub order_is : order ≡ earlier ++ (map given_option (mentions grammar item) ++ later)
+  pub options : options_in earlier ≡ flat_map (mentions grammar) before
+  pub frees : frees_in earlier ≡ free_items before
+
 -- The occurrence is one of the item's mentions. Its position is the number of words that earlier
 -- items spell, and the word at that position is the item's first.
 -- The occurrence belongs to an item.
@@ -173,6 +186,7 @@ pub record BelongsToItem (grammar : Grammar) (reading : Reading) (words : List T
   pub mentioned :
       Contains (map (at_position (word_count before)) (mentions grammar item)) occurrence
   pub first_word : slice_get words occurrence.position ≡ slice_get (item_words item) 0
+  pub in_order : FollowsItems grammar (order_of_reading grammar reading) before item
 
 -- Each occurrence of a reading belongs to an item, and is at its first word.
 -- Positions are indexes of words.

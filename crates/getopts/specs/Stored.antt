@@ -4,6 +4,8 @@
 pub mod Texts
 -- names by their places, and their keys
 pub mod Names
+-- pairs of texts within a longer text
+pub mod Pairs
 -- names and kinds of groups, by their records
 pub mod Signatures
 -- groups with their hints and descriptions

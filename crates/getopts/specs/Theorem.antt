@@ -26,10 +26,10 @@ AcceptedExactlyWhen options = (words : List Text) (matches : Matched)
     ↔ ((reading : Reading) × IsCountKeeping options reading words
     × (matches ≡ matches_of options reading))
 
--- The words are UTF-8. The error is their scan error, or the count error of a reading of them.
+-- The error is their scan error, or the count error of a reading of them.
 -- Words are rejected if and only if no reading of them keeps the counts.
 abbrev pub RefusedExactlyWhen : Declared → Type 0
-RefusedExactlyWhen options = (words : List Text) (fault : Fault) → AreTexts words
+RefusedExactlyWhen options = (words : List Text) (fault : Fault)
     → IsRefused options words fault
     ↔ (((reading : Reading) → ¬ (IsCountKeeping options reading words))
     × (IsScanFault (grammar_of options) words fault

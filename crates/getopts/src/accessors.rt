@@ -1,12 +1,12 @@
 //! What matches return for an option's name.
 
-ghost use Rattle.std.specs.Prelude.{◌≡◌, ◌↔◌, Some, None, Ok, IsTrue, map, length, vec_len, ◌<◌, IfOk, IsOk};
-ghost use Rattle.std.specs.Prelude.{[], MatchOption, OnErr, OnOk};
+ghost use Rattle.std.specs.Prelude.{◌≡◌, ◌↔◌, Ok, IsTrue, map, length, vec_len, ◌<◌, IfOk, IsOk};
+ghost use Rattle.std.specs.Prelude.{[], IfSome, OnErr, OnOk};
 ghost use Rattle.std.specs.List.{list_any};
 ghost use Rattle.std.specs.Option.{option_copied, option_map};
 ghost use Rattle.std.specs.String.{string_bytes};
 ghost use Rattle.getopts.specs.Accessors.{AreDefined, HaveLawfulNames, IsDefined, IsParsedAs};
-ghost use Rattle.getopts.specs.Accessors.{first_value, first_value_among, first_value_or};
+ghost use Rattle.getopts.specs.Accessors.{IsParsedOr, first_value, first_value_among, first_value_or};
 ghost use Rattle.getopts.specs.Accessors.{occurrences_of_group, is_present, occurrences_of_name};
 ghost use Rattle.getopts.specs.Accessors.{pair_view, pairs_of, place_of, free_before_trailing};
 ghost use Rattle.getopts.specs.Accessors.{positions_of, trailing_words, values_of};
@@ -21,10 +21,15 @@ use std::str::FromStr;
 /// A copy of a text, if there is one.
 fn copied(alloc: Global, text: Option<&str>) -> Result<Option<String>, AllocError>
     ensures copy { IfOk result (λ copy. option_map string_bytes copy ≡ option_copied text.entry) }
-    ensures absent { option_copied text.entry ≡ None → result ≡ Ok None }
+    ensures absent { IfSome (option_copied text.entry) (λ text. text ≡ []) → IsOk result }
 {
     match text {
-        Some(text) => Ok(Some(String::from_str(alloc, text)?)),
+        Some(text) => {
+            // `String::from_str` promises no success, even for an empty text.
+            let mut copy = String::with_capacity(alloc, text.len())?;
+            copy.push_str(text)?;
+            Ok(Some(copy))
+        }
         None => Ok(None),
     }
 }
@@ -45,7 +50,7 @@ impl Matches {
     /// Borrows the occurrences of the option group at an index, in command-line order.
     ///
     /// `opt_place` gives the index of a name. The result is empty if the option wasn't given, or if
-    /// there is no such group. After `-v -o x`, with `optopt("o",..)` and `optflag("v",..)`, index
+    /// there is no such group. After `-v -o x`, with `optopt("o",..)` and `optflag("v",..)`, place
     /// 0 has one occurrence, with position 1 and the value `x`. The Rust crate has no such method.
     #[inline]
     pub fn occurrences_at(&self, place: usize) -> Occurrences<'_>
@@ -160,8 +165,8 @@ impl Matches {
         requires { IsDefined self.now.groups name.now }
         ensures value { IfOk result (λ value. option_map string_bytes value
             ≡ first_value (occurrences_of_name self.now.groups name.now)) }
-        ensures absent { first_value (occurrences_of_name self.now.groups name.now) ≡ None
-            → result ≡ Ok None }
+        ensures absent { IfSome (first_value (occurrences_of_name self.now.groups name.now))
+            (λ value. value ≡ []) → IsOk result }
     {
         copied(alloc, self.held.occurrences_of(name).first_value())
     }
@@ -180,8 +185,8 @@ impl Matches {
         requires { IsDefined self.now.groups name.now }
         ensures value { IfOk result (λ value. option_map string_bytes value
             ≡ first_value_or (occurrences_of_name self.now.groups name.now) def.now) }
-        ensures absent { first_value_or (occurrences_of_name self.now.groups name.now) def.now ≡ None
-            → result ≡ Ok None }
+        ensures absent { IfSome (first_value_or (occurrences_of_name self.now.groups name.now) def.now)
+            (λ value. value ≡ []) → IsOk result }
     {
         copied(alloc, self.held.occurrences_of(name).first_value_or(def))
     }
@@ -211,8 +216,8 @@ impl Matches {
     /// crate copies it first.
     pub fn opt_get_default<T: FromStr + Drop>(&self, name: &str, def: T) -> Result<T, T::Err>
         requires { IsDefined self.now.groups name.now }
-        ensures parsed { MatchOption (first_value (occurrences_of_name self.now.groups name.now))
-            (result ≡ Ok def) (λ text. T.from_str_gives text result) }
+        ensures parsed { IsParsedOr T.from_str_gives
+            (first_value (occurrences_of_name self.now.groups name.now)) def result }
     {
         match self.held.occurrences_of(name).first_value() {
             Some(text) => text.parse(),
@@ -293,8 +298,8 @@ impl Matches {
         requires { AreDefined self.now.groups (map string_bytes names.now) }
         ensures value { IfOk result (λ value. option_map string_bytes value
             ≡ first_value_among self.now.groups (map string_bytes names.now)) }
-        ensures absent { first_value_among self.now.groups (map string_bytes names.now) ≡ None
-            → result ≡ Ok None }
+        ensures absent { IfSome (first_value_among self.now.groups (map string_bytes names.now))
+            (λ value. value ≡ []) → IsOk result }
     {
         copied(alloc, self.first_among(names))
     }
@@ -313,8 +318,8 @@ impl Matches {
         requires { AreDefined self.now.groups (texts names.now) }
         ensures value { IfOk result (λ value. option_map string_bytes value
             ≡ first_value_among self.now.groups (texts names.now)) }
-        ensures absent { first_value_among self.now.groups (texts names.now) ≡ None
-            → result ≡ Ok None }
+        ensures absent { IfSome (first_value_among self.now.groups (texts names.now))
+            (λ value. value ≡ []) → IsOk result }
     {
         copied(alloc, self.first_among(names))
     }

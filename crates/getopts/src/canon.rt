@@ -49,8 +49,8 @@ fn are_plain(groups: &Groups, found: &LineOccurrences) -> bool
     if groups.len() < found.len() && !declare_equals(groups) {
         return true;
     }
-    for place in 0..found.len() {
-        if holds_equals(groups.main(found.at(place).group)) {
+    for index in 0..found.len() {
+        if holds_equals(groups.main(found.at(index).place)) {
             return false;
         }
     }
@@ -85,10 +85,10 @@ fn option_words(
         ≡ map (canonical_word groups.now) (map (λ o. o.mention) found.now)) }
 {
     let mut words = Vec::with_capacity(alloc, found.len().saturating_add(more))?;
-    for place in 0..found.len() {
-        let occurrence = found.at(place);
+    for index in 0..found.len() {
+        let occurrence = found.at(index);
         let value = occurrence.value;
-        words.push(canonical_word(alloc, groups.main(occurrence.group), value)?)?;
+        words.push(canonical_word(alloc, groups.main(occurrence.place), value)?)?;
     }
     Ok(words)
 }
@@ -180,8 +180,8 @@ impl Options {
     {
         let accepted = self.accepted_line(alloc, words)?;
         let groups = self.groups();
-        if are_plain(groups, &accepted.line.found) {
-            Ok(Some(canonical_line(alloc, groups, accepted.line)?))
+        if are_plain(groups, &accepted.found) {
+            Ok(Some(canonical_line(alloc, groups, accepted)?))
         } else {
             Ok(None)
         }

@@ -3,7 +3,7 @@
 ghost use Rattle.std.specs.Prelude.{◌≡◌, Some, None, IfErr, OnOk};
 ghost use Rattle.getopts.specs.Fail.{IsOutOfMemoryOr};
 ghost use Rattle.getopts.specs.Matches.{count_fault, fits_count};
-ghost use Rattle.getopts.specs.Stored.Index.{count_in, first_wrong, places_in};
+ghost use Rattle.getopts.specs.Stored.Index.{count_in, first_wrong, indices_in};
 
 use crate::fail::Fail;
 use crate::index::Index;
@@ -19,9 +19,9 @@ pub(crate) fn check_counts(
     signatures: &Signatures,
     index: &Index,
 ) -> Result<(), Fail>
-    ensures ok { OnOk result (first_wrong 0 signatures.now (count_in (places_in index.now)) ≡ None) }
+    ensures ok { OnOk result (first_wrong 0 signatures.now (count_in (indices_in index.now)) ≡ None) }
     ensures err { IfErr result (λ fail. IsOutOfMemoryOr fail
-        (λ fault. first_wrong 0 signatures.now (count_in (places_in index.now)) ≡ Some fault)) }
+        (λ fault. first_wrong 0 signatures.now (count_in (indices_in index.now)) ≡ Some fault)) }
 {
     for place in 0..signatures.len() {
         let count = index.count(place);

@@ -10,9 +10,8 @@ ghost use Rattle.getopts.specs.Canon.{main_at};
 ghost use Rattle.getopts.specs.Stored.Signatures.{AreLawfulSignatures};
 
 use crate::kinds::Kinds;
-use crate::signatures::{
-    FIRST_GROUPS, FIRST_TEXT, PairEnds, SignatureView, Signatures, first_at, push_pair, second_at,
-};
+use crate::pairs::{FIRST_TEXT, PairEnds, first_at, push_pair, second_at};
+use crate::signatures::{FIRST_GROUPS, SignatureView, Signatures};
 use std::alloc::{AllocError, Global};
 use std::marker::Model;
 
@@ -37,7 +36,7 @@ impl<'g> PartialEq for GroupView<'g> {
 }
 
 /// Validly named groups: their names and kinds, one text with all hints and descriptions, and the
-/// places of each group's hint and description in that text.
+/// ends of each group's hint and description in that text.
 #[derive(Debug)]
 pub(crate) struct Groups {
     signatures: Signatures,

@@ -17,7 +17,7 @@ pub enum ParsingStyle {
 pub enum HasArg {
     /// The option needs an argument, in the same word or as the next one.
     Yes,
-    /// The option takes no argument.
+    /// The option never has an argument.
     No,
     /// The argument is optional. It follows `=` or, for a short name in ordinary mode, it follows
     /// the name directly or is the next word, unless that begins with a dash and is longer than

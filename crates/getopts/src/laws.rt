@@ -71,9 +71,9 @@ pub fn one_reading_one_canonical_line(options: &Options)
     let _signatures = options.signatures();
 }
 
-/// For all options that may be declared: the laws of readings and of canonical lines, and that
-/// words with equal content have matches with the same values and free words. This is a lemma for
-/// proofs, which does nothing.
+/// For all options that may be declared: the laws of readings and of canonical lines, that words
+/// with equal content have matches with the same values and free words, and four clauses of the
+/// main theorem. This is a lemma for proofs, which does nothing.
 pub fn declared_options_keep_laws()
     ensures reading_laws { (options : Declared) → MayBeDeclared options.groups
         → KeepsReadingLaws (grammar_of options) }
@@ -82,7 +82,7 @@ pub fn declared_options_keep_laws()
     ensures holds_same { (options : Declared) → MayBeDeclared options.groups
         → OneContentHoldsSame options }
 
-    // The clauses of the main theorem about readings.
+    // The clauses of the main theorem about readings and equal canonical lines.
     ensures one_reading { (options : Declared) → MayBeDeclared options.groups → OneReading options }
     ensures accepted { (options : Declared) → MayBeDeclared options.groups
         → AcceptedExactlyWhen options }

@@ -18,45 +18,34 @@
 //! instructions.
 #![tactic(auto)]
 
-// Which pairs of names are valid.
-mod names;
-// Parsing styles, and the kinds of options.
-mod kinds;
-// The names and kinds of option groups, stored together: one text with all names, and a record for
-// each group.
-mod signatures;
-// Declared groups: signatures with their hints and descriptions.
+// What a caller declares.
 mod groups;
-// What a caller declares: groups, a style and a mode.
+mod kinds;
+mod names;
 mod options;
-// Why a command line is rejected.
-mod fail;
-// The table that names are looked up in.
-mod table;
-// The occurrences of options in a command line, all together and of one group.
-mod occurrences;
-// Reading words as items, from the first to the last.
-mod scan;
-// Which occurrences belong to which group.
-mod index;
-// Whether options occur as often as they may.
+mod pairs;
+mod signatures;
+
+// Reading a command line.
 mod counts;
-// The result of parsing, and how it is copied and compared.
-mod matches;
-// What matches return for a name.
+mod fail;
+mod index;
+mod occurrences;
+mod scan;
+mod table;
+
+// What callers get.
 mod accessors;
-// Parsing: words are scanned, then counts are checked.
-mod parse;
-// Parsing, unless help or the version is requested.
-mod request;
-// Rewriting a command line with main names only.
 mod canon;
-// Descriptions in rows.
-pub mod wrap;
-// One group's row in a usage text.
+mod matches;
+mod parse;
+mod request;
+
+// Help texts.
 mod row;
-// Usage texts.
 mod usage;
+pub mod wrap;
+
 // The main theorem, and other lemmas for proofs.
 mod laws;
 

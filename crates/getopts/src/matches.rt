@@ -1,6 +1,6 @@
 //! The result of parsing, as it is stored: options with their values by group, and free words.
 
-ghost use Rattle.std.specs.Prelude.{◌≡◌, ◌==◌, ◌↔◌, IsTrue, map, IfErr, IfOk, OnOk, Some, None};
+ghost use Rattle.std.specs.Prelude.{◌≡◌, ◌==◌, ◌↔◌, IsTrue, length, map, IfErr, IfOk, OnOk, Some, None};
 ghost use Rattle.std.specs.Cmp.Lexicographic.{pointwise};
 ghost use Rattle.std.specs.Cmp.Rules.{comparing};
 ghost use Rattle.std.specs.String.{string_bytes};
@@ -10,7 +10,9 @@ ghost use Rattle.getopts.specs.Accessors.{occurrences_of_name, place_of};
 ghost use Rattle.getopts.specs.Fail.{IsOutOfMemoryOr};
 ghost use Rattle.getopts.specs.Matches.{matched};
 ghost use Rattle.getopts.specs.Results.{first_count_fault};
-ghost use Rattle.getopts.specs.Stored.Matches.{IsOfSignatures};
+ghost use Rattle.getopts.specs.Stored.Index.{index_of, indices_in};
+ghost use Rattle.getopts.specs.Stored.Signatures.{names_in};
+ghost use Rattle.getopts.specs.Stored.Table.{IsTableOf};
 
 use crate::counts::check_counts;
 use crate::fail::Fail;
@@ -21,15 +23,6 @@ use crate::signatures::Signatures;
 use crate::table::Table;
 use std::alloc::{AllocError, Global};
 use std::marker::Model;
-
-/// A command line that was read, with the table of names that it was read by, and its occurrences
-/// indexed by group.
-#[derive(Drop)]
-pub(crate) struct ReadLine {
-    pub table: Table,
-    pub line: Line,
-    pub index: Index,
-}
 
 /// The result of parsing a command line: its options by name, and its free words.
 ///
@@ -60,15 +53,15 @@ impl Model for Matches {
 
 impl Matches {
     /// The matches of a command line, for groups with these names and kinds.
-    pub(crate) fn of_line(signatures: Signatures, read: ReadLine) -> Matches
-        requires { IsOfSignatures signatures read }
+    pub(crate) fn of_line(signatures: Signatures, table: Table, line: Line, index: Index) -> Matches
+        requires table { IsTableOf (names_in signatures) table }
+        requires index { indices_in index ≡ index_of (length signatures) line.found }
         ensures { result ≡ record {
-          groups = matched 0 signatures read.line.found;
-          free = map string_bytes read.line.free.items;
-          trailing_start = read.line.trailing_start;
+          groups = matched 0 signatures line.found;
+          free = map string_bytes line.free.items;
+          trailing_start = line.trailing_start;
         } }
     {
-        let ReadLine { table, line, index } = read;
         let Line {
             found,
             free,
@@ -202,7 +195,7 @@ impl MatchedGroups {
     pub(crate) fn occurrences_at(&self, place: usize) -> Occurrences<'_>
         ensures { result ≡ occurrences_of_group self.now place }
     {
-        Occurrences::of(&self.found, self.index.places(place))
+        Occurrences::of(&self.found, self.index.indices(place))
     }
 
     /// The occurrences of the group that a name resolves to, none if it is undefined.

@@ -1,12 +1,8 @@
 //! Names of options: which pairs are valid, and the keys that names are looked up by.
 
-ghost use Rattle.std.specs.Prelude.{◌≡◌, ◌↔◌, ◌+◌, ◌*◌, ◌^◌, ◌<◌, IsTrue, length, drop};
-ghost use Rattle.std.specs.Int.{from_be_bytes, w64};
+ghost use Rattle.std.specs.Prelude.{◌≡◌, ◌↔◌, IsTrue, drop};
 ghost use Rattle.getopts.specs.Names.{AreLawful};
 ghost use Rattle.getopts.specs.Stored.Names.{key_of, short_code};
-
-/// Multiplying by this shifts a number by four bytes.
-const FOUR_BYTES: u64 = 1 << 32;
 
 /// Stands for a short name's byte if there is no short name.
 pub(crate) const NO_BYTE: u16 = 256;
@@ -36,53 +32,31 @@ pub(crate) struct NamesView<'g> {
 /// byte. So keys sort like the names' bytes, and names under eight bytes are equal if their keys
 /// are.
 #[inline]
+#[tactic(auto, unfolding(crate::specs::Stored::Names::key_of))]
 pub(crate) fn key_of(name: &[u8]) -> u64
     ensures { result ≡ key_of name.now }
 {
     match name {
-        // This compiles to a single read of eight bytes.
-        [a, b, c, d, e, f, g, h, ..] => {
-            u64::from_be_bytes([*a, *b, *c, *d, *e, *f, *g, *h]) - *h as u64 + 8
-        }
-        name => up_to_seven(name) + name.len() as u64,
+        [] => 0,
+        [a] => u64::from_be_bytes([*a, 0, 0, 0, 0, 0, 0, 1]),
+        [a, b] => u64::from_be_bytes([*a, *b, 0, 0, 0, 0, 0, 2]),
+        [a, b, c] => u64::from_be_bytes([*a, *b, *c, 0, 0, 0, 0, 3]),
+        [a, b, c, d] => u64::from_be_bytes([*a, *b, *c, *d, 0, 0, 0, 4]),
+        [a, b, c, d, e] => u64::from_be_bytes([*a, *b, *c, *d, *e, 0, 0, 5]),
+        [a, b, c, d, e, f] => u64::from_be_bytes([*a, *b, *c, *d, *e, *f, 0, 6]),
+        [a, b, c, d, e, f, g] => u64::from_be_bytes([*a, *b, *c, *d, *e, *f, *g, 7]),
+        [a, b, c, d, e, f, g, _, ..] => u64::from_be_bytes([*a, *b, *c, *d, *e, *f, *g, 8]),
     }
 }
 
 /// The key of what follows the first seven bytes of a name.
+#[tactic(auto, unfolding(crate::specs::Stored::Names::key_of))]
 pub(crate) fn rest_key(name: &[u8]) -> u64
     ensures { result ≡ key_of (drop 7 name.now) }
 {
     match name {
         [_, _, _, _, _, _, _, rest @ ..] => key_of(rest),
         _ => 0,
-    }
-}
-
-/// Packs up to seven bytes into a `u64`, zero-padded. The low byte is zero: a length can be added.
-fn up_to_seven(bytes: &[u8]) -> u64
-    requires { length bytes.now < 8 }
-    ensures worth { result ≡ from_be_bytes w64 bytes.now }
-    ensures below { result + 8 < 2 ^ 64 }
-{
-    match bytes {
-        [a, b, c, d, rest @ ..] => {
-            u32::from_be_bytes([*a, *b, *c, *d]) as u64 * FOUR_BYTES + up_to_three(rest)
-        }
-        bytes => up_to_three(bytes) * FOUR_BYTES,
-    }
-}
-
-/// Packs up to three bytes into four, zero-padded. The low byte is zero.
-fn up_to_three(bytes: &[u8]) -> u64
-    requires { length bytes.now < 4 }
-    ensures below { result + 8 < 2 ^ 32 }
-    ensures worth { result * 2 ^ 32 ≡ from_be_bytes w64 bytes.now }
-{
-    match bytes {
-        [] => 0,
-        [a] => u32::from_be_bytes([*a, 0, 0, 0]) as u64,
-        [a, b] => u32::from_be_bytes([*a, *b, 0, 0]) as u64,
-        [a, b, c, ..] => u32::from_be_bytes([*a, *b, *c, 0]) as u64,
     }
 }
 

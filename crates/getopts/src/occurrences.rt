@@ -5,41 +5,35 @@ ghost use Rattle.std.specs.Prelude.{[], Some, IfOk, IsOk, OnOk, OnErr, IsTrue, m
 ghost use Rattle.std.specs.Cmp.Lexicographic.{pointwise};
 ghost use Rattle.std.specs.Iterator.{YieldsFirstBy, item_count};
 ghost use Rattle.std.specs.Option.{option_copied, option_map};
-ghost use Rattle.std.specs.Str.{IsUtf8};
+ghost use Rattle.std.specs.Str.{IsCharBoundary, IsUtf8};
 ghost use Rattle.std.specs.String.{string_bytes};
 ghost use Rattle.getopts.specs.Accessors.{borrowed_occurrence, first_value, first_value_or};
 ghost use Rattle.getopts.specs.Accessors.{pair_view, pairs_of, positions_of, values_of};
 ghost use Rattle.getopts.specs.Reading.{at_position};
 ghost use Rattle.getopts.specs.Same.{same_group_occurrence};
-ghost use Rattle.getopts.specs.Stored.Occurrences.{occurrences_at_places, ArePlacesOf, IsTextAt};
+ghost use Rattle.getopts.specs.Stored.Occurrences.{IsAdded, end_by, text_between};
+ghost use Rattle.getopts.specs.Stored.Occurrences.{occurrences_at_indices, AreIndicesOf};
 
 use std::alloc::{AllocError, Global};
 use std::marker::Model;
 
-/// Where a text is in a longer one. If it ends before it starts, there is no text.
-#[derive(Clone, Copy, Debug)]
-pub(crate) struct Span {
-    pub start: usize,
-    pub end: usize,
-}
-
-/// The place of no text.
-const NO_TEXT: Span = Span { start: 1, end: 0 };
-
 /// A stored occurrence of an option: the place of its group, the index of its item's first word,
-/// and where its value is in the text of all values, if it has one.
+/// and its value.
+///
+/// In the text of all values, a value ends where that of the next record starts. `value` is twice
+/// the place where it starts, plus one if there is a value.
 #[derive(Clone, Copy, Debug)]
 pub(crate) struct OccurrenceRecord {
-    pub group: usize,
+    pub place: usize,
     pub position: usize,
-    pub value: Span,
+    pub value: usize,
 }
 
 /// An occurrence of an option, borrowed: the place of its group, the index of its item's first
 /// word, and its value if it has one.
 #[derive(Clone, Copy)]
 pub(crate) struct Occurrence<'l> {
-    pub group: usize,
+    pub place: usize,
     pub position: usize,
     pub value: Option<&'l str>,
 }
@@ -47,25 +41,61 @@ pub(crate) struct Occurrence<'l> {
 /// Bytes reserved for all values when the first one is stored.
 const FIRST_VALUES: usize = 64;
 
-/// Appends a value, and returns where it is. The first value that isn't empty reserves
-/// `FIRST_VALUES` bytes.
+/// Lists of more records, and values of more bytes, give back memory that they don't use.
+const FIRST_LONG: usize = 1024;
+
+/// Appends a text. The first one that isn't empty reserves `FIRST_VALUES` bytes.
 #[inline(always)]
-fn push_value(values: &mut String, value: &str) -> Result<Span, AllocError>
-    ensures ok { IfOk result (λ span.
-        (string_bytes values.new ≡ string_bytes values.old ++ value.now)
-        × IsTextAt (string_bytes values.new) span value.now) }
+fn push_text(values: &mut String, text: &str) -> Result<(), AllocError>
+    ensures ok { OnOk result (string_bytes values.new ≡ string_bytes values.old ++ text.now) }
     ensures err { OnErr result (string_bytes values.new ≡ string_bytes values.old) }
-    ensures utf8 { IsUtf8 value.now }
+    ensures utf8 { IsUtf8 text.now }
 {
-    let start = values.len();
-    if start == 0 && !value.is_empty() {
+    if values.is_empty() && !text.is_empty() {
         values.reserve(FIRST_VALUES)?;
     }
-    values.push_str(value)?;
-    Ok(Span {
-        start,
-        end: values.len(),
-    })
+    values.push_str(text)
+}
+
+/// Appends a value, if there is one, and returns what its record stores.
+#[inline(always)]
+fn push_value(values: &mut String, value: Option<&str>) -> Result<usize, AllocError>
+    ensures ok { IfOk result
+        (IsAdded (string_bytes values.old) (string_bytes values.new) (option_copied value.entry)) }
+    ensures err { OnErr result (string_bytes values.new ≡ string_bytes values.old) }
+{
+    let start = values.len();
+    match value {
+        Some(text) => {
+            push_text(values, text)?;
+            Ok(2 * start + 1)
+        }
+        None => Ok(2 * start),
+    }
+}
+
+/// The value that starts here among all values, and ends where that of the record at `next` starts.
+#[inline(always)]
+fn value_from<'v>(
+    values: &'v str,
+    start: usize,
+    records: &[OccurrenceRecord],
+    next: usize,
+) -> Option<&'v str>
+    requires start { IsCharBoundary values.now start }
+    requires end { IsCharBoundary values.now (end_by values.now (slice_get records.now next)) }
+    ensures { option_copied result
+        ≡ text_between values.now start (end_by values.now (slice_get records.now next)) }
+{
+    let end = match records.get(next) {
+        Some(record) => record.value / 2,
+        None => values.len(),
+    };
+    if start <= end {
+        Some(&values[start..end])
+    } else {
+        None
+    }
 }
 
 /// The options in a command line, in order, and their values as one text.
@@ -107,11 +137,17 @@ impl LineOccurrences {
         })
     }
 
-    /// Makes room for this many more options.
-    pub(crate) fn reserve(&mut self, room: usize) -> Result<(), AllocError>
+    /// Gives back memory of long lists, which `push` may have grown to twice what they need.
+    #[inline]
+    pub(crate) fn shrink(&mut self)
         ensures { self.new ≡ self.old }
     {
-        self.records.reserve_exact(room)
+        if self.records.len() > FIRST_LONG {
+            self.records.shrink_to_fit();
+        }
+        if self.values.len() > FIRST_LONG {
+            self.values.shrink_to_fit();
+        }
     }
 
     pub(crate) fn len(&self) -> usize
@@ -120,20 +156,19 @@ impl LineOccurrences {
         self.records.len()
     }
 
-    /// The occurrence at `place`.
+    /// The occurrence at `index`.
     #[inline(always)]
-    pub(crate) fn at(&self, place: usize) -> Occurrence<'_>
-        requires { place < length self.now }
-        ensures { slice_get self.now place ≡ Some (at_position result.position
-            (record { group = result.group; value = option_copied result.value })) }
+    pub(crate) fn at(&self, index: usize) -> Occurrence<'_>
+        requires { index < length self.now }
+        ensures { slice_get self.now index ≡ Some (at_position result.position
+            (record { group = result.place; value = option_copied result.value })) }
     {
-        let held = self.records[place];
-        let Span { start, end } = held.value;
+        let held = self.records[index];
         Occurrence {
-            group: held.group,
+            place: held.place,
             position: held.position,
-            value: if start <= end {
-                Some(&self.values[start..end])
+            value: if held.value % 2 == 1 {
+                value_from(&self.values, held.value / 2, &self.records, index + 1)
             } else {
                 None
             },
@@ -144,23 +179,19 @@ impl LineOccurrences {
     #[inline(always)]
     pub(crate) fn push(
         &mut self,
-        group: usize,
+        place: usize,
         position: usize,
         value: Option<&str>,
     ) -> Result<(), AllocError>
         ensures { OnOk result (self.new ≡ self.old ++ at_position position
-            (record { group = group; value = option_copied value.entry }) ∷ []) }
+            (record { group = place; value = option_copied value.entry }) ∷ []) }
     {
-        self.records.reserve(1)?;
-        let value = match value {
-            Some(text) => push_value(&mut self.values, text)?,
-            None => NO_TEXT,
-        };
-        self.records.push_reserved(OccurrenceRecord {
-            group,
+        let value = push_value(&mut self.values, value)?;
+        self.records.push(OccurrenceRecord {
+            place,
             position,
             value,
-        });
+        })?;
         Ok(())
     }
 }
@@ -187,35 +218,35 @@ impl Clone for LineOccurrences {
 #[derive(Debug, Drop)]
 pub struct Occurrences<'m> {
     found: &'m LineOccurrences,
-    places: &'m [usize],
+    indices: &'m [usize],
 }
 
 impl<'m> Model for Occurrences<'m> {
     ghost use Rattle.std.specs.Prelude.{List};
     ghost use Rattle.getopts.specs.Matches.{GroupOccurrence};
-    ghost use Rattle.getopts.specs.Stored.Occurrences.{occurrences_at_places, ArePlacesOf};
+    ghost use Rattle.getopts.specs.Stored.Occurrences.{occurrences_at_indices, AreIndicesOf};
 
     ghost Value = { List GroupOccurrence };
 
-    ghost view = { λ a. occurrences_at_places a.found.now a.places.now };
+    ghost view = { λ a. occurrences_at_indices a.found.now a.indices.now };
 
-    ghost invariant = { λ a. ArePlacesOf a.found.now a.places.now };
+    ghost invariant = { λ a. AreIndicesOf a.found.now a.indices.now };
 }
 
 impl<'m> Occurrences<'m> {
-    /// The occurrences at these places of a command line.
-    pub(crate) fn of(found: &'m LineOccurrences, places: &'m [usize]) -> Occurrences<'m>
-        requires { ArePlacesOf found.now places.now }
-        ensures { result ≡ occurrences_at_places found.now places.now }
+    /// The occurrences at these indices of a command line.
+    pub(crate) fn of(found: &'m LineOccurrences, indices: &'m [usize]) -> Occurrences<'m>
+        requires { AreIndicesOf found.now indices.now }
+        ensures { result ≡ occurrences_at_indices found.now indices.now }
     {
-        Occurrences { found, places }
+        Occurrences { found, indices }
     }
 
     /// The number of occurrences.
     pub fn len(&self) -> usize
         ensures count { result ≡ length self.now }
     {
-        self.places.len()
+        self.indices.len()
     }
 
     /// Whether there are no occurrences.
@@ -244,7 +275,7 @@ impl<'m> Occurrences<'m> {
         ensures { slice_get self.now nth
             ≡ Some (borrowed_occurrence (result.position, result.value)) }
     {
-        self.found.at(self.places[nth])
+        self.found.at(self.indices[nth])
     }
 
     pub(crate) fn positions(&self, alloc: Global) -> Result<Vec<usize>, AllocError>
@@ -309,14 +340,6 @@ impl<'m> Occurrences<'m> {
         if self.is_empty() && other.is_empty() {
             return true;
         }
-        same_at(self.found, self.places, other.found, other.places)
-    }
-
-    /// Like `same`, which calls it if there are occurrences.
-    #[inline(always)]
-    fn same_items(&self, other: &Occurrences<'_>) -> bool
-        ensures { result ≡ pointwise same_group_occurrence self.now other.now }
-    {
         if self.len() != other.len() {
             return false;
         }
@@ -327,23 +350,6 @@ impl<'m> Occurrences<'m> {
         }
         true
     }
-}
-
-/// Whether two command lines have the same occurrences at these places.
-// Inlined, it would slow down the loop over groups, most of which have no occurrences.
-#[inline(never)]
-fn same_at(
-    found: &LineOccurrences,
-    places: &[usize],
-    other: &LineOccurrences,
-    others: &[usize],
-) -> bool
-    requires ours { ArePlacesOf found.now places.now }
-    requires theirs { ArePlacesOf other.now others.now }
-    ensures { result ≡ pointwise same_group_occurrence
-        (occurrences_at_places found.now places.now) (occurrences_at_places other.now others.now) }
-{
-    Occurrences::of(found, places).same_items(&Occurrences::of(other, others))
 }
 
 impl<'m> IntoIterator for Occurrences<'m> {

@@ -21,7 +21,6 @@ use std::marker::Model;
 /// add groups, `parse` reads a command line, and `usage` formats help.
 #[derive(Debug)]
 pub struct Options {
-    alloc: Global,
     groups: Groups,
     style: ParsingStyle,
     long_only: bool,
@@ -30,7 +29,6 @@ pub struct Options {
 impl Drop for Options {
     fn drop(self) {
         let Options {
-            alloc: _,
             groups: _,
             style: _,
             long_only: _,
@@ -62,7 +60,6 @@ impl Options {
         } }
     {
         Options {
-            alloc,
             groups: Groups::new(alloc),
             style: ParsingStyle::FloatingFrees,
             long_only: false,
@@ -128,6 +125,8 @@ impl Options {
 
 // Methods that add a group, named as in the Rust crate.
 impl Options {
+    ghost use Rattle.getopts.specs.Declaring.{optflag, optflagmulti, optflagopt, optmulti, optopt, reqopt};
+
     /// Adds an option, with any kind of argument and any number of occurrences, as the last group.
     ///
     /// Usage texts show `hint` in place of the argument, and `desc` as the description. With the
@@ -176,7 +175,7 @@ impl Options {
         requires { AreLawful short_name.now long_name.now }
         ensures* unchanged { sem 𝓛 (UnchangedIfErr self.entry result) }
         ensures added { IfOk result (λ options. options.now ≡ with_group self.old
-            (group_of short_name.now long_name.now desc.now [] HasArg.No Occur.Optional)) }
+            (optflag short_name.now long_name.now desc.now)) }
         ensures same_options { IfOk result (λ options.
             options.ghost_name ≡ self.entry.ghost_name) }
     {
@@ -197,7 +196,7 @@ impl Options {
         requires { AreLawful short_name.now long_name.now }
         ensures* unchanged { sem 𝓛 (UnchangedIfErr self.entry result) }
         ensures added { IfOk result (λ options. options.now ≡ with_group self.old
-            (group_of short_name.now long_name.now desc.now [] HasArg.No Occur.Multi)) }
+            (optflagmulti short_name.now long_name.now desc.now)) }
         ensures same_options { IfOk result (λ options.
             options.ghost_name ≡ self.entry.ghost_name) }
     {
@@ -222,7 +221,7 @@ impl Options {
         requires { AreLawful short_name.now long_name.now }
         ensures* unchanged { sem 𝓛 (UnchangedIfErr self.entry result) }
         ensures added { IfOk result (λ options. options.now ≡ with_group self.old
-            (group_of short_name.now long_name.now desc.now hint.now HasArg.Maybe Occur.Optional)) }
+            (optflagopt short_name.now long_name.now desc.now hint.now)) }
         ensures same_options { IfOk result (λ options.
             options.ghost_name ≡ self.entry.ghost_name) }
     {
@@ -243,7 +242,7 @@ impl Options {
         requires { AreLawful short_name.now long_name.now }
         ensures* unchanged { sem 𝓛 (UnchangedIfErr self.entry result) }
         ensures added { IfOk result (λ options. options.now ≡ with_group self.old
-            (group_of short_name.now long_name.now desc.now hint.now HasArg.Yes Occur.Multi)) }
+            (optmulti short_name.now long_name.now desc.now hint.now)) }
         ensures same_options { IfOk result (λ options.
             options.ghost_name ≡ self.entry.ghost_name) }
     {
@@ -264,7 +263,7 @@ impl Options {
         requires { AreLawful short_name.now long_name.now }
         ensures* unchanged { sem 𝓛 (UnchangedIfErr self.entry result) }
         ensures added { IfOk result (λ options. options.now ≡ with_group self.old
-            (group_of short_name.now long_name.now desc.now hint.now HasArg.Yes Occur.Optional)) }
+            (optopt short_name.now long_name.now desc.now hint.now)) }
         ensures same_options { IfOk result (λ options.
             options.ghost_name ≡ self.entry.ghost_name) }
     {
@@ -286,7 +285,7 @@ impl Options {
         requires { AreLawful short_name.now long_name.now }
         ensures* unchanged { sem 𝓛 (UnchangedIfErr self.entry result) }
         ensures added { IfOk result (λ options. options.now ≡ with_group self.old
-            (group_of short_name.now long_name.now desc.now hint.now HasArg.Yes Occur.Req)) }
+            (reqopt short_name.now long_name.now desc.now hint.now)) }
         ensures same_options { IfOk result (λ options.
             options.ghost_name ≡ self.entry.ghost_name) }
     {
@@ -333,7 +332,6 @@ impl Clone for Options {
         ensures same { IfOk result (λ copy. copy ≡ self.now) }
     {
         Ok(Options {
-            alloc: self.alloc,
             groups: self.groups.clone()?,
             style: self.style,
             long_only: self.long_only,

@@ -1,32 +1,35 @@
 //! Parsing a command line: its words are scanned, then its counts are checked.
 
-ghost use Rattle.std.specs.Prelude.{◌≡◌, IfOk, IfErr, IfSome, OnOk, Err, map};
+ghost use Rattle.std.specs.Prelude.{◌≡◌, ◌<◌, ◌+◌, ◌^◌, List, All, IfOk, IfErr, IfSome, OnOk, Ok, Err, length, map};
 ghost use Rattle.std.specs.Iterator.{IsFinite};
 ghost use Rattle.std.specs.Iterator.Runs.{WholeRun};
 ghost use Rattle.getopts.specs.Fail.{IsOutOfMemoryOr};
-ghost use Rattle.getopts.specs.Names.{AreTexts, texts};
+ghost use Rattle.getopts.specs.Names.{AreTexts, Text, texts};
 
 use crate::counts::check_counts;
 use crate::fail::Fail;
 use crate::index::Index;
-use crate::matches::{Matches, ReadLine};
+use crate::matches::Matches;
 use crate::options::Options;
-use crate::scan::{FIRST_ROOM, Given, OrderedLine, Scanner, are_texts};
+use crate::scan::{FIRST_ROOM, Given, Line, Scanner, are_texts};
 use crate::table::Table;
 use std::alloc::{AllocError, Global};
 use std::convert::AsStr;
 
 impl Options {
-    ghost use Rattle.getopts.specs.Options.{MayBeDeclared, grammar_of};
+    ghost use Rattle.getopts.specs.Options.{MayBeDeclared, grammar_of, names_of, signatures_of};
     ghost use Rattle.getopts.specs.Parse.{IsRefused, HasReading, HasNoReading, KeepsReadingLaws};
     ghost use Rattle.getopts.specs.Returns.{ReturnsConverted, ReturnsResult};
     ghost use Rattle.getopts.specs.Results.{parse_result, parse_ignoring_counts_result};
     ghost use Rattle.getopts.specs.Results.{parse_in_order_result};
     ghost use Rattle.getopts.specs.CanonAnswers.{IsOrder};
-    ghost use Rattle.getopts.specs.Results.{accepted_reading, reading_or_error};
+    ghost use Rattle.getopts.specs.Matches.{matches_of};
+    ghost use Rattle.getopts.specs.Results.{accepted_reading, made_of};
     ghost use Rattle.getopts.specs.Holds.{FitOptionsAndCounts, FitOptions, Accepts, EndsInTrailing};
-    ghost use Rattle.getopts.specs.Stored.Matches.{IsReadLine};
-    ghost use Rattle.getopts.specs.Stored.Scan.{GivesOrder};
+    ghost use Rattle.getopts.specs.Holds.{IsDeclared};
+    ghost use Rattle.getopts.specs.Stored.Index.{index_of, indices_in};
+    ghost use Rattle.getopts.specs.Stored.Scan.{GivesLine, IsLeft, reading_if};
+    ghost use Rattle.getopts.specs.Stored.Table.{IsTableOf};
     ghost use Rattle.getopts.specs.Accessors.{borrowed_given};
 
     /// Parses a command line, given without the program's own name.
@@ -40,6 +43,7 @@ impl Options {
     /// and `["--output=file", "x"]` all give `output` the value `file`, and the free word `x`.
     ///
     /// The Rust crate has no such method: its `parse` takes an iterator.
+    #[inline]
     pub fn parse_words<S: AsStr>(&self, alloc: Global, words: &[S]) -> crate::Result
         ensures result { ReturnsResult result (parse_result self.now (map S.text words.now)) }
         ensures accepted { IfOk result (Accepts self.now (map S.text words.now)) }
@@ -53,8 +57,7 @@ impl Options {
         // positions.
         ensures laws { OnOk result (KeepsReadingLaws (grammar_of self.now)) }
     {
-        let accepted = self.accepted_line(alloc, words)?;
-        Ok(Matches::of_line(self.signatures().clone()?, accepted))
+        self.read_matches(alloc, words, true)
     }
 
     /// Parses a command line like `parse_words`, but doesn't check how often options occur.
@@ -74,7 +77,7 @@ impl Options {
         ensures trailing { IfOk result (λ matches. IfSome matches.trailing_start
             (EndsInTrailing (map S.text words.now) matches)) }
     {
-        self.read_matches(alloc, words)
+        self.read_matches(alloc, words, false)
     }
 
     /// Parses a command line like `parse_words`, from an iterator.
@@ -110,11 +113,10 @@ impl Options {
     /// Use it if the order of different options matters, for example if the last of `-q` and `-v`
     /// wins, or if an option applies to the free words after it, as in `-C a f -C b g`. (Positions
     /// don't help: options in one word, such as `-vq`, share a position, and free words have none.)
-    /// Each option is returned as its index in the order of declaration, as from `opt_place`. With
-    /// the options `q` and `v`, `["-vq", "x", "-v"]` gives `Option(1)`, `Option(0)`, `Free("x")`
-    /// and `Option(1)`. If an index occurs for the nth time in the list, the option's value is in
-    /// the nth occurrence of `occurrences_at` for that index. The nth free word in the list is the
-    /// nth of `free`.
+    /// Each option is returned as its place, as from `opt_place`, with its value; no text is
+    /// copied. With the options `v` and `o`, the second of which needs an argument,
+    /// `["-vofile", "x"]` gives `Option { place: 0, value: None }`,
+    /// `Option { place: 1, value: Some("file") }` and `Free("x")`.
     ///
     /// Fails exactly as `parse_words` does. The Rust crate has no such method.
     pub fn parse_in_order<'w, S: AsStr>(
@@ -126,83 +128,14 @@ impl Options {
             (λ answer. parse_in_order_result self.now (map S.text words.now) ≡ answer) }
         ensures order { IfOk result (λ order.
             IsOrder self.now (map S.text words.now) (map borrowed_given order.items)) }
+
+        // Each place is below the number of options, and each value fits its option's kind.
+        ensures declared { IfOk result (λ order.
+            All (λ given. IsDeclared self.now.groups (borrowed_given given)) order.items) }
         ensures same_error { IfErr result (λ fail. IsOutOfMemoryOr fail (λ fault.
             parse_result self.now (map S.text words.now) ≡ Err fault)) }
         ensures refused { IfErr result (λ fail. IsOutOfMemoryOr fail
             (IsRefused self.now (map S.text words.now))) }
-    {
-        let line = self.accepted_in_order(alloc, words)?;
-        Ok(line.order)
-    }
-
-    /// The matches of a command line, without checking its counts.
-    pub(crate) fn read_matches<S: AsStr>(&self, alloc: Global, words: &[S]) -> crate::Result
-        ensures result { ReturnsResult result
-            (parse_ignoring_counts_result self.now (map S.text words.now)) }
-        ensures declared { MayBeDeclared self.now.groups }
-        ensures texts { AreTexts (map S.text words.now) }
-        ensures laws { OnOk result (KeepsReadingLaws (grammar_of self.now)) }
-    {
-        let read = self.read_line(alloc, words)?;
-        Ok(Matches::of_line(self.signatures().clone()?, read))
-    }
-
-    /// Reads a command line, and checks its counts.
-    #[inline(always)]
-    pub(crate) fn accepted_line<S: AsStr>(
-        &self,
-        alloc: Global,
-        words: &[S],
-    ) -> Result<ReadLine, Fail>
-        ensures ok { IfOk result
-            (IsReadLine self.now (accepted_reading self.now (map S.text words.now))) }
-        ensures err { IfErr result (λ fail. IsOutOfMemoryOr fail
-            (λ fault. accepted_reading self.now (map S.text words.now) ≡ Err fault)) }
-        ensures declared { MayBeDeclared self.now.groups }
-        ensures texts { AreTexts (map S.text words.now) }
-        ensures laws { OnOk result (KeepsReadingLaws (grammar_of self.now)) }
-    {
-        let read = self.read_line(alloc, words)?;
-        check_counts(alloc, self.signatures(), &read.index)?;
-        Ok(read)
-    }
-
-    /// Reads a command line without checking its counts.
-    #[tactic(auto, unfolding(crate::specs::Results::reading_or_error))]
-    #[inline(always)]
-    fn read_line<S: AsStr>(&self, alloc: Global, words: &[S]) -> Result<ReadLine, Fail>
-        ensures ok { IfOk result
-            (IsReadLine self.now (reading_or_error self.now (map S.text words.now))) }
-        ensures err { IfErr result (λ fail. IsOutOfMemoryOr fail
-            (λ fault. reading_or_error self.now (map S.text words.now) ≡ Err fault)) }
-        ensures declared { MayBeDeclared self.now.groups }
-        ensures texts { AreTexts (map S.text words.now) }
-        ensures laws { OnOk result (KeepsReadingLaws (grammar_of self.now)) }
-    {
-        are_texts(words);
-        let signatures = self.signatures();
-        let table = Table::of(alloc, signatures)?;
-        let scanner = Scanner {
-            options: self,
-            table: &table,
-        };
-        let line = scanner.scan(alloc, words)?;
-        let index = Index::of(alloc, signatures.len(), &line.found)?;
-        Ok(ReadLine { table, line, index })
-    }
-
-    /// Reads a command line with the order of its options and free words, and checks its counts.
-    pub(crate) fn accepted_in_order<'w, S: AsStr>(
-        &self,
-        alloc: Global,
-        words: &'w [S],
-    ) -> Result<OrderedLine<'w>, Fail>
-        ensures ok { IfOk result (GivesOrder (grammar_of self.now)
-            (accepted_reading self.now (map S.text words.now))) }
-        ensures err { IfErr result (λ fail. IsOutOfMemoryOr fail
-            (λ fault. accepted_reading self.now (map S.text words.now) ≡ Err fault)) }
-        ensures declared { MayBeDeclared self.now.groups }
-        ensures texts { AreTexts (map S.text words.now) }
     {
         are_texts(words);
         let signatures = self.signatures();
@@ -214,7 +147,103 @@ impl Options {
         let line = scanner.scan_in_order(alloc, words)?;
         let index = Index::of(alloc, signatures.len(), &line.found)?;
         check_counts(alloc, signatures, &index)?;
+        Ok(line.order)
+    }
+
+    /// The matches of a command line, with its counts checked if `counted`.
+    #[inline]
+    pub(crate) fn read_matches<S: AsStr>(
+        &self,
+        alloc: Global,
+        words: &[S],
+        counted: bool,
+    ) -> crate::Result
+        ensures result { ReturnsResult result
+            (made_of (matches_of self.now) (reading_if counted self.now (map S.text words.now))) }
+        ensures declared { MayBeDeclared self.now.groups }
+        ensures texts { AreTexts (map S.text words.now) }
+        ensures laws { OnOk result (KeepsReadingLaws (grammar_of self.now)) }
+    {
+        are_texts(words);
+        let table = Table::of(alloc, self.signatures())?;
+        let line = Line::for_words(alloc, words, self.style())?;
+        self.read_rest(alloc, table, line, 0, words, counted)
+    }
+
+    /// Reads the last words of a command line, and returns the matches of the whole line. `line`
+    /// has what the words before them, `before` in number, gave. Checks the counts if `counted`.
+    #[inline(always)]
+    pub(crate) fn read_rest<S: AsStr>(
+        &self,
+        alloc: Global,
+        table: Table,
+        line: Line,
+        before: usize,
+        words: &[S],
+        counted: bool,
+    ) -> crate::Result
+        requires table { IsTableOf (names_of self.now.groups) table }
+        requires count { before + length words.now < 2 ^ 64 }
+        ensures { (whole : List Text) → IsLeft self.now before line whole (map S.text words.now)
+            → ReturnsResult result
+            (made_of (matches_of self.now) (reading_if counted self.now whole)) }
+    {
+        let mut line = line;
+        let index = self.read_line(alloc, &table, &mut line, before, words, counted)?;
+        Ok(Matches::of_line(self.signatures().clone()?, table, line, index))
+    }
+
+    /// Reads an accepted command line.
+    pub(crate) fn accepted_line<S: AsStr>(&self, alloc: Global, words: &[S]) -> Result<Line, Fail>
+        ensures ok { IfOk result (GivesLine (grammar_of self.now)
+            (accepted_reading self.now (map S.text words.now))) }
+        ensures err { IfErr result (λ fail. IsOutOfMemoryOr fail
+            (λ fault. accepted_reading self.now (map S.text words.now) ≡ Err fault)) }
+        ensures declared { MayBeDeclared self.now.groups }
+        ensures texts { AreTexts (map S.text words.now) }
+    {
+        are_texts(words);
+        let table = Table::of(alloc, self.signatures())?;
+        let mut line = Line::for_words(alloc, words, self.style())?;
+        self.read_line(alloc, &table, &mut line, 0, words, true)?;
         Ok(line)
+    }
+
+    /// Reads the last words of a command line into `line`, and returns the index of all its
+    /// occurrences. Checks the counts if `counted`.
+    #[inline]
+    fn read_line<S: AsStr>(
+        &self,
+        alloc: Global,
+        table: &Table,
+        line: &mut Line,
+        before: usize,
+        words: &[S],
+        counted: bool,
+    ) -> Result<Index, Fail>
+        requires table { IsTableOf (names_of self.now.groups) table.now }
+        requires count { before + length words.now < 2 ^ 64 }
+        ensures index { IfOk result (λ index. indices_in index
+            ≡ index_of (length (signatures_of self.now.groups)) line.new.found) }
+        ensures ok { OnOk result ((whole : List Text)
+            → IsLeft self.now before line.old whole (map S.text words.now)
+            → GivesLine (grammar_of self.now) (reading_if counted self.now whole) line.new) }
+        ensures err { IfErr result (λ fail. IsOutOfMemoryOr fail (λ fault. (whole : List Text)
+            → IsLeft self.now before line.old whole (map S.text words.now)
+            → reading_if counted self.now whole ≡ Err fault)) }
+    {
+        let signatures = self.signatures();
+        let scanner = Scanner {
+            options: self,
+            table,
+        };
+        let used = scanner.scan(alloc, words, before, words.len(), line)?;
+        line.end(alloc, &words[used..])?;
+        let index = Index::of(alloc, signatures.len(), &line.found)?;
+        if counted {
+            check_counts(alloc, signatures, &index)?;
+        }
+        Ok(index)
     }
 }
 

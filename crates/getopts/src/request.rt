@@ -53,7 +53,7 @@ impl Options {
             FitOptionsAndCounts self.now matches.groups)) }
         ensures laws { OnOk result (KeepsReadingLaws (grammar_of self.now)) }
     {
-        let matches = self.read_matches(alloc, words)?;
+        let matches = self.read_matches(alloc, words, false)?;
         if matches.has("help") {
             return Ok(Request::Help);
         }
@@ -91,7 +91,7 @@ impl Options {
             FitOptionsAndCounts self.now matches.groups)) }
         ensures laws { OnOk result (KeepsReadingLaws (grammar_of self.now)) }
     {
-        let read = self.read_matches(alloc, words)?;
+        let read = self.read_matches(alloc, words, false)?;
         if read.has(flag) {
             return Ok(None);
         }

@@ -1,15 +1,17 @@
 //! Reading words as items, from the first to the last.
 
-ghost use Rattle.std.specs.Prelude.{◌≡◌, ◌≢◌, ◌<◌, ◌≤◌, ◌∷◌, ◌++◌, [], MatchOption, OnSome, length};
-ghost use Rattle.std.specs.Prelude.{Some, None, Err, false, IfOk, IfErr, OnOk, map, drop};
+ghost use Rattle.std.specs.Prelude.{◌≡◌, ◌≢◌, ◌<◌, ◌≤◌, ◌+◌, ◌^◌, ◌∷◌, ◌++◌, [], List, MatchOption};
+ghost use Rattle.std.specs.Prelude.{OnOk, IfOk, IfErr, Some, None, Ok, Err, false, length};
+ghost use Rattle.std.specs.Prelude.{map, drop};
 ghost use Rattle.std.specs.String.{string_bytes};
 ghost use Rattle.std.specs.Option.{option_copied};
-ghost use Rattle.getopts.specs.Reading.{Dashes, dash, holds_equals, is_dashed, option, free_word};
+ghost use Rattle.getopts.specs.Reading.{Dashes, dash, holds_equals, is_dashed, free_word};
+ghost use Rattle.getopts.specs.Reading.{given_option};
 ghost use Rattle.getopts.specs.Accessors.{borrowed_given};
 ghost use Rattle.getopts.specs.Fail.{IsOutOfMemoryOr};
 ghost use Rattle.std.specs.Str.{IsUtf8};
 ghost use Rattle.getopts.specs.Names.{AreTexts, Text};
-ghost use Rattle.getopts.specs.Step.{with_equals, first_char, chosen_end, Chooses};
+ghost use Rattle.getopts.specs.Step.{with_equals, first_char, chosen_end, Chooses, revalued};
 
 use crate::fail::Fail;
 use crate::kinds::{HasArg, ParsingStyle};
@@ -19,10 +21,12 @@ use crate::table::Table;
 use std::alloc::{AllocError, Global};
 use std::convert::AsStr;
 
-/// The most words, options and free words for which memory is reserved without looking at the
-/// words: an iterator may yield fewer words than it promises. For more words, `reserve` counts
-/// the dashed ones first; short lines aren't worth it.
+/// The most words for which memory is reserved without looking at them: an iterator may yield fewer
+/// words than it promises.
 pub(crate) const FIRST_ROOM: usize = 32;
+
+/// How many words tell how many of a longer line's words are dashed.
+const SAMPLE: usize = 1024;
 
 /// A lemma for proofs, which compiles to nothing: a `&str` is UTF-8.
 fn is_text(word: &str)
@@ -48,40 +52,58 @@ pub(crate) struct Line {
 }
 
 impl Line {
-    ghost use Rattle.getopts.specs.Stored.Scan.{IsEmptyLine};
+    ghost use Rattle.getopts.specs.Stored.Scan.{parts_of, with_tail, tail_of};
+    ghost use Rattle.getopts.specs.Reading.{line_end};
 
-    /// An empty line, with room for `room` options and `room` free words.
-    pub(crate) fn with_capacity(alloc: Global, room: usize) -> Result<Line, AllocError>
-        ensures { IfOk result IsEmptyLine }
+    /// An empty line, with room for as many options as there are dashed words, and for as many free
+    /// words as there are others.
+    #[inline(always)]
+    pub(crate) fn for_words<S: AsStr>(
+        alloc: Global,
+        words: &[S],
+        style: ParsingStyle,
+    ) -> Result<Line, AllocError>
+        ensures { IfOk result (λ line. parts_of line ≡ with_tail [] [] line_end) }
     {
+        let dashed = dashed_words(words, style == ParsingStyle::StopAtFirstFree);
         Ok(Line {
-            found: LineOccurrences::with_capacity(alloc, room)?,
-            free: Vec::with_capacity(alloc, room)?,
+            found: LineOccurrences::with_capacity(alloc, dashed)?,
+            free: Vec::with_capacity(alloc, words.len().saturating_sub(dashed))?,
             trailing_start: None,
         })
     }
 
-    /// Makes room for the results of more than `FIRST_ROOM` words: for as many options as there are
-    /// dashed words, and for as many free words as there are others. For fewer words,
-    /// `with_capacity` made room.
-    fn reserve<S: AsStr>(&mut self, words: &[S], stops: bool) -> Result<(), AllocError>
-        requires { IsEmptyLine self.old }
-        ensures { OnOk result (IsEmptyLine self.new) }
+    /// Ends the line with words that aren't read as items: free words, or `--` and free words. No
+    /// more options follow, so gives back memory that was reserved for them.
+    #[inline(always)]
+    pub(crate) fn end<S: AsStr>(&mut self, alloc: Global, words: &[S]) -> Result<(), AllocError>
+        ensures { OnOk result (parts_of self.new ≡ with_tail self.old.found
+            (map string_bytes self.old.free.items) (tail_of (map S.text words.now))) }
     {
-        if words.len() <= FIRST_ROOM {
-            return Ok(());
+        self.found.shrink();
+        self.trailing_start = None;
+        match words.first() {
+            Some(word) if is_dashed(word.as_str()) => {
+                let after = &words[1..];
+                self.trailing_start = (!after.is_empty()).then_some(self.free.len());
+                push_copies(alloc, &mut self.free, after)
+            }
+            Some(_) => push_copies(alloc, &mut self.free, words),
+            None => Ok(()),
         }
-        let dashed = dashed_words(words, stops);
-        self.found.reserve(dashed)?;
-        self.free.reserve_exact(words.len().saturating_sub(dashed))
     }
 }
 
 /// An option or a free word in a command line, as `parse_in_order` returns them.
 #[derive(Clone, Copy, Debug, PartialEq, Eq)]
 pub enum Given<'w> {
-    /// An option, as its index in the order of declaration.
-    Option(usize),
+    /// An option.
+    Option {
+        /// Its place: its index in the order of declaration.
+        place: usize,
+        /// Its value, if it has one.
+        value: Option<&'w str>,
+    },
     /// A free word.
     Free(&'w str),
 }
@@ -169,47 +191,47 @@ fn push_free_words<'w, S: AsStr>(
     Ok(())
 }
 
-/// Appends the options from this place on.
-fn push_options(
-    order: &mut Vec<Given<'_>>,
+/// Appends the options from this index on. If one has a value, it is `value`.
+fn push_options<'w>(
+    order: &mut Vec<Given<'w>>,
     found: &LineOccurrences,
     first: usize,
+    value: Option<&'w str>,
 ) -> Result<(), AllocError>
     requires { first ≤ length found.now }
     ensures { OnOk result (map borrowed_given order.new.items
         ≡ map borrowed_given order.old.items
-        ++ map (λ o. option o.mention.group) (drop first found.now)) }
+        ++ map (λ o. given_option (revalued (option_copied value.entry) o.mention))
+        (drop first found.now)) }
 {
-    for place in first..found.len() {
-        order.push(Given::Option(found.at(place).group))?;
+    for index in first..found.len() {
+        let option = found.at(index);
+        order.push(Given::Option {
+            place: option.place,
+            value: option.value.and(value),
+        })?;
     }
     Ok(())
 }
 
 /// The text after a leading dash, if there is one.
+#[tactic(auto, using(std::proofs::lemmas::Str::Pattern::strip_prefix_char))]
 fn after_dash(text: &str) -> Option<&str>
     ensures { MatchOption result ((rest : Text) → text.now ≢ dash ∷ rest)
         (λ rest. text.now ≡ dash ∷ rest.now) }
 {
-    if text.is_empty() || text.as_bytes()[0] != b'-' {
-        return None;
-    }
-    Some(&text[1..])
+    text.strip_prefix('-')
 }
 
-/// The name in the text of a long item, and the attached argument. Goes byte by byte up to the
-/// first `=`, or to the end.
+/// The name in the text of a long item, and the attached argument, which follows the first `=`.
 fn name_and_argument(text: &str) -> (&str, Option<&str>)
     ensures name { holds_equals result.0.now ≡ false }
     ensures text { text.now ≡ result.0.now ++ with_equals (option_copied result.1) }
 {
-    let bytes = text.as_bytes();
-    for at in 0..bytes.len() {
-        if bytes[at] == b'=' {
-            return (&text[..at], Some(&text[at + 1..]));
-        }
+    match text.split_once('=') {
+        Some((name, argument)) => (name, Some(argument)),
+        None => (text, None),
     }
-    (text, None)
 }
 
 /// Whether a word is dashed: it begins with `-` and is longer than that.
@@ -222,19 +244,28 @@ fn is_dashed(word: &str) -> bool
     }
 }
 
-/// How many words are dashed, up to the word that ends the options. The number only determines how
-/// much to reserve, so a wrong one would cost only memory or time.
+/// About how many words are dashed, up to the word that ends the options, judging by the first
+/// `SAMPLE` words. The number only determines how much to reserve, so a wrong one would cost only
+/// memory or time.
 fn dashed_words<S: AsStr>(words: &[S], stops: bool) -> usize {
     let mut dashed: usize = 0;
-    'words: for word in words {
-        match word.as_str().as_bytes() {
-            [b'-', b'-'] => break 'words,
-            [b'-', _, ..] => dashed = dashed.saturating_add(1),
-            _ if stops => break 'words,
+    for word in &words[..words.len().min(SAMPLE)] {
+        let bytes = word.as_str().as_bytes();
+        match bytes {
+            [b'-', second, ..] => {
+                if *second == b'-' && bytes.len() == 2 {
+                    return dashed;
+                }
+                dashed = dashed.saturating_add(1);
+            }
+            _ if stops => return dashed,
             _ => {}
         }
     }
-    dashed
+    if words.len() <= SAMPLE {
+        return dashed;
+    }
+    dashed.saturating_mul(words.len()) / SAMPLE
 }
 
 /// The first character of a text, as a text.
@@ -275,16 +306,15 @@ fn last_argument<'w, S: AsStr>(
 impl<'o> Scanner<'o> {
     ghost use Rattle.getopts.specs.Step.{faults, long_step, cluster_step, AddsItem};
     ghost use Rattle.getopts.specs.Stored.Scan.{scanner_grammar, IsLawfulScanner, IsResolvedTo};
-    ghost use Rattle.getopts.specs.Stored.Scan.{HasShape, GivesLine, GivesOrder};
+    ghost use Rattle.getopts.specs.Stored.Scan.{HasShape, given_with, tail_of, GivesOrder};
     ghost use Rattle.getopts.specs.Results.{read};
-    ghost use Rattle.getopts.specs.Options.{long_kind, long_place};
 
     /// The option that a name resolves to.
     fn option(&self, name: &str) -> Option<Resolved>
         requires { IsLawfulScanner self.now }
         ensures { let grammar = scanner_grammar self.now in
-            MatchOption result (long_kind grammar name.now ≡ None)
-            (IsResolvedTo (long_place grammar name.now) (long_kind grammar name.now)) }
+            MatchOption result (grammar.kind name.now ≡ None)
+            (IsResolvedTo (grammar.place name.now) (grammar.kind name.now)) }
     {
         let signatures = self.options.signatures();
         let place = self.table.resolve(signatures, name)?;
@@ -293,7 +323,7 @@ impl<'o> Scanner<'o> {
     }
 
     /// Reads a long item: `text` follows the dashes in its first word, and `after` is the words
-    /// after that. Appends the item's occurrence, and returns how many words of `after` it used.
+    /// after that. Appends the item's occurrence, and returns its argument.
     #[inline(always)]
     fn read_long<'w, S: AsStr>(
         &self,
@@ -302,14 +332,14 @@ impl<'o> Scanner<'o> {
         after: &'w [S],
         position: usize,
         found: &mut LineOccurrences,
-    ) -> Result<usize, Fail>
+    ) -> Result<Argument<'w>, Fail>
         requires lawful { IsLawfulScanner self.now }
         ensures ok { let grammar = scanner_grammar self.now in
-            IfOk result (λ used. (dashes : Dashes)
+            IfOk result (λ end. (dashes : Dashes)
             → AddsItem grammar
-            (long_step grammar dashes text.now (map S.text after.now)) position used
-            found.old found.new) }
-        ensures within { IfOk result (λ used. used ≤ length after.now) }
+            (long_step grammar dashes text.now (map S.text after.now)) position
+            (option_copied end.value) end.used found.old found.new) }
+        ensures within { IfOk result (λ end. end.used ≤ length after.now) }
         ensures err { let grammar = scanner_grammar self.now in
             IfErr result (λ fail. (dashes : Dashes) → IsOutOfMemoryOr fail (λ fault.
             long_step grammar dashes text.now (map S.text after.now) ≡ faults fault)) }
@@ -330,52 +360,39 @@ impl<'o> Scanner<'o> {
             (HasArg::Maybe, argument) => (argument, 0),
         };
         found.push(option.place, position, value)?;
-        Ok(used)
-    }
-
-    /// The option that a byte in a cluster names. A byte that isn't ASCII is never a name.
-    fn option_at(&self, byte: u8) -> Option<Resolved>
-        requires { IsLawfulScanner self.now }
-        ensures option { let grammar = scanner_grammar self.now in
-            MatchOption result (grammar.kind (byte ∷ []) ≡ None)
-            (IsResolvedTo (grammar.place (byte ∷ [])) (grammar.kind (byte ∷ []))) }
-        ensures ascii { OnSome result (byte < 128) }
-    {
-        if !byte.is_ascii() {
-            return None;
-        }
-        let place = self.table.resolve_byte(byte)?;
-        let kind = self.options.signatures().record(place).kinds.kind;
-        Some(Resolved { place, kind })
+        Ok(Argument { value, used })
     }
 
     /// Reads a cluster: `text` follows the dash in its first word, and `after` is the words after
-    /// that. Appends the cluster's occurrences, and returns how many words of `after` it used.
+    /// that. Appends the cluster's occurrences, and returns its argument, which belongs to its last
+    /// option.
     #[inline(always)]
-    fn cluster<S: AsStr>(
+    fn cluster<'w, S: AsStr>(
         &self,
         alloc: Global,
-        text: &str,
-        after: &[S],
+        text: &'w str,
+        after: &'w [S],
         position: usize,
         found: &mut LineOccurrences,
-    ) -> Result<usize, Fail>
+    ) -> Result<Argument<'w>, Fail>
         requires lawful { IsLawfulScanner self.now }
         ensures ok { let grammar = scanner_grammar self.now in
-            IfOk result (λ used.
-            AddsItem grammar (cluster_step grammar [] text.now (map S.text after.now)) position used
-            found.old found.new) }
-        ensures within { IfOk result (λ used. used ≤ length after.now) }
+            IfOk result (λ end.
+            AddsItem grammar (cluster_step grammar [] text.now (map S.text after.now)) position
+            (option_copied end.value) end.used found.old found.new) }
+        ensures within { IfOk result (λ end. end.used ≤ length after.now) }
         ensures err { let grammar = scanner_grammar self.now in
             IfErr result (λ fail. IsOutOfMemoryOr fail (λ fault.
             cluster_step grammar [] text.now (map S.text after.now) ≡ faults fault)) }
     {
         'names: for at in 0..text.len() {
-            match self.option_at(text.as_bytes()[at]) {
-                None => {
-                    let name = first_character(&text[at..]);
-                    return Err(Fail::unrecognized_option(alloc, name));
-                }
+            if !text.as_bytes()[at].is_ascii() {
+                let name = first_character(&text[at..]);
+                return Err(Fail::unrecognized_option(alloc, name));
+            }
+            let name = &text[at..at + 1];
+            match self.option(name) {
+                None => return Err(Fail::unrecognized_option(alloc, name)),
                 Some(
                     Resolved {
                         place,
@@ -383,20 +400,26 @@ impl<'o> Scanner<'o> {
                     },
                 ) => found.push(place, position, None)?,
                 Some(Resolved { place, kind }) => {
-                    let name = &text[at..at + 1];
                     let argument = last_argument(alloc, kind, name, &text[at + 1..], after)?;
                     found.push(place, position, argument.value)?;
-                    return Ok(argument.used);
+                    return Ok(argument);
                 }
             }
         }
-        Ok(0)
+        Ok(Argument {
+            value: None,
+            used: 0,
+        })
     }
 
     /// How a word is read. In long-only mode, a long item may begin with one dash.
+    #[inline(always)]
     fn shape<'w>(&self, word: &'w str) -> Shape<'w>
         ensures { HasShape (scanner_grammar self.now) word.now result }
     {
+        if !is_dashed(word) {
+            return Shape::Free;
+        }
         let text = match after_dash(word) {
             Some(text) => text,
             None => return Shape::Free,
@@ -404,51 +427,67 @@ impl<'o> Scanner<'o> {
         match after_dash(text) {
             Some(long) if long.is_empty() => Shape::Stop,
             Some(long) => Shape::Long(long),
-            None if text.is_empty() => Shape::Free,
             None if self.options.is_long_only() => Shape::Long(text),
             None => Shape::Cluster(text),
         }
     }
 
-    /// Reads a command line: its items, and what follows `--` or the first free word.
-    pub(crate) fn scan<S: AsStr>(&self, alloc: Global, words: &[S]) -> Result<Line, Fail>
-        requires { IsLawfulScanner self.now }
+    /// Reads the items that begin before `end`, up to `--` or, if options stop there, the first
+    /// free word. Adds them to the line, and returns how many words they have. `before` is the
+    /// number of words that were read before these.
+    pub(crate) fn scan<S: AsStr>(
+        &self,
+        alloc: Global,
+        words: &[S],
+        before: usize,
+        end: usize,
+        line: &mut Line,
+    ) -> Result<usize, Fail>
+        requires lawful { IsLawfulScanner self.now }
+        requires count { before + length words.now < 2 ^ 64 }
+        requires end { end ≤ length words.now }
         ensures ok { let grammar = scanner_grammar self.now in
-            IfOk result (GivesLine grammar (read grammar (map S.text words.now))) }
+            let texts = map S.text words.now in
+            IfOk result (λ used. (more : List Text) → (end ≡ length words.now → more ≡ [])
+            → given_with grammar before line.old (texts ++ more)
+            ≡ given_with grammar (before + used) line.new (drop used texts ++ more)) }
+        ensures within { IfOk result (λ used. used ≤ length words.now) }
+        ensures tail { IfOk result (λ used. end ≡ length words.now
+            → let left = drop used (map S.text words.now) in read (scanner_grammar self.now) left
+            ≡ Ok (record { items = []; tail = tail_of left })) }
         ensures err { let grammar = scanner_grammar self.now in
             IfErr result (λ fail. IsOutOfMemoryOr fail
-            (λ fault. read grammar (map S.text words.now) ≡ Err fault)) }
+            (λ fault. (more : List Text) → (end ≡ length words.now → more ≡ [])
+            → given_with grammar before line.old (map S.text words.now ++ more) ≡ Err fault)) }
     {
         let stops = self.options.style() == ParsingStyle::StopAtFirstFree;
-        let mut line = Line::with_capacity(alloc, words.len().min(FIRST_ROOM))?;
-        line.reserve(words, stops)?;
+        let front = &words[..end];
         let mut at = 0;
-        'items: while at < words.len() {
-            let word = words[at].as_str();
-            let after = &words[at + 1..];
+        'items: while at < front.len() {
+            let word = front[at].as_str();
+            let position = before + at;
             at = match self.shape(word) {
                 Shape::Free => {
                     if stops {
-                        push_copies(alloc, &mut line.free, &words[at..])?;
-                        return Ok(line);
+                        return Ok(at);
                     }
                     push_copy(alloc, &mut line.free, word)?;
                     at + 1
                 }
-                Shape::Stop => {
-                    line.trailing_start = (!after.is_empty()).then_some(line.free.len());
-                    push_copies(alloc, &mut line.free, after)?;
-                    return Ok(line);
-                }
+                Shape::Stop => return Ok(at),
                 Shape::Long(text) => {
-                    at + 1 + self.read_long(alloc, text, after, at, &mut line.found)?
+                    let after = &words[at + 1..];
+                    let argument = self.read_long(alloc, text, after, position, &mut line.found)?;
+                    at + 1 + argument.used
                 }
                 Shape::Cluster(text) => {
-                    at + 1 + self.cluster(alloc, text, after, at, &mut line.found)?
+                    let after = &words[at + 1..];
+                    let argument = self.cluster(alloc, text, after, position, &mut line.found)?;
+                    at + 1 + argument.used
                 }
             };
         }
-        Ok(line)
+        Ok(at)
     }
 
     /// Reads a command line like `scan`, but returns the order of its options and free words. Has
@@ -488,14 +527,14 @@ impl<'o> Scanner<'o> {
                     return Ok(OrderedLine { found, order });
                 }
                 Shape::Long(text) => {
-                    let used = self.read_long(alloc, text, after, at, &mut found)?;
-                    push_options(&mut order, &found, first)?;
-                    at += 1 + used;
+                    let argument = self.read_long(alloc, text, after, at, &mut found)?;
+                    push_options(&mut order, &found, first, argument.value)?;
+                    at += 1 + argument.used;
                 }
                 Shape::Cluster(text) => {
-                    let used = self.cluster(alloc, text, after, at, &mut found)?;
-                    push_options(&mut order, &found, first)?;
-                    at += 1 + used;
+                    let argument = self.cluster(alloc, text, after, at, &mut found)?;
+                    push_options(&mut order, &found, first, argument.value)?;
+                    at += 1 + argument.used;
                 }
             }
         }

@@ -1,27 +1,24 @@
 //! Signatures of option groups, their names and kinds: stored together, and borrowed.
 
-ghost use Rattle.std.specs.Prelude.{◌≡◌, ◌++◌, ◌∷◌, [], Some, ◌+◌, ◌*◌, ◌≤◌, ◌<◌, ◌^◌, length};
+ghost use Rattle.std.specs.Prelude.{◌≡◌, ◌++◌, ◌∷◌, [], Some, ◌+◌, ◌*◌, ◌<◌, ◌^◌, length};
 ghost use Rattle.std.specs.Prelude.{slice_get, OnOk, OnErr};
 ghost use Rattle.std.specs.Option.{option_map};
-ghost use Rattle.std.specs.String.{string_bytes, string_len, string_capacity};
 ghost use Rattle.std.specs.Cmp.Lexicographic.{pointwise};
 ghost use Rattle.std.specs.Cmp.Rules.{comparing};
 ghost use Rattle.std.proofs.Common.{rules};
 ghost use Rattle.getopts.specs.Names.{AreLawful, IsLawfullyNamed, main_name};
 ghost use Rattle.getopts.specs.Stored.Signatures.{signature_view, names_view, names_in, signature_with};
-ghost use Rattle.getopts.specs.Stored.Signatures.{HasKeys, AreEndsOf, IsPairAt, pair_at, ends_of};
+ghost use Rattle.getopts.specs.Stored.Signatures.{HasKeys, ends_of};
 ghost use Rattle.getopts.specs.Stored.Names.{names_at};
 
 use crate::kinds::{HasArg, Kinds, Occur};
 use crate::names::{NO_BYTE, NamesView, key_of, short_byte};
+use crate::pairs::{FIRST_TEXT, PairEnds, first_at, push_pair, second_at};
 use std::alloc::{AllocError, Global};
 use std::marker::Model;
 
 /// Initial capacity: up to this many groups fit without reallocating.
 pub(crate) const FIRST_GROUPS: usize = 32;
-
-/// Initial capacity for a text that all groups share, in bytes.
-pub(crate) const FIRST_TEXT: usize = 1024;
 
 /// What parsing needs of a group, borrowed: its names and kinds.
 #[derive(Clone, Copy)]
@@ -42,14 +39,6 @@ impl<'g> PartialEq for SignatureView<'g> {
             && self.names.long == other.names.long
             && self.kinds == other.kinds
     }
-}
-
-/// Where two adjacent texts are in a longer one: the start of the first, and the end of each.
-#[derive(Debug, Clone, Copy)]
-pub(crate) struct PairEnds {
-    pub start: usize,
-    pub first: usize,
-    pub second: usize,
 }
 
 /// A stored group: where its long name begins and ends in the text of all names, what to look its
@@ -74,7 +63,7 @@ impl PartialEq for SignatureRecord {
 
     ghost laws = { Prim.search (comparing, rules) depth 12 };
 
-    /// Whether the short names are equal, the long names are at the same places, and the kinds are
+    /// Whether the short names are equal, the long names have the same ends, and the kinds are
     /// equal.
     #[inline(always)]
     fn eq(&self, other: &SignatureRecord) -> bool {
@@ -98,64 +87,10 @@ impl SignatureRecord {
         };
         PairEnds {
             start,
-            first: self.long,
-            second: self.end,
+            middle: self.long,
+            end: self.end,
         }
     }
-}
-
-/// Appends a text that there is room for, and returns its end.
-#[inline(always)]
-pub(crate) fn push_reserved(texts: &mut String, text: &str) -> usize
-    requires { string_len texts.old + length text.now ≤ string_capacity texts.old }
-    ensures bytes { string_bytes texts.new ≡ string_bytes texts.old ++ text.now }
-    ensures end { result ≡ length (string_bytes texts.new) }
-    ensures room { string_capacity texts.old ≤ string_capacity texts.new }
-{
-    if text.is_empty() {
-        return texts.len();
-    }
-    match texts.push_str(text) {
-        Ok(()) => texts.len(),
-        Err(_) => unreachable!(),
-    }
-}
-
-/// Appends two texts that there is room for, and returns where they are.
-#[inline(always)]
-pub(crate) fn push_pair(texts: &mut String, first: &str, second: &str) -> PairEnds
-    requires { string_len texts.old + (length first.now + length second.now)
-        ≤ string_capacity texts.old }
-    ensures bytes { string_bytes texts.new ≡ string_bytes texts.old ++ (first.now ++ second.now) }
-    ensures two { IsPairAt (string_bytes texts.new) result (first.now, second.now) }
-    ensures first { result.first ≡ result.start + length first.now }
-{
-    let start = texts.len();
-    let first = push_reserved(texts, first);
-    let second = push_reserved(texts, second);
-    PairEnds {
-        start,
-        first,
-        second,
-    }
-}
-
-/// The first of the two texts at `ends`.
-#[inline(always)]
-pub(crate) fn first_at(text: &str, ends: PairEnds) -> &str
-    requires { AreEndsOf text.now ends }
-    ensures { result.now ≡ (pair_at text.now ends).0 }
-{
-    &text[ends.start..ends.first]
-}
-
-/// The second of the two texts at `ends`.
-#[inline(always)]
-pub(crate) fn second_at(text: &str, ends: PairEnds) -> &str
-    requires { AreEndsOf text.now ends }
-    ensures { result.now ≡ (pair_at text.now ends).1 }
-{
-    &text[ends.first..ends.second]
 }
 
 /// What parsing needs of validly named groups: one text with the short and long name of each group
@@ -250,7 +185,7 @@ impl Signatures {
     }
 
     /// The main name of the group at `place`.
-    #[inline]
+    #[inline(always)]
     pub(crate) fn main(&self, place: usize) -> &str
         requires { place < length self.now }
         ensures { result.now ≡ main_name (names_at (names_in self.now) place) }
@@ -262,13 +197,13 @@ impl Signatures {
         }
     }
 
-    /// The main name of the group at `place`, or an empty text past the last group. Sorting and
+    /// The long name of the group at `place`, or an empty text past the last group. Sorting and
     /// searching a table need closures that accept any entry.
-    pub(crate) fn main_or_empty(&self, place: usize) -> &str
-        ensures { result.now ≡ main_name (names_at (names_in self.now) place) }
+    pub(crate) fn long_or_empty(&self, place: usize) -> &str
+        ensures { result.now ≡ (names_at (names_in self.now) place).long }
     {
         if place < self.len() {
-            self.main(place)
+            self.long(place)
         } else {
             ""
         }
@@ -306,8 +241,8 @@ impl Signatures {
         let has_long = !long.is_empty();
         let main = if has_long { long } else { short };
         self.records.push_reserved(SignatureRecord {
-            long: names.first,
-            end: names.second,
+            long: names.middle,
+            end: names.end,
             key: key_of(main.as_bytes()),
             short: short_byte(short),
             has_long,

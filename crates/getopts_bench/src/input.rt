@@ -70,32 +70,17 @@ impl<'t> Input<'t> {
     fn add(&mut self, row: &'t str) -> Result<(), Trouble> {
         let (call, rest) = row.split_once('\t').unwrap_or((row, ""));
         match call {
-            "words" => self.reserve(rest),
-            "word" => self.push_word(rest),
-            "optflagmulti" => self.declare(rest, Kind::Flag),
-            "optmulti" => self.declare(rest, Kind::Argument),
-            "optflagopt" => self.declare(rest, Kind::Maybe),
-            _ => Err(Trouble::NoJob),
+            "words" => {
+                let count = rest.parse::<usize>().ok().ok_or(Trouble::NoJob)?;
+                self.words.reserve_exact(count)?;
+            }
+            "word" => self.words.push(rest)?,
+            "optflagmulti" => self.declare(rest, Kind::Flag)?,
+            "optmulti" => self.declare(rest, Kind::Argument)?,
+            "optflagopt" => self.declare(rest, Kind::Maybe)?,
+            _ => return Err(Trouble::NoJob),
         }
-    }
-
-    /// Reserves exactly the capacity for this many words.
-    fn reserve(&mut self, count: &str) -> Result<(), Trouble> {
-        match count.parse::<usize>() {
-            Ok(count) => match self.words.reserve_exact(count) {
-                Ok(()) => Ok(()),
-                Err(_) => Err(Trouble::NoMemory),
-            },
-            Err(_) => Err(Trouble::NoJob),
-        }
-    }
-
-    /// Appends a word.
-    fn push_word(&mut self, word: &'t str) -> Result<(), Trouble> {
-        match self.words.push(word) {
-            Ok(()) => Ok(()),
-            Err(_) => Err(Trouble::NoMemory),
-        }
+        Ok(())
     }
 
     /// Appends an option: its names, its description and its hint.
@@ -113,9 +98,7 @@ impl<'t> Input<'t> {
             hint,
             kind,
         };
-        match self.options.push(named) {
-            Ok(()) => Ok(()),
-            Err(_) => Err(Trouble::NoMemory),
-        }
+        self.options.push(named)?;
+        Ok(())
     }
 }

@@ -1,81 +1,97 @@
 //! The iterations of a job, and their sum. Each job has its own function, so that the jobs are
 //! compiled independently.
 
+ghost use Rattle.std.specs.Iterator.{IsFinite};
 ghost use Rattle.getopts.specs.Accessors.{IsDefined};
 
 use crate::input::{Input, Named};
-use crate::job::Job;
 use crate::trouble::Trouble;
-use getopts::{Fail, Matches, Occurrences, Options};
+use getopts::{Fail, Given, Matches, Occurrences, Options};
 use std::alloc::{AllocError, Global};
 
 /// The first line of a usage text.
 const BRIEF: &str = "Usage: getopts_show [options] FILE";
 
 /// Runs a number of iterations of a job, and returns the wrapping sum of their results.
-pub fn run(alloc: Global, job: Job, times: usize, input: &Input<'_>) -> Result<usize, Trouble> {
-    match job {
-        Job::Whole => Ok(whole(alloc, &input.options, &input.words, times)?),
-        Job::Copied => Ok(copied(alloc, &input.options, &input.words, times)?),
-        _ => {
-            let options = declared(alloc, &input.options)?;
-            Ok(iterations(alloc, job, times, &input.options, &options, &input.words)?)
-        }
-    }
+pub fn run(alloc: Global, job: &str, times: usize, input: &Input<'_>) -> Result<usize, Trouble> {
+    let (named, words) = (&input.options, &input.words);
+    Ok(match job {
+        "whole" => whole(alloc, named, words, times)?,
+        "copied" => copied(alloc, named, words, times)?,
+        "order" => order(alloc, named, words, times)?,
+        _ => run_declared(alloc, job, times, named, &declared(alloc, named)?, words)?,
+    })
 }
 
-/// The iterations of a job with options declared before, and these words.
-fn iterations(
+/// The same with options declared before.
+fn run_declared(
     alloc: Global,
-    job: Job,
+    job: &str,
     times: usize,
     named: &[Named<'_>],
     options: &Options,
     words: &[&str],
-) -> Result<usize, Fail> {
-    match job {
-        Job::Canonical => canonical(alloc, options, words, times),
-        Job::Equal => equal(alloc, options, words, times),
-        Job::Usage => usage(alloc, options, times),
-        Job::Defined => Ok(defined(&options.parse_words(alloc, words)?, named, times)),
-        Job::Asked => Ok(asked(&options.parse_words(alloc, words)?, named, times)),
-        Job::Held => held(alloc, options, words, times),
-        _ => read(alloc, options, words, times),
+) -> Result<usize, Trouble> {
+    Ok(match job {
+        "read" => read(alloc, options, words, times)?,
+        "canonical" => canonical(alloc, options, words, times)?,
+        "equal" => equal(alloc, options, words, times)?,
+        "usage" => usage(alloc, options, times)?,
+        "defined" => defined(&options.parse_words(alloc, words)?, named, times)?,
+        "asked" => asked(&options.parse_words(alloc, words)?, named, times)?,
+        "held" => held(alloc, options, words, times)?,
+        _ => return Err(Trouble::NoJob),
+    })
+}
+
+/// The wrapping sum of the results of a number of iterations.
+fn repeated<F: FnMut() -> Result<usize, Fail> + Drop>(
+    times: usize,
+    mut iteration: F,
+) -> Result<usize, Fail>
+    requires { F.IsAlwaysCallable iteration }
+{
+    let mut sum = 0usize;
+    for _ in 0..times {
+        sum = sum.wrapping_add(iteration()?);
     }
+    Ok(sum)
 }
 
 /// Each iteration declares the options, parses the words, and adds up the matches.
 #[inline(never)]
 fn whole(alloc: Global, named: &[Named<'_>], words: &[&str], times: usize) -> Result<usize, Fail> {
-    let mut sum = 0usize;
-    for _ in 0..times {
+    repeated(times, || {
         let options = declared(alloc, named)?;
         let matches = options.parse_words(alloc, words)?;
-        sum = sum.wrapping_add(taken(&matches, named));
-    }
-    Ok(sum)
+        Ok(taken(&matches, named))
+    })
 }
 
 /// The same with the calls that the Rust crate has: parses an iterator, and copies the values.
 #[inline(never)]
 fn copied(alloc: Global, named: &[Named<'_>], words: &[&str], times: usize) -> Result<usize, Fail> {
-    let mut sum = 0usize;
-    for _ in 0..times {
+    repeated(times, || {
         let options = declared(alloc, named)?;
         let matches = options.parse(alloc, words.iter().copied())?;
-        sum = sum.wrapping_add(taken_as_copies(alloc, &matches, named)?);
-    }
-    Ok(sum)
+        Ok(taken_as_copies(alloc, &matches, named)?)
+    })
+}
+
+/// The same with the options and free words in command-line order.
+#[inline(never)]
+fn order(alloc: Global, named: &[Named<'_>], words: &[&str], times: usize) -> Result<usize, Fail> {
+    repeated(times, || {
+        let options = declared(alloc, named)?;
+        let order = options.parse_in_order(alloc, words)?;
+        Ok(taken_in_order(&order))
+    })
 }
 
 /// Each iteration parses the words, and adds the number of free words.
 #[inline(never)]
 fn read(alloc: Global, options: &Options, words: &[&str], times: usize) -> Result<usize, Fail> {
-    let mut sum = 0usize;
-    for _ in 0..times {
-        sum = sum.wrapping_add(free_words(alloc, options, words)?);
-    }
-    Ok(sum)
+    repeated(times, || Ok(options.parse_words(alloc, words)?.free.len()))
 }
 
 /// Each iteration writes the canonical line, and adds the lengths of its words.
@@ -86,61 +102,46 @@ fn canonical(
     words: &[&str],
     times: usize,
 ) -> Result<usize, Fail> {
-    let mut sum = 0usize;
-    for _ in 0..times {
-        sum = sum.wrapping_add(canonical_length(alloc, options, words)?);
-    }
-    Ok(sum)
+    repeated(times, || match options.canonical_words(alloc, words)? {
+        Some(line) => Ok(total_length(&line)),
+        None => Ok(0),
+    })
 }
 
 /// Each iteration compares the matches of both halves of the words, and adds 1 if they are equal.
+#[inline(never)]
 fn equal(alloc: Global, options: &Options, words: &[&str], times: usize) -> Result<usize, Fail> {
     let half = words.len() / 2;
     let matches = options.parse_words(alloc, &words[..half])?;
     let others = options.parse_words(alloc, &words[half..])?;
-    Ok(equal_iterations(&matches, &others, times))
-}
-
-/// The number of iterations in which the matches are equal.
-#[inline(never)]
-fn equal_iterations(matches: &Matches, others: &Matches, times: usize) -> usize {
-    let mut sum = 0usize;
-    for _ in 0..times {
-        if matches == others {
-            sum = sum.wrapping_add(1);
-        }
-    }
-    sum
+    repeated(times, || Ok(usize::from(matches == others)))
 }
 
 /// Each iteration writes the usage text, and adds its length.
 #[inline(never)]
 fn usage(alloc: Global, options: &Options, times: usize) -> Result<usize, Fail> {
-    let mut sum = 0usize;
-    for _ in 0..times {
-        sum = sum.wrapping_add(options.usage(alloc, BRIEF)?.len());
-    }
-    Ok(sum)
+    repeated(times, || Ok(options.usage(alloc, BRIEF)?.len()))
 }
 
 /// Each iteration asks whether each name is defined, and adds the number that are.
 #[inline(never)]
-fn defined(matches: &Matches, named: &[Named<'_>], times: usize) -> usize {
-    let mut sum = 0usize;
-    for _ in 0..times {
-        sum = sum.wrapping_add(defined_count(matches, named));
-    }
-    sum
+fn defined(matches: &Matches, named: &[Named<'_>], times: usize) -> Result<usize, Fail> {
+    repeated(times, || {
+        let mut count = 0usize;
+        for option in named {
+            if matches.opt_defined(option.main()) {
+                count = count.wrapping_add(1);
+            }
+        }
+        Ok(count)
+    })
 }
 
 /// Each iteration asks whether each option was given, and adds the number that were.
 #[inline(never)]
-fn asked(matches: &Matches, named: &[Named<'_>], times: usize) -> usize {
-    let mut sum = 0usize;
-    for _ in 0..times {
-        sum = sum.wrapping_add(given_count(matches, named));
-    }
-    sum
+fn asked(matches: &Matches, named: &[Named<'_>], times: usize) -> Result<usize, Fail> {
+    let is_given = |option: &&Named<'_>| was_given(matches, option.main());
+    repeated(times, || Ok(named.iter().filter(is_given).count()))
 }
 
 /// Each iteration parses the words, keeps the matches until the end, and adds the number of free
@@ -148,13 +149,12 @@ fn asked(matches: &Matches, named: &[Named<'_>], times: usize) -> usize {
 #[inline(never)]
 fn held(alloc: Global, options: &Options, words: &[&str], times: usize) -> Result<usize, Fail> {
     let mut kept = Vec::with_capacity(alloc, times)?;
-    let mut sum = 0usize;
-    for _ in 0..times {
+    repeated(times, || {
         let matches = options.parse_words(alloc, words)?;
-        sum = sum.wrapping_add(matches.free.len());
+        let count = matches.free.len();
         kept.push(matches)?;
-    }
-    Ok(sum)
+        Ok(count)
+    })
 }
 
 /// Options with these names, all repeatable except those of `optflagopt`.
@@ -166,48 +166,10 @@ fn declared(alloc: Global, named: &[Named<'_>]) -> Result<Options, AllocError> {
     Ok(options)
 }
 
-/// The number of free words.
-fn free_words(alloc: Global, options: &Options, words: &[&str]) -> Result<usize, Fail> {
-    let matches = options.parse_words(alloc, words)?;
-    Ok(matches.free.len())
-}
-
-/// The total length of the words of the canonical line.
-fn canonical_length(alloc: Global, options: &Options, words: &[&str]) -> Result<usize, Fail> {
-    match options.canonical_words(alloc, words)? {
-        Some(line) => Ok(total_length(&line)),
-        None => Ok(0),
-    }
-}
-
-/// The number of options that are defined.
-fn defined_count(matches: &Matches, named: &[Named<'_>]) -> usize {
-    let mut count = 0usize;
-    for option in named {
-        if matches.opt_defined(option.main()) {
-            count = count.wrapping_add(1);
-        }
-    }
-    count
-}
-
-/// The number of options that were given.
-fn given_count(matches: &Matches, named: &[Named<'_>]) -> usize {
-    let mut count = 0usize;
-    for option in named {
-        if was_given(matches, option.main()) {
-            count = count.wrapping_add(1);
-        }
-    }
-    count
-}
-
 /// Whether the option with this name was given.
 fn was_given(matches: &Matches, name: &str) -> bool {
-    match matches.opt_place(name) {
-        Some(place) => !matches.occurrences_at(place).is_empty(),
-        None => false,
-    }
+    let place = matches.opt_place(name);
+    place.is_some_and(|place| !matches.occurrences_at(place).is_empty())
 }
 
 /// Adds up matches: the count of each option and the lengths of its values, and the lengths of the
@@ -241,6 +203,16 @@ fn taken_as_copies(
     Ok(sum)
 }
 
+/// Adds up options and free words: 1 for each option, and the lengths of values and free words.
+fn taken_in_order(order: &[Given<'_>]) -> usize {
+    sum_of(
+        order.iter().map(|given| match *given {
+            Given::Option { value, .. } => value.map_or(0, str::len).wrapping_add(1),
+            Given::Free(word) => word.len(),
+        }),
+    )
+}
+
 /// The count of an option plus the lengths of its values, which are copied.
 fn count_and_copies(alloc: Global, matches: &Matches, name: &str) -> Result<usize, AllocError>
     requires { IsDefined matches.now.groups name.now }
@@ -251,20 +223,20 @@ fn count_and_copies(alloc: Global, matches: &Matches, name: &str) -> Result<usiz
 
 /// The total length of the values of occurrences.
 fn values_length(occurrences: &Occurrences<'_>) -> usize {
-    let mut sum = 0usize;
-    for nth in 0..occurrences.len() {
-        if let Some((_, Some(value))) = occurrences.get(nth) {
-            sum = sum.wrapping_add(value.len());
-        }
-    }
-    sum
+    sum_of((0..occurrences.len()).map(|nth| match occurrences.get(nth) {
+        Some((_, Some(value))) => value.len(),
+        _ => 0,
+    }))
 }
 
 /// The total length of texts.
 fn total_length(texts: &[String]) -> usize {
-    let mut sum = 0usize;
-    for text in texts {
-        sum = sum.wrapping_add(text.len());
-    }
-    sum
+    sum_of(texts.iter().map(|text| text.len()))
+}
+
+/// The wrapping sum of numbers.
+fn sum_of<I: Iterator<Item = usize>>(numbers: I) -> usize
+    requires { I.can_next numbers × IsFinite (I.remaining numbers) }
+{
+    numbers.fold(0, |sum, number| sum.wrapping_add(number))
 }

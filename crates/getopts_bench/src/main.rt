@@ -15,6 +15,8 @@
 //!   each option, and the free words. It adds up the counts and the lengths of the texts.
 //! - `copied` does the same with the calls that the Rust crate has: `parse` of an iterator, and
 //!   `opt_strs`, which copies, for each defined name.
+//! - `order` does what `whole` does by `parse_in_order`: it takes options and free words in
+//!   command-line order.
 //! - `read` only parses; the options are declared once, before the iterations. It adds the number
 //!   of free words.
 //! - `canonical` writes the canonical line. It adds the lengths of its words.
@@ -30,12 +32,11 @@
 
 mod input;
 mod iterations;
-mod job;
 mod trouble;
 
-use job::Job;
+use input::input_of;
 use std::process::ExitCode;
-use std::{env, fs, io};
+use std::{env, fs};
 use trouble::Trouble;
 
 /// Runs the jobs given by the arguments.
@@ -51,9 +52,10 @@ fn main(rt: HostRuntime) -> ExitCode {
 
 /// Runs each job given by the arguments, and prints its sum.
 fn run(rt: &HostRuntime) -> Result<(), Trouble> {
-    let Ok(words) = arguments(rt) else {
+    let Ok(words) = env::args(rt) else {
         return Err(Trouble::NoMemory);
     };
+    let words: Vec<String> = words.skip(1).collect(rt.alloc())?;
     if words.is_empty() {
         return Err(Trouble::NoJob);
     }
@@ -66,29 +68,14 @@ fn run(rt: &HostRuntime) -> Result<(), Trouble> {
     Ok(())
 }
 
-/// The arguments, without the program's own name.
-fn arguments(rt: &HostRuntime) -> io::Result<Vec<String>> {
-    Ok(env::args(rt)?.skip(1).collect(rt.alloc())?)
-}
-
 /// The sum of the job given by three arguments.
 fn sum_of(rt: &HostRuntime, triple: &[String]) -> Result<usize, Trouble> {
     let [job, rows, times] = triple else {
         return Err(Trouble::NoJob);
     };
-    match (job.parse::<Job>(), times.parse::<usize>()) {
-        (Ok(job), Ok(times)) => sum_of_rows(rt, job, rows.as_str(), times),
-        _ => Err(Trouble::NoJob),
-    }
-}
-
-/// The sum of a number of iterations of a job, with the rows of a file.
-fn sum_of_rows(rt: &HostRuntime, job: Job, rows: &str, times: usize) -> Result<usize, Trouble> {
-    match fs::read_to_string(rt, rows) {
-        Ok(text) => {
-            let input = input::input_of(rt.alloc(), text.as_str())?;
-            iterations::run(rt.alloc(), job, times, &input)
-        }
-        Err(_) => Err(Trouble::NoJob),
-    }
+    let (Ok(text), Ok(times)) = (fs::read_to_string(rt, rows), times.parse::<usize>()) else {
+        return Err(Trouble::NoJob);
+    };
+    let input = input_of(rt.alloc(), &text)?;
+    iterations::run(rt.alloc(), job, times, &input)
 }

@@ -1,7 +1,7 @@
 //! Why a run ends early.
 
 use getopts::Fail;
-use std::alloc::AllocError;
+use std::alloc::{AllocError, AllocFailed};
 use std::fmt;
 
 /// Why a sum wasn't printed.
@@ -50,6 +50,12 @@ impl From<Fail> for Trouble {
 
 impl From<AllocError> for Trouble {
     fn from(_error: AllocError) -> Trouble {
+        Trouble::NoMemory
+    }
+}
+
+impl<T: Drop> From<AllocFailed<T>> for Trouble {
+    fn from(_error: AllocFailed<T>) -> Trouble {
         Trouble::NoMemory
     }
 }

@@ -506,7 +506,10 @@ ShowsAnswer old new words status = (bytes : List ℕ)
 abbrev pub AppendsFront : Option (List ℕ) → Option (List ℕ) → List ℕ → Type 0
 AppendsFront old new bytes = (front rest : List ℕ) × (bytes ≡ front ++ rest) × Appends old new front
 
--- what the program reports if a write fails
+-- what the program reports if memory runs out, and if a write fails
+abbrev pub memory_fault : Text
+memory_fault = codes "getopts_shell: out of memory\n"
+
 abbrev pub write_fault : Text
 write_fault = codes "getopts_shell: writing the output failed\n"
 

@@ -16,7 +16,7 @@ ghost use Rattle.getopts_shell.specs.Program.{usage_line, AnswersFree, AnswersLi
 ghost use Rattle.getopts_shell.specs.Program.{AnswersOwn, AnswersRead, AnswersScript, AnswersTable};
 ghost use Rattle.getopts_shell.specs.Program.{AnswersWords, AppendsFront, IsAnswer, IsHelp};
 ghost use Rattle.getopts_shell.specs.Program.{IsOutput, IsStatus, ShowsAnswer, ShowsFront};
-ghost use Rattle.getopts_shell.specs.Program.{ShowsFrontAndFault, write_fault};
+ghost use Rattle.getopts_shell.specs.Program.{ShowsFrontAndFault, memory_fault, write_fault};
 ghost use Rattle.getopts_shell.specs.Program.{IsVariablesCode, alone_line, asked_by, asked_fault};
 ghost use Rattle.getopts_shell.specs.Program.{brief_text, completion_answer, done, help_code};
 ghost use Rattle.getopts_shell.specs.Program.{help_front, last_word, misused, no_completion};
@@ -145,6 +145,14 @@ pub fn answer<W: Write, E: Write>(alloc: Global, words: &[String], out: &mut W, 
         },
         Err(_) => NO_MEMORY,
     }
+}
+
+/// Reports that memory ran out, without allocating. If that fails, too, a prefix of the report was
+/// written.
+pub fn report_no_memory<E: Write>(err: &mut E)
+    ensures { AppendsFront (E.contents err.old) (E.contents err.new) memory_fault }
+{
+    let _ = print(err, b"getopts_shell: out of memory\n");
 }
 
 /// Reports that writing failed. If that fails, too, a prefix of the report was written.

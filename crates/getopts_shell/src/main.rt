@@ -19,7 +19,7 @@ mod table;
 mod variables;
 mod words;
 
-use answer::{NO_MEMORY, answer};
+use answer::{NO_MEMORY, answer, report_no_memory};
 use std::alloc::AllocError;
 use std::io;
 use std::process::ExitCode;
@@ -27,7 +27,11 @@ use words::system_words;
 
 /// Runs on the system's words, without the program's own name, and on the standard streams.
 fn main(rt: HostRuntime) -> ExitCode {
-    ExitCode::from(run(&rt).unwrap_or(NO_MEMORY))
+    let status = run(&rt).unwrap_or(NO_MEMORY);
+    if status == NO_MEMORY {
+        report_no_memory(&mut rt.stderr());
+    }
+    ExitCode::from(status)
 }
 
 /// The status of `answer` for the system's words. Fails, without writing anything, if an allocation

@@ -1,9 +1,8 @@
 pub mod Checked
 pub mod Command
+pub mod Cut
 pub mod Driver
 pub mod Linker
-pub mod Log
 pub mod Logged
 pub mod Loudness
-pub mod Output
 pub mod Wrapper

@@ -1,11 +1,12 @@
 -- A linker's command line: its options, and its files and libraries in order.
 use Rattle.std.specs.Prelude.{◌≡◌, ◌==◌, if◌then◌else◌, false, List, [], ◌∷◌, codes, map}
-use Rattle.std.specs.Prelude.{Result, Ok, Err}
+use Rattle.std.specs.Prelude.{Option, Some, None, Result, Ok, Err, unwrap_or}
+use Rattle.std.specs.List.{filter_map}
 use Rattle.std.specs.String.{string_bytes}
 use Rattle.std.specs.declared.alloc.Global.{Global}
 use Rattle.std.specs.declared.vec.Vec.{Vec}
-use Rattle.getopts.specs.Prelude.{Declared, Fault, IsOutOfMemoryOr, Matched, Text, group_of}
-use Rattle.getopts.specs.Prelude.{Given, option, free_word, occurrences_of_name, values_of}
+use Rattle.getopts.specs.Prelude.{Declared, Fault, IsOutOfMemoryOr, Text, group_of}
+use Rattle.getopts.specs.Prelude.{Given, option, free_word}
 use Rattle.getopts.specs.declared.fail.Fail.{Fail}
 use Rattle.getopts.specs.declared.kinds.HasArg.TheVariants.{Yes}
 use Rattle.getopts.specs.declared.kinds.Occur.TheVariants.{Optional, Multi}
@@ -35,18 +36,17 @@ abbrev pub input_view : Linked.Input → Input
 input_view (linked.File name) = file (string_bytes name)
 input_view (linked.Library name) = library (string_bytes name)
 
--- files in this order, and libraries with these names
-abbrev pub inputs_in : List Given → List Text → List Input
-inputs_in [] names = []
-inputs_in (free_word word ∷ order) names = file word ∷ inputs_in order names
-inputs_in (option place ∷ order) [] = inputs_in order []
-inputs_in (option place ∷ order) (name ∷ names) =
-    if place == 0 then library name ∷ inputs_in order names else inputs_in order (name ∷ names)
+-- what is linked for an option or a free word, if anything
+abbrev pub input_of : Given → Option Input
+input_of (free_word word) = Some (file word)
+input_of (option place value) = if place == 0 then Some (library (unwrap_or value [])) else None
+
+-- the files and libraries in this order
+abbrev pub inputs_in : List Given → List Input
+inputs_in order = filter_map input_of order
 
 -- These are the files and libraries of a command line, in order, or its error.
-abbrev pub IsInputsOrError : Result Matched Fault → Result (List Given) Fault
-    → Result (Vec Linked.Input Global) Fail → Type 0
-IsInputsOrError line order (Err fail) = IsOutOfMemoryOr fail (λ fault. line ≡ Err fault)
-IsInputsOrError (Ok matches) (Ok order) (Ok inputs) = map input_view inputs.items
-    ≡ inputs_in order (values_of (occurrences_of_name matches.groups (codes "library")))
-IsInputsOrError line order (Ok inputs) = ⊥
+abbrev pub IsInputsOrError : Result (List Given) Fault → Result (Vec Linked.Input Global) Fail → Type 0
+IsInputsOrError line (Err fail) = IsOutOfMemoryOr fail (λ fault. line ≡ Err fault)
+IsInputsOrError (Ok order) (Ok inputs) = map input_view inputs.items ≡ inputs_in order
+IsInputsOrError (Err fault) (Ok inputs) = ⊥

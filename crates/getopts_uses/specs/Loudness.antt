@@ -36,7 +36,7 @@ loudness_at place = if place == 0 then Some Quiet else (if place == 1 then Some 
 -- how much output options in this order ask for, if it was `loudness` before
 abbrev pub after : Loudness → List Given → Loudness
 after loudness [] = loudness
-after loudness (option place ∷ order) = after (unwrap_or (loudness_at place) loudness) order
+after loudness (option place value ∷ order) = after (unwrap_or (loudness_at place) loudness) order
 after loudness (free_word word ∷ order) = after loudness order
 
 -- This is how much output the options of a command line ask for, or its error.

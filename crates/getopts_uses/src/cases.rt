@@ -4,16 +4,15 @@ ghost use Rattle.std.specs.Prelude.{IfOk, codes};
 ghost use Rattle.getopts.specs.Prelude.{Declares};
 
 use crate::checked::read_settings;
+use crate::cut::read_cut;
 use crate::flag::says_more;
 use crate::join::join;
 use crate::lists::{any_given, count_of, place_named};
 use crate::logged::{read_and_log, read_build};
 use crate::loudness::read_report;
-use crate::output::output_of;
 use crate::plugin::add_flag;
-use crate::subcommand::read_run;
 use crate::wrapper::handed_on;
-use crate::{add, driver, linker, log};
+use crate::{driver, linker, subcommand};
 use getopts::{Matches, Options};
 use std::alloc::{AllocError, Global};
 use std::fmt::Debug;
@@ -53,17 +52,25 @@ fn push_caller(
         "logged" => push(text, read_and_log(alloc, words)),
         "replayed" => push_replayed(alloc, text, words),
         "checked" => push(text, read_settings(alloc, words)),
+        "cut" => push_cut(alloc, text, words),
         "join" => push_joined(alloc, text, words),
         "report" => push(text, read_report(alloc, words)),
         "wrapper" => push(text, handed_on(alloc, words)),
-        "command" => push(text, read_run(alloc, words)),
-        "add_help" => push(text, add::help_text(alloc)),
-        "narrow_add_help" => push(text, add::narrow_help_text(alloc)),
-        "log_help" => push(text, log::help_text(alloc)),
-        "output" => push(text, output_of(alloc, words)),
+        "command" => push(text, subcommand::read_run(alloc, words)),
+        "add_help" => push(text, subcommand::add_help(alloc)),
+        "narrow_add_help" => push(text, subcommand::narrow_add_help(alloc)),
+        "log_help" => push(text, subcommand::log_help(alloc)),
         "driver" => push(text, driver::read_job(alloc, words)),
         "linker" => push(text, linker::read_inputs(alloc, words)),
         _ => push_given(alloc, text, caller, words),
+    }
+}
+
+/// Appends what words cut, or the printed error.
+fn push_cut(alloc: Global, text: &mut String, words: &[&str]) -> Result<(), AllocError> {
+    match read_cut(alloc, words) {
+        Ok(cut) => writeln!(text, "{cut:?}"),
+        Err(refusal) => writeln!(text, "{refusal}"),
     }
 }
 

@@ -1,19 +1,14 @@
-//! Checked values: a number within bounds, a choice whose value may be left out, a list in one
-//! value, and pairs.
+//! Checked values: a number within bounds, a choice whose value may be left out, and pairs.
 
-ghost use Rattle.std.specs.Prelude.{◌≡◌, ◌==◌, ◌∷◌, ◌++◌, [], codes, map, IfOk, OnOk};
-ghost use Rattle.std.specs.List.{slice_split};
+ghost use Rattle.std.specs.Prelude.{◌≡◌, ◌∷◌, ◌++◌, [], codes, map, IfOk, OnOk};
 ghost use Rattle.std.specs.Option.{option_copied, option_map};
 ghost use Rattle.std.specs.Str.Parse.{ParsesUnsigned};
 ghost use Rattle.std.specs.String.{string_bytes};
 ghost use Rattle.getopts.specs.Prelude.{IsDefined, first_value, first_value_or};
 ghost use Rattle.getopts.specs.Prelude.{occurrences_of_name, parse_result, values_of};
-ghost use Rattle.getopts.specs.Names.{texts};
-ghost use Rattle.getopts_uses.specs.Checked.{AreFieldsOrError, ArePairsOrError, IsColorOrError};
-ghost use Rattle.getopts_uses.specs.Checked.{IsNumberOrError};
-ghost use Rattle.getopts_uses.specs.Checked.{IsFieldOrError, IsPairOrError, IsSettingsOrError};
-ghost use Rattle.getopts_uses.specs.Checked.{checked_options};
-ghost use Rattle.getopts_uses.specs.Checked.{color_named, cut, parts_of, refusal_of};
+ghost use Rattle.getopts_uses.specs.Checked.{ArePairsOrError, IsColorOrError, IsNumberOrError};
+ghost use Rattle.getopts_uses.specs.Checked.{IsPairOrError, IsSettingsOrError, checked_options};
+ghost use Rattle.getopts_uses.specs.Checked.{color_named, cut, refusal_of};
 ghost use Rattle.getopts_uses.specs.declared.checked.Refusal.TheVariants.{OutOfMemory};
 
 use getopts::{Fail, Matches, Options};
@@ -26,7 +21,6 @@ use std::num::ParseIntError;
 pub struct Settings {
     pub jobs: u32,
     pub color: Color,
-    pub fields: Vec<u32>,
     pub sets: Vec<Pair>,
     pub files: Vec<String>,
 }
@@ -59,11 +53,6 @@ pub enum Refusal {
     },
     /// The option's text isn't one of the choices.
     Choice {
-        option: &'static str,
-        text: String,
-    },
-    /// This part of the option's list isn't a field.
-    Field {
         option: &'static str,
         text: String,
     },
@@ -107,7 +96,6 @@ fn options(alloc: Global) -> Result<Options, AllocError>
             "NUMBER",
         )?
         .optflagopt("", "color", "colour: auto, always or never", "WHEN")?
-        .optopt("f", "fields", "print the fields of LIST, as 1,3", "LIST")?
         .optmulti("D", "set", "set KEY to VALUE", "KEY=VALUE")?;
     Ok(options)
 }
@@ -120,14 +108,13 @@ pub fn read_settings<S: AsStr>(alloc: Global, words: &[S]) -> Result<Settings, R
     Ok(Settings {
         jobs: number_of(alloc, &matches, "jobs", 1, 64, 1)?,
         color: color_of(alloc, &matches, "color")?,
-        fields: fields_of(alloc, &matches, "fields")?,
         sets: sets_of(alloc, &matches, "set")?,
         files: matches.free,
     })
 }
 
 /// An option's value, borrowed, if it has one.
-fn value_of<'m>(matches: &'m Matches, option: &str) -> Option<&'m str>
+pub fn value_of<'m>(matches: &'m Matches, option: &str) -> Option<&'m str>
     requires { IsDefined matches.now.groups option.now }
     ensures { option_copied result
         ≡ first_value (occurrences_of_name matches.now.groups option.now) }
@@ -201,67 +188,6 @@ fn color_named(word: &str) -> Option<Color>
     }
 }
 
-/// The fields in an option's list, or an error with the first part that isn't a field.
-fn fields_of(alloc: Global, matches: &Matches, option: &'static str) -> Result<Vec<u32>, Refusal>
-    requires { IsDefined matches.now.groups option.now }
-    ensures { AreFieldsOrError option.now
-        (parts_of (first_value (occurrences_of_name matches.now.groups option.now))) result }
-{
-    let parts = parts_of(alloc, value_of(matches, option))?;
-    fields_in(alloc, option, &parts)
-}
-
-/// The parts between a list's commas, or none if there is no list.
-fn parts_of<'a>(alloc: Global, list: Option<&'a str>) -> Result<Vec<&'a str>, AllocError>
-    ensures { IfOk result (λ parts. texts parts.items ≡ parts_of (option_copied list.entry)) }
-{
-    match list {
-        Some(list) => parts(alloc, list),
-        None => Ok(Vec::new(alloc)),
-    }
-}
-
-/// The parts between a list's commas.
-fn parts<'a>(alloc: Global, list: &'a str) -> Result<Vec<&'a str>, AllocError>
-    ensures { IfOk result (λ parts. texts parts.items ≡ slice_split (λ b. b == 44) list.now) }
-{
-    list.split(',').collect(alloc)
-}
-
-/// The fields that texts are, or an error with the first text that isn't a field.
-#[tactic(auto, using(crate::proofs::Fields::more))]
-fn fields_in(alloc: Global, option: &'static str, parts: &[&str]) -> Result<Vec<u32>, Refusal>
-    ensures { AreFieldsOrError option.now (texts parts.now) result }
-{
-    let mut fields = Vec::new(alloc);
-    for text in parts {
-        let field = field_in(alloc, option, text)?;
-        add_field(&mut fields, field)?;
-    }
-    Ok(fields)
-}
-
-/// The field that a text is: a number from 1 to 9999.
-fn field_in(alloc: Global, option: &'static str, text: &str) -> Result<u32, Refusal>
-    ensures { IsFieldOrError option.now text.now result }
-{
-    match read_number(text) {
-        Ok(number) if 1 <= number && number <= 9999 => Ok(number),
-        _ => Err(Refusal::Field {
-            option,
-            text: String::from_str(alloc, text)?,
-        }),
-    }
-}
-
-/// Adds a field. If memory runs out, `push` returns the field in its error, for which `Refusal` has
-/// no `From`.
-fn add_field(fields: &mut Vec<u32>, field: u32) -> Result<(), AllocError>
-    ensures { OnOk result (fields.new.items ≡ fields.old.items ++ field ∷ []) }
-{
-    Ok(fields.push(field)?)
-}
-
 /// An option's pairs, or an error with the first text that isn't a pair.
 fn sets_of(alloc: Global, matches: &Matches, option: &'static str) -> Result<Vec<Pair>, Refusal>
     requires { IsDefined matches.now.groups option.now }
@@ -284,7 +210,8 @@ fn pairs_of(alloc: Global, option: &'static str, texts: &[String]) -> Result<Vec
     Ok(pairs)
 }
 
-/// Adds a pair: see `add_field`.
+/// Adds a pair. If memory runs out, `push` returns the pair in its error, for which `Refusal` has
+/// no `From`.
 fn add_pair(pairs: &mut Vec<Pair>, pair: Pair) -> Result<(), AllocError>
     ensures { OnOk result (pairs.new.items ≡ pairs.old.items ++ pair ∷ []) }
 {

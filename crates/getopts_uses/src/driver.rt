@@ -141,7 +141,7 @@ pub fn read_job<S: AsStr>(alloc: Global, words: &[S]) -> Result<Job, Refusal>
 }
 
 /// Whether matches name no input.
-fn names_none(matches: &Matches) -> bool
+pub fn names_none(matches: &Matches) -> bool
     ensures { result ≡ names_none matches.now }
 {
     matches.free.is_empty()

@@ -91,7 +91,7 @@ fn last_of(order: &[Given<'_>]) -> Loudness
 {
     let mut loudness = Loudness::Normal;
     for given in order {
-        if let Given::Option(place) = given {
+        if let Given::Option { place, .. } = given {
             loudness = loudness_at(*place).unwrap_or(loudness);
         }
     }

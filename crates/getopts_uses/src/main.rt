@@ -5,18 +5,16 @@
 //! the expected output is in `stdout`.
 #![tactic(auto)]
 
-mod add;
 mod cases;
 mod checked;
+mod cut;
 mod driver;
 mod flag;
 mod join;
 mod linker;
 mod lists;
-mod log;
 mod logged;
 mod loudness;
-mod output;
 mod plugin;
 mod subcommand;
 mod wrapper;

@@ -1,16 +1,18 @@
-//! A program with subcommands: options before the subcommand's name belong to the program, and
-//! options after it to the subcommand.
+//! A program with subcommands, each with its own options, help and errors: options before the
+//! subcommand's name belong to the program, and options after it to the subcommand.
 
-ghost use Rattle.std.specs.Prelude.{◌≡◌, map, IfOk, Ok, OnOk};
+ghost use Rattle.std.specs.Prelude.{◌≡◌, codes, map, IfOk, Ok, OnOk};
 ghost use Rattle.std.specs.String.{string_bytes};
-ghost use Rattle.getopts.specs.Prelude.{FitOptions, Matched, parse_result};
 ghost use Rattle.getopts.specs.Holds.{EndsInFreeWords};
-ghost use Rattle.getopts_uses.specs.Command.{IsCommandOrError, IsRunOf, IsRunOrError};
-ghost use Rattle.getopts_uses.specs.Command.{global_options};
+ghost use Rattle.getopts.specs.Prelude.{FitOptions, FitOptionsAndCounts, Matched, parse_result};
+ghost use Rattle.getopts.specs.UsageResults.{usage_in_result, usage_result};
+ghost use Rattle.getopts_uses.specs.Command.{IsAddOf, IsAddOrError, IsCommandOrError, IsLogOf};
+ghost use Rattle.getopts_uses.specs.Command.{IsLogOrError, IsRunOf, IsRunOrError, add_help, add_options};
+ghost use Rattle.getopts_uses.specs.Command.{global_options, log_help, log_options};
+ghost use Rattle.getopts_uses.specs.Command.{narrow_add_help, parse_unless_help};
 ghost use Rattle.getopts_uses.specs.declared.subcommand.Refusal.TheVariants.{Line, OutOfMemory};
 
-use crate::add::{Add, read_add};
-use crate::log::{Log, read_log};
+use crate::driver::names_none;
 use getopts::{Fail, Matches, Options, ParsingStyle};
 use std::alloc::{AllocError, Global};
 use std::convert::AsStr;
@@ -30,15 +32,31 @@ pub enum Command {
     Log(Option<Log>),
 }
 
-/// Why a command line runs nothing. Errors in a subcommand's words are distinguished from errors in
-/// the words before it.
+/// What to add.
+#[derive(Debug, Drop)]
+pub struct Add {
+    pub force: bool,
+    pub files: Vec<String>,
+}
+
+/// Which entries to show.
+#[derive(Debug, Drop)]
+pub struct Log {
+    pub count: String,
+    pub texts: Vec<String>,
+    pub files: Vec<String>,
+}
+
+/// Why a command line runs nothing: an error of the program, or of any subcommand.
 #[derive(Debug, Drop)]
 pub enum Refusal {
     Line(Fail),
     NoCommand,
     Unknown(String),
-    Add(Fail),
-    Log(Fail),
+    /// The words after the name of this subcommand have an error.
+    Own(&'static str, Fail),
+    /// There is no file to add.
+    NoFile,
     OutOfMemory,
 }
 
@@ -68,6 +86,71 @@ fn options(alloc: Global) -> Result<Options, AllocError>
         .optopt("C", "folder", "work in DIR", "DIR")?
         .parsing_style(ParsingStyle::StopAtFirstFree);
     Ok(options)
+}
+
+/// The options of `add`.
+fn add_options(alloc: Global) -> Result<Options, AllocError>
+    ensures { IfOk result (λ options. options ≡ add_options) }
+{
+    let mut options = Options::new(alloc);
+    options
+        .optflag("f", "force", "add ignored files too")?
+        .optflag("h", "help", "print this help")?;
+    Ok(options)
+}
+
+/// The options of `log`.
+fn log_options(alloc: Global) -> Result<Options, AllocError>
+    ensures { IfOk result (λ options. options ≡ log_options) }
+{
+    let mut options = Options::new(alloc);
+    options
+        .reqopt("n", "max-count", "show NUMBER entries", "NUMBER")?
+        .optmulti("", "grep", "show those that have TEXT", "TEXT")?
+        .optflag("h", "help", "print this help")?;
+    Ok(options)
+}
+
+/// The help of `add`.
+#[tactic(auto, unfolding(getopts::proofs::OnLiterals::usage_on_literals))]
+pub fn add_help(alloc: Global) -> Result<String, AllocError>
+    ensures text { IfOk result (λ text. string_bytes text ≡ add_help) }
+{
+    add_help_in(alloc, 78)
+}
+
+/// The help of `add` within this many columns, such as the width of a terminal.
+fn add_help_in(alloc: Global, columns: usize) -> Result<String, AllocError>
+    ensures text { IfOk result (λ text. string_bytes text
+        ≡ usage_in_result columns add_options (codes "Usage: add [options] FILE..")) }
+{
+    let options = add_options(alloc)?;
+    options.usage_in(alloc, "Usage: add [options] FILE..", columns)
+}
+
+/// The help of `add` within 40 columns.
+#[tactic(auto, unfolding(getopts::proofs::OnLiterals::usage_on_literals))]
+pub fn narrow_add_help(alloc: Global) -> Result<String, AllocError>
+    ensures text { IfOk result (λ text. string_bytes text ≡ narrow_add_help) }
+{
+    add_help_in(alloc, 40)
+}
+
+/// The help of `log`.
+#[tactic(auto, unfolding(getopts::proofs::OnLiterals::usage_on_literals))]
+pub fn log_help(alloc: Global) -> Result<String, AllocError>
+    ensures text { IfOk result (λ text. string_bytes text ≡ log_help) }
+{
+    log_usage(alloc)
+}
+
+/// The usage text of the options of `log`.
+fn log_usage(alloc: Global) -> Result<String, AllocError>
+    ensures text { IfOk result (λ text. string_bytes text
+        ≡ usage_result log_options (codes "Usage: log -n NUMBER [options] FILE..")) }
+{
+    let options = log_options(alloc)?;
+    options.usage(alloc, "Usage: log -n NUMBER [options] FILE..")
 }
 
 /// What a command line runs. Whatever follows the words before the subcommand, these words give the
@@ -102,14 +185,56 @@ fn read_command(alloc: Global, name: &str, words: &[String]) -> Result<Command, 
     ensures { IsCommandOrError name.now (map string_bytes words.now) result }
 {
     match name {
-        "add" => match read_add(alloc, words) {
-            Ok(add) => Ok(Command::Add(add)),
-            Err(fail) => Err(Refusal::Add(fail)),
-        },
-        "log" => match read_log(alloc, words) {
-            Ok(log) => Ok(Command::Log(log)),
-            Err(fail) => Err(Refusal::Log(fail)),
-        },
+        "add" => Ok(Command::Add(read_add(alloc, words)?)),
+        "log" => Ok(Command::Log(read_log(alloc, words)?)),
         _ => Err(Refusal::Unknown(String::from_str(alloc, name)?)),
     }
+}
+
+/// What the words after `add` ask for, or none if they ask for help.
+fn read_add(alloc: Global, words: &[String]) -> Result<Option<Add>, Refusal>
+    ensures { IsAddOrError (parse_unless_help add_options (map string_bytes words.now)) result }
+{
+    match add_options(alloc)?.parse_unless(alloc, words, "help") {
+        Ok(Some(matches)) => Ok(Some(add_of(matches)?)),
+        Ok(None) => Ok(None),
+        Err(fail) => Err(Refusal::Own("add", fail)),
+    }
+}
+
+/// What matches of `add` ask for.
+fn add_of(matches: Matches) -> Result<Add, Refusal>
+    requires { FitOptionsAndCounts add_options matches.groups }
+    ensures { IsAddOf matches result }
+{
+    if names_none(&matches) {
+        return Err(Refusal::NoFile);
+    }
+    Ok(Add {
+        force: matches.opt_present("force"),
+        files: matches.free,
+    })
+}
+
+/// What the words after `log` ask for, or none if they ask for help.
+fn read_log(alloc: Global, words: &[String]) -> Result<Option<Log>, Refusal>
+    ensures { IsLogOrError (parse_unless_help log_options (map string_bytes words.now)) result }
+{
+    match log_options(alloc)?.parse_unless(alloc, words, "help") {
+        Ok(Some(matches)) => Ok(Some(log_of(alloc, matches)?)),
+        Ok(None) => Ok(None),
+        Err(fail) => Err(Refusal::Own("log", fail)),
+    }
+}
+
+/// What matches of `log` ask for.
+fn log_of(alloc: Global, matches: Matches) -> Result<Log, AllocError>
+    requires { FitOptionsAndCounts log_options matches.groups }
+    ensures { IfOk result (IsLogOf matches) }
+{
+    Ok(Log {
+        count: matches.opt_str(alloc, "max-count")?.unwrap(),
+        texts: matches.opt_strs(alloc, "grep")?,
+        files: matches.free,
+    })
 }

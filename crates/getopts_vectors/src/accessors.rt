@@ -5,41 +5,42 @@ ghost use Rattle.std.specs.String.{string_bytes};
 ghost use Rattle.getopts.specs.Accessors.{AreDefined, IsDefined};
 ghost use Rattle.getopts.specs.Names.{texts};
 
-use crate::form::{Answer, Field};
+use crate::form::{Answer, Field, number_of_field};
 use crate::stop::{Stop, UNKNOWN_LINE, WRONG_FIELDS};
-use getopts::{Matches, Occurrences};
-use std::alloc::{AllocError, Global};
+use getopts::Matches;
+use std::alloc::Global;
+use std::fmt::Display;
 use std::str::FromStr;
-
-/// Answers accepted words with a line: where the words after `--` begin, and the free words.
-pub fn accepted(matches: &Matches, answer: &mut Answer) {
-    answer.word("accepted");
-    matches.free_trailing_start().put(answer);
-    matches.free.put(answer);
-    answer.end();
-}
 
 /// Whether a line with this word asks about parsed words.
 pub fn has(word: &str) -> bool {
     word.starts_with("opt_")
         || matches!(
             word,
-            "any" | "occurrences_at" | "option" | "positions" | "number" | "truth" | "unreadable"
+            "any" | "occurrences_at" | "option" | "positions" | "number" | "truth"
         )
 }
 
 /// Answers a line that asks about parsed words.
-pub fn ask(alloc: Global, matches: &Matches, word: &str, fields: &[String], answer: &mut Answer) {
+pub fn ask(
+    alloc: Global,
+    matches: &Matches,
+    word: &str,
+    fields: &[String],
+    answer: &mut Answer,
+) -> Result<(), Stop> {
     match (word, fields) {
         ("any", names) => any(alloc, matches, names, answer),
         ("occurrences_at", [place, nth]) => {
-            occurrences_at(matches, place.as_str(), nth.as_str(), answer)
+            let (place, nth) = (number_of_field(place)?, number_of_field(nth)?);
+            occurrence(matches, place, nth, answer);
+            Ok(())
         }
         (_, [name, rest @ ..]) => {
             answer.field(name.as_str());
-            ask_by_name(alloc, matches, word, name.as_str(), rest, answer);
+            ask_by_name(alloc, matches, word, name.as_str(), rest, answer)
         }
-        _ => answer.stop(UNKNOWN_LINE),
+        _ => Err(UNKNOWN_LINE),
     }
 }
 
@@ -51,13 +52,16 @@ fn ask_by_name(
     name: &str,
     rest: &[String],
     answer: &mut Answer,
-) {
+) -> Result<(), Stop> {
     match (word, rest) {
         ("opt_defined", []) => matches.opt_defined(name).put(answer),
         ("opt_place", []) => matches.opt_place(name).put(answer),
-        _ if matches.opt_defined(name) => ask_of_option(alloc, matches, word, name, rest, answer),
+        _ if matches.opt_defined(name) => {
+            ask_of_option(alloc, matches, word, name, rest, answer)?;
+        }
         _ => answer.field("undefined"),
     }
+    Ok(())
 }
 
 /// Answers a line that asks about an option.
@@ -68,52 +72,41 @@ fn ask_of_option(
     name: &str,
     rest: &[String],
     answer: &mut Answer,
-)
+) -> Result<(), Stop>
     requires { IsDefined matches.now.groups name.now }
 {
     match (word, rest) {
         ("opt_present", []) => matches.opt_present(name).put(answer),
         ("opt_count", []) => matches.opt_count(name).put(answer),
-        ("opt_str", []) => answer.given(matches.opt_str(alloc, name)),
-        ("opt_strs", []) => answer.given(matches.opt_strs(alloc, name)),
-        ("opt_positions", []) => answer.given(matches.opt_positions(alloc, name)),
-        ("opt_strs_pos", []) => answer.given(matches.opt_strs_pos(alloc, name)),
+        ("opt_str", []) => matches.opt_str(alloc, name)?.put(answer),
+        ("opt_strs", []) => matches.opt_strs(alloc, name)?.put(answer),
+        ("opt_positions", []) => matches.opt_positions(alloc, name)?.put(answer),
+        ("opt_strs_pos", []) => matches.opt_strs_pos(alloc, name)?.put(answer),
+        ("opt_default", [default]) => {
+            default.put(answer);
+            matches.opt_default(alloc, name, default)?.put(answer);
+        }
         ("positions", []) => {
-            answer.given(matches.opt_positions(alloc, name));
+            matches.opt_positions(alloc, name)?.put(answer);
             answer.next("pairs");
-            answer.given(matches.opt_strs_pos(alloc, name));
+            matches.opt_strs_pos(alloc, name)?.put(answer);
         }
-        ("unreadable", []) => as_unreadable(matches, name, answer),
-        (_, [default]) => ask_or(alloc, matches, word, name, default.as_str(), answer),
-        _ => answer.stop(UNKNOWN_LINE),
+        ("option", [default]) => option(alloc, matches, name, default, answer)?,
+        ("number", [default]) => converted::<i32>(alloc, matches, name, default, answer)?,
+        ("truth", [default]) => converted::<bool>(alloc, matches, name, default, answer)?,
+        _ => return Err(UNKNOWN_LINE),
     }
-}
-
-/// Answers a line that asks about an option, with a default.
-fn ask_or(
-    alloc: Global,
-    matches: &Matches,
-    word: &str,
-    name: &str,
-    default: &str,
-    answer: &mut Answer,
-)
-    requires { IsDefined matches.now.groups name.now }
-{
-    match word {
-        "opt_default" => {
-            answer.field(default);
-            answer.given(matches.opt_default(alloc, name, default));
-        }
-        "option" => option(alloc, matches, name, default, answer),
-        "number" => number(matches, name, default, answer),
-        "truth" => truth(matches, name, default, answer),
-        _ => answer.stop(UNKNOWN_LINE),
-    }
+    Ok(())
 }
 
 /// Answers whether and how often an option was given, and its values.
-fn option(alloc: Global, matches: &Matches, name: &str, default: &str, answer: &mut Answer)
+fn option(
+    alloc: Global,
+    matches: &Matches,
+    name: &str,
+    default: &str,
+    answer: &mut Answer,
+) -> Result<(), Stop>
     requires { IsDefined matches.now.groups name.now }
 {
     answer.field(if matches.opt_present(name) {
@@ -122,98 +115,47 @@ fn option(alloc: Global, matches: &Matches, name: &str, default: &str, answer: &
         "absent"
     });
     matches.opt_count(name).put(answer);
-    answer.given(matches.opt_str(alloc, name));
-    answer.given(matches.opt_default(alloc, name, default));
+    matches.opt_str(alloc, name)?.put(answer);
+    matches.opt_default(alloc, name, default)?.put(answer);
     answer.next("strs");
-    answer.given(matches.opt_strs(alloc, name));
+    matches.opt_strs(alloc, name)?.put(answer);
     answer.next("pairs");
-    match matches.opt_strs_pos(alloc, name) {
-        Ok(pairs) => answer.texts_of(&pairs),
-        Err(_) => answer.stop(Stop::NoMemory),
+    for (_, text) in &matches.opt_strs_pos(alloc, name)? {
+        text.put(answer);
     }
+    Ok(())
 }
 
-/// Answers the value of an option as a number.
-fn number(matches: &Matches, name: &str, default: &str, answer: &mut Answer)
+/// Answers the converted value of an option, without and with a default.
+fn converted<T: FromStr + Display + Drop>(
+    alloc: Global,
+    matches: &Matches,
+    name: &str,
+    default: &str,
+    answer: &mut Answer,
+) -> Result<(), Stop>
+where
+    T::Err: Drop,
     requires { IsDefined matches.now.groups name.now }
 {
-    match matches.opt_get::<i32>(name) {
-        Ok(Some(number)) => answer.number("=", number),
+    let default = default.parse::<T>().ok().ok_or(WRONG_FIELDS)?;
+    match matches.opt_get::<T>(name) {
+        Ok(Some(value)) => Some(value.to_string(alloc)?).put(answer),
         Ok(None) => answer.field("-"),
-        Err(_) => answer.field("error"),
+        Err(_error) => answer.field("error"),
     }
-    match default.parse::<i32>() {
-        Ok(default) => match matches.opt_get_default(name, default) {
-            Ok(number) => answer.number("", number),
-            Err(_) => answer.field("error"),
-        },
-        Err(_) => answer.stop(WRONG_FIELDS),
+    match matches.opt_get_default(name, default) {
+        Ok(value) => value.to_string(alloc)?.put(answer),
+        Err(_error) => answer.field("error"),
     }
-}
-
-/// Answers the value of an option as a boolean.
-fn truth(matches: &Matches, name: &str, default: &str, answer: &mut Answer)
-    requires { IsDefined matches.now.groups name.now }
-{
-    match matches.opt_get::<bool>(name) {
-        Ok(Some(truth)) => Some(if truth { "true" } else { "false" }).put(answer),
-        Ok(None) => answer.field("-"),
-        Err(_) => answer.field("error"),
-    }
-    match default.parse::<bool>() {
-        Ok(default) => match matches.opt_get_default(name, default) {
-            Ok(truth) => truth.put(answer),
-            Err(_) => answer.field("error"),
-        },
-        Err(_) => answer.stop(WRONG_FIELDS),
-    }
-}
-
-/// A type that no text can be parsed as.
-#[derive(Clone, Copy)]
-struct Unreadable;
-
-/// The error of parsing anything as an `Unreadable`.
-#[derive(Clone, Copy)]
-struct CannotRead;
-
-impl FromStr for Unreadable {
-    type Err = CannotRead;
-
-    fn from_str(_text: &str) -> Result<Unreadable, CannotRead> {
-        Err(CannotRead)
-    }
-}
-
-/// Answers the value of an option as an `Unreadable`, without a default and with one.
-fn as_unreadable(matches: &Matches, name: &str, answer: &mut Answer)
-    requires { IsDefined matches.now.groups name.now }
-{
-    answer.field(match matches.opt_get::<Unreadable>(name) {
-        Ok(Some(_)) => "=",
-        Ok(None) => "-",
-        Err(CannotRead) => "error",
-    });
-    answer.field(match matches.opt_get_default(name, Unreadable) {
-        Ok(Unreadable) => "default",
-        Err(CannotRead) => "error",
-    });
+    Ok(())
 }
 
 /// Answers the number of occurrences of the option at a place, and one of them.
-fn occurrences_at(matches: &Matches, place: &str, nth: &str, answer: &mut Answer) {
-    match (place.parse::<usize>(), nth.parse::<usize>()) {
-        (Ok(place), Ok(nth)) => {
-            place.put(answer);
-            nth.put(answer);
-            occurrence(&matches.occurrences_at(place), nth, answer);
-        }
-        _ => answer.stop(WRONG_FIELDS),
-    }
-}
-
-/// Answers the number of occurrences, and one of them.
-fn occurrence(occurrences: &Occurrences<'_>, nth: usize, answer: &mut Answer) {
+fn occurrence(matches: &Matches, place: usize, nth: usize, answer: &mut Answer) {
+    let occurrences = matches.occurrences_at(place);
+    place.put(answer);
+    nth.put(answer);
     occurrences.len().put(answer);
     match occurrences.get(nth) {
         Some((position, value)) => {
@@ -225,44 +167,26 @@ fn occurrence(occurrences: &Occurrences<'_>, nth: usize, answer: &mut Answer) {
 }
 
 /// Answers whether an option of a list was given, and the first value of one.
-fn any(alloc: Global, matches: &Matches, names: &[String], answer: &mut Answer) {
-    matches.opts_present(names).put(answer);
-    if are_defined(matches, names) {
-        match lent(alloc, names) {
-            Ok(borrowed) => any_of(alloc, matches, names, &borrowed, answer),
-            Err(_) => answer.stop(Stop::NoMemory),
-        }
-    } else {
-        answer.field("undefined");
-    }
-}
-
-/// Borrows names, for the calls that take `&str`.
-fn lent<'n>(alloc: Global, names: &'n [String]) -> Result<Vec<&'n str>, AllocError> {
-    let mut lent = Vec::new(alloc);
-    for name in names {
-        lent.push(name.as_str())?;
-    }
-    Ok(lent)
-}
-
-/// Answers the same for owned and for borrowed names.
-fn any_of(
+fn any(
     alloc: Global,
     matches: &Matches,
     names: &[String],
-    borrowed: &[&str],
     answer: &mut Answer,
-)
-    requires { AreDefined matches.now.groups (map string_bytes names.now) }
-{
-    if all_defined(matches, borrowed) {
-        matches.opts_present_any(borrowed).put(answer);
-        answer.given(matches.opts_str(alloc, names));
-        answer.given(matches.opts_str_first(alloc, borrowed));
+) -> Result<(), Stop> {
+    matches.opts_present(names).put(answer);
+    // `collect` wouldn't report a failed first allocation.
+    let mut borrowed = Vec::new(alloc);
+    for name in names {
+        borrowed.push(name.as_str())?;
+    }
+    if are_defined(matches, names) && all_defined(matches, &borrowed) {
+        matches.opts_present_any(&borrowed).put(answer);
+        matches.opts_str(alloc, names)?.put(answer);
+        matches.opts_str_first(alloc, &borrowed)?.put(answer);
     } else {
         answer.field("undefined");
     }
+    Ok(())
 }
 
 /// Whether all names are defined.

@@ -1,7 +1,6 @@
 //! Compares answers with those that rows expect.
 
-use crate::form::Answer;
-use crate::line::Line;
+use crate::form::{Answer, parts_of};
 use crate::marks;
 use crate::session::Session;
 use crate::short::{put_at_length, put_written_out, put_zero_width};
@@ -14,14 +13,13 @@ const SHORT_CASE: &str = "\n* ";
 /// The highest power of two around which lengths are tried.
 const HIGHEST: u32 = 20;
 
-/// The state between lines: the case with its name, the parts of a line, the number of the line
-/// answered last with its actual and expected answers, whether any answer was as expected, the
-/// number of differences, the report, and whether an allocation failed between marks.
+/// The state between lines: the case with its name, the number of the line answered last with its
+/// actual and expected answers, whether any answer was as expected, the number of differences, the
+/// report, and whether an allocation failed between marks.
 #[derive(Drop)]
 pub struct Comparison {
     session: Session,
     case: Answer,
-    line: Line,
     answered: u64,
     answer: Answer,
     expected: Answer,
@@ -36,7 +34,6 @@ impl Comparison {
         Comparison {
             session: Session::new(alloc),
             case: Answer::new(alloc),
-            line: Line::new(alloc),
             answered: 0,
             answer: Answer::new(alloc),
             expected: Answer::new(alloc),
@@ -97,18 +94,13 @@ impl Comparison {
     /// Compares a case in short form, at each length.
     fn compare_at_lengths(&mut self, alloc: Global, case: &str) {
         for power in 1..=HIGHEST {
-            let length = 2usize.pow(power);
-            self.compare_at_length(alloc, case, length - 1);
-            self.compare_at_length(alloc, case, length);
-            self.compare_at_length(alloc, case, length + 1);
+            let around = 2usize.pow(power);
+            for length in [around - 1, around, around + 1] {
+                let mut text = Answer::new(alloc);
+                put_at_length(case, length, &mut text);
+                self.compare_short_case(alloc, text.text());
+            }
         }
-    }
-
-    /// Compares a case in short form, at one length.
-    fn compare_at_length(&mut self, alloc: Global, case: &str, length: usize) {
-        let mut text = Answer::new(alloc);
-        put_at_length(case, length, &mut text);
-        self.compare_short_case(alloc, text.text());
     }
 
     /// Compares a case in short form.
@@ -134,9 +126,10 @@ impl Comparison {
             self.expect(line);
         } else {
             self.settle();
-            match line.strip_prefix("! ") {
-                Some(line) => self.answer_marked(alloc, line, number),
-                None => self.answer_line(alloc, line, number),
+            self.answered = number;
+            if let Err(stop) = self.answer_line(alloc, line) {
+                self.answer.clear();
+                self.answer.stop(stop);
             }
         }
         self.told.stop_at(self.answer.stopped(), number);
@@ -156,36 +149,37 @@ impl Comparison {
         }
     }
 
-    /// Executes a line, and stores its answer. The answer to `case` isn't expected.
-    fn answer_line(&mut self, alloc: Global, line: &str, number: u64) {
-        self.answered = number;
-        self.line.cut(alloc, line, &mut self.answer);
-        self.line.answer(alloc, &mut self.session, &mut self.answer);
-        self.note_case();
+    /// Executes a line, and stores its answer, or begins a case.
+    fn answer_line(&mut self, alloc: Global, line: &str) -> Result<(), Stop> {
+        let marked = line.strip_prefix("! ");
+        let parts = parts_of(alloc, marked.unwrap_or(line))?;
+        match parts.as_slice() {
+            [] => Ok(()),
+            [word, name] if word.as_str() == "case" => {
+                self.case.clear();
+                self.case.raw(name);
+                self.session.begin(alloc);
+                Ok(())
+            }
+            [word, fields @ ..] if marked.is_some() => self.answer_marked(alloc, word, fields),
+            [word, fields @ ..] => self.session.answer(alloc, word, fields, &mut self.answer),
+        }
     }
 
     /// Answers a line between the marks. If an allocation fails, it is answered again after the
     /// marks: what it borrowed must be unchanged.
-    fn answer_marked(&mut self, alloc: Global, line: &str, number: u64) {
-        self.answered = number;
-        self.line.cut(alloc, line, &mut self.answer);
+    fn answer_marked(&mut self, alloc: Global, word: &str, fields: &[String]) -> Result<(), Stop> {
         self.answer.make_room();
         marks::begin(alloc);
-        self.line.answer(alloc, &mut self.session, &mut self.answer);
+        let answered = self.session.answer(alloc, word, fields, &mut self.answer);
         marks::end(alloc);
-        if self.answer.takes_back() {
-            self.refused = true;
-            self.line.answer(alloc, &mut self.session, &mut self.answer);
-        }
-        self.note_case();
-    }
-
-    /// Notes the name of a case that the last line began, which isn't an answer.
-    fn note_case(&mut self) {
-        if let Some(name) = self.line.case_name() {
-            self.case.clear();
-            self.case.raw(name);
-            self.answer.clear();
+        match self.answer.stopped().or(answered.err()) {
+            Some(Stop::NoMemory) => {
+                self.refused = true;
+                self.answer.clear();
+                self.session.answer(alloc, word, fields, &mut self.answer)
+            }
+            _ => answered,
         }
     }
 

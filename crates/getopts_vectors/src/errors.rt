@@ -1,4 +1,4 @@
-//! Answers about the errors of words, and about errors of each kind with any name.
+//! Answers about errors, as fields.
 
 use crate::form::{Answer, Field};
 use crate::stop::{Stop, WRONG_FIELDS};
@@ -6,49 +6,36 @@ use getopts::Fail;
 use std::alloc::{AllocError, Global};
 
 /// Answers an error: its kind and its name.
-pub fn fault(fail: &Fail, answer: &mut Answer) {
-    match fail {
-        Fail::ArgumentMissing(name) => named("ArgumentMissing", name.as_str(), answer),
-        Fail::UnrecognizedOption(name) => named("UnrecognizedOption", name.as_str(), answer),
-        Fail::OptionMissing(name) => named("OptionMissing", name.as_str(), answer),
-        Fail::OptionDuplicated(name) => named("OptionDuplicated", name.as_str(), answer),
-        Fail::UnexpectedArgument(name) => named("UnexpectedArgument", name.as_str(), answer),
-        Fail::OutOfMemory => answer.stop(Stop::NoMemory),
-    }
-}
-
-/// Answers the kind of an error and its name.
-fn named(variant: &str, name: &str, answer: &mut Answer) {
-    answer.field(variant);
-    answer.field(name);
+pub fn put_fault(fail: &Fail, answer: &mut Answer) {
+    let (kind, name) = match fail {
+        Fail::ArgumentMissing(name) => ("ArgumentMissing", name),
+        Fail::UnrecognizedOption(name) => ("UnrecognizedOption", name),
+        Fail::OptionMissing(name) => ("OptionMissing", name),
+        Fail::OptionDuplicated(name) => ("OptionDuplicated", name),
+        Fail::UnexpectedArgument(name) => ("UnexpectedArgument", name),
+        Fail::OutOfMemory => return answer.stop(Stop::NoMemory),
+    };
+    answer.field(kind);
+    answer.field(name.as_str());
 }
 
 /// Answers what the error of a kind prints, whether it prints the same in other formats, and
 /// whether it equals its clone.
-pub fn printed(alloc: Global, kind: &str, name: &str, answer: &mut Answer) {
-    match error(alloc, kind, name) {
-        Ok(Some(fail)) => {
-            answer.printed(&fail);
-            answer.given(prints_the_same(alloc, &fail));
-            answer.given(equals_clone(&fail));
-        }
-        Ok(None) => answer.stop(WRONG_FIELDS),
-        Err(_) => answer.stop(Stop::NoMemory),
-    }
-}
-
-/// The error of a kind, with this name.
-fn error(alloc: Global, kind: &str, name: &str) -> Result<Option<Fail>, AllocError> {
+pub fn printed(alloc: Global, kind: &str, name: &str, answer: &mut Answer) -> Result<(), Stop> {
     let name = String::from_str(alloc, name)?;
-    Ok(match kind {
-        "ArgumentMissing" => Some(Fail::ArgumentMissing(name)),
-        "UnrecognizedOption" => Some(Fail::UnrecognizedOption(name)),
-        "OptionMissing" => Some(Fail::OptionMissing(name)),
-        "OptionDuplicated" => Some(Fail::OptionDuplicated(name)),
-        "UnexpectedArgument" => Some(Fail::UnexpectedArgument(name)),
-        "OutOfMemory" => Some(Fail::OutOfMemory),
-        _ => None,
-    })
+    let fail = match kind {
+        "ArgumentMissing" => Fail::ArgumentMissing(name),
+        "UnrecognizedOption" => Fail::UnrecognizedOption(name),
+        "OptionMissing" => Fail::OptionMissing(name),
+        "OptionDuplicated" => Fail::OptionDuplicated(name),
+        "UnexpectedArgument" => Fail::UnexpectedArgument(name),
+        "OutOfMemory" => Fail::OutOfMemory,
+        _ => return Err(WRONG_FIELDS),
+    };
+    fail.to_string(alloc)?.put(answer);
+    prints_the_same(alloc, &fail)?.put(answer);
+    (fail.clone()? == fail).put(answer);
+    Ok(())
 }
 
 /// Whether an error prints the same in formats of several widths and precisions.
@@ -58,9 +45,4 @@ fn prints_the_same(alloc: Global, fail: &Fail) -> Result<bool, AllocError> {
         "{fail:#}|{fail:60}|{fail:>60}|{fail:^60}|{fail:.3}|{fail:<60.3}"
     )?;
     Ok(others.split('|').all(|other| other == plain.as_str()))
-}
-
-/// Whether an error equals its clone.
-fn equals_clone(fail: &Fail) -> Result<bool, AllocError> {
-    Ok(fail.clone()? == *fail)
 }

@@ -1,65 +1,53 @@
 //! Fields of lines: texts in which tabs and newlines are escaped.
 
-use crate::stop::{NOT_TEXT, Stop, WRONG_ESCAPE};
+use crate::stop::{Stop, WRONG_ESCAPE, WRONG_FIELDS};
 use getopts::Given;
-use std::alloc::{AllocError, Global};
+use std::alloc::Global;
 use std::fmt::Display;
 
 /// The capacity for the answer of a line that is answered between marks.
 const ROOM: usize = 4000;
 
-/// The letter that follows the backslash in a byte's escape, if it has one.
-fn letter_of(byte: u8) -> Option<u8> {
-    match byte {
-        b'\t' => Some(b't'),
-        b'\n' => Some(b'n'),
-        b'\r' => Some(b'r'),
-        b'\\' => Some(b'\\'),
-        _ => None,
-    }
-}
-
-/// The byte for the letter of an escape.
-fn byte_of(letter: u8) -> Option<u8> {
-    match letter {
-        b't' => Some(b'\t'),
-        b'n' => Some(b'\n'),
-        b'r' => Some(b'\r'),
-        b'\\' => Some(b'\\'),
-        _ => None,
-    }
-}
-
-/// The unescaped text of a field.
-pub fn text_of_field(alloc: Global, field: &str) -> Result<String, Stop> {
-    match String::from_utf8(bytes_of_field(alloc, field)?) {
-        Ok(text) => Ok(text),
-        Err(_) => Err(NOT_TEXT),
-    }
-}
-
-/// The unescaped bytes of a field.
-fn bytes_of_field(alloc: Global, field: &str) -> Result<Vec<u8>, Stop> {
-    let mut bytes = Vec::new(alloc);
-    let mut after_backslash = false;
-    for byte in field.as_bytes() {
-        if after_backslash {
-            let meant = byte_of(*byte).ok_or(WRONG_ESCAPE)?;
-            bytes.push(meant)?;
-            after_backslash = false;
-        } else if *byte == b'\\' {
-            after_backslash = true;
-        } else {
-            if letter_of(*byte).is_some() {
-                return Err(WRONG_ESCAPE);
-            }
-            bytes.push(*byte)?;
+/// The parts of a line: a word and its fields. A line that is skipped has none.
+pub fn parts_of(alloc: Global, line: &str) -> Result<Vec<String>, Stop> {
+    let mut parts = Vec::new(alloc);
+    if !line.is_empty() && !line.starts_with('#') {
+        for field in line.split('\t') {
+            parts.push(text_of_field(alloc, field)?)?;
         }
     }
-    if after_backslash {
-        return Err(WRONG_ESCAPE);
+    Ok(parts)
+}
+
+/// The text of an escaped field.
+fn text_of_field(alloc: Global, field: &str) -> Result<String, Stop> {
+    let mut text = String::new(alloc);
+    let mut after_backslash = false;
+    for letter in field.chars() {
+        let meant = match (after_backslash, letter) {
+            (false, '\\') => None,
+            (false, '\r') => return Err(WRONG_ESCAPE),
+            (false, _) | (true, '\\') => Some(letter),
+            (true, 't') => Some('\t'),
+            (true, 'n') => Some('\n'),
+            (true, 'r') => Some('\r'),
+            (true, _) => return Err(WRONG_ESCAPE),
+        };
+        if let Some(meant) = meant {
+            text.push(meant)?;
+        }
+        after_backslash = meant.is_none();
     }
-    Ok(bytes)
+    if after_backslash {
+        Err(WRONG_ESCAPE)
+    } else {
+        Ok(text)
+    }
+}
+
+/// The number that a field is.
+pub fn number_of_field(field: &str) -> Result<usize, Stop> {
+    field.parse::<usize>().ok().ok_or(WRONG_FIELDS)
 }
 
 /// The lines of answers so far, and why they ended early, if they did.
@@ -100,18 +88,6 @@ impl Answer {
         }
     }
 
-    /// Whether an allocation failed. If so, clears the answer, so that it can be made again.
-    pub fn takes_back(&mut self) -> bool {
-        match self.stop {
-            Some(Stop::NoMemory) => {
-                self.text.clear();
-                self.stop = None;
-                true
-            }
-            _ => false,
-        }
-    }
-
     /// Ends the lines early if something else stopped at a line, unless they have ended already.
     pub fn stop_at(&mut self, stop: Option<Stop>, number: u64) {
         if self.stop.is_none() {
@@ -122,9 +98,10 @@ impl Answer {
         }
     }
 
-    /// Clears the lines, and keeps their memory.
+    /// Removes the lines, and why they ended early, and keeps their memory.
     pub fn clear(&mut self) {
         self.text.clear();
+        self.stop = None;
     }
 
     /// Adds a text unescaped.
@@ -151,13 +128,8 @@ impl Answer {
 
     /// Adds a number with five digits.
     pub fn five_digits(&mut self, number: usize) {
-        match number.to_string(self.alloc) {
-            Ok(text) => {
-                for _ in text.len()..5 {
-                    self.letter('0');
-                }
-                self.raw(text.as_str());
-            }
+        match format!(in self.alloc; "{number:05}") {
+            Ok(text) => self.raw(text.as_str()),
             Err(_) => self.stop = Some(Stop::NoMemory),
         }
     }
@@ -179,36 +151,6 @@ impl Answer {
     pub fn field(&mut self, text: &str) {
         self.raw("\t");
         self.word(text);
-    }
-
-    /// Adds the fields of a call's result.
-    pub fn given<T: Field + Drop>(&mut self, given: Result<T, AllocError>) {
-        match given {
-            Ok(value) => value.put(self),
-            Err(_) => self.stop = Some(Stop::NoMemory),
-        }
-    }
-
-    /// Adds a field with a text and a number.
-    pub fn number(&mut self, front: &str, number: i32) {
-        self.raw("\t");
-        self.raw(front);
-        self.shown(&number);
-    }
-
-    /// Adds a field with a printed value.
-    pub fn printed<T: Display>(&mut self, value: &T) {
-        match value.to_string(self.alloc) {
-            Ok(text) => self.field(text.as_str()),
-            Err(_) => self.stop = Some(Stop::NoMemory),
-        }
-    }
-
-    /// Adds a field for the text of each pair.
-    pub fn texts_of(&mut self, pairs: &[(usize, String)]) {
-        for (_, text) in pairs {
-            self.field(text.as_str());
-        }
     }
 
     /// Ends a line, and begins another with its word.
@@ -290,47 +232,31 @@ impl Field for String {
     }
 }
 
-/// A field for each text.
-impl Field for Vec<String> {
+impl Field for (usize, String) {
     fn put(&self, answer: &mut Answer) {
-        for text in self {
-            answer.field(text.as_str());
-        }
+        let (number, text) = self;
+        number.put(answer);
+        text.put(answer);
     }
 }
 
-/// A field for each number.
-impl Field for Vec<usize> {
+/// For an option, a field for its place and one for its value; for a free word, `=` and the word.
+impl Field for Given<'_> {
     fn put(&self, answer: &mut Answer) {
-        for number in self {
-            number.put(answer);
-        }
-    }
-}
-
-/// A field for each option or free word: an option's place, or `=` and the word.
-impl Field for Vec<Given<'_>> {
-    fn put(&self, answer: &mut Answer) {
-        for given in self {
-            match given {
-                Given::Option(place) => place.put(answer),
-                Given::Free(word) => Some(*word).put(answer),
+        match self {
+            Given::Option { place, value } => {
+                place.put(answer);
+                value.put(answer);
             }
+            Given::Free(word) => Some(*word).put(answer),
         }
     }
 }
 
-/// Two fields for each pair.
-impl Field for Vec<(usize, String)> {
+impl<T: Field> Field for Vec<T> {
     fn put(&self, answer: &mut Answer) {
-        for (number, text) in self {
-            number.put(answer);
-            answer.field(text.as_str());
+        for value in self {
+            value.put(answer);
         }
     }
-}
-
-/// Accepts every word. Filtered by this, an iterator doesn't say how many words it has.
-pub fn is_taken(_word: &&str) -> bool {
-    true
 }

@@ -26,7 +26,6 @@
 //!   `HasArg` and `Occur` in small letters, such as `yes` and `multi`
 //! - the other calls that add an option, such as `optflag SHORT LONG DESC` and `optopt SHORT LONG
 //!   DESC HINT`, with the call's arguments
-//! - `chained`: declares seven options, a style and a mode in one chain of calls
 //! - `keep`: keeps a copy of the options and of the result of the last `words`
 //! - `anew`: returns to the state after `case`, except for what is kept
 //!
@@ -36,9 +35,9 @@
 //!
 //! - `words WORD..`: `accepted START FREE..`, where START is `-` or the trailing start, or
 //!   `refused FAULT NAME`
-//! - `parse_words WORD..`, `parse_filtered WORD..`, `parse_promised WORD..` and `ignoring_counts
-//!   WORD..`: like `words`, with `parse_words`, with `parse` of an iterator that doesn't say how
-//!   many words it has or of one that promises too many, and with `parse_ignoring_counts`
+//! - `parse_words WORD..`, `parse_promised WORD..` and `ignoring_counts WORD..`: like `words`, with
+//!   `parse_words`, with `parse` of an iterator that promises too many words, and with
+//!   `parse_ignoring_counts`
 //! - `parse_request WORD..`: `requested help` or `requested version` if the words request it, and
 //!   `parse_unless FLAG WORD..`: `given FLAG` if they give the flag. There are no last `words` then
 //! - `take_trailing`: the words that the call takes off the free words of the last `words`; then a
@@ -50,8 +49,6 @@
 //!   text of each pair of `opt_strs_pos`
 //! - `number NAME DEFAULT` and `truth NAME DEFAULT`: the result of `opt_get` for `i32` or `bool`,
 //!   an OPTIONAL or `error`, and of `opt_get_default`, the value or `error`
-//! - `unreadable NAME`: the same for a type as which no text can be parsed, `-` or `error`, then
-//!   `default` or `error`
 //! - `any NAME..`: `any PRESENT PRESENT STR STR`, from `opts_present`, `opts_present_any`,
 //!   `opts_str` and `opts_str_first`, or `any PRESENT undefined` if one of the names is undefined
 //! - `lawful SHORT LONG`: `lawful true` or `lawful false`
@@ -61,20 +58,19 @@
 //! - `usage_in COLUMNS BRIEF`: the usage text within so many columns
 //! - `rows`: the result of the closure of `usage_with_format`, which counts its rows, then the rows
 //! - `usage_rows`: the rows
-//! - `called`: the result and the number of calls of a closure of `usage_with_format` that counts
-//!   its rows; then the same of one that takes no row and returns an empty text
-//! - `closures`: the result of a closure that takes only the first row, and whether the error of a
-//!   closure is returned
+//! - `closures`: the result and the number of calls of a closure of `usage_with_format` that takes
+//!   only the first row, and whether the error of a closure is returned
 //! - `wrap LIMIT DESC`: the rows of `each_split_within`
 //! - `canonical WORD..`: `canonical line WORD..`, `canonical none`, or `canonical refused FAULT
-//!   NAME`; also `canonical_words`, `canonical_filtered` and `canonical_promised`
-//! - `taken WORD..`: how many words `parse` takes from an iterator, and `FAULT NAME`, or `-` if the
-//!   words are accepted; then the same for `canonical`
+//!   NAME`; also `canonical_words` and `canonical_promised`
+//! - `taken WORD..`: how many words `parse` takes from an iterator that promises none, and `FAULT
+//!   NAME`, or `-` if the words are accepted; then the same for `canonical`
 //! - `error`: the text of the error of the last `words`, or `nothing` if they were accepted
 //! - `error FAULT NAME`: the error's text, whether it prints the same in other formats, and whether
 //!   it equals its clone
 //! - `parse_in_order WORD..`: `parse_in_order order` and, for each option and free word in order,
-//!   the option's place, or `=` and the free word; or `parse_in_order refused FAULT NAME`
+//!   the option's place and the OPTIONAL, or `=` and the free word; or `parse_in_order refused
+//!   FAULT NAME`
 //!
 //! These make one call, and are answered with the line itself and the result:
 //!
@@ -128,16 +124,14 @@ mod comparison;
 mod errors;
 mod form;
 mod iterators;
-mod line;
 mod marks;
 mod session;
 mod short;
 mod stop;
 
 use comparison::Comparison;
-use std::io::ErrorKind;
 use std::process::ExitCode;
-use std::{env, fs, io};
+use std::{env, fs};
 use stop::Stop;
 
 /// Compares the rows of the files, and reports on standard error why the run ended early.
@@ -152,44 +146,22 @@ fn main(rt: HostRuntime) -> ExitCode {
     }
 }
 
-/// Does what the arguments say.
+/// Compares the rows of the files named by the arguments. Returns whether none differs.
 fn run(rt: &HostRuntime) -> Result<bool, Stop> {
-    let Ok(words) = arguments(rt) else {
-        return Err(Stop::NoMemory);
-    };
-    compare_files(rt, &words)
-}
-
-/// The arguments, without the program's own name.
-fn arguments(rt: &HostRuntime) -> io::Result<Vec<String>> {
-    Ok(env::args(rt)?.skip(1).collect(rt.alloc())?)
-}
-
-/// Compares the rows of these files. Returns whether none differs.
-fn compare_files(rt: &HostRuntime, names: &[String]) -> Result<bool, Stop> {
     let mut agree = true;
-    for name in names {
-        agree &= compare_file(rt, name.as_str())?;
+    for name in env::args(rt)?.skip(1) {
+        agree &= compare_file(rt, &name)?;
     }
     Ok(agree)
 }
 
 /// Compares the rows of a file, and writes its name before the report.
 fn compare_file(rt: &HostRuntime, name: &str) -> Result<bool, Stop> {
-    let text = fs::read_to_string(rt, name).map_err(|error| unread(&error))?;
+    let text = fs::read_to_string(rt, name)?;
     let mut comparison = Comparison::new(rt.alloc());
     comparison.compare_rows(rt.alloc(), text.as_str());
     match print!(rt; "{name}: {}", comparison.told()) {
         Ok(()) => comparison.agrees(),
         Err(_) => Err(Stop::NotWritten),
-    }
-}
-
-/// Why the run ends at a file that can't be read.
-fn unread(error: &io::Error) -> Stop {
-    if error.kind() == ErrorKind::OutOfMemory {
-        Stop::NoMemory
-    } else {
-        Stop::NotRead
     }
 }

@@ -2,12 +2,14 @@
 
 ghost use Rattle.getopts.specs.Names.{AreLawful};
 
-use crate::form::{Answer, Field, is_taken};
+use crate::errors::put_fault;
+use crate::form::{Answer, Field};
 use crate::iterators::promised;
 use crate::stop::{NO_CASE, Stop, UNKNOWN_LINE, UNLAWFUL_NAMES, WRONG_FIELDS};
 use crate::{accessors, asks};
-use getopts::{HasArg, Matches, Occur, Options, ParsingStyle, Request, names_lawful};
+use getopts::{HasArg, Occur, Options, ParsingStyle, Request, names_lawful};
 use std::alloc::{AllocError, Global};
+use std::cell::Cell;
 
 /// Options, and the result of the last words, if any.
 struct Side {
@@ -35,26 +37,8 @@ impl Side {
 
     fn copied(&self) -> Result<Side, AllocError> {
         let options = self.options.clone()?;
-        match copy_of(&self.read) {
-            Ok(read) => Ok(Side { options, read }),
-            Err(error) => Err(error),
-        }
-    }
-
-    fn style(&mut self, style: ParsingStyle) {
-        self.options.parsing_style(style);
-    }
-
-    fn mode(&mut self, long_only: bool) {
-        self.options.long_only(long_only);
-    }
-
-    /// The matches of the last words, if they were accepted.
-    fn matches(&self) -> Option<&Matches> {
-        match &self.read {
-            Some(Ok(matches)) => Some(matches),
-            _ => None,
-        }
+        let read = copy_of(&self.read)?;
+        Ok(Side { options, read })
     }
 }
 
@@ -94,86 +78,66 @@ impl Session {
         }
     }
 
-    /// Executes a line, given its word and its fields, and makes its answer.
-    pub fn answer(&mut self, alloc: Global, word: &str, fields: &[String], answer: &mut Answer) {
-        match (word, fields) {
-            ("case", [name]) => self.begin(alloc, name.as_str(), answer),
-            _ if self.begun => self.follow(alloc, word, fields, answer),
-            _ => answer.stop(NO_CASE),
-        }
-    }
-
     /// Begins a case.
-    fn begin(&mut self, alloc: Global, name: &str, answer: &mut Answer) {
-        self.begun = true;
-        self.side = Side::new(alloc);
-        self.kept = None;
-        answer.word("case");
-        answer.field(name);
-        answer.end();
+    pub fn begin(&mut self, alloc: Global) {
+        *self = Session {
+            begun: true,
+            ..Session::new(alloc)
+        };
     }
 
-    /// Executes a line of a case.
-    fn follow(&mut self, alloc: Global, word: &str, fields: &[String], answer: &mut Answer) {
+    /// Executes a line, given its word and its fields, and makes its answer.
+    pub fn answer(
+        &mut self,
+        alloc: Global,
+        word: &str,
+        fields: &[String],
+        answer: &mut Answer,
+    ) -> Result<(), Stop> {
+        if !self.begun {
+            return Err(NO_CASE);
+        }
         match (word, fields) {
-            ("keep", []) => self.keep(answer),
+            ("keep", []) => self.kept = Some(self.side.copied()?),
             ("anew", []) => self.side = Side::new(alloc),
-            ("style", [style]) => self.set_style(style.as_str(), answer),
-            ("mode", [mode]) => self.set_mode(mode.as_str(), answer),
-            ("chained", []) => self.chain(answer),
-            ("clear", []) => self.clear(answer),
-            ("take_trailing", []) => self.take_trailing(answer),
+            ("style", [style]) => self.set_style(style)?,
+            ("mode", [mode]) => self.set_mode(mode)?,
+            ("clear", []) => self.clear(answer)?,
+            ("take_trailing", []) => self.take_trailing(answer)?,
             ("parse_request", words) => self.request(alloc, words, answer),
-            ("parse_unless", [flag, words @ ..]) => {
-                self.read_unless(alloc, flag.as_str(), words, answer)
+            ("parse_unless", [flag, words @ ..]) => self.read_unless(alloc, flag, words, answer),
+            ("words" | "parse_words" | "parse_promised" | "ignoring_counts", words) => {
+                let read = read_by(alloc, &self.side.options, word, words);
+                self.keep_read(read, answer);
             }
-            _ if reads(word) => self.read(alloc, word, fields, answer),
-            _ if declares(word) => declare(&mut self.side.options, word, fields, answer),
-            _ => self.ask(alloc, word, fields, answer),
+            _ if declares(word) => declare(&mut self.side.options, word, fields)?,
+            _ => self.ask(alloc, word, fields, answer)?,
         }
+        Ok(())
     }
 
-    /// Keeps a copy of the options and of the result of the last words.
-    fn keep(&mut self, answer: &mut Answer) {
-        match self.side.copied() {
-            Ok(side) => self.kept = Some(side),
-            Err(_) => answer.stop(Stop::NoMemory),
-        }
+    fn set_style(&mut self, style: &str) -> Result<(), Stop> {
+        self.side.options.parsing_style(match style {
+            "floating" => ParsingStyle::FloatingFrees,
+            "stop" => ParsingStyle::StopAtFirstFree,
+            _ => return Err(WRONG_FIELDS),
+        });
+        Ok(())
     }
 
-    fn set_style(&mut self, style: &str, answer: &mut Answer) {
-        match style {
-            "floating" => self.side.style(ParsingStyle::FloatingFrees),
-            "stop" => self.side.style(ParsingStyle::StopAtFirstFree),
-            _ => answer.stop(WRONG_FIELDS),
-        }
-    }
-
-    fn set_mode(&mut self, mode: &str, answer: &mut Answer) {
-        match mode {
-            "ordinary" => self.side.mode(false),
-            "long-only" => self.side.mode(true),
-            _ => answer.stop(WRONG_FIELDS),
-        }
-    }
-
-    /// Declares options in one chain of calls.
-    fn chain(&mut self, answer: &mut Answer) {
-        if chained(&mut self.side.options).is_err() {
-            answer.stop(Stop::NoMemory);
-        }
-    }
-
-    /// Parses words, and answers their result.
-    fn read(&mut self, alloc: Global, word: &str, words: &[String], answer: &mut Answer) {
-        let read = read_by(alloc, &self.side.options, word, words);
-        self.keep_read(read, answer);
+    fn set_mode(&mut self, mode: &str) -> Result<(), Stop> {
+        self.side.options.long_only(match mode {
+            "ordinary" => false,
+            "long-only" => true,
+            _ => return Err(WRONG_FIELDS),
+        });
+        Ok(())
     }
 
     /// Keeps the result of words, and answers it.
     fn keep_read(&mut self, read: getopts::Result, answer: &mut Answer) {
+        put_read(&read, answer);
         self.side.read = Some(read);
-        self.answer_read(answer);
     }
 
     /// Parses words that may request help or the version, and answers their result.
@@ -203,96 +167,94 @@ impl Session {
         answer.end();
     }
 
-    /// Answers the result of the last words.
-    fn answer_read(&self, answer: &mut Answer) {
-        match &self.side.read {
-            Some(Ok(matches)) => accessors::accepted(matches, answer),
-            Some(Err(fail)) => asks::refused(fail, answer),
-            None => answer.stop(WRONG_FIELDS),
-        }
-    }
-
-    /// Empties the free words.
-    fn clear(&mut self, answer: &mut Answer) {
-        if let Some(Ok(matches)) = &mut self.side.read {
+    /// Empties the free words, and answers the result of the last words.
+    fn clear(&mut self, answer: &mut Answer) -> Result<(), Stop> {
+        let Some(read) = &mut self.side.read else {
+            return Err(WRONG_FIELDS);
+        };
+        if let Ok(matches) = read {
             matches.free.clear();
         }
-        self.answer_read(answer);
+        put_read(read, answer);
+        Ok(())
     }
 
     /// Takes the words after `--` off the free words, and answers both.
-    fn take_trailing(&mut self, answer: &mut Answer) {
+    fn take_trailing(&mut self, answer: &mut Answer) -> Result<(), Stop> {
         answer.word("take_trailing");
         match &mut self.side.read {
             Some(Ok(matches)) => {
-                answer.given(matches.take_trailing());
+                matches.take_trailing()?.put(answer);
                 answer.next("free");
                 matches.free.put(answer);
             }
             _ => answer.field("nothing"),
         }
         answer.end();
+        Ok(())
     }
 
     /// Answers a question with a line.
-    fn ask(&self, alloc: Global, word: &str, fields: &[String], answer: &mut Answer) {
+    fn ask(
+        &self,
+        alloc: Global,
+        word: &str,
+        fields: &[String],
+        answer: &mut Answer,
+    ) -> Result<(), Stop> {
         answer.word(word);
-        match (word, fields) {
-            ("same", [what]) => self.same(what.as_str(), answer),
-            ("error", []) => self.error(answer),
-            _ if accessors::has(word) => self.ask_of_matches(alloc, word, fields, answer),
-            _ => asks::ask(alloc, &self.side.options, word, fields, answer),
+        match (word, fields, &self.side.read) {
+            ("same", [what], _) => self.same(what, answer)?,
+            ("error", [], Some(Err(fail))) => fail.to_string(alloc)?.put(answer),
+            ("error", [], _) => answer.field("nothing"),
+            (_, _, Some(Ok(matches))) if accessors::has(word) => {
+                accessors::ask(alloc, matches, word, fields, answer)?
+            }
+            _ if accessors::has(word) => answer.field("nothing"),
+            _ => asks::ask(alloc, &self.side.options, word, fields, answer)?,
         }
         answer.end();
+        Ok(())
     }
 
     /// Answers whether the kept and the current values are equal.
-    fn same(&self, what: &str, answer: &mut Answer) {
+    fn same(&self, what: &str, answer: &mut Answer) -> Result<(), Stop> {
+        let Some(kept) = &self.kept else {
+            return Err(WRONG_FIELDS);
+        };
+        let same = match what {
+            "options" => kept.options == self.side.options,
+            "answers" => same_reads(&kept.read, &self.side.read),
+            _ => return Err(WRONG_FIELDS),
+        };
         answer.field(what);
-        match &self.kept {
-            Some(kept) => match what {
-                "options" => (kept.options == self.side.options).put(answer),
-                "answers" => same_reads(&kept.read, &self.side.read).put(answer),
-                _ => answer.stop(WRONG_FIELDS),
-            },
-            None => answer.stop(WRONG_FIELDS),
-        }
-    }
-
-    /// Answers the text of the last words' error.
-    fn error(&self, answer: &mut Answer) {
-        match &self.side.read {
-            Some(Err(fail)) => answer.printed(fail),
-            _ => answer.field("nothing"),
-        }
-    }
-
-    /// Answers a question about the last words.
-    fn ask_of_matches(&self, alloc: Global, word: &str, fields: &[String], answer: &mut Answer) {
-        match self.side.matches() {
-            Some(matches) => accessors::ask(alloc, matches, word, fields, answer),
-            None => answer.field("nothing"),
-        }
+        same.put(answer);
+        Ok(())
     }
 }
 
-/// Whether a line with this word parses words.
-fn reads(word: &str) -> bool {
-    matches!(
-        word,
-        "words" | "parse_words" | "parse_filtered" | "parse_promised" | "ignoring_counts"
-    )
+/// Answers the result of words with a line: where the words after `--` begin, and the free words,
+/// or their error.
+fn put_read(read: &getopts::Result, answer: &mut Answer) {
+    match read {
+        Ok(matches) => {
+            answer.word("accepted");
+            matches.free_trailing_start().put(answer);
+            matches.free.put(answer);
+        }
+        Err(fail) => {
+            answer.word("refused");
+            put_fault(fail, answer);
+        }
+    }
+    answer.end();
 }
 
 /// The result of words from the call with this name.
 fn read_by(alloc: Global, options: &Options, word: &str, words: &[String]) -> getopts::Result {
     match word {
         "words" => options.parse(alloc, words.iter().map(|word| word.as_str())),
-        "parse_filtered" => options.parse(
-            alloc,
-            words.iter().map(|word| word.as_str()).filter(is_taken),
-        ),
-        "parse_promised" => options.parse(alloc, promised(words)),
+        "parse_promised" => options.parse(alloc, promised(words, usize::MAX, &Cell::new(0))),
         "parse_words" => options.parse_words(alloc, words),
         _ => options.parse_ignoring_counts(alloc, words),
     }
@@ -313,75 +275,44 @@ fn declares(word: &str) -> bool {
     )
 }
 
-/// Sets style and mode, and adds a group with each call, in one chain.
-fn chained(options: &mut Options) -> Result<(), AllocError> {
-    options
-        .parsing_style(ParsingStyle::StopAtFirstFree)
-        .long_only(true)
-        .optflag("a", "apple", "take an apple")?
-        .optopt("o", "output", "write to this file", "NAME")?
-        .parsing_style(ParsingStyle::FloatingFrees)
-        .optflagmulti("v", "verbose", "say more")?
-        .long_only(false)
-        .optmulti("L", "", "add a folder", "DIR")?
-        .optflagopt("c", "color", "colour the output", "WHEN")?
-        .reqopt("i", "input", "read this file", "NAME")?
-        .opt("t", "tag", "add a tag", "TAG", HasArg::Maybe, Occur::Multi)?
-        .long_only(true)
-        .parsing_style(ParsingStyle::StopAtFirstFree);
-    Ok(())
-}
-
 /// Adds a group with the call of this name.
-fn declare(options: &mut Options, word: &str, fields: &[String], answer: &mut Answer) {
+fn declare(options: &mut Options, word: &str, fields: &[String]) -> Result<(), Stop> {
     match fields {
-        [short, long, rest @ ..] => {
-            if !names_lawful(short.as_str(), long.as_str()) {
-                answer.stop(UNLAWFUL_NAMES);
-            } else if let Err(stop) = add(options, word, short.as_str(), long.as_str(), rest) {
-                answer.stop(stop);
-            }
+        [short, long, desc, rest @ ..] if names_lawful(short, long) => {
+            add(options, word, short, long, desc, rest)
         }
-        _ => answer.stop(UNKNOWN_LINE),
+        [_, _, _, ..] => Err(UNLAWFUL_NAMES),
+        _ => Err(UNKNOWN_LINE),
     }
 }
 
-/// Adds a group with these names and what the other fields say.
+/// Adds a group with these names, this description and what the other fields say.
 fn add(
     options: &mut Options,
     word: &str,
     short: &str,
     long: &str,
-    fields: &[String],
+    desc: &str,
+    rest: &[String],
 ) -> Result<(), Stop>
     requires { AreLawful short.now long.now }
 {
-    let added = match (word, fields) {
-        ("optflag", [desc]) => options.optflag(short, long, desc.as_str()).is_ok(),
-        ("optflagmulti", [desc]) => options.optflagmulti(short, long, desc.as_str()).is_ok(),
-        ("optflagopt", [desc, hint]) => options
-            .optflagopt(short, long, desc.as_str(), hint.as_str())
-            .is_ok(),
-        ("optmulti", [desc, hint]) => options
-            .optmulti(short, long, desc.as_str(), hint.as_str())
-            .is_ok(),
-        ("optopt", [desc, hint]) => options
-            .optopt(short, long, desc.as_str(), hint.as_str())
-            .is_ok(),
-        ("reqopt", [desc, hint]) => options
-            .reqopt(short, long, desc.as_str(), hint.as_str())
-            .is_ok(),
-        ("opt", [desc, hint, kind, occur]) => {
-            let (kind, occur) = (kind_of(kind.as_str())?, occur_of(occur.as_str())?);
-            options
-                .opt(short, long, desc.as_str(), hint.as_str(), kind, occur)
-                .is_ok()
-        }
-        ("add_group", [desc, hint, kind, occur]) => {
-            let (kind, occur) = (kind_of(kind.as_str())?, occur_of(occur.as_str())?);
-            options
-                .add_group(short, long, desc.as_str(), hint.as_str(), kind, occur)
-                .is_ok()
+    let added = match (word, rest) {
+        ("optflag", []) => options.optflag(short, long, desc).is_ok(),
+        ("optflagmulti", []) => options.optflagmulti(short, long, desc).is_ok(),
+        ("optflagopt", [hint]) => options.optflagopt(short, long, desc, hint).is_ok(),
+        ("optmulti", [hint]) => options.optmulti(short, long, desc, hint).is_ok(),
+        ("optopt", [hint]) => options.optopt(short, long, desc, hint).is_ok(),
+        ("reqopt", [hint]) => options.reqopt(short, long, desc, hint).is_ok(),
+        ("opt" | "add_group", [hint, kind, occur]) => {
+            let (kind, occur) = (kind_of(kind)?, occur_of(occur)?);
+            if word == "opt" {
+                options.opt(short, long, desc, hint, kind, occur).is_ok()
+            } else {
+                options
+                    .add_group(short, long, desc, hint, kind, occur)
+                    .is_ok()
+            }
         }
         _ => return Err(UNKNOWN_LINE),
     };

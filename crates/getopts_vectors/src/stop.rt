@@ -2,6 +2,7 @@
 
 use std::alloc::{AllocError, AllocFailed};
 use std::fmt;
+use std::io::{self, ErrorKind};
 
 /// Why a run ended early.
 #[derive(Clone, Copy)]
@@ -16,8 +17,6 @@ pub enum Stop {
     NotWritten,
 }
 
-/// The line isn't UTF-8.
-pub const NOT_TEXT: Stop = Stop::Line(0, "not UTF-8");
 /// No line has this word and this number of fields.
 pub const UNKNOWN_LINE: Stop = Stop::Line(0, "unknown word or wrong number of fields");
 /// The line's word doesn't take these fields.
@@ -38,6 +37,15 @@ impl From<AllocError> for Stop {
 impl<T: Drop> From<AllocFailed<T>> for Stop {
     fn from(_error: AllocFailed<T>) -> Stop {
         Stop::NoMemory
+    }
+}
+
+impl From<io::Error> for Stop {
+    fn from(error: io::Error) -> Stop {
+        match error.kind() {
+            ErrorKind::OutOfMemory => Stop::NoMemory,
+            _ => Stop::NotRead,
+        }
     }
 }
 

@@ -2,10 +2,11 @@
 //! replaces.
 #![no_std]
 
-// Not `*`: if another package sets the feature `proved` of `proved-getopts`, a program with `use
-// getopts::*` would get modules such as `alloc` and `bytes`, whose names may mean crates there.
+// Not `*`, since a program may have `use getopts::*`. There, `iter` may mean `std::iter`. If
+// another package sets the feature `proved` of `proved-getopts`, the program would also get modules
+// such as `alloc` and `bytes`, whose names may mean crates.
 pub use ::getopts::{
-    Fail, Given, HasArg, Matches, Occur, Options, OsGetError, OsMatches, ParsingStyle, Result, iter,
+    Fail, Given, HasArg, Matches, Occur, Options, OsGetError, OsMatches, ParsingStyle, Result,
 };
 #[cfg(feature = "proved")]
-pub use ::getopts::{alloc, bytes, bytes_of, fallible, proved};
+pub use ::getopts::{alloc, fallible, proved};

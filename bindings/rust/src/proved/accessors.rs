@@ -12,7 +12,12 @@ use core::str::FromStr;
 /// A copy of a text, if there is one.
 fn copied(alloc: Global, text: Option<&str>) -> Result<Option<String>, AllocError> {
     match text {
-        Some(text) => Ok(Some(String::copy_of(alloc, text)?)),
+        Some(text) => {
+            // `String::from_str` promises no success, even for an empty text.
+            let mut copy = String::of_capacity(alloc, text.len())?;
+            copy.try_push_str(text)?;
+            Ok(Some(copy))
+        }
         None => Ok(None),
     }
 }
@@ -30,7 +35,7 @@ impl Matches {
     /// Borrows the occurrences of the option group at an index, in command-line order.
     ///
     /// `opt_place` gives the index of a name. The result is empty if the option wasn't given, or if
-    /// there is no such group. After `-v -o x`, with `optopt("o",..)` and `optflag("v",..)`, index
+    /// there is no such group. After `-v -o x`, with `optopt("o",..)` and `optflag("v",..)`, place
     /// 0 has one occurrence, with position 1 and the value `x`. The Rust crate has no such method.
     #[inline]
     pub fn occurrences_at(&self, place: usize) -> Occurrences<'_> {

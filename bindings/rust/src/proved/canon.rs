@@ -33,8 +33,8 @@ fn are_plain(groups: &Groups, found: &LineOccurrences) -> bool {
     if groups.len() < found.len() && !declare_equals(groups) {
         return true;
     }
-    for place in 0..found.len() {
-        if holds_equals(groups.main(found.at(place).group)) {
+    for index in 0..found.len() {
+        if holds_equals(groups.main(found.at(index).place)) {
             return false;
         }
     }
@@ -62,10 +62,10 @@ fn option_words(
     more: usize,
 ) -> Result<Vec<String>, AllocError> {
     let mut words = Vec::of_capacity(alloc, found.len().saturating_add(more))?;
-    for place in 0..found.len() {
-        let occurrence = found.at(place);
+    for index in 0..found.len() {
+        let occurrence = found.at(index);
         let value = occurrence.value;
-        words.try_push(canonical_word(alloc, groups.main(occurrence.group), value)?)?;
+        words.try_push(canonical_word(alloc, groups.main(occurrence.place), value)?)?;
     }
     Ok(words)
 }
@@ -119,8 +119,8 @@ impl Options {
     ) -> Result<Option<Vec<String>>, Fail> {
         let accepted = self.accepted_line(alloc, words)?;
         let groups = self.groups();
-        if are_plain(groups, &accepted.line.found) {
-            Ok(Some(canonical_line(alloc, groups, accepted.line)?))
+        if are_plain(groups, &accepted.found) {
+            Ok(Some(canonical_line(alloc, groups, accepted)?))
         } else {
             Ok(None)
         }

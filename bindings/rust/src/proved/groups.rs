@@ -4,9 +4,8 @@
 use crate::fallible::*;
 
 use super::kinds::Kinds;
-use super::signatures::{
-    FIRST_GROUPS, FIRST_TEXT, PairEnds, SignatureView, Signatures, first_at, push_pair, second_at,
-};
+use super::pairs::{FIRST_TEXT, PairEnds, first_at, push_pair, second_at};
+use super::signatures::{FIRST_GROUPS, SignatureView, Signatures};
 use crate::alloc::{AllocError, Global};
 
 /// A group with its hint and description, borrowed.
@@ -24,7 +23,7 @@ impl<'g> PartialEq for GroupView<'g> {
 }
 
 /// Validly named groups: their names and kinds, one text with all hints and descriptions, and the
-/// places of each group's hint and description in that text.
+/// ends of each group's hint and description in that text.
 #[derive(Debug)]
 pub(crate) struct Groups {
     signatures: Signatures,

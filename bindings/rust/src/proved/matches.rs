@@ -12,14 +12,6 @@ use super::signatures::Signatures;
 use super::table::Table;
 use crate::alloc::{AllocError, Global};
 
-/// A command line that was read, with the table of names that it was read by, and its occurrences
-/// indexed by group.
-pub(crate) struct ReadLine {
-    pub table: Table,
-    pub line: Line,
-    pub index: Index,
-}
-
 /// The result of parsing a command line: its options by name, and its free words.
 ///
 /// After `let matches = options.parse_words(alloc, &["-v", "a"])?`, `matches.opt_present("v")` is
@@ -35,8 +27,12 @@ pub struct Matches {
 
 impl Matches {
     /// The matches of a command line, for groups with these names and kinds.
-    pub(crate) fn of_line(signatures: Signatures, read: ReadLine) -> Matches {
-        let ReadLine { table, line, index } = read;
+    pub(crate) fn of_line(
+        signatures: Signatures,
+        table: Table,
+        line: Line,
+        index: Index,
+    ) -> Matches {
         let Line {
             found,
             free,
@@ -115,7 +111,7 @@ impl MatchedGroups {
     /// The occurrences of the group at `place`.
     #[inline]
     pub(crate) fn occurrences_at(&self, place: usize) -> Occurrences<'_> {
-        Occurrences::of(&self.found, self.index.places(place))
+        Occurrences::of(&self.found, self.index.indices(place))
     }
 
     /// The occurrences of the group that a name resolves to, none if it is undefined.

@@ -18,45 +18,33 @@
 //! Attributes `inline` and initial capacities stay only where measuring showed that they save
 //! instructions.
 
-// Which pairs of names are valid.
-mod names;
-// Parsing styles, and the kinds of options.
-mod kinds;
-// The names and kinds of option groups, stored together: one text with all names, and a record for
-// each group.
-mod signatures;
-// Declared groups: signatures with their hints and descriptions.
+// What a caller declares.
 mod groups;
-// What a caller declares: groups, a style and a mode.
+mod kinds;
+mod names;
 mod options;
-// Why a command line is rejected.
-mod fail;
-// The table that names are looked up in.
-mod table;
-// The occurrences of options in a command line, all together and of one group.
-mod occurrences;
-// Reading words as items, from the first to the last.
-mod scan;
-// Which occurrences belong to which group.
-mod index;
-// Whether options occur as often as they may.
+mod pairs;
+mod signatures;
+
+// Reading a command line.
 mod counts;
-// The result of parsing, and how it is copied and compared.
-pub(crate) mod matches;
-// What matches return for a name.
+mod fail;
+mod index;
+mod occurrences;
+pub(crate) mod scan;
+pub(crate) mod table;
+
+// What callers get.
 mod accessors;
-// Parsing: words are scanned, then counts are checked.
-mod parse;
-// Parsing, unless help or the version is requested.
-mod request;
-// Rewriting a command line with main names only.
 mod canon;
-// Descriptions in rows.
-pub mod wrap;
-// One group's row in a usage text.
+pub(crate) mod matches;
+mod parse;
+mod request;
+
+// Help texts.
 mod row;
-// Usage texts.
 mod usage;
+pub mod wrap;
 
 pub use fail::Fail;
 pub use kinds::{HasArg, Occur, ParsingStyle};

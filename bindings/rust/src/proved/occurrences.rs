@@ -5,30 +5,23 @@ use crate::fallible::*;
 
 use crate::alloc::{AllocError, Global};
 
-/// Where a text is in a longer one. If it ends before it starts, there is no text.
-#[derive(Clone, Copy, Debug)]
-pub(crate) struct Span {
-    pub start: usize,
-    pub end: usize,
-}
-
-/// The place of no text.
-const NO_TEXT: Span = Span { start: 1, end: 0 };
-
 /// A stored occurrence of an option: the place of its group, the index of its item's first word,
-/// and where its value is in the text of all values, if it has one.
+/// and its value.
+///
+/// In the text of all values, a value ends where that of the next record starts. `value` is twice
+/// the place where it starts, plus one if there is a value.
 #[derive(Clone, Copy, Debug)]
 pub(crate) struct OccurrenceRecord {
-    pub group: usize,
+    pub place: usize,
     pub position: usize,
-    pub value: Span,
+    pub value: usize,
 }
 
 /// An occurrence of an option, borrowed: the place of its group, the index of its item's first
 /// word, and its value if it has one.
 #[derive(Clone, Copy)]
 pub(crate) struct Occurrence<'l> {
-    pub group: usize,
+    pub place: usize,
     pub position: usize,
     pub value: Option<&'l str>,
 }
@@ -36,19 +29,48 @@ pub(crate) struct Occurrence<'l> {
 /// Bytes reserved for all values when the first one is stored.
 const FIRST_VALUES: usize = 64;
 
-/// Appends a value, and returns where it is. The first value that isn't empty reserves
-/// `FIRST_VALUES` bytes.
+/// Lists of more records, and values of more bytes, give back memory that they don't use.
+const FIRST_LONG: usize = 1024;
+
+/// Appends a text. The first one that isn't empty reserves `FIRST_VALUES` bytes.
 #[inline(always)]
-fn push_value(values: &mut String, value: &str) -> Result<Span, AllocError> {
-    let start = values.len();
-    if start == 0 && !value.is_empty() {
+fn push_text(values: &mut String, text: &str) -> Result<(), AllocError> {
+    if values.is_empty() && !text.is_empty() {
         values.try_grow(FIRST_VALUES)?;
     }
-    values.try_push_str(value)?;
-    Ok(Span {
-        start,
-        end: values.len(),
-    })
+    values.try_push_str(text)
+}
+
+/// Appends a value, if there is one, and returns what its record stores.
+#[inline(always)]
+fn push_value(values: &mut String, value: Option<&str>) -> Result<usize, AllocError> {
+    let start = values.len();
+    match value {
+        Some(text) => {
+            push_text(values, text)?;
+            Ok(2 * start + 1)
+        }
+        None => Ok(2 * start),
+    }
+}
+
+/// The value that starts here among all values, and ends where that of the record at `next` starts.
+#[inline(always)]
+fn value_from<'v>(
+    values: &'v str,
+    start: usize,
+    records: &[OccurrenceRecord],
+    next: usize,
+) -> Option<&'v str> {
+    let end = match records.get(next) {
+        Some(record) => record.value / 2,
+        None => values.len(),
+    };
+    if start <= end {
+        Some(&values[start..end])
+    } else {
+        None
+    }
 }
 
 /// The options in a command line, in order, and their values as one text.
@@ -67,25 +89,30 @@ impl LineOccurrences {
         })
     }
 
-    /// Makes room for this many more options.
-    pub(crate) fn try_grow(&mut self, room: usize) -> Result<(), AllocError> {
-        self.records.try_grow_exact(room)
+    /// Gives back memory of long lists, which `push` may have grown to twice what they need.
+    #[inline]
+    pub(crate) fn shrink(&mut self) {
+        if self.records.len() > FIRST_LONG {
+            self.records.try_shrink();
+        }
+        if self.values.len() > FIRST_LONG {
+            self.values.try_shrink();
+        }
     }
 
     pub(crate) fn len(&self) -> usize {
         self.records.len()
     }
 
-    /// The occurrence at `place`.
+    /// The occurrence at `index`.
     #[inline(always)]
-    pub(crate) fn at(&self, place: usize) -> Occurrence<'_> {
-        let held = self.records[place];
-        let Span { start, end } = held.value;
+    pub(crate) fn at(&self, index: usize) -> Occurrence<'_> {
+        let held = self.records[index];
         Occurrence {
-            group: held.group,
+            place: held.place,
             position: held.position,
-            value: if start <= end {
-                Some(&self.values[start..end])
+            value: if held.value % 2 == 1 {
+                value_from(&self.values, held.value / 2, &self.records, index + 1)
             } else {
                 None
             },
@@ -96,20 +123,16 @@ impl LineOccurrences {
     #[inline(always)]
     pub(crate) fn try_push(
         &mut self,
-        group: usize,
+        place: usize,
         position: usize,
         value: Option<&str>,
     ) -> Result<(), AllocError> {
-        self.records.try_grow(1)?;
-        let value = match value {
-            Some(text) => push_value(&mut self.values, text)?,
-            None => NO_TEXT,
-        };
-        self.records.push_reserved(OccurrenceRecord {
-            group,
+        let value = push_value(&mut self.values, value)?;
+        self.records.try_push(OccurrenceRecord {
+            place,
             position,
             value,
-        });
+        })?;
         Ok(())
     }
 }
@@ -134,18 +157,18 @@ impl TryClone for LineOccurrences {
 #[derive(Debug)]
 pub struct Occurrences<'m> {
     found: &'m LineOccurrences,
-    places: &'m [usize],
+    indices: &'m [usize],
 }
 
 impl<'m> Occurrences<'m> {
-    /// The occurrences at these places of a command line.
-    pub(crate) fn of(found: &'m LineOccurrences, places: &'m [usize]) -> Occurrences<'m> {
-        Occurrences { found, places }
+    /// The occurrences at these indices of a command line.
+    pub(crate) fn of(found: &'m LineOccurrences, indices: &'m [usize]) -> Occurrences<'m> {
+        Occurrences { found, indices }
     }
 
     /// The number of occurrences.
     pub fn len(&self) -> usize {
-        self.places.len()
+        self.indices.len()
     }
 
     /// Whether there are no occurrences.
@@ -166,7 +189,7 @@ impl<'m> Occurrences<'m> {
     /// The occurrence at an index that is in range.
     #[inline]
     fn at(&self, nth: usize) -> Occurrence<'m> {
-        self.found.at(self.places[nth])
+        self.found.at(self.indices[nth])
     }
 
     pub(crate) fn positions(&self, alloc: Global) -> Result<Vec<usize>, AllocError> {
@@ -216,12 +239,6 @@ impl<'m> Occurrences<'m> {
         if self.is_empty() && other.is_empty() {
             return true;
         }
-        same_at(self.found, self.places, other.found, other.places)
-    }
-
-    /// Like `same`, which calls it if there are occurrences.
-    #[inline(always)]
-    fn same_items(&self, other: &Occurrences<'_>) -> bool {
         if self.len() != other.len() {
             return false;
         }
@@ -232,18 +249,6 @@ impl<'m> Occurrences<'m> {
         }
         true
     }
-}
-
-/// Whether two command lines have the same occurrences at these places.
-// Inlined, it would slow down the loop over groups, most of which have no occurrences.
-#[inline(never)]
-fn same_at(
-    found: &LineOccurrences,
-    places: &[usize],
-    other: &LineOccurrences,
-    others: &[usize],
-) -> bool {
-    Occurrences::of(found, places).same_items(&Occurrences::of(other, others))
 }
 
 impl<'m> IntoIterator for Occurrences<'m> {

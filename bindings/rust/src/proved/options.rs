@@ -14,7 +14,6 @@ use crate::alloc::{AllocError, Global};
 /// add groups, `parse` reads a command line, and `usage` formats help.
 #[derive(Debug)]
 pub struct Options {
-    alloc: Global,
     groups: Groups,
     style: ParsingStyle,
     long_only: bool,
@@ -26,7 +25,6 @@ impl Options {
     /// Allocates nothing. Methods that add a group use `alloc`, which the Rust crate doesn't take.
     pub fn new(alloc: Global) -> Options {
         Options {
-            alloc,
             groups: Groups::new(alloc),
             style: ParsingStyle::FloatingFrees,
             long_only: false,
@@ -231,7 +229,6 @@ impl TryClone for Options {
     /// Copies the groups in order, the style and the mode. Fails only if an allocation fails.
     fn try_clone(&self) -> Result<Options, AllocError> {
         Ok(Options {
-            alloc: self.alloc,
             groups: self.groups.try_clone()?,
             style: self.style,
             long_only: self.long_only,

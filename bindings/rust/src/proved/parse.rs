@@ -6,9 +6,9 @@ use crate::fallible::*;
 use super::counts::check_counts;
 use super::fail::Fail;
 use super::index::Index;
-use super::matches::{Matches, ReadLine};
+use super::matches::Matches;
 use super::options::Options;
-use super::scan::{FIRST_ROOM, Given, OrderedLine, Scanner, are_texts};
+use super::scan::{FIRST_ROOM, Given, Line, Scanner, are_texts};
 use super::table::Table;
 use crate::alloc::{AllocError, Global};
 use crate::convert::AsStr;
@@ -25,9 +25,9 @@ impl Options {
     /// and `["--output=file", "x"]` all give `output` the value `file`, and the free word `x`.
     ///
     /// The Rust crate has no such method: its `parse` takes an iterator.
+    #[inline]
     pub fn parse_words<S: AsStr>(&self, alloc: Global, words: &[S]) -> super::Result {
-        let accepted = self.accepted_line(alloc, words)?;
-        Ok(Matches::of_line(self.signatures().try_clone()?, accepted))
+        self.read_matches(alloc, words, true)
     }
 
     /// Parses a command line like `parse_words`, but doesn't check how often options occur.
@@ -38,7 +38,7 @@ impl Options {
     /// occur several times. Otherwise, it returns the same error as `parse_words`. The Rust crate
     /// has no such method.
     pub fn parse_ignoring_counts<S: AsStr>(&self, alloc: Global, words: &[S]) -> super::Result {
-        self.read_matches(alloc, words)
+        self.read_matches(alloc, words, false)
     }
 
     /// Parses a command line like `parse_words`, from an iterator.
@@ -57,11 +57,10 @@ impl Options {
     /// Use it if the order of different options matters, for example if the last of `-q` and `-v`
     /// wins, or if an option applies to the free words after it, as in `-C a f -C b g`. (Positions
     /// don't help: options in one word, such as `-vq`, share a position, and free words have none.)
-    /// Each option is returned as its index in the order of declaration, as from `opt_place`. With
-    /// the options `q` and `v`, `["-vq", "x", "-v"]` gives `Option(1)`, `Option(0)`, `Free("x")`
-    /// and `Option(1)`. If an index occurs for the nth time in the list, the option's value is in
-    /// the nth occurrence of `occurrences_at` for that index. The nth free word in the list is the
-    /// nth of `free`.
+    /// Each option is returned as its place, as from `opt_place`, with its value; no text is
+    /// copied. With the options `v` and `o`, the second of which needs an argument,
+    /// `["-vofile", "x"]` gives `Option { place: 0, value: None }`,
+    /// `Option { place: 1, value: Some("file") }` and `Free("x")`.
     ///
     /// Fails exactly as `parse_words` does. The Rust crate has no such method.
     pub fn parse_in_order<'w, S: AsStr>(
@@ -69,49 +68,6 @@ impl Options {
         alloc: Global,
         words: &'w [S],
     ) -> Result<Vec<Given<'w>>, Fail> {
-        let line = self.accepted_in_order(alloc, words)?;
-        Ok(line.order)
-    }
-
-    /// The matches of a command line, without checking its counts.
-    pub(crate) fn read_matches<S: AsStr>(&self, alloc: Global, words: &[S]) -> super::Result {
-        let read = self.read_line(alloc, words)?;
-        Ok(Matches::of_line(self.signatures().try_clone()?, read))
-    }
-
-    /// Reads a command line, and checks its counts.
-    #[inline(always)]
-    pub(crate) fn accepted_line<S: AsStr>(
-        &self,
-        alloc: Global,
-        words: &[S],
-    ) -> Result<ReadLine, Fail> {
-        let read = self.read_line(alloc, words)?;
-        check_counts(alloc, self.signatures(), &read.index)?;
-        Ok(read)
-    }
-
-    /// Reads a command line without checking its counts.
-    #[inline(always)]
-    fn read_line<S: AsStr>(&self, alloc: Global, words: &[S]) -> Result<ReadLine, Fail> {
-        are_texts(words);
-        let signatures = self.signatures();
-        let table = Table::of(alloc, signatures)?;
-        let scanner = Scanner {
-            options: self,
-            table: &table,
-        };
-        let line = scanner.scan(alloc, words)?;
-        let index = Index::of(alloc, signatures.len(), &line.found)?;
-        Ok(ReadLine { table, line, index })
-    }
-
-    /// Reads a command line with the order of its options and free words, and checks its counts.
-    pub(crate) fn accepted_in_order<'w, S: AsStr>(
-        &self,
-        alloc: Global,
-        words: &'w [S],
-    ) -> Result<OrderedLine<'w>, Fail> {
         are_texts(words);
         let signatures = self.signatures();
         let table = Table::of(alloc, signatures)?;
@@ -122,7 +78,78 @@ impl Options {
         let line = scanner.scan_in_order(alloc, words)?;
         let index = Index::of(alloc, signatures.len(), &line.found)?;
         check_counts(alloc, signatures, &index)?;
+        Ok(line.order)
+    }
+
+    /// The matches of a command line, with its counts checked if `counted`.
+    #[inline]
+    pub(crate) fn read_matches<S: AsStr>(
+        &self,
+        alloc: Global,
+        words: &[S],
+        counted: bool,
+    ) -> super::Result {
+        are_texts(words);
+        let table = Table::of(alloc, self.signatures())?;
+        let line = Line::for_words(alloc, words, self.style())?;
+        self.read_rest(alloc, table, line, 0, words, counted)
+    }
+
+    /// Reads the last words of a command line, and returns the matches of the whole line. `line`
+    /// has what the words before them, `before` in number, gave. Checks the counts if `counted`.
+    #[inline(always)]
+    pub(crate) fn read_rest<S: AsStr>(
+        &self,
+        alloc: Global,
+        table: Table,
+        line: Line,
+        before: usize,
+        words: &[S],
+        counted: bool,
+    ) -> super::Result {
+        let mut line = line;
+        let index = self.read_line(alloc, &table, &mut line, before, words, counted)?;
+        Ok(Matches::of_line(
+            self.signatures().try_clone()?,
+            table,
+            line,
+            index,
+        ))
+    }
+
+    /// Reads an accepted command line.
+    pub(crate) fn accepted_line<S: AsStr>(&self, alloc: Global, words: &[S]) -> Result<Line, Fail> {
+        are_texts(words);
+        let table = Table::of(alloc, self.signatures())?;
+        let mut line = Line::for_words(alloc, words, self.style())?;
+        self.read_line(alloc, &table, &mut line, 0, words, true)?;
         Ok(line)
+    }
+
+    /// Reads the last words of a command line into `line`, and returns the index of all its
+    /// occurrences. Checks the counts if `counted`.
+    #[inline]
+    fn read_line<S: AsStr>(
+        &self,
+        alloc: Global,
+        table: &Table,
+        line: &mut Line,
+        before: usize,
+        words: &[S],
+        counted: bool,
+    ) -> Result<Index, Fail> {
+        let signatures = self.signatures();
+        let scanner = Scanner {
+            options: self,
+            table,
+        };
+        let used = scanner.scan(alloc, words, before, words.len(), line)?;
+        line.end(alloc, &words[used..])?;
+        let index = Index::of(alloc, signatures.len(), &line.found)?;
+        if counted {
+            check_counts(alloc, signatures, &index)?;
+        }
+        Ok(index)
     }
 }
 

@@ -31,7 +31,7 @@ impl Options {
         alloc: Global,
         words: &[S],
     ) -> Result<Request<Matches>, Fail> {
-        let matches = self.read_matches(alloc, words)?;
+        let matches = self.read_matches(alloc, words, false)?;
         if matches.has("help") {
             return Ok(Request::Help);
         }
@@ -55,7 +55,7 @@ impl Options {
         words: &[S],
         flag: &str,
     ) -> Result<Option<Matches>, Fail> {
-        let read = self.read_matches(alloc, words)?;
+        let read = self.read_matches(alloc, words, false)?;
         if read.has(flag) {
             return Ok(None);
         }

@@ -11,10 +11,12 @@ use super::table::Table;
 use crate::alloc::{AllocError, Global};
 use crate::convert::AsStr;
 
-/// The most words, options and free words for which memory is reserved without looking at the
-/// words: an iterator may yield fewer words than it promises. For more words, `reserve` counts
-/// the dashed ones first; short lines aren't worth it.
+/// The most words for which memory is reserved without looking at them: an iterator may yield fewer
+/// words than it promises.
 pub(crate) const FIRST_ROOM: usize = 32;
+
+/// How many words tell how many of a longer line's words are dashed.
+const SAMPLE: usize = 1024;
 
 /// A lemma for proofs, which compiles to nothing: a `&str` is UTF-8.
 fn is_text(word: &str) {}
@@ -36,33 +38,50 @@ pub(crate) struct Line {
 }
 
 impl Line {
-    /// An empty line, with room for `room` options and `room` free words.
-    pub(crate) fn of_capacity(alloc: Global, room: usize) -> Result<Line, AllocError> {
+    /// An empty line, with room for as many options as there are dashed words, and for as many free
+    /// words as there are others.
+    #[inline(always)]
+    pub(crate) fn for_words<S: AsStr>(
+        alloc: Global,
+        words: &[S],
+        style: ParsingStyle,
+    ) -> Result<Line, AllocError> {
+        let dashed = dashed_words(words, style == ParsingStyle::StopAtFirstFree);
         Ok(Line {
-            found: LineOccurrences::of_capacity(alloc, room)?,
-            free: Vec::of_capacity(alloc, room)?,
+            found: LineOccurrences::of_capacity(alloc, dashed)?,
+            free: Vec::of_capacity(alloc, words.len().saturating_sub(dashed))?,
             trailing_start: None,
         })
     }
 
-    /// Makes room for the results of more than `FIRST_ROOM` words: for as many options as there are
-    /// dashed words, and for as many free words as there are others. For fewer words,
-    /// `with_capacity` made room.
-    fn try_grow<S: AsStr>(&mut self, words: &[S], stops: bool) -> Result<(), AllocError> {
-        if words.len() <= FIRST_ROOM {
-            return Ok(());
+    /// Ends the line with words that aren't read as items: free words, or `--` and free words. No
+    /// more options follow, so gives back memory that was reserved for them.
+    #[inline(always)]
+    pub(crate) fn end<S: AsStr>(&mut self, alloc: Global, words: &[S]) -> Result<(), AllocError> {
+        self.found.shrink();
+        self.trailing_start = None;
+        match words.first() {
+            Some(word) if is_dashed(word.as_str()) => {
+                let after = &words[1..];
+                self.trailing_start = (!after.is_empty()).then_some(self.free.len());
+                push_copies(alloc, &mut self.free, after)
+            }
+            Some(_) => push_copies(alloc, &mut self.free, words),
+            None => Ok(()),
         }
-        let dashed = dashed_words(words, stops);
-        self.found.try_grow(dashed)?;
-        self.free.try_grow_exact(words.len().saturating_sub(dashed))
     }
 }
 
 /// An option or a free word in a command line, as `parse_in_order` returns them.
 #[derive(Clone, Copy, Debug, PartialEq, Eq)]
 pub enum Given<'w> {
-    /// An option, as its index in the order of declaration.
-    Option(usize),
+    /// An option.
+    Option {
+        /// Its place: its index in the order of declaration.
+        place: usize,
+        /// Its value, if it has one.
+        value: Option<&'w str>,
+    },
     /// A free word.
     Free(&'w str),
 }
@@ -140,36 +159,34 @@ fn push_free_words<'w, S: AsStr>(
     Ok(())
 }
 
-/// Appends the options from this place on.
-fn push_options(
-    order: &mut Vec<Given<'_>>,
+/// Appends the options from this index on. If one has a value, it is `value`.
+fn push_options<'w>(
+    order: &mut Vec<Given<'w>>,
     found: &LineOccurrences,
     first: usize,
+    value: Option<&'w str>,
 ) -> Result<(), AllocError> {
-    for place in first..found.len() {
-        order.try_push(Given::Option(found.at(place).group))?;
+    for index in first..found.len() {
+        let option = found.at(index);
+        order.try_push(Given::Option {
+            place: option.place,
+            value: option.value.and(value),
+        })?;
     }
     Ok(())
 }
 
 /// The text after a leading dash, if there is one.
 fn after_dash(text: &str) -> Option<&str> {
-    if text.is_empty() || text.as_bytes()[0] != b'-' {
-        return None;
-    }
-    Some(&text[1..])
+    text.strip_prefix('-')
 }
 
-/// The name in the text of a long item, and the attached argument. Goes byte by byte up to the
-/// first `=`, or to the end.
+/// The name in the text of a long item, and the attached argument, which follows the first `=`.
 fn name_and_argument(text: &str) -> (&str, Option<&str>) {
-    let bytes = text.as_bytes();
-    for at in 0..bytes.len() {
-        if bytes[at] == b'=' {
-            return (&text[..at], Some(&text[at + 1..]));
-        }
+    match text.split_once('=') {
+        Some((name, argument)) => (name, Some(argument)),
+        None => (text, None),
     }
-    (text, None)
 }
 
 /// Whether a word is dashed: it begins with `-` and is longer than that.
@@ -180,19 +197,28 @@ fn is_dashed(word: &str) -> bool {
     }
 }
 
-/// How many words are dashed, up to the word that ends the options. The number only determines how
-/// much to reserve, so a wrong one would cost only memory or time.
+/// About how many words are dashed, up to the word that ends the options, judging by the first
+/// `SAMPLE` words. The number only determines how much to reserve, so a wrong one would cost only
+/// memory or time.
 fn dashed_words<S: AsStr>(words: &[S], stops: bool) -> usize {
     let mut dashed: usize = 0;
-    'words: for word in words {
-        match word.as_str().as_bytes() {
-            [b'-', b'-'] => break 'words,
-            [b'-', _, ..] => dashed = dashed.saturating_add(1),
-            _ if stops => break 'words,
+    for word in &words[..words.len().min(SAMPLE)] {
+        let bytes = word.as_str().as_bytes();
+        match bytes {
+            [b'-', second, ..] => {
+                if *second == b'-' && bytes.len() == 2 {
+                    return dashed;
+                }
+                dashed = dashed.saturating_add(1);
+            }
+            _ if stops => return dashed,
             _ => {}
         }
     }
-    dashed
+    if words.len() <= SAMPLE {
+        return dashed;
+    }
+    dashed.saturating_mul(words.len()) / SAMPLE
 }
 
 /// The first character of a text, as a text.
@@ -231,7 +257,7 @@ impl<'o> Scanner<'o> {
     }
 
     /// Reads a long item: `text` follows the dashes in its first word, and `after` is the words
-    /// after that. Appends the item's occurrence, and returns how many words of `after` it used.
+    /// after that. Appends the item's occurrence, and returns its argument.
     #[inline(always)]
     fn read_long<'w, S: AsStr>(
         &self,
@@ -240,7 +266,7 @@ impl<'o> Scanner<'o> {
         after: &'w [S],
         position: usize,
         found: &mut LineOccurrences,
-    ) -> Result<usize, Fail> {
+    ) -> Result<Argument<'w>, Fail> {
         let (name, argument) = name_and_argument(text);
         let option = match self.option(name) {
             Some(option) => option,
@@ -257,53 +283,52 @@ impl<'o> Scanner<'o> {
             (HasArg::Maybe, argument) => (argument, 0),
         };
         found.try_push(option.place, position, value)?;
-        Ok(used)
-    }
-
-    /// The option that a byte in a cluster names. A byte that isn't ASCII is never a name.
-    fn option_at(&self, byte: u8) -> Option<Resolved> {
-        if !byte.is_ascii() {
-            return None;
-        }
-        let place = self.table.resolve_byte(byte)?;
-        let kind = self.options.signatures().record(place).kinds.kind;
-        Some(Resolved { place, kind })
+        Ok(Argument { value, used })
     }
 
     /// Reads a cluster: `text` follows the dash in its first word, and `after` is the words after
-    /// that. Appends the cluster's occurrences, and returns how many words of `after` it used.
+    /// that. Appends the cluster's occurrences, and returns its argument, which belongs to its last
+    /// option.
     #[inline(always)]
-    fn cluster<S: AsStr>(
+    fn cluster<'w, S: AsStr>(
         &self,
         alloc: Global,
-        text: &str,
-        after: &[S],
+        text: &'w str,
+        after: &'w [S],
         position: usize,
         found: &mut LineOccurrences,
-    ) -> Result<usize, Fail> {
+    ) -> Result<Argument<'w>, Fail> {
         'names: for at in 0..text.len() {
-            match self.option_at(text.as_bytes()[at]) {
-                None => {
-                    let name = first_character(&text[at..]);
-                    return Err(Fail::unrecognized_option(alloc, name));
-                }
+            if !text.as_bytes()[at].is_ascii() {
+                let name = first_character(&text[at..]);
+                return Err(Fail::unrecognized_option(alloc, name));
+            }
+            let name = &text[at..at + 1];
+            match self.option(name) {
+                None => return Err(Fail::unrecognized_option(alloc, name)),
                 Some(Resolved {
                     place,
                     kind: HasArg::No,
                 }) => found.try_push(place, position, None)?,
                 Some(Resolved { place, kind }) => {
-                    let name = &text[at..at + 1];
                     let argument = last_argument(alloc, kind, name, &text[at + 1..], after)?;
                     found.try_push(place, position, argument.value)?;
-                    return Ok(argument.used);
+                    return Ok(argument);
                 }
             }
         }
-        Ok(0)
+        Ok(Argument {
+            value: None,
+            used: 0,
+        })
     }
 
     /// How a word is read. In long-only mode, a long item may begin with one dash.
+    #[inline(always)]
     fn shape<'w>(&self, word: &'w str) -> Shape<'w> {
+        if !is_dashed(word) {
+            return Shape::Free;
+        }
         let text = match after_dash(word) {
             Some(text) => text,
             None => return Shape::Free,
@@ -311,44 +336,50 @@ impl<'o> Scanner<'o> {
         match after_dash(text) {
             Some(long) if long.is_empty() => Shape::Stop,
             Some(long) => Shape::Long(long),
-            None if text.is_empty() => Shape::Free,
             None if self.options.is_long_only() => Shape::Long(text),
             None => Shape::Cluster(text),
         }
     }
 
-    /// Reads a command line: its items, and what follows `--` or the first free word.
-    pub(crate) fn scan<S: AsStr>(&self, alloc: Global, words: &[S]) -> Result<Line, Fail> {
+    /// Reads the items that begin before `end`, up to `--` or, if options stop there, the first
+    /// free word. Adds them to the line, and returns how many words they have. `before` is the
+    /// number of words that were read before these.
+    pub(crate) fn scan<S: AsStr>(
+        &self,
+        alloc: Global,
+        words: &[S],
+        before: usize,
+        end: usize,
+        line: &mut Line,
+    ) -> Result<usize, Fail> {
         let stops = self.options.style() == ParsingStyle::StopAtFirstFree;
-        let mut line = Line::of_capacity(alloc, words.len().min(FIRST_ROOM))?;
-        line.try_grow(words, stops)?;
+        let front = &words[..end];
         let mut at = 0;
-        'items: while at < words.len() {
-            let word = words[at].as_str();
-            let after = &words[at + 1..];
+        'items: while at < front.len() {
+            let word = front[at].as_str();
+            let position = before + at;
             at = match self.shape(word) {
                 Shape::Free => {
                     if stops {
-                        push_copies(alloc, &mut line.free, &words[at..])?;
-                        return Ok(line);
+                        return Ok(at);
                     }
                     push_copy(alloc, &mut line.free, word)?;
                     at + 1
                 }
-                Shape::Stop => {
-                    line.trailing_start = (!after.is_empty()).then_some(line.free.len());
-                    push_copies(alloc, &mut line.free, after)?;
-                    return Ok(line);
-                }
+                Shape::Stop => return Ok(at),
                 Shape::Long(text) => {
-                    at + 1 + self.read_long(alloc, text, after, at, &mut line.found)?
+                    let after = &words[at + 1..];
+                    let argument = self.read_long(alloc, text, after, position, &mut line.found)?;
+                    at + 1 + argument.used
                 }
                 Shape::Cluster(text) => {
-                    at + 1 + self.cluster(alloc, text, after, at, &mut line.found)?
+                    let after = &words[at + 1..];
+                    let argument = self.cluster(alloc, text, after, position, &mut line.found)?;
+                    at + 1 + argument.used
                 }
             };
         }
-        Ok(line)
+        Ok(at)
     }
 
     /// Reads a command line like `scan`, but returns the order of its options and free words. Has
@@ -381,14 +412,14 @@ impl<'o> Scanner<'o> {
                     return Ok(OrderedLine { found, order });
                 }
                 Shape::Long(text) => {
-                    let used = self.read_long(alloc, text, after, at, &mut found)?;
-                    push_options(&mut order, &found, first)?;
-                    at += 1 + used;
+                    let argument = self.read_long(alloc, text, after, at, &mut found)?;
+                    push_options(&mut order, &found, first, argument.value)?;
+                    at += 1 + argument.used;
                 }
                 Shape::Cluster(text) => {
-                    let used = self.cluster(alloc, text, after, at, &mut found)?;
-                    push_options(&mut order, &found, first)?;
-                    at += 1 + used;
+                    let argument = self.cluster(alloc, text, after, at, &mut found)?;
+                    push_options(&mut order, &found, first, argument.value)?;
+                    at += 1 + argument.used;
                 }
             }
         }

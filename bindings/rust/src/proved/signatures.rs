@@ -5,13 +5,11 @@ use crate::fallible::*;
 
 use super::kinds::{HasArg, Kinds, Occur};
 use super::names::{NO_BYTE, NamesView, key_of, short_byte};
+use super::pairs::{FIRST_TEXT, PairEnds, first_at, push_pair, second_at};
 use crate::alloc::{AllocError, Global};
 
 /// Initial capacity: up to this many groups fit without reallocating.
 pub(crate) const FIRST_GROUPS: usize = 32;
-
-/// Initial capacity for a text that all groups share, in bytes.
-pub(crate) const FIRST_TEXT: usize = 1024;
 
 /// What parsing needs of a group, borrowed: its names and kinds.
 #[derive(Clone, Copy)]
@@ -26,14 +24,6 @@ impl<'g> PartialEq for SignatureView<'g> {
             && self.names.long == other.names.long
             && self.kinds == other.kinds
     }
-}
-
-/// Where two adjacent texts are in a longer one: the start of the first, and the end of each.
-#[derive(Debug, Clone, Copy)]
-pub(crate) struct PairEnds {
-    pub start: usize,
-    pub first: usize,
-    pub second: usize,
 }
 
 /// A stored group: where its long name begins and ends in the text of all names, what to look its
@@ -52,7 +42,7 @@ pub(crate) struct SignatureRecord {
 }
 
 impl PartialEq for SignatureRecord {
-    /// Whether the short names are equal, the long names are at the same places, and the kinds are
+    /// Whether the short names are equal, the long names have the same ends, and the kinds are
     /// equal.
     #[inline(always)]
     fn eq(&self, other: &SignatureRecord) -> bool {
@@ -74,47 +64,10 @@ impl SignatureRecord {
         };
         PairEnds {
             start,
-            first: self.long,
-            second: self.end,
+            middle: self.long,
+            end: self.end,
         }
     }
-}
-
-/// Appends a text that there is room for, and returns its end.
-#[inline(always)]
-pub(crate) fn push_reserved(texts: &mut String, text: &str) -> usize {
-    if text.is_empty() {
-        return texts.len();
-    }
-    match texts.try_push_str(text) {
-        Ok(()) => texts.len(),
-        Err(_) => unreachable!(),
-    }
-}
-
-/// Appends two texts that there is room for, and returns where they are.
-#[inline(always)]
-pub(crate) fn push_pair(texts: &mut String, first: &str, second: &str) -> PairEnds {
-    let start = texts.len();
-    let first = push_reserved(texts, first);
-    let second = push_reserved(texts, second);
-    PairEnds {
-        start,
-        first,
-        second,
-    }
-}
-
-/// The first of the two texts at `ends`.
-#[inline(always)]
-pub(crate) fn first_at(text: &str, ends: PairEnds) -> &str {
-    &text[ends.start..ends.first]
-}
-
-/// The second of the two texts at `ends`.
-#[inline(always)]
-pub(crate) fn second_at(text: &str, ends: PairEnds) -> &str {
-    &text[ends.first..ends.second]
 }
 
 /// What parsing needs of validly named groups: one text with the short and long name of each group
@@ -167,7 +120,7 @@ impl Signatures {
     }
 
     /// The main name of the group at `place`.
-    #[inline]
+    #[inline(always)]
     pub(crate) fn main(&self, place: usize) -> &str {
         if self.record(place).has_long {
             self.long(place)
@@ -176,11 +129,11 @@ impl Signatures {
         }
     }
 
-    /// The main name of the group at `place`, or an empty text past the last group. Sorting and
+    /// The long name of the group at `place`, or an empty text past the last group. Sorting and
     /// searching a table need closures that accept any entry.
-    pub(crate) fn main_or_empty(&self, place: usize) -> &str {
+    pub(crate) fn long_or_empty(&self, place: usize) -> &str {
         if place < self.len() {
-            self.main(place)
+            self.long(place)
         } else {
             ""
         }
@@ -215,8 +168,8 @@ impl Signatures {
         let has_long = !long.is_empty();
         let main = if has_long { long } else { short };
         self.records.push_reserved(SignatureRecord {
-            long: names.first,
-            end: names.second,
+            long: names.middle,
+            end: names.end,
             key: key_of(main.as_bytes()),
             short: short_byte(short),
             has_long,

@@ -100,6 +100,12 @@ pub fn answer<W: Write, E: Write>(alloc: Global, words: &[String], out: &mut W, 
     }
 }
 
+/// Reports that memory ran out, without allocating. If that fails, too, a prefix of the report was
+/// written.
+pub fn report_no_memory<E: Write>(err: &mut E) {
+    let _ = print(err, b"getopts_shell: out of memory\n");
+}
+
 /// Reports that writing failed. If that fails, too, a prefix of the report was written.
 fn report_failure<E: Write>(err: &mut E) {
     let _ = print(err, b"getopts_shell: writing the output failed\n");

@@ -1,6 +1,6 @@
 -- Which options words give, and the results of `parse_unless` and `parse_request`.
 use Rattle.std.proofs.Common.{◌≡◌, ◌==◌, ℕ, Bool, true, false, List, [], ◌∷◌, length, rules, Option, Some, None}
-use Rattle.std.proofs.Common.{Result, Ok, Err, refl, ap, sym, subst, ◌∙◌, inl}
+use Rattle.std.proofs.Common.{Result, Ok, Err, refl, ap, sym, subst, ◌∙◌, inl, ◌⊎◌, ◌↔◌}
 use Rattle.std.specs.Prelude.{codes, if◌then◌else◌, nat_lt}
 use Rattle.std.specs.List.{Any, list_any}
 use Rattle.std.specs.Option.{option_map_or}
@@ -22,7 +22,6 @@ use Rattle.getopts.specs.declared.request.Request.{Request}
 use Rattle.getopts.specs.declared.request.Request.TheVariants.{Help, Version, Parsed}
 use Rattle.getopts.proofs.canon.Answered.{reads_of}
 use Rattle.getopts.proofs.parse.Holds.{found-named}
-use Rattle.getopts.proofs.Only.{IsTheOnly-from, meets}
 
 -- a group has an occurrence if one mentions it
 some_mentioning : (place : ℕ) (occurrences : List Occurrence)
@@ -66,6 +65,24 @@ abbrev Told : Bool → Type 0 → Type 0
 Told true Fact = Fact
 Told false Fact = ¬ Fact
 
+-- this value if the fact holds, and otherwise a value with the property
+abbrev Or : {X : Type 0} → Type 0 → X → (X → Type 0) → X → Type 0
+Or Fact value Is x = (Fact × (x ≡ value)) ⊎ ((¬ Fact) × Is x)
+
+-- it is the only one if one value has the property
+only_or : {X : Type 0} (Fact : Type 0) (value : X) (Is : X → Type 0) (is : Bool) → Told is Fact → (x : X)
+    → IsTheOnly Is x → IsTheOnly (Or Fact value Is) (if is then value else x)
+only_or Fact value Is true told x only other = search rules
+only_or Fact value Is false told x only other = search rules
+
+-- two relations that say the same have the same only value
+only_same : {X : Type 0} (P Q : X → Type 0) → ((x : X) → P x ↔ Q x) → (x : X) → IsTheOnly P x → IsTheOnly Q x
+only_same P Q same x only other = search rules
+
+-- a value is the only one that equals it
+itself : {X : Type 0} {x : X} → IsTheOnly (λ other. other ≡ x) x
+itself other = (λ same. same, λ same. same)
+
 module _ (options : Declared) (words : List Text) where
   -- words that have no reading give nothing
   nothing_given : (fault : Fault) → HasNoReading options words fault → (name : Text) → ¬ (Gives options words name)
@@ -83,83 +100,55 @@ module _ (options : Declared) (words : List Text) where
     told false isnt = λ gives.
         true≢false (search (rules, present, list_any-from_Any, eq-eqb))
 
-  module _ (usual : Result Matched Fault) (parse : IsTheOnly (IsParseAnswer options words) usual)
-    where
-      -- with the flag, there are no matches; without it, the result is that of `parse`
-      unless_told : (flag : Text) (is : Bool) → Told is (Gives options words flag)
-          → IsTheOnly (IsUnlessAnswer options flag words)
-          (if is then Ok None else result_map_both Some (λ fault. fault) usual)
-      unless_told flag is told = IsTheOnly-from (IsUnlessAnswer options flag words) _
-          (holds is told usual (meets (IsParseAnswer options words) usual parse)) (only is told) where
-            holds : (is : Bool) → Told is (Gives options words flag) → (answer : Result Matched Fault)
-                → IsParseAnswer options words answer → IsUnlessAnswer options flag words
-                (if is then Ok None else result_map_both Some (λ fault. fault) answer)
-            holds true gives answer parsed = gives
-            holds false without (Ok matches) accepted = (without, accepted)
-            holds false without (Err fault) refused = (without, refused)
+  module _ (usual : Result Matched Fault) (parse : IsTheOnly (IsParseAnswer options words) usual) where
+    -- what `parse` returns, in the type of another call
+    abbrev usually : {X : Type 0} → (Matched → X) → Result X Fault
+    usually make = result_map_both make (λ fault. fault) usual
 
-            only : (is : Bool) → Told is (Gives options words flag)
-                → (other : Result (Option Matched) Fault) → IsUnlessAnswer options flag words other
-                → other ≡ (if is then Ok None else result_map_both Some (λ fault. fault) usual)
-            only true gives (Ok None) is = refl
-            only true gives (Ok (Some matches)) is = absurd (is.0 gives)
-            only true gives (Err fault) is = absurd (is.0 gives)
-            only false without (Ok None) is = absurd (without is)
-            only false without (Ok (Some matches)) is =
-                ap (result_map_both Some (λ fault. fault)) ((parse (Ok matches)).0 is.1)
-            only false without (Err fault) is =
-                ap (result_map_both Some (λ fault. fault)) ((parse (Err fault)).0 is.1)
+    -- a result in the type of another call is what `parse` returns
+    parsed : {X : Type 0} (make : Matched → X) → ((m n : Matched) → make m ≡ make n → m ≡ n)
+        → (answer : Result Matched Fault) → (result_map_both make (λ fault. fault) answer ≡ usually make)
+        ↔ IsParseAnswer options words answer
+    parsed make same answer = (
+      λ e. (parse answer).1 (search (rules, same)),
+      λ is. ap (result_map_both make (λ fault. fault)) ((parse answer).0 is),
+    )
 
-      -- the only result of `parse_unless`
-      pub only_unless : (flag : Text) (read : Result Matched Fault) → IsReadAnswer options words read
-          → IsTheOnly (IsUnlessAnswer options flag words) (unless_given flag read usual)
-      only_unless flag (Err fault) none = subst (IsTheOnly (IsUnlessAnswer options flag words))
-          (ap (result_map_both Some (λ fault. fault)) (sym ((parse (Err fault)).0 (inl none))))
-          (unless_told flag false (nothing_given fault none flag))
-      only_unless flag (Ok matches) has = search (rules, unless_told, told)
+    -- `parse_unless` returns none if the flag is given, and otherwise what `parse` returns
+    unless_says : (flag : Text) (answer : Result (Option Matched) Fault)
+        → Or (Gives options words flag) (Ok None) (λ answer. answer ≡ usually Some) answer
+        ↔ IsUnlessAnswer options flag words answer
+    unless_says flag (Ok None) = search rules
+    unless_says flag (Ok (Some matches)) =
+        let is = parsed (λ m. Some m) (λ m n e. cc e) (Ok matches) in search (rules, is.0, is.1)
+    unless_says flag (Err fault) =
+        let is = parsed (λ m. Some m) (λ m n e. cc e) (Err fault) in search (rules, is.0, is.1)
 
-      -- with `help`, it is help; with `version` alone, the version; otherwise the result of `parse`
-      request_told : (help version : Bool) → Told help (Gives options words (codes "help"))
-          → Told version (Gives options words (codes "version"))
-          → IsTheOnly (IsRequestAnswer options words) (if help then Ok Help
-          else (if version then Ok Version else result_map_both Parsed (λ fault. fault) usual))
-      request_told help version helps versions = IsTheOnly-from (IsRequestAnswer options words) _
-          (holds help version helps versions usual (meets (IsParseAnswer options words) usual parse))
-          (only help version helps versions) where
-            holds : (help version : Bool) → Told help (Gives options words (codes "help"))
-                → Told version (Gives options words (codes "version"))
-                → (answer : Result Matched Fault) → IsParseAnswer options words answer
-                → IsRequestAnswer options words (if help then Ok Help
-                else (if version then Ok Version else result_map_both Parsed (λ fault. fault) answer))
-            holds true version helps versions answer parsed = helps
-            holds false true helps versions answer parsed = (helps, versions)
-            holds false false helps versions (Ok matches) accepted = ((helps, versions), accepted)
-            holds false false helps versions (Err fault) refused = ((helps, versions), refused)
+    -- `parse_request` returns help, the version, or what `parse` returns
+    request_says : (answer : Result (Request Matched) Fault) → Or (Gives options words (codes "help")) (Ok Help)
+        (Or (Gives options words (codes "version")) (Ok Version) (λ answer. answer ≡ usually Parsed)) answer
+        ↔ IsRequestAnswer options words answer
+    request_says (Ok Help) = search rules
+    request_says (Ok Version) = search rules
+    request_says (Ok (Parsed matches)) =
+        let is = parsed (λ m. Parsed m) (λ m n e. cc e) (Ok matches) in search (rules, is.0, is.1)
+    request_says (Err fault) =
+        let is = parsed (λ m. Parsed m) (λ m n e. cc e) (Err fault) in search (rules, is.0, is.1)
 
-            only : (help version : Bool) → Told help (Gives options words (codes "help"))
-                → Told version (Gives options words (codes "version"))
-                → (other : Result (Request Matched) Fault) → IsRequestAnswer options words other
-                → other ≡ (if help then Ok Help
-                else (if version then Ok Version else result_map_both Parsed (λ fault. fault) usual))
-            only true version helps versions (Ok Help) is = refl
-            only true version helps versions (Ok Version) is = absurd (is.0 helps)
-            only true version helps versions (Ok (Parsed matches)) is = absurd (is.0.0 helps)
-            only true version helps versions (Err fault) is = absurd (is.0.0 helps)
-            only false true helps versions (Ok Help) is = absurd (helps is)
-            only false true helps versions (Ok Version) is = refl
-            only false true helps versions (Ok (Parsed matches)) is = absurd (is.0.1 versions)
-            only false true helps versions (Err fault) is = absurd (is.0.1 versions)
-            only false false helps versions (Ok Help) is = absurd (helps is)
-            only false false helps versions (Ok Version) is = absurd (versions is.1)
-            only false false helps versions (Ok (Parsed matches)) is =
-                ap (result_map_both Parsed (λ fault. fault)) ((parse (Ok matches)).0 is.1)
-            only false false helps versions (Err fault) is =
-                ap (result_map_both Parsed (λ fault. fault)) ((parse (Err fault)).0 is.1)
+    -- so each has one result
+    pub only_unless : (flag : Text) (read : Result Matched Fault) → IsReadAnswer options words read
+        → IsTheOnly (IsUnlessAnswer options flag words) (unless_given flag read usual)
+    only_unless flag (Err fault) none = subst (IsTheOnly (IsUnlessAnswer options flag words))
+        (ap (result_map_both Some (λ fault. fault)) (sym ((parse (Err fault)).0 (inl none))))
+        (only_same _ _ (unless_says flag) _ (only_or _ _ _ false (nothing_given fault none flag) _ itself))
+    only_unless flag (Ok matches) has =
+        only_same _ _ (unless_says flag) _ (only_or _ _ _ _ (told matches has flag _ refl) _ itself)
 
-      -- the only result of `parse_request`
-      pub only_request : (read : Result Matched Fault) → IsReadAnswer options words read
-          → IsTheOnly (IsRequestAnswer options words) (request_of read usual)
-      only_request (Err fault) none = subst (IsTheOnly (IsRequestAnswer options words))
-          (ap (result_map_both Parsed (λ fault. fault)) (sym ((parse (Err fault)).0 (inl none))))
-          (request_told false false (nothing_given fault none _) (nothing_given fault none _))
-      only_request (Ok matches) has = search (rules, request_told, told)
+    pub only_request : (read : Result Matched Fault) → IsReadAnswer options words read
+        → IsTheOnly (IsRequestAnswer options words) (request_of read usual)
+    only_request (Err fault) none = subst (IsTheOnly (IsRequestAnswer options words))
+        (ap (result_map_both Parsed (λ fault. fault)) (sym ((parse (Err fault)).0 (inl none))))
+        (only_same _ _ request_says _ (only_or _ _ _ false (nothing_given fault none _) _
+        (only_or _ _ _ false (nothing_given fault none _) _ itself)))
+    only_request (Ok matches) has = only_same _ _ request_says _ (only_or _ _ _ _ (told matches has _ _ refl) _
+        (only_or _ _ _ _ (told matches has _ _ refl) _ itself))

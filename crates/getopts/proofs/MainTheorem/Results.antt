@@ -60,10 +60,10 @@ module _ (options : Declared) (declared : MayBeDeclared options.groups) (words :
   counted reading reads None kept = record { reads = reads; keeps = kept }
   counted reading reads (Some fault) breaks = search (rules, HasReading-reading options declared words reading reads)
 
-  line_answer : AreTexts words → (outcome : Result Reading Fault) → IsSoundOutcome (grammar_of options) words outcome
+  line_answer : (outcome : Result Reading Fault) → IsSoundOutcome (grammar_of options) words outcome
       → IsLineOf options words (Spec.with_counts_kept options outcome)
-  line_answer texts (Ok reading) reads = search (rules, counted, first_count_fault-is)
-  line_answer texts (Err fault) fails = inl (HasNoReading-fault options declared words texts fault fails)
+  line_answer (Ok reading) reads = search (rules, counted, first_count_fault-is)
+  line_answer (Err fault) fails = inl (HasNoReading-fault options declared words fault fails)
 
   -- the only content of words that are accepted
   abbrev with_content : (reading : Reading) → IsCountKeeping options reading words
@@ -85,8 +85,8 @@ module _ (options : Declared) (declared : MayBeDeclared options.groups) (words :
       let sound = read_sound (grammar_of options)
       (text_names_here options declared) words texts _ refl in
       let reading = MatchResult-weaker (Spec.read (grammar_of options) words) sound (λ r reads. reads)
-      (HasNoReading-fault options declared words texts) in
-      let line = line_answer texts (Spec.read (grammar_of options) words) sound in
+      (HasNoReading-fault options declared words) in
+      let line = line_answer (Spec.read (grammar_of options) words) sound in
       let parse = the_only (Answered.only_parse_answer options words) (Spec.parse_result options words)
       (search (rules, made_of-is, IsAccepted-reading)) in
       let matches = made_of-is (HasReading options words) (HasNoReading options words) (Reads options words)

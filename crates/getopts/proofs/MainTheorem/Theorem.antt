@@ -1,6 +1,6 @@
 -- The main theorem, for options whose names are valid texts.
 use Rattle.std.proofs.Common.{◌⊎◌, List, sym, subst, inl, inr, rules}
-use Rattle.getopts.specs.Names.{Text, AreTexts}
+use Rattle.getopts.specs.Names.{Text}
 use Rattle.getopts.specs.Options.{Declared, MayBeDeclared, grammar_of}
 use Rattle.getopts.specs.Fail.{Fault}
 use Rattle.getopts.specs.Reading.{Reading, IsReading, IsScanFault}
@@ -35,17 +35,16 @@ module _ (options : Declared) (declared : MayBeDeclared options.groups) where
   first_fault : (words : List Text) (fault : Fault) → IsRefused options words fault → IsFirstFault words fault
   first_fault words fault first = search (rules, meets, reads_of)
 
-  refused : (words : List Text) (fault : Fault) → AreTexts words → IsFirstFault words fault
-      → IsRefused options words fault
-  refused words fault texts (inl scan) = inl (HasNoReading-fault options declared words texts fault scan)
-  refused words fault texts (inr count) = search (rules, HasReading-reading options declared words count.0 count.1)
+  refused : (words : List Text) (fault : Fault) → IsFirstFault words fault → IsRefused options words fault
+  refused words fault (inl scan) = inl (HasNoReading-fault options declared words fault scan)
+  refused words fault (inr count) = search (rules, HasReading-reading options declared words count.0 count.1)
 
   -- rejected exactly when none does
   pub RefusedExactlyWhen-options : RefusedExactlyWhen options
-  RefusedExactlyWhen-options words fault texts = (
+  RefusedExactlyWhen-options words fault = (
     λ is. (
       λ reading keeps. not_refused options words reading fault keeps is,
       first_fault words fault is,
     ),
-    λ told. refused words fault texts told.1,
+    λ told. refused words fault told.1,
   )

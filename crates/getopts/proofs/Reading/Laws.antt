@@ -14,8 +14,8 @@ use Rattle.getopts.specs.Options.{Signature, Grammar, long_kind}
 use Rattle.getopts.specs.Reading.{item_words, tail_words, Occurrence, at_position, word_count, ends_in, free_items}
 use Rattle.getopts.specs.Reading.{tail_frees, free_words, begins_with_dash, spelled_all, occurrences_after, Argument}
 use Rattle.getopts.specs.Reading.{IsLawfulEnd, IsLawfulLong, IsLawfulItem, end_text, FitsLong, line_end, IsReading}
-use Rattle.getopts.specs.Reading.{Dashes, cluster, FitsEnd, is_bare, Reading, Mention, mentions, End, flags, Item}
-use Rattle.getopts.specs.Reading.{free, long, Tail, stop, rest, EndsOrIsDashed, AreWellFollowed, occurrences_of}
+use Rattle.getopts.specs.Reading.{Dashes, attached, separate, cluster, FitsEnd, is_bare, Reading, Mention, mentions, End}
+use Rattle.getopts.specs.Reading.{flags, Item, free, long, Tail, stop, rest, EndsOrIsDashed, AreWellFollowed, occurrences_of}
 use Rattle.getopts.specs.Matches.{GroupOccurrence, matched, occurrences_mentioning}
 use Rattle.getopts.specs.ReadingLaws as Spec
 use Rattle.getopts.specs.declared.kinds.HasArg.TheVariants.{Yes}
@@ -179,19 +179,25 @@ begins_with_dash-argument (name ∷ names) option text other = refl
 FitInPlace-cluster : (grammar : Grammar) (names : List ℕ) (option : ℕ)
     (argument new_argument : Argument) (back : List Item) (more : List Text)
     → grammar.kind (option ∷ []) ≡ Some Yes → FitsEnd Yes new_argument
-    → is_bare (cluster names (ends_in option new_argument)) ≡ false
     → FitInPlace grammar (cluster names (ends_in option argument) ∷ back)
     (cluster names (ends_in option new_argument) ∷ back) more
-FitInPlace-cluster grammar names option argument new_argument back more kind fits filled = record {
+FitInPlace-cluster grammar names option argument new_argument back more kind fits = record {
   lawful = λ each. (search (rules, begins_with_dash-argument));
   dashed = λ each ordinary. is_dashed-text _
       (lawful_short grammar names (ends_in option new_argument) each.0).filled;
-  followed = λ each. (λ bare. cc (bare, filled), each.1);
+  followed = λ each. (λ bare. search rules, each.1);
 }
+
+-- kind `Yes` has an argument, attached or separate
+fits_attached : (argument : Text) → argument ≢ [] → FitsEnd Yes (attached argument)
+fits_attached argument filled = search rules
+
+fits_separate : (argument : Text) → FitsEnd Yes (separate argument)
+fits_separate argument = search rules
 
 -- a short option's argument, attached or separate
 pub ShortAttachedOrSeparate_lem : (grammar : Grammar) → Spec.ShortAttachedOrSeparate grammar
-ShortAttachedOrSeparate_lem grammar = search (rules, AreOneWordApart-fit, FitInPlace-cluster)
+ShortAttachedOrSeparate_lem grammar = search (rules, AreOneWordApart-fit, FitInPlace-cluster, fits_attached, fits_separate)
 
 -- a cluster whose rest is bare is bare
 is_bare-rest : (flag : ℕ) (names : List ℕ) (end : End) → is_bare (cluster names end) ≡ true

@@ -10,7 +10,7 @@ use Rattle.std.proofs.lemmas.Bool.Decides.{nat_tests}
 use Rattle.std.proofs.lemmas.Option.{slice_get_within}
 use Rattle.getopts.specs.Names.{Text}
 use Rattle.getopts.specs.Options.{Signature, Grammar}
-use Rattle.getopts.specs.Reading.{Item, free, long, cluster, item_words, spelled_all, Tail, tail_words, Reading, IsReading, Mention, mentions, Occurrence, at_position, word_count, occurrences_after, occurrences_of, Given, option, free_word, given_by, order_of_items, tail_frees, order_of_reading, options_in, frees_in, free_items, free_words}
+use Rattle.getopts.specs.Reading.{Item, free, long, cluster, item_words, spelled_all, Tail, tail_words, Reading, IsReading, Mention, mentions, Occurrence, at_position, word_count, occurrences_after, occurrences_of, Given, option, free_word, given_option, given_by, order_of_items, tail_frees, order_of_reading, options_in, frees_in, free_items, free_words}
 use Rattle.getopts.specs.Matches.{matched}
 use Rattle.getopts.specs.ReadingLaws as Spec
 use Rattle.getopts.proofs.Lists.{AllByRecursion-filter, AllByRecursion-map, slice_get-append}
@@ -39,6 +39,123 @@ mention-occurrences_after before grammar (item ∷ items) =
 pub mentions_of-items : (grammar : Grammar) (reading : Reading)
     → Spec.mentions_of grammar reading ≡ flat_map (mentions grammar) reading.items
 mentions_of-items grammar reading = mention-occurrences_after 0 grammar reading.items
+
+-- the options and free words in two orders
+options_in-append : (order more : List Given)
+    → options_in (order ++ more) ≡ options_in order ++ options_in more
+options_in-append [] more = refl
+options_in-append (option place value ∷ order) more =
+    ap (λ told. record { group = place; value = value } ∷ told) (options_in-append order more)
+options_in-append (free_word word ∷ order) more = options_in-append order more
+
+frees_in-append : (order more : List Given)
+    → frees_in (order ++ more) ≡ frees_in order ++ frees_in more
+frees_in-append [] more = refl
+frees_in-append (option place value ∷ order) more = frees_in-append order more
+frees_in-append (free_word word ∷ order) more =
+    ap (λ words. word ∷ words) (frees_in-append order more)
+
+-- in an order of options
+options_in-options : (told : List Mention) → options_in (map given_option told) ≡ told
+options_in-options [] = refl
+options_in-options (m ∷ told) = ap (λ told. m ∷ told) (options_in-options told)
+
+frees_in-options : (told : List Mention)
+    → frees_in (map given_option told) ≡ []
+frees_in-options [] = refl
+frees_in-options (m ∷ told) = frees_in-options told
+
+-- in an order of free words
+options_in-frees : (words : List Text) → options_in (map free_word words) ≡ []
+options_in-frees [] = refl
+options_in-frees (word ∷ words) = options_in-frees words
+
+frees_in-frees : (words : List Text) → frees_in (map free_word words) ≡ words
+frees_in-frees [] = refl
+frees_in-frees (word ∷ words) = ap (λ words. word ∷ words) (frees_in-frees words)
+
+-- in what an item gives
+options_in-given_by : (grammar : Grammar) (item : Item)
+    → options_in (given_by grammar item) ≡ mentions grammar item
+options_in-given_by grammar (free word) = refl
+options_in-given_by grammar (long dashes name argument) = refl
+options_in-given_by grammar (cluster bytes end) =
+    options_in-options (mentions grammar (cluster bytes end))
+
+frees_in-given_by : (grammar : Grammar) (item : Item)
+    → frees_in (given_by grammar item) ≡ free_items (item ∷ [])
+frees_in-given_by grammar (free word) = refl
+frees_in-given_by grammar (long dashes name argument) = refl
+frees_in-given_by grammar (cluster bytes end) =
+    frees_in-options (mentions grammar (cluster bytes end))
+
+-- in what items give
+options_in-items : (grammar : Grammar) (items : List Item)
+    → options_in (order_of_items grammar items) ≡ flat_map (mentions grammar) items
+options_in-items grammar [] = refl
+options_in-items grammar (item ∷ items) =
+    simp (options_in-append, options_in-given_by, options_in-items grammar items)
+
+frees_in-items : (grammar : Grammar) (items : List Item)
+    → frees_in (order_of_items grammar items) ≡ free_items items
+frees_in-items grammar [] = refl
+frees_in-items grammar (free word ∷ items) =
+    ap (λ words. word ∷ words) (frees_in-items grammar items)
+frees_in-items grammar (long dashes name argument ∷ items) = frees_in-items grammar items
+frees_in-items grammar (cluster bytes end ∷ items) =
+    search (rules, frees_in-append, frees_in-given_by, frees_in-items grammar items)
+
+-- the options in the order of a reading are its mentions
+pub options_in-order : (grammar : Grammar) (reading : Reading)
+    → options_in (order_of_reading grammar reading) ≡ Spec.mentions_of grammar reading
+options_in-order grammar reading =
+    search (
+      rules,
+      options_in-append,
+      options_in-items grammar reading.items,
+      options_in-frees (tail_frees reading.tail),
+      mentions_of-items grammar reading,
+      append-nil,
+    )
+
+-- and its free words are those of the reading
+pub frees_in-order : (grammar : Grammar) (reading : Reading)
+    → frees_in (order_of_reading grammar reading) ≡ free_words reading
+frees_in-order grammar reading =
+    search (
+      rules,
+      frees_in-append,
+      frees_in-items grammar reading.items,
+      frees_in-frees (tail_frees reading.tail),
+    )
+
+-- items one after the other give one order after the other
+order_of_items-append : (grammar : Grammar) (items others : List Item)
+    → order_of_items grammar (items ++ others) ≡ order_of_items grammar items ++ order_of_items grammar others
+order_of_items-append grammar [] others = refl
+order_of_items-append grammar (item ∷ items) others =
+    simp (append_assoc, order_of_items-append grammar items others)
+
+-- an item that mentions something gives options
+given_by-mentioned : (grammar : Grammar) (at : ℕ) (item : Item) (occurrence : Occurrence)
+    → Contains (map (at_position at) (mentions grammar item)) occurrence
+    → given_by grammar item ≡ map given_option (mentions grammar item)
+given_by-mentioned grammar at (free word) occurrence held = absurd (omega (arith, held.1))
+given_by-mentioned grammar at (long dashes name argument) occurrence held = refl
+given_by-mentioned grammar at (cluster bytes end) occurrence held = refl
+
+-- its options follow what the items before it give
+FollowsItems-reading : (grammar : Grammar) (reading : Reading) (before after : List Item) (item : Item)
+    → reading.items ≡ before ++ item ∷ after
+    → given_by grammar item ≡ map given_option (mentions grammar item)
+    → Spec.FollowsItems grammar (order_of_reading grammar reading) before item
+FollowsItems-reading grammar reading before after item are gives = record {
+  earlier = order_of_items grammar before;
+  later = order_of_items grammar after ++ map free_word (tail_frees reading.tail);
+  order_is = search (rules, order_of_items-append, append_assoc);
+  options = options_in-items grammar before;
+  frees = frees_in-items grammar before;
+}
 
 -- an occurrence, one position higher if it comes after this one
 abbrev raised_after : ℕ → Occurrence → Occurrence
@@ -111,6 +228,8 @@ belongs grammar reading words occurrence before (item ∷ items) reads are held 
             after = items;
             items_are = are;
             mentioned = here;
+            in_order = FollowsItems-reading grammar reading before items item are
+                (given_by-mentioned grammar _ item occurrence here);
             first_word = rw (
               place,
               ← reads.spells,
@@ -158,95 +277,3 @@ pub HavePositionsBelow-matched : (grammar : Grammar) (reading : Reading) (words 
     → Spec.HavePositionsBelow (length words) (matched place signatures (occurrences_of grammar reading))
 HavePositionsBelow-matched grammar reading words reads place signatures =
     search (rules, AllByRecursion-matched, AllByRecursion-map, AllByRecursion-filter, below-occurrences_of)
-
--- the options and free words in two orders
-options_in-append : (order more : List Given)
-    → options_in (order ++ more) ≡ options_in order ++ options_in more
-options_in-append [] more = refl
-options_in-append (option place ∷ order) more =
-    ap (λ places. place ∷ places) (options_in-append order more)
-options_in-append (free_word word ∷ order) more = options_in-append order more
-
-frees_in-append : (order more : List Given)
-    → frees_in (order ++ more) ≡ frees_in order ++ frees_in more
-frees_in-append [] more = refl
-frees_in-append (option place ∷ order) more = frees_in-append order more
-frees_in-append (free_word word ∷ order) more =
-    ap (λ words. word ∷ words) (frees_in-append order more)
-
--- in an order of options
-options_in-options : (told : List Mention)
-    → options_in (map (λ (m : Mention). option m.group) told) ≡ map (λ (m : Mention). m.group) told
-options_in-options [] = refl
-options_in-options (m ∷ told) = ap (λ places. m.group ∷ places) (options_in-options told)
-
-frees_in-options : (told : List Mention)
-    → frees_in (map (λ (m : Mention). option m.group) told) ≡ []
-frees_in-options [] = refl
-frees_in-options (m ∷ told) = frees_in-options told
-
--- in an order of free words
-options_in-frees : (words : List Text) → options_in (map free_word words) ≡ []
-options_in-frees [] = refl
-options_in-frees (word ∷ words) = options_in-frees words
-
-frees_in-frees : (words : List Text) → frees_in (map free_word words) ≡ words
-frees_in-frees [] = refl
-frees_in-frees (word ∷ words) = ap (λ words. word ∷ words) (frees_in-frees words)
-
--- in what an item gives
-options_in-given_by : (grammar : Grammar) (item : Item)
-    → options_in (given_by grammar item) ≡ map (λ (m : Mention). m.group) (mentions grammar item)
-options_in-given_by grammar (free word) = refl
-options_in-given_by grammar (long dashes name argument) = refl
-options_in-given_by grammar (cluster bytes end) =
-    options_in-options (mentions grammar (cluster bytes end))
-
-frees_in-given_by : (grammar : Grammar) (item : Item)
-    → frees_in (given_by grammar item) ≡ free_items (item ∷ [])
-frees_in-given_by grammar (free word) = refl
-frees_in-given_by grammar (long dashes name argument) = refl
-frees_in-given_by grammar (cluster bytes end) =
-    frees_in-options (mentions grammar (cluster bytes end))
-
--- in what items give
-options_in-items : (grammar : Grammar) (items : List Item)
-    → options_in (order_of_items grammar items)
-    ≡ map (λ (m : Mention). m.group) (flat_map (mentions grammar) items)
-options_in-items grammar [] = refl
-options_in-items grammar (item ∷ items) =
-    simp (options_in-append, options_in-given_by, map-append, options_in-items grammar items)
-
-frees_in-items : (grammar : Grammar) (items : List Item)
-    → frees_in (order_of_items grammar items) ≡ free_items items
-frees_in-items grammar [] = refl
-frees_in-items grammar (free word ∷ items) =
-    ap (λ words. word ∷ words) (frees_in-items grammar items)
-frees_in-items grammar (long dashes name argument ∷ items) = frees_in-items grammar items
-frees_in-items grammar (cluster bytes end ∷ items) =
-    search (rules, frees_in-append, frees_in-given_by, frees_in-items grammar items)
-
--- the options in the order of a reading are its mentions
-pub options_in-order : (grammar : Grammar) (reading : Reading)
-    → options_in (order_of_reading grammar reading)
-    ≡ map (λ (m : Mention). m.group) (Spec.mentions_of grammar reading)
-options_in-order grammar reading =
-    search (
-      rules,
-      options_in-append,
-      options_in-items grammar reading.items,
-      options_in-frees (tail_frees reading.tail),
-      mentions_of-items grammar reading,
-      append-nil,
-    )
-
--- and its free words are those of the reading
-pub frees_in-order : (grammar : Grammar) (reading : Reading)
-    → frees_in (order_of_reading grammar reading) ≡ free_words reading
-frees_in-order grammar reading =
-    search (
-      rules,
-      frees_in-append,
-      frees_in-items grammar reading.items,
-      frees_in-frees (tail_frees reading.tail),
-    )

@@ -3,14 +3,12 @@ use Rattle.std.proofs.Common.{◌≡◌, List, [], ◌∷◌, ◌++◌, length, 
 use Rattle.std.proofs.Common.{append_assoc, append-nil, rules}
 use Rattle.std.specs.List.{AllByRecursion}
 use Rattle.std.proofs.Math.Seq.{drop-append_seam}
-use Rattle.std.specs.Str.{IsUtf8}
 use Rattle.std.specs.Prelude.{MatchResult}
 use Rattle.getopts.specs.Names.{Text, AreTexts}
 use Rattle.getopts.specs.Options.{Grammar}
 use Rattle.getopts.specs.Fail.{Fault}
 use Rattle.getopts.specs.Reading.{Argument, line_end, IsReading, Item, Tail, Reading, argument_words, IsLawfulItem}
 use Rattle.getopts.specs.Reading.{EndsOrIsDashed, AreWellFollowed, spelled_all, tail_words, IsLawfulTail, IsScanFault}
-use Rattle.std.proofs.Recursive.{every_back}
 use Rattle.getopts.specs.Results.{made_of}
 use Rattle.getopts.specs.Step.{Step, takes}
 use Rattle.getopts.proofs.Reading.Reader.{HasTextNames, step, spelled, free_step, with_items, after_step, read_both, read}
@@ -100,13 +98,11 @@ followed-append (item ∷ items) more followed dashed =
 
 -- if a line has an error, `read` returns it
 pub fault_read : (grammar : Grammar) → HasTextNames grammar → (words : List Text) (fault : Fault)
-    → AreTexts words → IsScanFault grammar words fault → read grammar words ≡ Err fault
-fault_read grammar named words fault texts is =
-    let utf8 : AreTexts (is.word ∷ is.after) =
-    every_back IsUtf8 words is.before (is.word ∷ is.after) texts is.words_are in
+    → IsScanFault grammar words fault → read grammar words ≡ Err fault
+fault_read grammar named words fault is =
     let line : words ≡ spelled_all is.items (is.word ∷ is.after) =
     search (rules, spelled_all-append is.items [] (is.word ∷ is.after)) in
-    let stopped = Steps.fault_step grammar named is.word is.after fault utf8.0 is.fault_at in
+    let stopped = Steps.fault_step grammar named is.word is.after fault is.fault_at in
     let followed : AreWellFollowed is.items (is.word ∷ is.after) =
     search (rules, followed-append, Steps.faults_dashed) in
     search (rules, read, items_read, with_items, read_step)
@@ -124,15 +120,14 @@ module _ (grammar : Grammar) (named : HasTextNames grammar) (words : List Text) 
       cc (reading_read grammar named r words first, reading_read grammar named s words second)
 
   -- two errors of a line are equal
-  pub only_fault : (f g : Fault) → AreTexts words → IsScanFault grammar words f → IsScanFault grammar words g → f ≡ g
-  only_fault f g texts first second =
-      cc (fault_read grammar named words f texts first, fault_read grammar named words g texts second)
+  pub only_fault : (f g : Fault) → IsScanFault grammar words f → IsScanFault grammar words g → f ≡ g
+  only_fault f g first second =
+      cc (fault_read grammar named words f first, fault_read grammar named words g second)
 
   -- a line with an error has no reading
-  pub no_reading : (f : Fault) (r : Reading) → AreTexts words → IsScanFault grammar words f
-      → IsReading grammar r words → ⊥
-  no_reading f r texts fault reading =
-      cc (fault_read grammar named words f texts fault, reading_read grammar named r words reading)
+  pub no_reading : (f : Fault) (r : Reading) → IsScanFault grammar words f → IsReading grammar r words → ⊥
+  no_reading f r fault reading =
+      cc (fault_read grammar named words f fault, reading_read grammar named r words reading)
 
 -- The line has the reading or error of its outcome.
 abbrev pub IsSoundOutcome : Grammar → List Text → Result Reading Fault → Type 0

@@ -3,10 +3,12 @@ use Rattle.std.proofs.Common.{◌≡◌, ◌≢◌, ◌==◌, ℕ, ◌<◌, Bool
 use Rattle.std.proofs.Common.{Some, None, Ok, refl, sym, ap, ◌∙◌, subst, inl, inr, arith, encode_utf8, unwrap_or}
 use Rattle.std.proofs.Common.{append_assoc, append-nil}
 use Rattle.std.proofs.lemmas.Bool.{cases_Bool, cases_lt, eqb-true, false≢true, true_from_ne_false}
+use Rattle.std.specs.Char.{IsScalar}
 use Rattle.std.specs.List.{AllByRecursion}
 use Rattle.std.specs.Str.{IsUtf8}
 use Rattle.std.proofs.lemmas.List.{length-append}
 use Rattle.std.proofs.lemmas.Str.{encode_ascii, length-encode, len_utf8_bounds}
+use Rattle.std.proofs.Math.Utf8.{low_scalar}
 use Rattle.getopts.specs.Names.{Text}
 use Rattle.getopts.specs.Options.{Grammar, long_kind}
 use Rattle.getopts.specs.Fail.{Fault, unrecognized_option}
@@ -348,7 +350,7 @@ spelled_step grammar named (cluster bytes (ends_in option argument)) more lawful
           (Some kind.0)
           (lawful_short grammar bytes (ends_in option argument) lawful) lawful.each kind.1
           ∙ byte_step-end kind.0 bytes option text others _
-          (λ e. subst (λ (k : HasArg). FitsEnd k argument) e kind.2)
+          (search rules)
           ∙ ap (chosen_step (λ a. cluster bytes (ends_in option a)))
           (end_chosen kind.0 (option ∷ []) argument more kind.2 (λ e. followed (rw e refl))),
       refl,
@@ -363,16 +365,15 @@ wide_unknown grammar named c byte others text e wide = search (rules, Texts.enco
 
 -- a word with a wide character after its flags
 wide_step : (grammar : Grammar) → HasTextNames grammar → (word : Text) (names : List ℕ) (c : ℕ) (text whole : Text)
-    (more : List Text) → whole ≡ encode_utf8 c ++ text → IsUtf8 whole → IsShortForm grammar word (names ++ whole)
+    (more : List Text) → whole ≡ encode_utf8 c ++ text → IsScalar c → IsShortForm grammar word (names ++ whole)
     → AllByRecursion (IsFlag grammar) names → 1 < length (encode_utf8 c)
     → step grammar word more ≡ faults (unrecognized_option (encode_utf8 c))
-wide_step grammar named word names c text [] more e utf8 form each wide =
+wide_step grammar named word names c text [] more e scalar form each wide =
     absurd (omega (arith, ap length e, length-append (encode_utf8 c) text, length-encode c, len_utf8_bounds c))
-wide_step grammar named word names c text (byte ∷ others) more e utf8 form each wide =
+wide_step grammar named word names c text (byte ∷ others) more e scalar form each wide =
     short_step_byte grammar word names byte others more None form each
     (wide_unknown grammar named c byte others text e wide)
-    ∙ ap (λ (t : Text). faults (unrecognized_option t))
-    (rw e (Texts.first_char-append c text (rw e at utf8)))
+    ∙ ap (λ (t : Text). faults (unrecognized_option t)) (rw e (Texts.first_char-append c text scalar))
 
 -- a text that begins with a character isn't empty
 filled-character : (bytes : List ℕ) (c : ℕ) (text : Text) → bytes ++ (encode_utf8 c ++ text) ≢ []
@@ -384,30 +385,29 @@ short_of : (grammar : Grammar) (word text : Text) (has : HasAfterFlags grammar w
 short_of grammar word text has filled = search rules
 
 -- a text that begins with a byte of ASCII begins with that character
-first_byte : (byte : ℕ) (text : Text) → byte < 128 → IsUtf8 (byte ∷ text) → first_char (byte ∷ text) ≡ byte ∷ []
-first_byte byte text ascii utf8 =
+pub first_byte : (byte : ℕ) (text : Text) → byte < 128 → first_char (byte ∷ text) ≡ byte ∷ []
+first_byte byte text ascii =
     let encoded = encode_ascii byte ascii in
     let whole : encode_utf8 byte ++ text ≡ byte ∷ text = ap (λ (t : Text). t ++ text) encoded in
-    ap first_char (sym whole) ∙ Texts.first_char-append byte text (subst IsUtf8 (sym whole) utf8) ∙ encoded
+    ap first_char (sym whole) ∙ Texts.first_char-append byte text (low_scalar byte (omega arith)) ∙ encoded
 
 -- a word with an error
 pub fault_step : (grammar : Grammar) → HasTextNames grammar → (word : Text) (more : List Text) (fault : Fault)
-    → IsUtf8 word → IsFaultAt grammar word more fault → step grammar word more ≡ faults fault
-fault_step grammar named word more fault utf8 (unknown_name name argument form unknown) =
+    → IsFaultAt grammar word more fault → step grammar word more ≡ faults fault
+fault_step grammar named word more fault (unknown_name name argument form unknown) =
     long_form_step grammar word name argument more None form unknown
-fault_step grammar named word more fault utf8 (unknown_byte byte text ascii has unknown) =
+fault_step grammar named word more fault (unknown_byte byte text ascii has unknown) =
     let form = short_of grammar word _ has (filled-append has.bytes byte text) in
     short_step_byte grammar word has.bytes byte text more None form has.each unknown
-    ∙ ap (λ (t : Text). faults (unrecognized_option t)) (search (rules, first_byte, IsUtf8-after_flags))
-fault_step grammar named word more fault utf8 (wide_character character text scalar wide has) =
+    ∙ ap (λ (t : Text). faults (unrecognized_option t)) (first_byte byte text ascii)
+fault_step grammar named word more fault (wide_character character text scalar wide has) =
     let form = short_of grammar word _ has (filled-character has.bytes character text) in
-    wide_step grammar named word has.bytes character text _ more refl
-    (search (rules, IsUtf8-after_flags)) form has.each wide
-fault_step grammar named word more fault utf8 (unwanted_argument name argument form kind) =
+    wide_step grammar named word has.bytes character text _ more refl scalar form has.each wide
+fault_step grammar named word more fault (unwanted_argument name argument form kind) =
     long_form_step grammar word name (Some argument) more (Some No) form kind
-fault_step grammar named word more fault utf8 (long_unfinished name form kind ended) =
+fault_step grammar named word more fault (long_unfinished name form kind ended) =
     rw ended (long_form_step grammar word name None [] (Some Yes) form kind)
-fault_step grammar named word more fault utf8 (short_unfinished option has kind ended) =
+fault_step grammar named word more fault (short_unfinished option has kind ended) =
     rw ended (short_step_byte grammar word has.bytes option [] [] (Some Yes)
     (short_of grammar word _ has (filled-append has.bytes option [])) has.each kind)
 

@@ -1,6 +1,6 @@
 -- Texts: a text in long form, split at its first `=`.
 use Rattle.std.proofs.Common.{◌≡◌, ◌≢◌, ◌==◌, ℕ, ◌<◌, ◌≤◌, true, false, List, [], ◌∷◌, ◌++◌, length, Option, Some}
-use Rattle.std.proofs.Common.{None, refl, sym, subst, arith, rules, encode_utf8}
+use Rattle.std.proofs.Common.{None, refl, sym, subst, arith, rules, encode_utf8, append-nil}
 use Rattle.std.proofs.lemmas.Bool.{cases_Bool, cases_lt, eqb-true, or_parts, and_parts}
 use Rattle.getopts.specs.Names.{Text}
 use Rattle.getopts.specs.Reading.{equals_sign, begins_with_dash, holds_equals, dash, is_dashed}
@@ -79,9 +79,13 @@ begins_with_char byte text (cs, spelled) = from_chars cs spelled.0 spelled.1 whe
   )
 
 -- the first character of a text that begins with a character
-pub first_char-append : (c : ℕ) (rest : Text) → IsUtf8 (encode_utf8 c ++ rest)
-    → first_char (encode_utf8 c ++ rest) ≡ encode_utf8 c
-first_char-append c rest utf8 = cc (Strings.chars_past_char (encode_utf8 c ++ rest) rest c utf8 refl)
+pub first_char-append : (c : ℕ) (rest : Text) → IsScalar c → first_char (encode_utf8 c ++ rest) ≡ encode_utf8 c
+first_char-append c rest scalar =
+    let utf8 = Strings.IsUtf8-encode c scalar in
+    cc (
+      Strings.chars-append (encode_utf8 c) rest utf8,
+      Strings.chars_past_char (encode_utf8 c) [] c utf8 (sym (append-nil (encode_utf8 c))),
+    )
 
 -- a character whose first byte is ASCII is that byte alone
 pub encode-ascii_byte : (c byte : ℕ) (more rest : Text) → byte ∷ more ≡ encode_utf8 c ++ rest

@@ -17,8 +17,8 @@ use Rattle.getopts.specs.Matches.{GroupOccurrence, MatchedGroup, occurrences_men
 use Rattle.getopts.specs.Accessors.{occurrences_of_group, place_of, values_of, pairs_of}
 use Rattle.getopts.specs.Same.{same_signature, same_group_occurrence, same_matched_group}
 use Rattle.getopts.proofs.counts.Groups.{length-matched}
-use Rattle.getopts.specs.Stored.Occurrences.{no_occurrence, occurrences_at_places}
-use Rattle.getopts.proofs.Stored.Index.{map-places_of, places_from-within}
+use Rattle.getopts.specs.Stored.Occurrences.{no_occurrence, occurrences_at_indices}
+use Rattle.getopts.proofs.Stored.Index.{map-indices_of, indices_from-within}
 
 -- the signatures of the groups in the matches
 pub signatures-matched : (first : ℕ) (signatures : List Signature) (occurrences : List Occurrence)
@@ -45,17 +45,17 @@ place_of-signatures groups signatures are name = search (rules, map-map)
 module _ (signatures : List Signature) (occurrences : List Occurrence) (place : ℕ) where
   -- the places of the occurrences of the group at this place are within the occurrences
   pub indexed-within : AllByRecursion (λ p. p < length occurrences) (index_of (length signatures) occurrences place)
-  indexed-within = search (rules, cases_lt, lt-ltb, length-map, recursion_from_All, le-ltb, places_from-within)
+  indexed-within = search (rules, cases_lt, lt-ltb, length-map, recursion_from_All, le-ltb, indices_from-within)
 
   -- they are the occurrences of that group
   pub indexed-found :
-      occurrences_at_places occurrences (index_of (length signatures) occurrences place)
+      occurrences_at_indices occurrences (index_of (length signatures) occurrences place)
       ≡ occurrences_of_group (matched 0 signatures occurrences) place
   indexed-found = elim (cases_lt place (length signatures)) [
     | inl there ↦
         rw (lt-ltb place (length signatures) there)
         (sym (map-map without_group (λ p. get_or occurrences p no_occurrence) _)
-        ∙ ap (map without_group) (search (rules, map-places_of))
+        ∙ ap (map without_group) (search (rules, map-indices_of))
         ∙ ap (λ n. occurrences_mentioning n occurrences) (sym (zero-add place))
         ∙ sym (found-matched 0 signatures occurrences place there))
     | inr past ↦ search (rules, le-ltb, slice_get_past, length-matched)

@@ -1,13 +1,14 @@
 -- Occurrences: as they are stored, with their values in one text, and those of one group.
-use Rattle.std.proofs.Common.{◌≡◌, ◌≢◌, ◌<◌, ◌+◌, ℕ, zero, suc, ◌==◌, ◌&&◌, Bool, true, false, List, [], rules, ◌∷◌, ◌++◌, map, length, get_or, take, slice_get, Option, Bor, Some, refl, ap, sym, ◌∙◌, arith, length-append}
+use Rattle.std.proofs.Common.{◌≡◌, ◌≢◌, ◌<◌, ◌≤◌, ◌+◌, ◌/◌, ◌%◌, ℕ, zero, suc, ◌==◌, ◌&&◌, Bool, true, false, List}
+use Rattle.std.proofs.Common.{[], rules, ◌∷◌, ◌++◌, map, length, get_or, take, slice_get, Option, Bor, Some, None}
+use Rattle.std.proofs.Common.{refl, ap, sym, ◌∙◌, arith}
 use Rattle.std.specs.List.{AllByRecursion}
 use Rattle.std.specs.Cmp.Lexicographic.{pointwise}
 use Rattle.std.specs.Option.{option_eq, option_map}
 use Rattle.std.proofs.lemmas.List.{length-map}
 use Rattle.std.proofs.lemmas.List.Elements.{filter_map-append}
 use Rattle.std.proofs.lemmas.Option.{slice_get-get_or, slice_get-map}
-use Rattle.std.specs.Str.{IsUtf8}
-use Rattle.std.proofs.lemmas.Bool.{cases_Bool, cond-false, cond-true, le-leb, leb-true}
+use Rattle.std.specs.Str.{IsCharBoundary, IsUtf8}
 use Rattle.std.proofs.lemmas.Str.{IsCharBoundary-end}
 use Rattle.std.proofs.lemmas.Grind.{common_steps}
 use Rattle.getopts.specs.Names.{Text}
@@ -15,55 +16,112 @@ use Rattle.getopts.specs.Matches.{GroupOccurrence, without_group}
 use Rattle.getopts.specs.Accessors.{values_of, pair_of, pairs_of, borrowed_occurrence}
 use Rattle.getopts.specs.Reading.{Occurrence}
 use Rattle.getopts.specs.Same.{same_group_occurrence}
-use Rattle.getopts.specs.Stored.Occurrences.{text_at, IsSpanOf, IsTextAt, occurrence_in, no_occurrence}
-use Rattle.getopts.specs.Stored.Occurrences.{occurrences_at_places}
-use Rattle.getopts.specs.declared.occurrences.Span.{Span}
+use Rattle.getopts.specs.Stored.Occurrences.{end_by, value_in, occurrence_in, occurrences_in, HaveStarts}
+use Rattle.getopts.specs.Stored.Occurrences.{no_occurrence, occurrences_at_indices}
 use Rattle.getopts.specs.declared.occurrences.OccurrenceRecord.{OccurrenceRecord}
 use Rattle.getopts.proofs.Lists as Lists
 use Rattle.getopts.proofs.Stored.Texts.{IsCharBoundary-append, slice_range-append, slice_range-added}
 
--- a text is still there with more after it
-span-append : (text more : Text) → IsUtf8 more → (span : Span) → IsSpanOf text span
-    → IsSpanOf (text ++ more) span × (text_at (text ++ more) span ≡ text_at text span)
-span-append text more utf8 span of =
-    grind (arith, common_steps, IsCharBoundary-append, cases_Bool, leb-true, slice_range-append, cond-false)
+-- each record has an occurrence
+pub length-occurrences : (values : Text) (records : List OccurrenceRecord)
+    → length (occurrences_in values records) ≡ length records
+length-occurrences values [] = refl
+length-occurrences values (held ∷ more) = ap suc (length-occurrences values more)
 
--- an added text is at the end
-pub stands-added : (text more : Text) → IsUtf8 more → (span : Span) → span.start ≡ length text
-    → span.end ≡ length (text ++ more) → IsTextAt (text ++ more) span more
-stands-added text more utf8 span starts ends =
-    search (rules, IsCharBoundary-append, IsCharBoundary-end, cond-true, le-leb, length-append, slice_range-added)
+-- and that is of its group
+pub groups-occurrences : (values : Text) (records : List OccurrenceRecord)
+    → map (λ (o : Occurrence). o.mention.group) (occurrences_in values records)
+    ≡ map (λ (r : OccurrenceRecord). r.place) records
+groups-occurrences values [] = refl
+groups-occurrences values (held ∷ more) = ap (λ groups. held.place ∷ groups) (groups-occurrences values more)
 
--- with more values, occurrences are held as before, and one more is the last
-pub occurrences-push : (values more : Text) → IsUtf8 more → (records : List OccurrenceRecord)
-    → AllByRecursion (λ held. IsSpanOf values held.value) records
-    → (added : OccurrenceRecord) → IsSpanOf (values ++ more) added.value
-    → AllByRecursion (λ held. IsSpanOf (values ++ more) held.value) (records ++ added ∷ [])
-    × (map (occurrence_in (values ++ more)) (records ++ added ∷ [])
-    ≡ map (occurrence_in values) records ++ occurrence_in (values ++ more) added ∷ [])
-occurrences-push values more utf8 records held added last =
-    Lists.each_pushed (λ (r : OccurrenceRecord). IsSpanOf values r.value)
-    (λ (r : OccurrenceRecord). IsSpanOf (values ++ more) r.value) (occurrence_in values)
-    (occurrence_in (values ++ more)) (λ r of.
-    let value = span-append values more utf8 r.value of in (search rules)) added _ last refl records held
+-- the occurrence of the record at a place
+occurrences-at : (values : Text) (records : List OccurrenceRecord) (place : ℕ)
+    → slice_get (occurrences_in values records) place
+    ≡ option_map (λ held. occurrence_in values held (slice_get records (suc place))) (slice_get records place)
+occurrences-at values [] place = refl
+occurrences-at values (held ∷ more) zero = refl
+occurrences-at values (held ∷ more) (suc place) = occurrences-at values more place
 
-module _ (occurrences : List Occurrence) (places : List ℕ)
-    (all : AllByRecursion (λ place. place < length occurrences) places) where
-  -- the occurrences at these places
+-- a value ends between characters
+pub ends : (values : Text) (records : List OccurrenceRecord) (place : ℕ) → HaveStarts values records
+    → IsCharBoundary values (end_by values (slice_get records place))
+ends values [] place all = IsCharBoundary-end values
+ends values (held ∷ more) zero all = all.0
+ends values (held ∷ more) (suc place) all = ends values more place all.1
+
+module _ (values : Text) (records : List OccurrenceRecord) (seen : List Occurrence)
+    (are : occurrences_in values records ≡ seen) (place : ℕ) (inside : place < length seen) where
+  -- an occurrence of a line has a record
+  pub record_within : place < length records
+  record_within =
+      omega (arith, inside, length-occurrences values records, ap (λ (found : List Occurrence). length found) are)
+
+  module _ (held : OccurrenceRecord) (is : held ≡ get_or records place held) where
+    held_at : slice_get records place ≡ Some held
+    held_at = slice_get-get_or records place held record_within ∙ ap Some (sym is)
+
+    -- and is that of its record
+    pub occurrence-read : slice_get seen place ≡ Some (occurrence_in values held (slice_get records (place + 1)))
+    occurrence-read =
+        let next : place + 1 ≡ suc place = omega arith in
+        rw (← are, next, occurrences-at values records place, held_at) refl
+
+    -- whose value starts between characters
+    pub starts : HaveStarts values records → IsCharBoundary values (held.value / 2)
+    starts all =
+        Lists.AllByRecursion-at (λ r. IsCharBoundary values (r.value / 2)) records place held all held_at
+
+-- With more values:
+module _ (values more : Text) (utf8 : IsUtf8 more) where
+  abbrev grown : Text
+  grown = values ++ more
+
+  -- values start where they started
+  pub HaveStarts-append : (records : List OccurrenceRecord) → HaveStarts values records → HaveStarts grown records
+  HaveStarts-append records all = search (rules, Lists.AllByRecursion-follows, IsCharBoundary-append)
+
+  -- a value that has ended is the same
+  value-append : (held next : OccurrenceRecord) → next.value / 2 ≤ length values
+      → value_in grown held.value (Some next) ≡ value_in values held.value (Some next)
+  value-append held next within = search (rules, slice_range-append)
+
+  -- a record whose value starts among them is the last one
+  module _ (added : OccurrenceRecord) (starts_at : added.value / 2 ≡ length values) where
+    value-last : (held : OccurrenceRecord) → value_in grown held.value (Some added) ≡ value_in values held.value None
+    value-last held = rw starts_at (search (rules, slice_range-append))
+
+    pub occurrences-push : (records : List OccurrenceRecord) → HaveStarts values records
+        → HaveStarts grown (records ++ added ∷ [])
+        × (occurrences_in grown (records ++ added ∷ [])
+        ≡ occurrences_in values records ++ occurrence_in grown added None ∷ [])
+    occurrences-push [] all = grind (arith, common_steps, IsCharBoundary-append)
+    occurrences-push (held ∷ []) all = search (rules, IsCharBoundary-append, value-last, occurrences-push [] tt)
+    occurrences-push (held ∷ next ∷ records) all =
+        search (rules, IsCharBoundary-append, value-append, occurrences-push (next ∷ records) all.1)
+
+-- an added value is at the end
+pub value-added : (values more : Text) (stored : ℕ) → stored / 2 ≡ length values → stored % 2 ≡ 1
+    → value_in (values ++ more) stored None ≡ Some more
+value-added values more stored starts given = search (rules, slice_range-added)
+
+module _ (occurrences : List Occurrence) (indices : List ℕ)
+    (all : AllByRecursion (λ place. place < length occurrences) indices) where
+  -- the occurrences at these indices
   abbrev founds : List GroupOccurrence
-  founds = occurrences_at_places occurrences places
+  founds = occurrences_at_indices occurrences indices
 
-  -- as many occurrences as places
-  pub length-founds : length founds ≡ length places
-  length-founds = length-map places (λ place. without_group (get_or occurrences place no_occurrence))
+  -- as many occurrences as indices
+  pub length-founds : length founds ≡ length indices
+  length-founds = length-map indices (λ place. without_group (get_or occurrences place no_occurrence))
 
   -- an existing occurrence has its place
-  pub place_within : (seen : List GroupOccurrence) (i : ℕ) → founds ≡ seen → i < length seen → i < length places
+  pub place_within : (seen : List GroupOccurrence) (i : ℕ) → founds ≡ seen → i < length seen → i < length indices
   place_within seen i are within =
       omega (arith, within, length-founds, ap (λ (fs : List GroupOccurrence). length fs) are)
 
-  -- the occurrence at one of the places
-  pub founds-at : (i place : ℕ) → slice_get places i ≡ Some place
+  -- the occurrence at one of the indices
+  pub founds-at : (i place : ℕ) → slice_get indices i ≡ Some place
       → slice_get founds i ≡ option_map without_group (slice_get occurrences place)
   founds-at i place at = search (rules, slice_get-map, slice_get-get_or, Lists.AllByRecursion-at)
 
@@ -83,8 +141,7 @@ pub value_given : (founds : List GroupOccurrence) (i : ℕ) (found : GroupOccurr
     → slice_get founds i ≡ Some found → found.value ≡ Some value → values_of founds ≢ []
 value_given [] i found value at given none = cc at
 value_given (first ∷ founds) zero found value at given none = search rules
-value_given (first ∷ founds) (suc i) found value at given none =
-    value_given founds i found value at given (grind (arith, common_steps))
+value_given (first ∷ founds) (suc i) found value at given none = search (rules, value_given founds i found value)
 
 -- two occurrences as they are read, compared like in the code
 abbrev pub same_read : Option (ℕ × Option (Bor Text)) → Option (ℕ × Option (Bor Text)) → Bool
@@ -105,4 +162,4 @@ module _ (founds others : List GroupOccurrence) (i : ℕ) (a b : Option (ℕ × 
   -- one more occurrence that reads as equal
   pub founds-same : same_read a b ≡ true → pointwise same_group_occurrence (take i founds) (take i others) ≡ true
       → pointwise same_group_occurrence (take (i + 1) founds) (take (i + 1) others) ≡ true
-  founds-same same before = search (rules, Lists.pointwise-take_more, here)
+  founds-same same before = search (rules, Lists.pointwise-take_more)

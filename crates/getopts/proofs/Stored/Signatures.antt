@@ -10,15 +10,17 @@ use Rattle.std.proofs.lemmas.List.{length-map}
 use Rattle.std.proofs.lemmas.List.Elements.{All-nil}
 use Rattle.std.proofs.lemmas.Simd.{map-map}
 use Rattle.std.proofs.lemmas.Option.{same_Some, slice_get-map, slice_get_read, get_or_from_slice_get}
-use Rattle.getopts.specs.Names.{Text, IsLawfullyNamed, main_name}
+use Rattle.getopts.specs.Names.{Text, Names, IsLawfullyNamed, main_name}
 use Rattle.getopts.specs.Options.{Signature, Group, MayBeDeclared, signatures_of, names_of}
 use Rattle.getopts.specs.Canon.{main_at}
-use Rattle.getopts.specs.Stored.Names.{names_at, HaveNamesOfBytes}
-use Rattle.getopts.specs.Stored.Signatures.{signature_with, names_in, pair_at, AreEndsOf, IsPairAt, ends_of}
+use Rattle.getopts.specs.Stored.Names.{names_at}
+use Rattle.getopts.specs.Stored.Texts.{IsOfBytes}
+use Rattle.getopts.specs.Stored.Pairs.{pair_at, AreEndsOf, IsPairAt}
+use Rattle.getopts.specs.Stored.Signatures.{signature_with, names_in, ends_of}
 use Rattle.getopts.specs.Stored.Signatures.{signature_in, AreLawfulSignatures, IsStored, kinds_of}
 use Rattle.getopts.specs.Stored.Groups.{group_with, groups_with, groups_view, HoldGroups}
 use Rattle.getopts.specs.declared.groups.Groups.TheInside.{Inside}
-use Rattle.getopts.specs.declared.signatures.PairEnds.{PairEnds}
+use Rattle.getopts.specs.declared.pairs.PairEnds.{PairEnds}
 use Rattle.getopts.specs.declared.signatures.SignatureRecord.{SignatureRecord}
 use Rattle.getopts.specs.declared.kinds.Kinds.{Kinds}
 use Rattle.getopts.proofs.Lists.{AllByRecursion-map, AllByRecursion-unmap, AllByRecursion-at, AllByRecursion-follows}
@@ -72,7 +74,12 @@ pub lawful_names : (signatures : List Signature) → AreLawfulSignatures signatu
     → AllByRecursion IsLawfullyNamed (names_in signatures)
 lawful_names signatures lawful = search (rules, AllByRecursion-map, AllByRecursion-follows)
 
--- and consist of bytes
+-- Each name consists of bytes.
+abbrev pub HaveNamesOfBytes : List Names → Type 0
+HaveNamesOfBytes groups = (place : ℕ)
+    → IsOfBytes (names_at groups place).short × IsOfBytes (names_at groups place).long
+
+-- Names of valid signatures consist of bytes.
 pub HaveNamesOfBytes-lawful : (signatures : List Signature) → AreLawfulSignatures signatures
     → HaveNamesOfBytes (names_in signatures)
 HaveNamesOfBytes-lawful [] lawful place = search (rules, All-nil)

@@ -10,8 +10,8 @@ use Rattle.std.proofs.Math.Seq.{drop-append_seam}
 use Rattle.std.proofs.Math.Utf8.{encode, encodes, scalar, scalars, scalar_cases}
 use Rattle.getopts.specs.Names.{Text}
 use Rattle.getopts.specs.Stored.Texts.{IsOfBytes}
-use Rattle.getopts.specs.Stored.Signatures.{pair_at, AreEndsOf, IsPairAt}
-use Rattle.getopts.specs.declared.signatures.PairEnds.{PairEnds}
+use Rattle.getopts.specs.Stored.Pairs.{pair_at, AreEndsOf, IsPairAt}
+use Rattle.getopts.specs.declared.pairs.PairEnds.{PairEnds}
 use Rattle.std.proofs.lemmas.Grind.{common_steps}
 
 -- a text may still be split at a place with more after it
@@ -58,7 +58,7 @@ two-append text more utf8 e ends = search (rules, IsCharBoundary-append, slice_r
 
 -- two texts added one after the other are at the end
 pub two-added : (text first second : Text) → IsUtf8 first → IsUtf8 second → (e : PairEnds) → e.start ≡ length text
-    → e.first ≡ length (text ++ first) → e.second ≡ length ((text ++ first) ++ second)
+    → e.middle ≡ length (text ++ first) → e.end ≡ length ((text ++ first) ++ second)
     → IsPairAt ((text ++ first) ++ second) e (first, second)
 two-added text first second first_utf8 second_utf8 e starts first_ends second_ends =
     search (rules, IsCharBoundary-append, IsCharBoundary-end, length-append, slice_range-append, slice_range-added)

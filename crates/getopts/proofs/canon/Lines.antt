@@ -8,14 +8,15 @@ use Rattle.std.proofs.lemmas.Option.{none-some, option_and_then_some, slice_get-
 use Rattle.std.proofs.lemmas.Option.{slice_get_within}
 use Rattle.std.proofs.lemmas.Simd.{map-map}
 use Rattle.std.proofs.lemmas.Grind.{common_steps}
-use Rattle.std.specs.Prelude.{slice_get, if◌then◌else◌}
+use Rattle.std.specs.Prelude.{if◌then◌else◌}
 use Rattle.std.specs.List.{AllByRecursion, Contains, filter, flat_map, list_all}
-use Rattle.std.specs.Option.{option_map, unwrap_or}
+use Rattle.std.specs.Option.{unwrap_or}
 use Rattle.getopts.specs.Names.{Text, IsLawfullyNamed, resolution}
 use Rattle.getopts.specs.Options.{Signature, Group, Declared, AreLawfullyNamed, names_of, Grammar, kind_of, grammar_of}
 use Rattle.getopts.specs.Reading.{holds_equals, stop_word, Argument, flags, ends_in, value_of, FitsKind, Item, free}
 use Rattle.getopts.specs.Reading.{long, cluster, FitsLong, FitsEnd, IsFlag, IsLawfulItem, Reading, IsReading, Mention}
 use Rattle.getopts.specs.Reading.{mention_of, mentions, Occurrence, occurrences_of, free_items}
+use Rattle.getopts.specs.Holds.{kind_at}
 use Rattle.getopts.specs.Step.{cut_at_equals}
 use Rattle.getopts.specs.ReadingLaws.{mentions_of}
 use Rattle.getopts.specs.Matches.{occurrences_mentioning, matched, KeepsCounts}
@@ -61,10 +62,6 @@ main_at-filled groups place lawful own empty =
     let no_name = resolution-nil (names_of groups)
     (AllByRecursion-map IsLawfullyNamed (λ group. group.signature.names) groups lawful) in
     none-some place (sym no_name ∙ (rw empty at own))
-
--- the kind of argument of the group at this place
-abbrev pub kind_at : List Group → ℕ → Option HasArg
-kind_at groups place = option_map (λ (group : Group). group.signature.kind) (slice_get groups place)
 
 -- a mentioned group is there, and its kind may have the value
 abbrev pub FitsGroup : List Group → Mention → Type 0

@@ -14,12 +14,12 @@ use Rattle.getopts.specs.Stored.Index.{index_of, count_in, first_wrong}
 use Rattle.getopts.specs.Stored.Names.{names_at}
 use Rattle.getopts.specs.Stored.Signatures.{kinds_of, names_in}
 use Rattle.getopts.specs.declared.kinds.Kinds.{Kinds}
-use Rattle.getopts.proofs.Stored.Index.{length-places_of}
+use Rattle.getopts.proofs.Stored.Index.{length-indices_of}
 
 -- the number of a group's occurrences, from the index
 pub length-occurrences_mentioning : (count : ℕ) (occurrences : List Occurrence) (i : ℕ) → i < count
     → count_in (index_of count occurrences) i ≡ length (occurrences_mentioning i occurrences)
-length-occurrences_mentioning count occurrences i within = search (rules, length-map, lt-ltb, length-places_of)
+length-occurrences_mentioning count occurrences i within = search (rules, length-map, lt-ltb, length-indices_of)
 
 -- there are as many matched groups as signatures
 pub length-matched : (first : ℕ) (signatures : List Signature) (occurrences : List Occurrence)

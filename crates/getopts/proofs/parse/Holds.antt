@@ -20,7 +20,10 @@ use Rattle.getopts.specs.declared.kinds.Occur.{Occur}
 use Rattle.getopts.specs.declared.kinds.Occur.TheVariants.{Req}
 use Rattle.getopts.proofs.Lists.{AllByRecursion-filter, AllByRecursion-map, AllByRecursion-unmap}
 use Rattle.getopts.proofs.counts.Groups.{AllByRecursion-matched}
-use Rattle.getopts.proofs.canon.Lines.{kind_at, FitsGroup, IsFitting-reading}
+use Rattle.getopts.specs.Holds.{kind_at, IsDeclared}
+use Rattle.getopts.specs.Reading.{Given, option, free_word, options_in, order_of_reading, Reading}
+use Rattle.getopts.proofs.Reading.Positions.{options_in-order}
+use Rattle.getopts.proofs.canon.Lines.{FitsGroup, FitsGroup-within, IsFitting-reading}
 use Rattle.getopts.proofs.Stored.Matches.{signatures-matched, found-matched, place_of-signatures}
 use Rattle.getopts.proofs.Reading.Laws.{TrailingStartIsAfterStop_lem, HavePositionsInOrder-matched}
 use Rattle.getopts.proofs.Reading.Readings.{spelled_all-append}
@@ -167,3 +170,19 @@ EndsInTrailing-read options words matches has = here matches.trailing_start refl
         before = spelled_all has.reading.items [];
         words_are = grind (arith, common_steps, spelled_all-append);
       }
+
+-- an order with only options that fit gives only what is declared
+IsDeclared-options : (groups : List Group) (order : List Given)
+    → AllByRecursion (FitsGroup groups) (options_in order) → AllByRecursion (IsDeclared groups) order
+IsDeclared-options groups [] fit = fit
+IsDeclared-options groups (option place value ∷ order) fit =
+    ((FitsGroup-within groups _ fit.0, rw fit.0.1 fit.0.2), IsDeclared-options groups order fit.1)
+IsDeclared-options groups (free_word word ∷ order) fit = (tt, IsDeclared-options groups order fit)
+
+-- so does the order of a reading
+pub IsDeclared-order : (options : Declared) (reading : Reading) (words : List Text)
+    → IsReading (grammar_of options) reading words
+    → AllByRecursion (IsDeclared options.groups) (order_of_reading (grammar_of options) reading)
+IsDeclared-order options reading words reads =
+    IsDeclared-options options.groups _ (rw (options_in-order (grammar_of options) reading)
+    (IsFitting-reading options reading words reads))

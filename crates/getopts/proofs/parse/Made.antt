@@ -1,5 +1,6 @@
 -- What is made of a line that was read.
-use Rattle.std.proofs.Common.{◌≡◌, ◌<◌, ℕ, Bool, not, List, length, map, Option, Some, None, Result, Ok, refl, sym, arith, rules}
+use Rattle.std.proofs.Common.{◌≡◌, ◌<◌, ℕ, Bool, true, false, not, List, length, map, Option, Some, None, Result, Ok, Err, refl, sym}
+use Rattle.std.proofs.Common.{rules}
 use Rattle.std.specs.List.{AllByRecursion, list_all}
 use Rattle.std.specs.Prelude.{if◌then◌else◌}
 use Rattle.std.specs.String.{string_bytes}
@@ -10,12 +11,11 @@ use Rattle.getopts.specs.Fail.{Fault}
 use Rattle.getopts.specs.Reading.{Reading, holds_equals, Occurrence, occurrences_of}
 use Rattle.getopts.specs.Matches.{matched, matches_of}
 use Rattle.getopts.specs.Canon.{Content, content_of, main_at, canonical_line}
-use Rattle.getopts.specs.Results.{made_of, accepted_reading, with_counts_kept, unless_fault, written_line}
+use Rattle.getopts.specs.Results.{made_of, accepted_reading, reading_or_error, with_counts_kept, unless_fault, written_line}
 use Rattle.getopts.specs.Returns.{HasResults}
-use Rattle.getopts.specs.Stored.Index.{count_in, first_wrong, places_in, index_of}
-use Rattle.getopts.specs.Stored.Matches.{IsReadLine}
-use Rattle.getopts.specs.Stored.Scan.{line_content}
-use Rattle.getopts.specs.declared.matches.ReadLine.{ReadLine}
+use Rattle.getopts.specs.Stored.Index.{Held, count_in, first_wrong, indices_in, index_of}
+use Rattle.getopts.specs.Stored.Scan.{GivesLine, line_content, reading_if}
+use Rattle.getopts.specs.declared.scan.Line.{Line}
 use Rattle.getopts.proofs.canon.Lines.{FitsGroup-within, IsFitting-reading}
 use Rattle.getopts.proofs.counts.Groups.{first_wrong_matched}
 use Rattle.getopts.proofs.Lists.{AllByRecursion-follows, AllByRecursion-unmap}
@@ -28,53 +28,62 @@ pub with_counts_kept-index : (options : Declared) {outcome : Result Reading Faul
     → first_wrong 0 (signatures_of options.groups) (count_in index) ≡ fault
     → with_counts_kept options outcome ≡ unless_fault reading fault
 with_counts_kept-index options reading found index fault outcome_is found_are index_is first =
-    let signatures = signatures_of options.groups in
-    rw (
-      outcome_is,
-      ← first,
-      index_is,
-      first_wrong_matched 0 signatures found (length signatures) (omega arith),
-      found_are,
-    ) refl
+    search (rules, first_wrong_matched)
 
-module _ {options : Declared} {outcome : Result Reading Fault} {read : ReadLine}
-    (is : IsReadLine options outcome read) where
+module _ (options : Declared) {outcome : Result Reading Fault} {line : Line}
+    (is : GivesLine (grammar_of options) outcome line) where
   -- its matches
   pub made_of-matches : made_of (matches_of options) outcome ≡ Ok (record {
-    groups = matched 0 (signatures_of options.groups) read.line.found;
-    free = map string_bytes read.line.free.items;
-    trailing_start = read.line.trailing_start;
+    groups = matched 0 (signatures_of options.groups) line.found;
+    free = map string_bytes line.free.items;
+    trailing_start = line.trailing_start;
   })
-  made_of-matches =
-      rw (is.gives.outcome_is, is.gives.occurrences, is.gives.free, is.gives.trailing) refl
+  made_of-matches = rw (is.outcome_is, is.occurrences, is.free, is.trailing) refl
 
   -- what is made of its content
   pub made_of-content : {X : Type 0} (make : Content → X)
-      → made_of (λ reading. make (content_of options reading)) outcome ≡ Ok (make (line_content read.line))
-  made_of-content make = rw (is.gives.outcome_is, is.gives.occurrences, is.gives.free) refl
+      → made_of (λ reading. make (content_of options reading)) outcome ≡ Ok (make (line_content line))
+  made_of-content make = rw (is.outcome_is, is.occurrences, is.free) refl
 
   -- its canonical line, if no main name in it contains `=`
   pub made_of-written : (plain : Bool)
-      → list_all (λ o. not (holds_equals (main_at options.groups o.mention.group))) read.line.found
-      ≡ plain
+      → list_all (λ o. not (holds_equals (main_at options.groups o.mention.group))) line.found ≡ plain
       → made_of (λ reading. written_line options.groups (content_of options reading)) outcome
-      ≡ Ok (if plain then Some (canonical_line options.groups (line_content read.line)) else None)
-  made_of-written plain tests = search (rules, made_of-content, list_all-map)
+      ≡ Ok (if plain then Some (canonical_line options.groups (line_content line)) else None)
+  made_of-written plain tests = search (rules, list_all-map)
 
-  -- the outcome with its counts checked
-  pub with_counts_kept-line : (fault : Option Fault)
-      → first_wrong 0 (signatures_of options.groups) (count_in (places_in read.index)) ≡ fault
-      → with_counts_kept options outcome ≡ unless_fault is.gives.reading fault
-  with_counts_kept-line fault first =
-      with_counts_kept-index options is.gives.reading read.line.found (places_in read.index) fault
-      is.gives.outcome_is is.gives.occurrences is.of_groups.index first
+  -- the outcome with its counts checked, by the index of the line
+  module _ (index : Held) (index_is : indices_in index ≡ index_of (length (signatures_of options.groups)) line.found)
+    where
+      pub with_counts_kept-line : (fault : Option Fault)
+          → first_wrong 0 (signatures_of options.groups) (count_in (indices_in index)) ≡ fault
+          → with_counts_kept options outcome ≡ unless_fault is.reading fault
+      with_counts_kept-line fault first = search (rules, with_counts_kept-index)
+
+      -- and, if it is accepted, it still gives the line
+      pub GivesLine-kept : first_wrong 0 (signatures_of options.groups) (count_in (indices_in index)) ≡ None
+          → GivesLine (grammar_of options) (with_counts_kept options outcome) line
+      GivesLine-kept first = record {
+        reading = is.reading;
+        outcome_is = with_counts_kept-line None first;
+        occurrences = is.occurrences;
+        free = is.free;
+        trailing = is.trailing;
+      }
+
+-- an error is one if the counts are checked, too
+pub reading_if-fault : (counted : Bool) (options : Declared) (words : List Text) (fault : Fault)
+    → reading_or_error options words ≡ Err fault → reading_if counted options words ≡ Err fault
+unfolding accepted_reading reading_or_error
+reading_if-fault true options words fault is = search rules
+reading_if-fault false options words fault is = is
 
 -- the occurrences of accepted words are of the groups
-pub groups_within : {options : Declared} {words : List Text} {read : ReadLine}
-    → HasResults options words → IsReadLine options (accepted_reading options words) read
-    → AllByRecursion (λ o. o.mention.group < length options.groups) read.line.found
+pub groups_within : {options : Declared} {words : List Text} {line : Line}
+    → HasResults options words → GivesLine (grammar_of options) (accepted_reading options words) line
+    → AllByRecursion (λ o. o.mention.group < length options.groups) line.found
 groups_within {options} {words} results is =
-    let reading = is.gives.reading in
-    let reads = ((results.line (Ok reading)).1 (sym is.gives.outcome_is)).reads in
-    rw is.gives.occurrences
+    let reading = is.reading in
+    let reads = ((results.line (Ok reading)).1 (sym is.outcome_is)).reads in
+    rw is.occurrences
     (search (rules, AllByRecursion-follows, FitsGroup-within, AllByRecursion-unmap, IsFitting-reading))

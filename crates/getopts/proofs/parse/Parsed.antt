@@ -2,7 +2,7 @@
 -- and `parse` returns them.
 use Rattle.std.proofs.Common.{List, rules}
 use Rattle.getopts.specs.Only.{IsTheOnly}
-use Rattle.getopts.specs.Names.{Text, AreTexts}
+use Rattle.getopts.specs.Names.{Text}
 use Rattle.getopts.specs.Options.{Declared, MayBeDeclared, grammar_of}
 use Rattle.getopts.specs.Fail.{Fault}
 use Rattle.getopts.specs.Reading.{Reading, IsScanFault}
@@ -27,9 +27,9 @@ module _ (options : Declared) (declared : MayBeDeclared options.groups) where
     only_reads reading reads = search (rules, IsTheOnly-from, only_reading, text_names_here)
 
     -- a scan error leaves no reading and no other error
-    pub HasNoReading-fault : AreTexts words → (fault : Fault)
-        → IsScanFault (grammar_of options) words fault → HasNoReading options words fault
-    HasNoReading-fault texts fault fault_is = search (rules, IsTheOnly-from, only_fault, text_names_here, no_reading)
+    pub HasNoReading-fault : (fault : Fault) → IsScanFault (grammar_of options) words fault
+        → HasNoReading options words fault
+    HasNoReading-fault fault fault_is = search (rules, IsTheOnly-from, only_fault, text_names_here, no_reading)
 
     -- words with a reading have its matches
     pub HasReading-reading : (reading : Reading) → Reads options words reading

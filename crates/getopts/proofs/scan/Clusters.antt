@@ -1,8 +1,10 @@
 -- The result of a cluster, by the flags that were read and the remaining text.
 use Rattle.std.proofs.Common.{◌≡◌, ◌≢◌, ◌<◌, ◌≤◌, ◌+◌, ℕ, List, [], ◌∷◌, ◌++◌, length, map, take, drop, slice_index}
-use Rattle.std.proofs.Common.{Option, Some, None, refl, ◌∙◌, rules, append_assoc, add-one, drop-cons}
+use Rattle.std.proofs.Common.{slice_range, Option, Some, None, refl, ◌∙◌, arith, rules, append_assoc, add-one, drop-cons}
 use Rattle.std.specs.Str.{IsCharBoundary, IsUtf8}
+use Rattle.std.proofs.lemmas.Grind.{common_steps}
 use Rattle.std.proofs.lemmas.List.{take_more, append-nil, map-append, take_all, drop_all}
+use Rattle.std.proofs.lemmas.Simd.{map-map}
 use Rattle.std.proofs.lemmas.Str.{IsCharBoundary-start, IsCharBoundary-after_ascii}
 use Rattle.getopts.specs.Names.{Text}
 use Rattle.getopts.specs.Options.{Grammar}
@@ -11,7 +13,7 @@ use Rattle.getopts.specs.Step.{chosen_end, chosen_step, byte_step, cluster_step,
 use Rattle.getopts.specs.declared.kinds.HasArg.{HasArg}
 use Rattle.getopts.specs.declared.kinds.HasArg.TheVariants.{No}
 use Rattle.getopts.proofs.Reading.Steps.{byte_step-end}
-use Rattle.getopts.proofs.scan.Items.{length-argument}
+use Rattle.getopts.proofs.scan.Items.{length-argument, option_and_same}
 
 -- the occurrences of flags, all at one position
 abbrev pub flag_occurrences : Grammar → ℕ → List ℕ → List Occurrence
@@ -30,6 +32,10 @@ pub record FlagsRead (grammar : Grammar) (position : ℕ) (text : Text) (after :
 pub text_from : (text : Text) (at : ℕ) → at < length text → drop at text ≡ slice_index text at ∷ drop (at + 1) text
 text_from text at within = rw (add-one, drop-cons text at 0) refl
 
+-- one byte of a text, as a text
+pub slice_range-one : (text : Text) (i : ℕ) → i < length text → slice_range text i (i + 1) ≡ slice_index text i ∷ []
+slice_range-one text i within = grind (arith, common_steps)
+
 module _ {grammar : Grammar} {position : ℕ} {text : Text} {after : List Text} where
   -- before the first byte nothing was read
   pub FlagsRead-none : (old : List Occurrence) → IsUtf8 text → FlagsRead grammar position text after 0 old old
@@ -38,9 +44,9 @@ module _ {grammar : Grammar} {position : ℕ} {text : Text} {after : List Text} 
   -- flags to the end of the word
   pub AddsItem-flags : {at : ℕ} {old new : List Occurrence} → length text ≤ at
       → FlagsRead grammar position text after at old new
-      → AddsItem grammar (cluster_step grammar [] text after) position 0 old new
+      → AddsItem grammar (cluster_step grammar [] text after) position None 0 old new
   unfolding cluster_step
-  AddsItem-flags {at} {old} past before = search (rules, take_all, drop_all)
+  AddsItem-flags {at} {old} past before = search (rules, take_all, drop_all, map-append, map-map)
 
   module _ {at : ℕ} {old new : List Occurrence} (within : at < length text)
       (before : FlagsRead grammar position text after at old new) where
@@ -93,11 +99,14 @@ module _ {grammar : Grammar} {position : ℕ} {text : Text} {after : List Text} 
         → kind ≢ No → grammar.kind (slice_index text at ∷ []) ≡ Some kind
         → Chooses (chosen_end kind (slice_index text at ∷ []) (drop (at + 1) text) after) value used
         → newer ≡ new ++ at_position position (record { group = group; value = value }) ∷ []
-        → AddsItem grammar (cluster_step grammar [] text after) position used old newer
+        → AddsItem grammar (cluster_step grammar [] text after) position value used old newer
     AddsItem-ends group kind value used newer place other kind_is chooses pushed =
         search (
           rules,
           cluster_step-ends kind other kind_is,
           length-argument [] chooses.argument,
           occurrences_more newer group value place pushed,
+          map-append,
+          map-map,
+          option_and_same,
         )

@@ -1,6 +1,7 @@
 -- The option that begins with a word in long form, by its name, its kind and its argument.
 use Rattle.std.proofs.Common.{map, ◌≡◌, ◌+◌, ℕ, false, List, [], ◌∷◌, ◌++◌, length, drop, Option, Some, None, Ok}
 use Rattle.std.proofs.Common.{refl, ◌∙◌, slice_get, rules}
+use Rattle.std.specs.Option.{option_and}
 use Rattle.getopts.specs.Names.{Text}
 use Rattle.getopts.specs.Options.{Grammar, long_kind, long_place}
 use Rattle.getopts.specs.Reading.{Argument, Dashes, argument_words, value_of, holds_equals, Occurrence, at_position}
@@ -15,6 +16,11 @@ use Rattle.getopts.proofs.Reading.Steps.{long_step_cut}
 -- a chosen argument, with its value and its number of words
 pub Chooses-ok : (argument : Argument) → Chooses (Ok argument) (value_of argument) (length (argument_words argument))
 Chooses-ok argument = search rules
+
+-- a value, if it is there
+pub option_and_same : (value : Option Text) → option_and value value ≡ value
+option_and_same None = refl
+option_and_same (Some text) = refl
 
 -- an item of one word and its argument's has one word more than the argument
 pub length-argument : (word : Text) (argument : Argument)
@@ -47,9 +53,9 @@ module _ (grammar : Grammar) (dashes : Dashes) (text name : Text) (argument : Op
       → long_kind grammar name ≡ Some kind → long_place grammar name ≡ Some group
       → Chooses (chosen_long kind name argument after) value used
       → new ≡ old ++ at_position position (record { group = group; value = value }) ∷ []
-      → AddsItem grammar (long_step grammar dashes text after) position used old new
+      → AddsItem grammar (long_step grammar dashes text after) position value used old new
   AddsItem-long kind group position used value old new kind_is place_is chooses added =
-      search (rules, long_step-long_name (Some kind) kind_is, length-argument [] chooses.argument)
+      search (rules, long_step-long_name (Some kind) kind_is, length-argument [] chooses.argument, option_and_same)
 
 -- a nonempty list of borrowed words
 pub texts-first : {X : Type 0} (text : X → Text) (words : List X) (word : X)

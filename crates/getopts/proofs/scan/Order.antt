@@ -2,7 +2,7 @@
 -- it ends.
 use Rattle.std.proofs.Common.{Err, ◌≡◌, ◌+◌, ℕ, List, [], ◌∷◌, ◌++◌, length, rules, map}
 use Rattle.std.proofs.Common.{drop, refl, ◌∙◌, sym, ap, append_assoc, false, add-zero, Ok, Result}
-use Rattle.std.proofs.Common.{arith, ◌≤◌}
+use Rattle.std.proofs.Common.{arith, ◌≤◌, Option}
 use Rattle.std.proofs.lemmas.List.{append-nil, length-append}
 use Rattle.std.proofs.lemmas.Simd.{map-map}
 use Rattle.std.proofs.Math.Seq.{drop-append_seam}
@@ -12,7 +12,7 @@ use Rattle.getopts.specs.Options.{Grammar}
 use Rattle.getopts.specs.Fail.{Fault}
 use Rattle.getopts.specs.Reading as Spec
 use Rattle.getopts.specs.Results.{made_of}
-use Rattle.getopts.specs.Step.{Step, takes, faults, AddsItem}
+use Rattle.getopts.specs.Step.{Step, takes, faults, revalued, AddsItem}
 use Rattle.getopts.specs.Stored.Scan.{GivesOrder}
 use Rattle.getopts.specs.declared.scan.OrderedLine.{OrderedLine}
 use Rattle.getopts.specs.declared.kinds.ParsingStyle.TheVariants.{FloatingFrees}
@@ -50,23 +50,29 @@ with_reading-item : (grammar : Grammar) (at : ℕ) (found : List Spec.Occurrence
 with_reading-item grammar at found order item (Err fault) = refl
 with_reading-item grammar at found order item (Ok reading) = simp (append_assoc)
 
--- the option that an occurrence gives
-abbrev pub option_of : Spec.Occurrence → Spec.Given
-option_of o = Spec.option o.mention.group
+-- the option that an occurrence gives, if its word has this value
+abbrev pub option_of : Option Text → Spec.Occurrence → Spec.Given
+option_of value o = Spec.given_option (revalued value o.mention)
 
 -- a dashed item gives the options that it mentions
-given_by-dashed : (grammar : Grammar) (at : ℕ) (item : Spec.Item)
-    → Spec.free_items (item ∷ []) ≡ []
-    → map option_of (map (Spec.at_position at) (Spec.mentions grammar item))
-    ≡ Spec.given_by grammar item
-given_by-dashed grammar at (Spec.free word) free = cc free
-given_by-dashed grammar at (Spec.long dashes name argument) free = refl
-given_by-dashed grammar at (Spec.cluster bytes end) free =
-    map-map option_of (Spec.at_position at) (Spec.mentions grammar (Spec.cluster bytes end))
+given_by-dashed : (grammar : Grammar) (item : Spec.Item) → Spec.free_items (item ∷ []) ≡ []
+    → Spec.given_by grammar item ≡ map Spec.given_option (Spec.mentions grammar item)
+given_by-dashed grammar (Spec.free word) free = cc free
+given_by-dashed grammar (Spec.long dashes name argument) free = refl
+given_by-dashed grammar (Spec.cluster bytes end) free = refl
+
+-- mentions that have no other value give these options
+options_of-mentions : (value : Option Text) (at : ℕ) (told : List Spec.Mention)
+    → map (revalued value) told ≡ told
+    → map (option_of value) (map (Spec.at_position at) told) ≡ map Spec.given_option told
+options_of-mentions value at told valued =
+    map-map (option_of value) (Spec.at_position at) told
+    ∙ sym (map-map Spec.given_option (revalued value) told)
+    ∙ ap (map Spec.given_option) valued
 
 -- occurrences are added after the earlier ones
-pub within-added : {grammar : Grammar} {said : Step} {at used : ℕ}
-    {found newer : List Spec.Occurrence} (first : ℕ) → AddsItem grammar said at used found newer
+pub within-added : {grammar : Grammar} {said : Step} {at used : ℕ} {value : Option Text}
+    {found newer : List Spec.Occurrence} (first : ℕ) → AddsItem grammar said at value used found newer
     → first ≡ length found → first ≤ length newer
 within-added {grammar} {at = at} {found = found} first adds is =
     rw (is, adds.added, length-append found (map (Spec.at_position at) (Spec.mentions grammar adds.item)))
@@ -112,19 +118,20 @@ module _ {grammar : Grammar} {words : List Text} {at : ℕ} {found : List Spec.O
         pushed)
 
     -- an item that a dashed word begins, after its options were appended
-    pub OrderSoFar-added : (said : Step) (used first : ℕ) (newer : List Spec.Occurrence)
-        (longer : List Spec.Given) → step grammar word after ≡ said
-        → AddsItem grammar said at used found newer → first ≡ length found
-        → longer ≡ order ++ map option_of (drop first newer)
+    pub OrderSoFar-added : (said : Step) {value : Option Text} (used first : ℕ)
+        (newer : List Spec.Occurrence) (longer : List Spec.Given) → step grammar word after ≡ said
+        → AddsItem grammar said at value used found newer → first ≡ length found
+        → longer ≡ order ++ map (option_of value) (drop first newer)
         → OrderSoFar grammar words (at + (1 + used)) newer longer
-    OrderSoFar-added said used first newer longer is adds first_is pushed =
+    OrderSoFar-added said {value} used first newer longer is adds first_is pushed =
         let place : at + (1 + used) ≡ at + 1 + used = omega arith in
-        let given : map option_of (drop first newer) ≡ Spec.given_by grammar adds.item =
+        let given : map (option_of value) (drop first newer) ≡ Spec.given_by grammar adds.item =
         rw (
           first_is,
           adds.added,
           drop-append_seam found (map (Spec.at_position at) (Spec.mentions grammar adds.item)),
-        ) (given_by-dashed grammar at adds.item adds.no_free) in
+          given_by-dashed grammar adds.item adds.no_free,
+        ) (options_of-mentions value at (Spec.mentions grammar adds.item) adds.valued) in
         rw place (OrderSoFar-item adds.item adds.argument used newer longer (is ∙ adds.step_is)
         adds.used_is adds.counted adds.added (pushed ∙ ap (λ more. order ++ more) given))
 

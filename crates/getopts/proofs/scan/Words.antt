@@ -1,10 +1,9 @@
 -- Lemmas about single words.
-use Rattle.std.proofs.Common.{◌≡◌, ◌≢◌, ◌<◌, ◌+◌, ℕ, false, eqb, [], ◌∷◌, length, get_or}
-use Rattle.std.proofs.Common.{slice_index, slice_range, arith}
+use Rattle.std.proofs.Common.{◌≡◌, ◌≢◌, ◌<◌, ℕ, false, eqb, length, get_or}
+use Rattle.std.proofs.Common.{arith}
 use Rattle.std.proofs.lemmas.List.{get_or_default}
 use Rattle.std.proofs.lemmas.List.Folds.{list_any_none}
 use Rattle.std.proofs.lemmas.Bool.Decides.{nat_tests}
-use Rattle.std.proofs.lemmas.Grind.{common_steps}
 use Rattle.getopts.specs.Names.{Text}
 use Rattle.getopts.specs.Reading.{equals_sign, holds_equals}
 
@@ -14,7 +13,3 @@ pub holds_equals-none : (text : Text) → ((i : ℕ) → i < length text → get
 holds_equals-none text h = list_any_none (λ c. eqb c equals_sign) text
     (λ k d l. let here = h k l in let same =
     get_or_default text k 0 d l in grind (arith, nat_tests))
-
--- one byte of a text, as a text
-pub slice_range-one : (text : Text) (i : ℕ) → i < length text → slice_range text i (i + 1) ≡ slice_index text i ∷ []
-slice_range-one text i within = grind (arith, common_steps)

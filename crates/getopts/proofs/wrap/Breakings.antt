@@ -7,9 +7,8 @@ use Rattle.std.specs.List.{flat_map}
 use Rattle.std.proofs.lemmas.Bool.{cases_Bool, cond-true, cond-false, leb-true, le-leb, false_from_ne_true}
 use Rattle.std.proofs.lemmas.List.Elements.{All-nil, All-cons, All-head, All-tail}
 use Rattle.std.proofs.lemmas.List.Sums.{sum_by-append}
-use Rattle.std.proofs.lemmas.Grind.{common_steps}
 use Rattle.getopts.specs.Names.{Text}
-use Rattle.getopts.specs.Wrap.{Run, FitsIn, IsFittingBreaking, NoneTakesMore, IsTightBreaking, IsFewestBreaking}
+use Rattle.getopts.specs.Wrap.{Run, FitsIn, NoneTakesMore, IsTightBreaking, IsFewestBreaking}
 use Rattle.getopts.specs.UsageResults.{has_room, runs_from, runs_of}
 use Rattle.getopts.proofs.Lists.{Within, cuts}
 
@@ -106,51 +105,40 @@ runs_of-only limit words ((word ∷ more) ∷ runs) tight =
     (All-tail (FitsIn limit) (word ∷ more) runs tight.fitting.fits)
     ∙ ap (runs_of limit) tight.fitting.all_words
 
--- By induction on the words. If the run has no room for the next word, the first of the other runs
--- can't contain the run and this word (`FitsIn-inside`). So it ends before the word, and the next
--- one begins there or earlier.
--- filling gives no more runs than any fitting runs, even of words that begin earlier
-few_runs : (limit : ℕ) (run : Run) (words front : List Text) (others : List Run)
-    → 0 < length run → words_in others ≡ front ++ (run ++ words) → All (FitsIn limit) others
-    → length (runs_from limit run words) ≤ length others
-few_runs limit run words front [] has_word joined fits =
-    search (rules, length-append front (run ++ words), length-append run words)
-few_runs limit run [] front (other ∷ others) has_word joined fits = omega arith
-few_runs limit run (word ∷ words) front (other ∷ others) has_word joined fits =
-    let later : (front : List Text) → words_in others ≡ front ++ (word ∷ words)
-    → length (runs_from limit (word ∷ []) words) ≤ length others =
-    λ front joined. few_runs limit (word ∷ []) words front others (omega arith) joined
-    (All-tail (FitsIn limit) other others fits) in
-    elim (cases_Bool (has_room limit run word)) [
-      | inl taken ↦ rw (runs_from-taken limit run word words taken)
-          (few_runs limit (run ++ word ∷ []) words front (other ∷ others)
-          (omega (arith, length-append run (word ∷ [])))
-          (joined ∙ ap (λ rest. front ++ rest) (sym (append_assoc run (word ∷ []) words))) fits)
-      | inr refused ↦
-          rw (runs_from-refused limit run word words refused) (⊎_elim
-          -- the first run ends before the word
-          (λ (w : Within other (words_in others) (front ++ run) (word ∷ words)).
-          omega (arith, later w.0 w.2))
-          (λ (w : Within (front ++ run) (word ∷ words) other (words_in others)).
-          omega (arith, past later refused w.0 w.1 w.2))
-          (search (rules, cuts, append_assoc)))
-    ] where
-      -- it ends with the run, since it doesn't fit with the word
-      past : ((front : List Text) → words_in others ≡ front ++ (word ∷ words)
-          → length (runs_from limit (word ∷ []) words) ≤ length others)
-          → has_room limit run word ≡ false → (middle : List Text) → other ≡ (front ++ run) ++ middle
-          → word ∷ words ≡ middle ++ words_in others
-          → length (runs_from limit (word ∷ []) words) ≤ length others
-      past later refused [] is rest = later [] (sym rest)
-      past later refused (next ∷ middle) is rest =
-          let same : word ≡ next = cc in
-          grind (arith, common_steps, refused_does_not_fit, FitsIn-inside, length-append, append_assoc, All-head)
+-- a fitting run that contains a tight run doesn't go on after it
+ends_with : (limit : ℕ) (front run back : Run) (runs : List Run) (word : Text) (more : List Text)
+    → NoneTakesMore limit (run ∷ runs) → All (λ run. 0 < length run) (run ∷ runs) → words_in runs ≡ word ∷ more
+    → FitsIn limit (front ++ (run ++ word ∷ back)) → ⊥
+ends_with limit front run back [] word more tight nonempty is fits = cc is
+ends_with limit front run back ([] ∷ runs) word more tight nonempty is fits = search (rules, All-head, All-tail)
+ends_with limit front run back ((next ∷ rest) ∷ runs) word more tight nonempty is fits =
+    tight.0 (FitsIn-inside limit front (run ++ next ∷ []) back (omega (arith, length-append run (next ∷ [])))
+    (search (rules, append_assoc)))
 
-fewest_runs : (limit : ℕ) (words : List Text) (others : List Run)
-    → IsFittingBreaking limit words others → length (runs_of limit words) ≤ length others
-fewest_runs limit [] others fitting = omega arith
-fewest_runs limit (word ∷ words) others fitting =
-    few_runs limit (word ∷ []) words [] others (omega arith) fitting.all_words fitting.fits
+-- Run by run: the first of the other runs ends with the first tight run, or before.
+-- a fitting breaking has no fewer runs than a tight one, even if it breaks words before these too
+no_fewer : (limit : ℕ) (front : Run) (runs others : List Run) → NoneTakesMore limit runs
+    → All (λ run. 0 < length run) runs → All (FitsIn limit) others → words_in others ≡ front ++ words_in runs
+    → length runs ≤ length others
+no_fewer limit front [] others tight nonempty fits joined = omega arith
+no_fewer limit front (run ∷ runs) [] tight nonempty fits joined =
+    search (rules, length-append front (words_in (run ∷ runs)), length-append run (words_in runs), All-head)
+no_fewer limit front (run ∷ runs) (other ∷ others) tight nonempty fits joined =
+    let rest : (front : Run) → words_in others ≡ front ++ words_in runs → length runs ≤ length others =
+    λ front joined. no_fewer limit front runs others (search rules) (All-tail (λ run. 0 < length run) run runs nonempty)
+    (All-tail (FitsIn limit) other others fits) joined in
+    ⊎_elim
+    (λ (w : Within other (words_in others) (front ++ run) (words_in runs)). omega (arith, rest w.0 w.2))
+    (λ (w : Within (front ++ run) (words_in runs) other (words_in others)). past rest w.0 w.1 w.2)
+    (search (rules, cuts, append_assoc))
+  where
+    past : ((front : Run) → words_in others ≡ front ++ words_in runs → length runs ≤ length others)
+        → (middle : Run) → other ≡ (front ++ run) ++ middle → words_in runs ≡ middle ++ words_in others
+        → length (run ∷ runs) ≤ length (other ∷ others)
+    past rest [] is joined = omega (arith, rest [] (sym joined))
+    past rest (word ∷ middle) is joined = search (rules, ends_with, append_assoc, All-head)
 
 pub runs_of-is_fewest : (limit : ℕ) (words : List Text) → IsFewestBreaking limit words (runs_of limit words)
-runs_of-is_fewest limit words = search (rules, runs_of-tight, fewest_runs)
+runs_of-is_fewest limit words =
+    let tight = runs_of-tight limit words in
+    search (rules, no_fewer limit [] (runs_of limit words))

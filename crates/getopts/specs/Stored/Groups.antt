@@ -6,7 +6,8 @@ use Rattle.std.specs.String.{string_bytes}
 use Rattle.getopts.specs.Names.{Text}
 use Rattle.getopts.specs.Options.{Signature, Group}
 use Rattle.getopts.specs.Same.{same_group}
-use Rattle.getopts.specs.Stored.Signatures.{pair_at, AreEndsOf, AreLawfulSignatures, signature_view}
+use Rattle.getopts.specs.Stored.Pairs.{pair_at, AreEndsOf}
+use Rattle.getopts.specs.Stored.Signatures.{AreLawfulSignatures, signature_view}
 use Rattle.getopts.specs.declared.groups.GroupView.{GroupView}
 use Rattle.getopts.specs.declared.groups.Groups.TheInside.{Inside}
 

@@ -1,56 +1,71 @@
 -- The occurrences of a command line, and those of one group, as they are stored.
-use Rattle.std.specs.Prelude.{◌≡◌, ◌<◌, ◌≤◌, if◌then◌else◌, nat_le, ℕ, List, length, map, get_or}
-use Rattle.std.specs.Prelude.{Option, Some, None, slice_range}
+use Rattle.std.specs.Prelude.{◌≡◌, ◌<◌, ◌==◌, ◌/◌, ◌%◌, if◌then◌else◌, nat_le, ℕ, List, [], ◌∷◌, ◌++◌}
+use Rattle.std.specs.Prelude.{length, map, get_or, Option, Some, None, slice_get, slice_range}
 use Rattle.std.specs.List.{AllByRecursion}
-use Rattle.std.specs.Str.{IsCharBoundary}
+use Rattle.std.specs.Str.{IsCharBoundary, IsUtf8}
 use Rattle.std.specs.String.{string_bytes}
 use Rattle.getopts.specs.Names.{Text}
 use Rattle.getopts.specs.Matches.{GroupOccurrence, without_group}
 use Rattle.getopts.specs.Reading.{Occurrence}
-use Rattle.getopts.specs.declared.occurrences.Span.{Span}
 use Rattle.getopts.specs.declared.occurrences.OccurrenceRecord.{OccurrenceRecord}
 use Rattle.getopts.specs.declared.occurrences.LineOccurrences.TheInside.{Inside}
 
--- the text at this place, or none if the place ends before it starts
-abbrev pub text_at : Text → Span → Option Text
-text_at text span =
-    if nat_le span.start span.end then Some (slice_range text span.start span.end) else None
+-- where a value ends: where that of the next record starts, or at the end of all values
+abbrev pub end_by : Text → Option OccurrenceRecord → ℕ
+end_by values (Some next) = next.value / 2
+end_by values None = length values
 
--- If there is a text at this place, it is between characters.
-abbrev pub IsSpanOf : Text → Span → Type 0
-IsSpanOf text span = span.start ≤ span.end
-    → IsCharBoundary text span.start × IsCharBoundary text span.end
+-- the text between these indices, or none if it ends before it starts
+abbrev pub text_between : Text → ℕ → ℕ → Option Text
+text_between values start end = if nat_le start end then Some (slice_range values start end) else None
 
--- This text is at this place.
-pub record IsTextAt (text : Text) (span : Span) (part : Text) : Type 0 where
-  pub span_of : IsSpanOf text span
-  pub is : text_at text span ≡ Some part
+-- the value of a record that stores this number, among all values and by the next record
+abbrev pub value_in : Text → ℕ → Option OccurrenceRecord → Option Text
+value_in values stored next =
+    if stored % 2 == 1 then text_between values (stored / 2) (end_by values next) else None
 
--- the occurrence of a record, by the text of all values
-abbrev pub occurrence_in : Text → OccurrenceRecord → Occurrence
-occurrence_in values held = record {
-  mention = record { group = held.group; value = text_at values held.value };
+-- the occurrence of a record, by the next record
+abbrev pub occurrence_in : Text → OccurrenceRecord → Option OccurrenceRecord → Occurrence
+occurrence_in values held next = record {
+  mention = record { group = held.place; value = value_in values held.value next };
   position = held.position;
 }
 
+-- the occurrences of these records
+abbrev pub occurrences_in : Text → List OccurrenceRecord → List Occurrence
+occurrences_in values [] = []
+occurrences_in values (held ∷ more) =
+    occurrence_in values held (slice_get more 0) ∷ occurrences_in values more
+
+-- A value was added to all values, if there is one, and its record stores this number.
+pub record IsAdded (old new : Text) (value : Option Text) (stored : ℕ) : Type 0 where
+  pub more : Text
+  pub utf8 : IsUtf8 more
+  pub grown : new ≡ old ++ more
+  pub starts : stored / 2 ≡ length old
+  pub value_is : value_in (old ++ more) stored None ≡ value
+
 -- the occurrences of a line
 abbrev pub found_view : Inside → List Occurrence
-found_view inside = map (occurrence_in (string_bytes inside.values)) inside.records.items
+found_view inside = occurrences_in (string_bytes inside.values) inside.records.items
 
--- The value of each record, if it has one, is among all values.
+-- The value of each record starts between characters of all values.
+abbrev pub HaveStarts : Text → List OccurrenceRecord → Type 0
+HaveStarts values records = AllByRecursion (λ held. IsCharBoundary values (held.value / 2)) records
+
+-- The values of the records are among all values.
 abbrev pub HaveTheirValues : Inside → Type 0
-HaveTheirValues inside =
-    AllByRecursion (λ held. IsSpanOf (string_bytes inside.values) held.value) inside.records.items
+HaveTheirValues inside = HaveStarts (string_bytes inside.values) inside.records.items
 
 -- stands for an occurrence past the last one
 abbrev pub no_occurrence : Occurrence
 no_occurrence = record { mention = record { group = 0; value = None }; position = 0 }
 
--- the occurrences at these places
-abbrev pub occurrences_at_places : List Occurrence → List ℕ → List GroupOccurrence
-occurrences_at_places occurrences places =
-    map (λ place. without_group (get_or occurrences place no_occurrence)) places
+-- the occurrences at these indices
+abbrev pub occurrences_at_indices : List Occurrence → List ℕ → List GroupOccurrence
+occurrences_at_indices occurrences indices =
+    map (λ place. without_group (get_or occurrences place no_occurrence)) indices
 
--- These are places of occurrences.
-abbrev pub ArePlacesOf : List Occurrence → List ℕ → Type 0
-ArePlacesOf occurrences places = AllByRecursion (λ place. place < length occurrences) places
+-- These are indices of occurrences.
+abbrev pub AreIndicesOf : List Occurrence → List ℕ → Type 0
+AreIndicesOf occurrences indices = AllByRecursion (λ place. place < length occurrences) indices

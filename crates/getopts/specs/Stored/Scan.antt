@@ -1,14 +1,18 @@
 -- What the functions of `scan` find in the words that they are given.
-use Rattle.std.specs.Prelude.{◌≡◌, false, None, Some, [], map, Result, Ok, Option, ℕ}
+use Rattle.std.specs.Prelude.{◌≡◌, Bool, true, false, if◌then◌else◌, Some, List, [], ◌∷◌, ◌++◌, length, map}
+use Rattle.std.specs.Prelude.{Result, Ok, Option, ℕ}
 use Rattle.std.specs.String.{string_bytes}
 use Rattle.getopts.specs.Names.{Text}
 use Rattle.getopts.specs.Accessors.{borrowed_given}
-use Rattle.getopts.specs.Options.{Grammar, MayBeDeclared, names_of, grammar_of}
+use Rattle.getopts.specs.Options.{Declared, Grammar, MayBeDeclared, names_of, grammar_of}
 use Rattle.getopts.specs.Stored.Table.{IsTableOf}
 use Rattle.getopts.specs.Canon.{Content}
 use Rattle.getopts.specs.Fail.{Fault}
 use Rattle.getopts.specs.Reading.{Dashes, is_dashed, stop_word, Reading}
 use Rattle.getopts.specs.Reading.{occurrences_of, free_words, trailing_start, order_of_reading}
+use Rattle.getopts.specs.Reading.{Occurrence, occurrences_after, free_items, Tail, line_end, stop, rest}
+use Rattle.getopts.specs.Reading.{tail_frees, trailing_after}
+use Rattle.getopts.specs.Results.{made_of, read, reading_or_error, accepted_reading}
 use Rattle.getopts.specs.Step.{IsInLongForm, IsShortForm}
 use Rattle.getopts.specs.declared.kinds.HasArg.{HasArg}
 use Rattle.getopts.specs.declared.scan.Line.{Line}
@@ -40,6 +44,11 @@ HasShape grammar word (shape.Long text) =
     (dashes : Dashes) × IsInLongForm grammar dashes word text.now
 HasShape grammar word (shape.Cluster text) = IsShortForm grammar word text.now
 
+-- the reading of words, with its counts checked or not, or their error
+abbrev pub reading_if : Bool → Declared → List Text → Result Reading Fault
+reading_if true options words = accepted_reading options words
+reading_if false options words = reading_or_error options words
+
 -- The outcome is a reading, and the line is what it gives.
 pub record GivesLine (grammar : Grammar) (outcome : Result Reading Fault) (line : Line)
     : Type 0 where
@@ -49,6 +58,51 @@ pub record GivesLine (grammar : Grammar) (outcome : Result Reading Fault) (line 
   pub free : map string_bytes line.free.items ≡ free_words reading
   pub trailing : line.trailing_start ≡ trailing_start reading
 
+-- what a line gives: its occurrences, its free words, and where those after a stop begin
+pub record Parts : Type 0 where
+  pub found : List Occurrence
+  pub free : List Text
+  pub trailing_start : Option ℕ
+
+-- what a line has
+abbrev pub parts_of : Line → Parts
+parts_of line = record {
+  found = line.found;
+  free = map string_bytes line.free.items;
+  trailing_start = line.trailing_start;
+}
+
+-- what these occurrences and free words give with a tail
+abbrev pub with_tail : List Occurrence → List Text → Tail → Parts
+with_tail found frees tail = record {
+  found = found;
+  free = frees ++ tail_frees tail;
+  trailing_start = trailing_after (length frees) tail;
+}
+
+-- what these occurrences and free words give with a reading of the words from this place on
+abbrev pub with_reading : Grammar → ℕ → List Occurrence → List Text → Reading → Parts
+with_reading grammar at found frees reading =
+    with_tail (found ++ occurrences_after at grammar reading.items)
+    (frees ++ free_items reading.items) reading.tail
+
+-- what a line gives with the words from this place on
+abbrev pub given_with : Grammar → ℕ → Line → List Text → Result Parts Fault
+given_with grammar at line words =
+    made_of (with_reading grammar at line.found (map string_bytes line.free.items))
+    (read grammar words)
+
+-- a tail of these words: free words, or a stop and free words
+abbrev pub tail_of : List Text → Tail
+tail_of [] = line_end
+tail_of (word ∷ after) = if is_dashed word then stop after else rest (word ∷ after)
+
+-- The first words of a command line were read into a line, and these words are left.
+abbrev pub IsLeft : Declared → ℕ → Line → List Text → List Text → Type 0
+IsLeft options count line whole left =
+    made_of (with_reading (grammar_of options) 0 [] []) (read (grammar_of options) whole)
+    ≡ given_with (grammar_of options) count line left
+
 -- The outcome is a reading, and the line has its occurrences and its order.
 pub record GivesOrder (grammar : Grammar) (outcome : Result Reading Fault) (line : OrderedLine)
     : Type 0 where
@@ -56,12 +110,6 @@ pub record GivesOrder (grammar : Grammar) (outcome : Result Reading Fault) (line
   pub outcome_is : outcome ≡ Ok reading
   pub occurrences : line.found ≡ occurrences_of grammar reading
   pub order : map borrowed_given line.order.items ≡ order_of_reading grammar reading
-
--- The line has no occurrence, no free word and no trailing start.
-pub record IsEmptyLine (line : Line) : Type 0 where
-  pub found : line.found ≡ []
-  pub free : line.free.items ≡ []
-  pub trailing : line.trailing_start ≡ None
 
 -- the content of a line
 abbrev pub line_content : Line → Content

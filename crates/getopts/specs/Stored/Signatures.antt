@@ -1,16 +1,17 @@
 -- The names and kinds of groups, as they are stored or borrowed.
-use Rattle.std.specs.Prelude.{◌≡◌, ◌==◌, ◌≤◌, ◌-◌, Bool, not, cond, List, [], map, slice_range}
+use Rattle.std.specs.Prelude.{◌≡◌, ◌==◌, ◌-◌, Bool, not, cond, List, [], map}
 use Rattle.std.specs.List.{AllByRecursion}
 use Rattle.std.specs.Ordering.{on, eq_of_both}
-use Rattle.std.specs.Str.{IsUtf8, IsCharBoundary}
+use Rattle.std.specs.Str.{IsUtf8}
 use Rattle.std.specs.String.{string_bytes}
 use Rattle.getopts.specs.Names.{Text, Names, IsLawfullyNamed, is_empty, main_name}
 use Rattle.getopts.specs.Options.{Signature}
 use Rattle.getopts.specs.Same.{same_signature}
 use Rattle.getopts.specs.Stored.Names.{key_of, short_code}
+use Rattle.getopts.specs.Stored.Pairs.{pair_at, AreEndsOf}
 use Rattle.getopts.specs.declared.names.NamesView.{NamesView}
 use Rattle.getopts.specs.declared.kinds.Kinds.{Kinds}
-use Rattle.getopts.specs.declared.signatures.PairEnds.{PairEnds}
+use Rattle.getopts.specs.declared.pairs.PairEnds.{PairEnds}
 use Rattle.getopts.specs.declared.signatures.SignatureRecord.{SignatureRecord}
 use Rattle.getopts.specs.declared.signatures.SignatureView.{SignatureView}
 use Rattle.getopts.specs.declared.signatures.Signatures.TheInside.{Inside}
@@ -43,30 +44,15 @@ same_kinds = on (λ kinds. signature_with kinds [] []) same_signature
 abbrev pub ends_of : SignatureRecord → PairEnds
 ends_of group = record {
   start = cond (group.short == 256) group.long (group.long - 1);
-  first = group.long;
-  second = group.end;
+  middle = group.long;
+  end = group.end;
 }
 
--- whether two records have the same short name, long names at the same places, and the same kinds
+-- whether two records have the same short name, long names with the same ends, and the same kinds
 abbrev pub same_record : SignatureRecord → SignatureRecord → Bool
 same_record = eq_of_both (on (λ group. group.long) ◌==◌)
     (eq_of_both (on (λ group. group.end) ◌==◌)
     (eq_of_both (on (λ group. group.short) ◌==◌) (on (λ group. group.kinds) same_kinds)))
-
--- the two texts at these places
-abbrev pub pair_at : Text → PairEnds → Text × Text
-pair_at text e = (slice_range text e.start e.first, slice_range text e.first e.second)
-
--- The places are in order, and between characters.
-pub record AreEndsOf (text : Text) (e : PairEnds) : Type 0 where
-  pub start : IsCharBoundary text e.start
-  pub first : (e.start ≤ e.first) × IsCharBoundary text e.first
-  pub second : (e.first ≤ e.second) × IsCharBoundary text e.second
-
--- These two texts are at these places.
-pub record IsPairAt (text : Text) (e : PairEnds) (two : Text × Text) : Type 0 where
-  pub ends : AreEndsOf text e
-  pub are : pair_at text e ≡ two
 
 -- the signature of a record, by the text of all names
 abbrev pub signature_in : Text → SignatureRecord → Signature

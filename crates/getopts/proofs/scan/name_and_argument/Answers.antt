@@ -1,12 +1,14 @@
--- A text may be split after its first `=`.
-use Rattle.std.proofs.Common.{◌≡◌, get_or, arith}
-use Rattle.std.proofs.lemmas.Str.{IsCharBoundary-after_ascii}
-use Rattle.getopts.specs.Reading.{equals_sign}
+-- No byte before the first `=` is one.
+use Rattle.std.proofs.Common.{lit<, Some, None}
+use Rattle.std.proofs.lemmas.Str.Pattern.{split_parts}
+use Rattle.getopts.proofs.scan.Words.{holds_equals-none}
 use Rattle.getopts.proofs.scan.name_and_argument.Goals as goal
 
-pub range_from-requires : goal.range_from-requires
-range_from-requires c =
-    let equals : get_or c.args.text.now c.loop-at.at 0 ≡ equals_sign =
-    rw c.as_bytes-bytes.ensures.value at c.if-bytes-at-eq61.true in
-    λ _. IsCharBoundary-after_ascii c.args.text.now c.loop-at.at c.utf8.text (omega arith)
-    (omega (arith, equals))
+pub returns-in-Some-clause-name : goal.returns-in-Some-clause-name
+returns-in-Some-clause-name c =
+    holds_equals-none c.in-Some.name.now (split_parts 61 c.args.text.now (Some (c.in-Some.name, c.in-Some.argument))
+    c.in-Some.ensures.cases (lit< tt)).1
+
+pub returns-in-None-clause-name : goal.returns-in-None-clause-name
+returns-in-None-clause-name c =
+    holds_equals-none c.args.text.now (split_parts 61 c.args.text.now None c.in-None.ensures.cases (lit< tt))

@@ -1,8 +1,9 @@
 -- Each iteration appends one option.
 use Rattle.std.proofs.Common.{◌≡◌, ◌+◌, ℕ, List, [], ◌∷◌, ◌++◌, map, drop, Some, slice_get, ◌∙◌}
-use Rattle.std.proofs.Common.{append_assoc, refl}
+use Rattle.std.proofs.Common.{append_assoc, refl, rules}
 use Rattle.std.proofs.lemmas.List.{drop_more, map-append}
 use Rattle.std.proofs.lemmas.Option.{slice_get_within, get_or_from_slice_get}
+use Rattle.std.specs.Option.{option_copied}
 use Rattle.getopts.specs.Accessors.{borrowed_given}
 use Rattle.getopts.proofs.scan.Order.{option_of}
 use Rattle.getopts.proofs.scan.push_options.Goals as goal
@@ -20,8 +21,8 @@ moved f h ys y xs i x there same =
       same,
     ) refl
 
-pub loop-place-preserved : goal.loop-place-preserved
-loop-place-preserved c =
+pub loop-index-preserved : goal.loop-index-preserved
+loop-index-preserved c =
     rw c.in_ok-push.ensures.items
-    (moved option_of borrowed_given c.loop-place.order.items _ c.args.found.now c.loop-place.place _
-    c.at.ensures refl ∙ c.loop-place.invariant)
+    (moved (option_of (option_copied c.args.value)) borrowed_given c.loop-index.order.items _
+    c.args.found.now c.loop-index.index _ c.at-option.ensures (search rules) ∙ c.loop-index.invariant)

@@ -3,11 +3,11 @@ use Rattle.std.proofs.Common.{◌≡◌, ◌∙◌, length}
 use Rattle.getopts.specs.Stored.Index.{index_of}
 use Rattle.getopts.proofs.Stored.Matches.{indexed-within, indexed-found}
 use Rattle.getopts.proofs.matches.MatchedGroups.occurrences_at.Goals as goal
-use Rattle.getopts.proofs.matches.MatchedGroups.occurrences_at.Goals.{After-places}
+use Rattle.getopts.proofs.matches.MatchedGroups.occurrences_at.Goals.{After-indices}
 
-places_are : (c : After-places) → c.places.result.now
+places_are : (c : After-indices) → c.indices.result.now
     ≡ index_of (length c.self.inside.signatures) c.self.inside.found c.args.place
-places_are c = c.places.ensures ∙ (λ i. c.self.invariant.index i c.args.place)
+places_are c = c.indices.ensures ∙ (λ i. c.self.invariant.index i c.args.place)
 
 pub of-requires : goal.of-requires
 of-requires c =
@@ -15,5 +15,5 @@ of-requires c =
 
 pub returns : goal.returns
 returns c =
-    rw (c.of.ensures, places_are (goal.at.returns c).After-places, ← c.self.view_is)
+    rw (c.of.ensures, places_are (goal.at.returns c).After-indices, ← c.self.view_is)
     (indexed-found c.self.inside.signatures c.self.inside.found c.args.place)

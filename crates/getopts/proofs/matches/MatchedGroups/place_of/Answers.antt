@@ -20,4 +20,4 @@ returns-clause-lawful c =
     (λ (group : MatchedGroup). group.signature) _
     (rw (signatures-matched 0 c.self.inside.signatures c.self.inside.found)
     (AllByRecursion-unmap IsLawfullyNamed (λ (signature : Signature). signature.names)
-    c.self.inside.signatures c.self.invariant.table.are_long_names.valid)))
+    c.self.inside.signatures c.self.invariant.table.valid)))

@@ -1,7 +1,7 @@
 -- The copies equal the stored values.
 use Rattle.std.proofs.Common.{◌≡◌, ◌∙◌, ap, length, sym}
 use Rattle.getopts.specs.Matches.{matched}
-use Rattle.getopts.specs.Stored.Index.{index_of, places_in}
+use Rattle.getopts.specs.Stored.Index.{index_of, indices_in}
 use Rattle.getopts.proofs.matches.MatchedGroupsClone.clone.Goals as goal
 
 pub invariant_of-result : goal.invariant_of-result
@@ -15,10 +15,13 @@ invariant_of-result c =
     let index : c.in_ok-clone-4.field-0 ≡ c.self.inside.index = c.in_ok-clone-4.ensures.cases in
     record {
       table = record {
-        are_letters = rw (signatures, letters) c.self.invariant.table.are_letters;
-        are_long_names = rw (signatures, long_names) c.self.invariant.table.are_long_names;
+        valid = rw signatures c.self.invariant.table.valid;
+        letters = rw (signatures, letters) c.self.invariant.table.letters;
+        long_names = rw (signatures, long_names) c.self.invariant.table.long_names;
+        finds_letters = rw (signatures, letters) c.self.invariant.table.finds_letters;
+        finds_long_names = rw (signatures, long_names) c.self.invariant.table.finds_long_names;
       };
-      index = ap places_in index ∙ c.self.invariant.index ∙ sym (λ i. index_of (length (signatures i)) (found i));
+      index = ap indices_in index ∙ c.self.invariant.index ∙ sym (λ i. index_of (length (signatures i)) (found i));
     }
 
 pub returns : goal.returns

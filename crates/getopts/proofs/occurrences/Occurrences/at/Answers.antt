@@ -16,9 +16,9 @@ bounds-self-inside-nth c = place_within _ _ c.self.invariant _ _ c.self.view_is 
 
 pub returns : goal.returns
 returns c =
-    let place = get_or c.self.inside.places.now c.args.nth 0 in
+    let place = get_or c.self.inside.indices.now c.args.nth 0 in
     let within = place_within _ _ c.self.invariant _ _ c.self.view_is c.requires in
     rw (← c.self.view_is)
-    (founds-at c.self.inside.found.now c.self.inside.places.now c.self.invariant c.args.nth place
-    (slice_get-get_or c.self.inside.places.now c.args.nth 0 within)
+    (founds-at c.self.inside.found.now c.self.inside.indices.now c.self.invariant c.args.nth place
+    (slice_get-get_or c.self.inside.indices.now c.args.nth 0 within)
     ∙ ap (option_map without_group) c.at.ensures)

@@ -21,12 +21,12 @@ canonical_line-requires g c =
 pub returns-in_ok-canonical_line-clause-result : goal.returns-in_ok-canonical_line-clause-result
 returns-in_ok-canonical_line-clause-result g c =
     rw (rw c.groups-groups.ensures at c.in_ok-canonical_line.ensures)
-    (made_of-written c.in_ok-accepted.ensures.ok true
+    (made_of-written c.args.self.now c.in_ok-accepted.ensures.ok true
     (sym (rw c.groups-groups.ensures at c.are_plain.ensures) ∙ c.if-are_plain.true))
 
 pub returns-else-are_plain-clause-result : goal.returns-else-are_plain-clause-result
 returns-else-are_plain-clause-result g c =
-    made_of-written c.in_ok-accepted.ensures.ok false
+    made_of-written c.args.self.now c.in_ok-accepted.ensures.ok false
     (sym (rw c.groups-groups.ensures at c.are_plain.ensures) ∙ c.if-are_plain.false)
 
 pub returns-in_ok-canonical_line-clause-written : goal.returns-in_ok-canonical_line-clause-written

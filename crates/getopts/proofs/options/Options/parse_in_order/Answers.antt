@@ -1,18 +1,96 @@
--- The order is that of the line's reading.
-use Rattle.std.proofs.Common.{Ok, refl, sym, rules}
+-- The order is that of the line's reading, if this keeps the counts.
+use Rattle.std.proofs.Common.{◌≡◌, Err, IfErr, List, None, Ok, Result, Some, map, refl, sym, rules}
+use Rattle.std.specs.List.{AllByRecursion}
+use Rattle.std.proofs.lemmas.List.Elements.{All-from_recursion}
+use Rattle.std.proofs.lemmas.Result.{IfErr-weaker}
+use Rattle.getopts.specs.Accessors.{borrowed_given}
+use Rattle.getopts.specs.Fail.{IsOutOfMemoryOr}
+use Rattle.getopts.specs.Holds.{IsDeclared}
+use Rattle.getopts.specs.Names.{AreTexts, Text}
+use Rattle.getopts.specs.Options.{Declared, MayBeDeclared}
+use Rattle.getopts.specs.Parse.{IsRefused}
+use Rattle.getopts.specs.Results.{accepted_reading, parse_result}
+use Rattle.getopts.specs.declared.fail.Fail.{Fail}
+use Rattle.getopts.proofs.Lists.{AllByRecursion-unmap}
 use Rattle.getopts.proofs.MainTheorem.Results.{HasResults-declared, is_refused}
+use Rattle.getopts.proofs.Stored.Signatures.{names-signatures_of}
+use Rattle.getopts.proofs.Weaker.{IsOutOfMemoryOr-exit, IsOutOfMemoryOr-weaker}
+use Rattle.getopts.proofs.parse.Holds.{IsDeclared-order}
+use Rattle.getopts.proofs.parse.Made.{with_counts_kept-index}
 use Rattle.getopts.proofs.options.Options.parse_in_order.Goals as goal
 
+-- the error of `parse` rejects the words
+refused : {T : Type 0} (options : Declared) (words : List Text) (answer : Result T Fail) → MayBeDeclared options.groups
+    → AreTexts words
+    → IfErr answer (λ fail. IsOutOfMemoryOr fail (λ fault. parse_result options words ≡ Err fault))
+    → IfErr answer (λ fail. IsOutOfMemoryOr fail (IsRefused options words))
+refused options words answer declared texts told =
+    IfErr-weaker answer _ _ (λ fail of. IsOutOfMemoryOr-weaker fail _ _ of
+    (λ fault is. is_refused options words fault is declared texts)) told
+
+pub scan_in_order-requires : goal.scan_in_order-requires
+scan_in_order-requires g c = record {
+  declared = c.signatures-signatures.ensures.declared;
+  table = rw (
+    c.signatures-signatures.ensures.signatures,
+    names-signatures_of c.args.self.now.groups,
+  ) at c.in_ok-table.ensures;
+}
+
+pub returns-in_err-line-clause-result : goal.returns-in_err-line-clause-result
+unfolding accepted_reading
+returns-in_err-line-clause-result g c = search rules
+
+pub returns-in_err-line-clause-same_error : goal.returns-in_err-line-clause-same_error
+unfolding accepted_reading
+returns-in_err-line-clause-same_error g c = search rules
+
+pub returns-in_err-line-clause-refused : goal.returns-in_err-line-clause-refused
+returns-in_err-line-clause-refused g c =
+    refused _ _ _ c.signatures-signatures.ensures.declared c.are_texts.ensures.texts
+    (returns-in_err-line-clause-same_error g c)
+
+pub returns-in_err-check_counts-clause-same_error : goal.returns-in_err-check_counts-clause-same_error
+unfolding accepted_reading
+returns-in_err-check_counts-clause-same_error g c =
+    let gives = c.in_ok-line.ensures.ok in
+    IsOutOfMemoryOr-exit _ c.in_err-check_counts.field-0.0 _ _
+    c.from_residual-in_err-check_counts.ensures.1
+    (rw c.signatures-signatures.ensures.signatures at c.in_err-check_counts.ensures.err)
+    (λ fault first. rw (with_counts_kept-index c.args.self.now gives.reading _ _ (Some fault) gives.outcome_is
+    gives.occurrences (rw (c.len.ensures.len, c.signatures-signatures.ensures.signatures) at c.in_ok-index.ensures)
+    first) refl)
+
+pub returns-in_err-check_counts-clause-result : goal.returns-in_err-check_counts-clause-result
+unfolding accepted_reading
+returns-in_err-check_counts-clause-result g c = search (rules, returns-in_err-check_counts-clause-same_error g c)
+
+pub returns-in_err-check_counts-clause-refused : goal.returns-in_err-check_counts-clause-refused
+returns-in_err-check_counts-clause-refused g c =
+    refused _ _ _ c.signatures-signatures.ensures.declared c.are_texts.ensures.texts
+    (returns-in_err-check_counts-clause-same_error g c)
+
 pub returns-clause-result : goal.returns-clause-result
+unfolding accepted_reading
 returns-clause-result g c =
     let gives = c.in_ok-line.ensures.ok in
-    rw (gives.outcome_is, gives.order) refl
+    rw (
+      with_counts_kept-index c.args.self.now gives.reading _ _ None gives.outcome_is gives.occurrences
+          (rw (c.len.ensures.len, c.signatures-signatures.ensures.signatures) at c.in_ok-index.ensures)
+          (rw c.signatures-signatures.ensures.signatures at c.in_ok-check_counts.ensures.ok),
+      gives.order,
+    ) refl
 
 pub returns-clause-order : goal.returns-clause-order
 returns-clause-order g c =
-    let before = c.in_ok-line.ensures in
-    ((HasResults-declared _ before.declared _ before.texts).order (Ok _)).1
+    ((HasResults-declared _ c.signatures-signatures.ensures.declared _ c.are_texts.ensures.texts).order (Ok _)).1
     (sym (returns-clause-result g c))
 
-pub returns-in_err-line-clause-refused : goal.returns-in_err-line-clause-refused
-returns-in_err-line-clause-refused g c = search (rules, is_refused)
+pub returns-clause-declared : goal.returns-clause-declared
+returns-clause-declared g c =
+    let order = returns-clause-order g c in
+    let each : AllByRecursion (IsDeclared c.args.self.now.groups)
+    (map borrowed_given c.in_ok-line.line.order.items) =
+    rw order.order_is (IsDeclared-order c.args.self.now order.accepted.reading _
+    ((order.accepted.only order.accepted.reading).1 refl)) in
+    All-from_recursion _ _ (AllByRecursion-unmap _ borrowed_given _ each)

@@ -1,24 +1,21 @@
--- The line that was read gives accepted matches, and the laws of readings hold for its options.
-use Rattle.std.proofs.Common.{◌≡◌, ◌∙◌, rules}
-use Rattle.getopts.specs.Options.{signatures_of}
+-- Matches that keep the counts are the result.
+use Rattle.std.proofs.Common.{rules}
+use Rattle.std.proofs.lemmas.Result.{IfOk-weaker, MatchResult-weaker}
 use Rattle.getopts.proofs.MainTheorem.Results.{is_accepted, is_refused}
-use Rattle.getopts.proofs.parse.Made.{made_of-matches}
 use Rattle.getopts.proofs.parse.Holds.{FitOptionsAndCounts-accepted}
+use Rattle.getopts.proofs.Weaker.{IsOutOfMemoryOr-weaker}
 use Rattle.getopts.proofs.options.Options.parse_words.Goals as goal
 
-pub returns-clause-result : goal.returns-clause-result
-returns-clause-result g c =
-    let signatures : c.in_ok-clone.field-0 ≡ signatures_of c.args.self.now.groups =
-    c.in_ok-clone.ensures.cases ∙ c.signatures.ensures.signatures in
-    rw (c.of_line.ensures, signatures) (made_of-matches c.in_ok-accepted.ensures.ok)
-
 pub returns-clause-accepted : goal.returns-clause-accepted
-returns-clause-accepted g c =
-    let before = c.in_ok-accepted.ensures in
-    is_accepted _ _ _ (returns-clause-result g c) before.declared before.texts
+returns-clause-accepted g c = search (rules, is_accepted, c.read_matches.ensures.result)
+
+pub returns-clause-refused : goal.returns-clause-refused
+returns-clause-refused g c =
+    let read = c.read_matches.ensures in
+    MatchResult-weaker c.read_matches.result read.result (λ matches is. tt) (λ fail told.
+    IsOutOfMemoryOr-weaker fail _ _ told
+    (λ fault is. is_refused _ _ fault is read.declared read.texts))
 
 pub returns-clause-declared : goal.returns-clause-declared
-returns-clause-declared g c = FitOptionsAndCounts-accepted _ _ _ (returns-clause-accepted g c).accepted
-
-pub returns-in_err-accepted-clause-refused : goal.returns-in_err-accepted-clause-refused
-returns-in_err-accepted-clause-refused g c = search (rules, is_refused)
+returns-clause-declared g c = IfOk-weaker c.read_matches.result _ _
+    (λ matches accepted. FitOptionsAndCounts-accepted _ _ _ accepted.accepted) (returns-clause-accepted g c)

@@ -1,11 +1,15 @@
--- The line that was read gives the matches of its reading.
-use Rattle.std.proofs.Common.{◌≡◌, ◌∙◌}
-use Rattle.getopts.specs.Options.{signatures_of}
-use Rattle.getopts.proofs.parse.Made.{made_of-matches}
+-- The whole line is left.
+use Rattle.std.proofs.Common.{rules}
+use Rattle.getopts.proofs.parse.Parsed.{keeps_laws}
+use Rattle.getopts.proofs.Stored.Signatures.{names-signatures_of}
 use Rattle.getopts.proofs.options.Options.read_matches.Goals as goal
 
+pub read_rest-requires-clause-table : goal.read_rest-requires-clause-table
+read_rest-requires-clause-table g c =
+    rw (c.signatures.ensures.signatures, names-signatures_of c.args.self.now.groups) at c.in_ok-table.ensures
+
 pub returns-clause-result : goal.returns-clause-result
-returns-clause-result g c =
-    let signatures : c.in_ok-clone.field-0 ≡ signatures_of c.args.self.now.groups =
-    c.in_ok-clone.ensures.cases ∙ c.signatures.ensures.signatures in
-    rw (c.of_line.ensures, signatures) (made_of-matches c.in_ok-read.ensures.ok)
+returns-clause-result g c = c.read_rest.ensures _ (search rules)
+
+pub returns-clause-laws : goal.returns-clause-laws
+returns-clause-laws g c = search (rules, keeps_laws c.args.self.now c.signatures.ensures.declared)

@@ -43,24 +43,24 @@ returns-in-Stop-clause-ok g c =
 
 pub push_options-requires : goal.push_options-requires
 push_options-requires g c =
-    within-added c.len-first.result (c.in_ok-used-in-Long.ensures.ok c.in-Long.ensures.0)
+    within-added c.len-first.result (c.in_ok-argument-in-Long.ensures.ok c.in-Long.ensures.0)
     c.len-first.ensures
 
-pub returns-in_err-used-in-Long-clause-err : goal.returns-in_err-used-in-Long-clause-err
-returns-in_err-used-in-Long-clause-err g c =
+pub returns-in_err-argument-in-Long-clause-err : goal.returns-in_err-argument-in-Long-clause-err
+returns-in_err-argument-in-Long-clause-err g c =
     let here = texts_from g.S.AsStr.text c.args.words.now c.items.at _ _ c.items-test.true
     c.index-words-at.is c.as_str-word.ensures in
-    IsOutOfMemoryOr-exit _ c.in_err-used-in-Long.field-0.0 _ _
-    c.from_residual-in_err-used-in-Long.ensures.1
-    (c.in_err-used-in-Long.ensures.err c.in-Long.ensures.0)
+    IsOutOfMemoryOr-exit _ c.in_err-argument-in-Long.field-0.0 _ _
+    c.from_residual-in_err-argument-in-Long.ensures.1
+    (c.in_err-argument-in-Long.ensures.err c.in-Long.ensures.0)
     (read-fault c.items.invariant _ _ here _ (step_long _ _ _ _ _ c.in-Long.ensures.1))
 
-pub returns-in_err-used-in-Cluster-clause-err : goal.returns-in_err-used-in-Cluster-clause-err
-returns-in_err-used-in-Cluster-clause-err g c =
+pub returns-in_err-argument-in-Cluster-clause-err : goal.returns-in_err-argument-in-Cluster-clause-err
+returns-in_err-argument-in-Cluster-clause-err g c =
     let here = texts_from g.S.AsStr.text c.args.words.now c.items.at _ _ c.items-test.true
     c.index-words-at.is c.as_str-word.ensures in
-    IsOutOfMemoryOr-exit _ c.in_err-used-in-Cluster.field-0.0 _ _
-    c.from_residual-in_err-used-in-Cluster.ensures.1 c.in_err-used-in-Cluster.ensures.err
+    IsOutOfMemoryOr-exit _ c.in_err-argument-in-Cluster.field-0.0 _ _
+    c.from_residual-in_err-argument-in-Cluster.ensures.1 c.in_err-argument-in-Cluster.ensures.err
     (read-fault c.items.invariant _ _ here _ (step_short _ _ _ _ c.in-Cluster.ensures))
 
 pub items-preserved-in-Free : goal.items-preserved-in-Free
@@ -76,15 +76,15 @@ pub items-preserved-in-Long : goal.items-preserved-in-Long
 items-preserved-in-Long g c =
     let here = texts_from g.S.AsStr.text c.args.words.now c.items.at _ _ c.items-test.true
     c.index-words-at.is c.as_str-word.ensures in
-    OrderSoFar-added c.items.invariant _ _ here _ c.in_ok-used-in-Long.used c.len-first.result _ _
+    OrderSoFar-added c.items.invariant _ _ here _ c.in_ok-argument-in-Long.argument.used c.len-first.result _ _
     (step_long _ _ _ _ _ c.in-Long.ensures.1)
-    (c.in_ok-used-in-Long.ensures.ok c.in-Long.ensures.0) c.len-first.ensures
+    (c.in_ok-argument-in-Long.ensures.ok c.in-Long.ensures.0) c.len-first.ensures
     c.in_ok-push_options-in-Long.ensures
 
 pub items-preserved : goal.items-preserved
 items-preserved g c =
     let here = texts_from g.S.AsStr.text c.args.words.now c.items.at _ _ c.items-test.true
     c.index-words-at.is c.as_str-word.ensures in
-    OrderSoFar-added c.items.invariant _ _ here _ c.in_ok-used-in-Cluster.used c.len-first.result _ _
-    (step_short _ _ _ _ c.in-Cluster.ensures) c.in_ok-used-in-Cluster.ensures.ok
+    OrderSoFar-added c.items.invariant _ _ here _ c.in_ok-argument-in-Cluster.argument.used c.len-first.result _ _
+    (step_short _ _ _ _ c.in-Cluster.ensures) c.in_ok-argument-in-Cluster.ensures.ok
     c.len-first.ensures c.in_ok-push_options-in-Cluster.ensures

@@ -14,8 +14,8 @@ use Rattle.getopts.proofs.signatures.Signatures.push.Goals as goal
 -- the added record
 abbrev added : goal.After-push_reserved → SignatureRecord
 added c = record {
-  long = c.push_pair-names.result.first;
-  end = c.push_pair-names.result.second;
+  long = c.push_pair-names.result.middle;
+  end = c.push_pair-names.result.end;
   key = c.key_of.result;
   short = c.short_byte.result;
   has_long = not c.is_empty-has_long.result;

@@ -1,0 +1,39 @@
+-- The record's value ends where the next one starts.
+use Rattle.std.proofs.Common.{◌≡◌, ◌+◌, rules, arith, slice_get}
+use Rattle.std.proofs.lemmas.Bool.{cases_Bool}
+use Rattle.std.proofs.lemmas.Grind.{common_steps}
+use Rattle.std.specs.Option.{option_copied}
+use Rattle.std.specs.String.{string_bytes}
+use Rattle.getopts.specs.Stored.Occurrences.{value_in}
+use Rattle.getopts.proofs.Stored.Occurrences.{record_within, occurrence-read, starts, ends}
+use Rattle.getopts.proofs.occurrences.LineOccurrences.at.Goals as goal
+
+pub index-held-requires : goal.index-held-requires
+index-held-requires c =
+    let within = record_within _ c.self.inside.records.items _ c.self.view_is _ c.requires in
+    omega (arith, within)
+
+pub overflow_add-index : goal.overflow_add-index
+overflow_add-index c =
+    let within = record_within _ c.self.inside.records.items _ c.self.view_is _ c.requires in
+    grind (arith, common_steps, within)
+
+pub value_from-requires-clause-start : goal.value_from-requires-clause-start
+value_from-requires-clause-start c = rw c.deref.ensures (starts _ c.self.inside.records.items _ c.self.view_is _
+    c.requires c.index-held.result.now c.index-held.ensures c.self.invariant)
+
+pub value_from-requires-clause-end : goal.value_from-requires-clause-end
+value_from-requires-clause-end c =
+    rw (c.deref.ensures, c.deref-then-held-eq1.ensures.value) (ends _ c.self.inside.records.items _ c.self.invariant)
+
+pub returns : goal.returns
+returns c =
+    let value : option_copied c.if-held-eq1.result
+    ≡ value_in (string_bytes c.self.inside.values) c.index-held.result.now.value
+    (slice_get c.self.inside.records.items (c.args.index + 1)) =
+    elim c.if-held-eq1.branch [
+      | goal.then-held-eq1 w ↦ search (rules, cases_Bool)
+      | goal.else-held-eq1 w ↦ search (rules, cases_Bool)
+    ] in
+    rw value (occurrence-read _ c.self.inside.records.items _ c.self.view_is _ c.requires
+    c.index-held.result.now c.index-held.ensures)

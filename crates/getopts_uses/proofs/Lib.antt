@@ -1,2 +1,0 @@
--- the fields that the first texts of a list are
-mod Fields
