@@ -44,11 +44,9 @@
 #define GETOPTS_VERSION "1.0.0"
 #define GETOPTS_VERSION_NUMBER 1000000
 
-/* The version of the Rust crate getopts whose rules the library follows. */
-#define GETOPTS_CRATE_VERSION "0.2.24"
-
-#if defined __GNUC__ && __GNUC__ >= 11 && !defined __clang__
-/* -fanalyzer reports a result that is lost, or freed by another function. */
+#if defined __GNUC__ && __GNUC__ >= 11 && !defined __clang__ && !defined __EDG__
+/* -fanalyzer reports a result that is lost, or freed by another function. Other compilers that call
+ * themselves gcc 11 may not know the attribute. */
 #define GETOPTS_FREED_BY(function) __attribute__((__malloc__(function, 1), __warn_unused_result__))
 #elif defined __GNUC__
 #define GETOPTS_FREED_BY(function) __attribute__((__warn_unused_result__))
@@ -73,20 +71,18 @@ enum {
     GETOPTS_BAD                  /* the table is invalid, or a word is NULL */
 };
 
-/* The kind of an option: whether it takes an argument, plus how often it may be given. GETOPTS_NO
- * and GETOPTS_OPTIONAL may be omitted: a kind of 0 is a plain flag. With GETOPTS_REQ and
- * GETOPTS_MULTI, an option must be given at least once.
+/* The kind of an option: whether it takes an argument, plus how often it may be given: once, unless
+ * GETOPTS_REQ or GETOPTS_MULTI is added. With both, it must be given at least once.
  *
  * With GETOPTS_MAYBE, a short option also takes the next word if that is `-` or doesn't begin with
  * a dash: `-O f` gives O the argument f, except in the mode GETOPTS_LONG_ONLY. With getopt_long,
  * only `-Of` does. A long option takes an optional argument only after `=`. */
 enum getopts_kind {
-    GETOPTS_NO = 0,       /* takes no argument */
-    GETOPTS_YES = 1,      /* needs an argument, in the same word or the next */
-    GETOPTS_MAYBE = 2,    /* may have an argument */
-    GETOPTS_OPTIONAL = 0, /* may be given once */
-    GETOPTS_REQ = 4,      /* must be given exactly once */
-    GETOPTS_MULTI = 8,    /* may be given any number of times */
+    GETOPTS_NO = 0,    /* takes no argument; may be omitted */
+    GETOPTS_YES = 1,   /* needs an argument, in the same word or the next */
+    GETOPTS_MAYBE = 2, /* may have an argument */
+    GETOPTS_REQ = 4,   /* must be given exactly once */
+    GETOPTS_MULTI = 8, /* may be given any number of times */
     GETOPTS_KIND_MAX = 0x7fffffff /* not a kind: makes the enum four bytes wide */
 };
 
@@ -111,14 +107,14 @@ struct getopts_option {
  *
  * With GETOPTS_STRICT, a function that is passed NULL or the name of no option prints the name to
  * stderr and calls abort(), as assert() does, even if nothing was read. Only getopts_defined
- * accepts such names. */
+ * accepts such names. getopts_nth also calls abort() if GETOPTS_KEEP_ORDER isn't set. */
 enum getopts_modes {
     GETOPTS_ORDINARY = 0,    /* no mode */
     GETOPTS_STOP = 16,       /* the first free word ends the options */
     GETOPTS_LONG_ONLY = 32,  /* long options begin with one dash or two */
     GETOPTS_KEEP_ORDER = 64, /* getopts_nth returns options and free words in order */
     GETOPTS_REPEAT = 128,    /* options may be repeated: the last occurrence counts */
-    GETOPTS_STRICT = 256,    /* calls with the name of no option end the program */
+    GETOPTS_STRICT = 256,    /* a mistaken call ends the program */
     GETOPTS_MODES_MAX = 0x7fffffff /* not a mode: makes the enum four bytes wide */
 };
 
@@ -228,30 +224,34 @@ char *const *getopts_free_words(const struct getopts *options);
  * there is no such word. */
 int getopts_trailing_start(const struct getopts *options);
 
-/* The help text: `brief`, then each option with its description. The caller frees it with free().
- * Returns NULL if out of memory, if the table is invalid, or if `brief` is NULL or isn't UTF-8
- * below U+10FF80. */
-GETOPTS_FREED_BY(__builtin_free)
+/* Frees what one of the next four functions returned or stored. NULL is allowed. Don't use free():
+ * on Windows, it may belong to another C library than the DLL's. */
+void getopts_free(void *block);
+
+/* The help text: `brief`, then each option with its description. Free it with getopts_free. Returns
+ * NULL if out of memory, if the table is invalid, or if `brief` is NULL or isn't UTF-8 below
+ * U+10FF80. */
+GETOPTS_FREED_BY(getopts_free)
 char *getopts_usage(const struct getopts *options, const char *brief);
 
 /* Like getopts_usage, but descriptions end within this many columns, such as the width of a terminal;
  * getopts_usage wraps them within 78. They begin after 24 columns. A word that doesn't fit has a row
  * of its own. */
-GETOPTS_FREED_BY(__builtin_free)
+GETOPTS_FREED_BY(getopts_free)
 char *getopts_usage_in(const struct getopts *options, const char *brief, size_t columns);
 
 /* A line with the program's name and all options, such as "Usage: head [-n COUNT] [-h]"; otherwise
  * like getopts_usage. */
-GETOPTS_FREED_BY(__builtin_free)
+GETOPTS_FREED_BY(getopts_free)
 char *getopts_short_usage(const struct getopts *options, const char *program);
 
 /* Rewrites words in a canonical form: `--main` or `--main=value` for each option, in order, then
  * `--`, then the free words. An option's main name is its long name or, if it has none, its short
  * name. Returns what getopts_read would return, but keeps what was read before.
  *
- * Stores the result in *line: a list like argv, which the caller frees with one free(). Stores NULL
- * if the status isn't GETOPTS_OK. Also stores NULL, with GETOPTS_OK, if the words give an option
- * whose main name contains `=`. */
+ * Stores the result in *line: a list like argv, to free with one getopts_free. Stores NULL if the
+ * status isn't GETOPTS_OK. Also stores NULL, with GETOPTS_OK, if the words give an option whose main
+ * name contains `=`. */
 int getopts_canonical(const struct getopts *options, int count, char *const *words, char ***line);
 
 /* The version of the library that the program runs with, such as "1.0.0". */

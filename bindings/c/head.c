@@ -2,7 +2,6 @@
 #include <errno.h>
 #include <getopts.h>
 #include <stdio.h>
-#include <stdlib.h>
 #include <string.h>
 
 static const struct getopts_option table[] = {
@@ -14,7 +13,7 @@ static const struct getopts_option table[] = {
 static int print_help(const struct getopts *options) {
     char *text = getopts_usage(options, "Usage: head [options] FILE..");
     printf("%s", text != NULL ? text : "");
-    free(text);
+    getopts_free(text);
     return text != NULL ? 0 : 3;
 }
 
@@ -28,6 +27,14 @@ static int print_lines(const char *name, long lines) {
     if (file != NULL)
         fclose(file);
     return failed;
+}
+
+/* The status, or 1 if the output couldn't be written. */
+static int finish(int status) {
+    if (fflush(stdout) == 0 && !ferror(stdout))
+        return status;
+    fprintf(stderr, "head: can't write its output\n");
+    return 1;
 }
 
 static int run(struct getopts *options, int count, char **words) {
@@ -52,5 +59,5 @@ int main(int argc, char **argv) {
     struct getopts *options = getopts_new(table, GETOPTS_STRICT);
     int status = run(options, argc - 1, argv + 1);
     getopts_delete(options);
-    return status;
+    return finish(status);
 }

@@ -21,6 +21,8 @@
 # debug information. With Rust 1.95 or later, the same tools build the same bytes in any folder. Cargo reads
 # CARGO_HOME/config.toml, which may name vendored crates, but no .cargo/config.toml of the repository.
 set -eu
+# In zsh, some of the variables below are special.
+[ "${ZSH_VERSION:+$(emulate)}" != zsh ] || exec sh "$0" "$@"
 unset CDPATH
 umask 022
 here=$(cd "$(dirname "$0")" && pwd)
@@ -55,18 +57,23 @@ case $1$prefix in
 *"$line_end"*) fail "PREFIX must not contain a line break (pkg-config misreads it)" ;;
 *[[:space:]]) fail "PREFIX must not end with a blank (pkg-config misreads it)" ;;
 [A-Za-z]:*) fail "write PREFIX as in Git Bash and MSYS2: /c/getopts for C:/getopts" ;;
-*[\"\$\#\\:]*) fail "PREFIX must not contain \", \$, #, \\ or : (pkg-config or search paths misread them)" ;;
+*[\"\$\#\\:\;\(\)\|,]*)
+    fail "PREFIX must not contain \" \$ # \\ : ; ( ) | or , (pkg-config, CMake or search paths misread them)"
+    ;;
 esac
 lib=${LIBDIR:-lib}
 lib=${lib#"$prefix/"}
 case /$lib/ in
-//* | */./* | */../* | *[[:space:]\"\$\#\\:]*) fail "LIBDIR must be a folder below PREFIX, without blanks, \", \$, #, \\ and :" ;;
+//* | */./* | */../* | *[[:space:]\"\$\#\\:\;\(\)\|,]*)
+    fail "LIBDIR must be a folder below PREFIX, without blanks and \" \$ # \\ : ; ( ) | or ,"
+    ;;
 esac
 absolute "${DESTDIR:-/}"
 to=$path$prefix
 # From LIBDIR to PREFIX.
 up=$(printf '%s\n' "$lib" | sed 's,[^/][^/]*,..,g')
 
+[ -f "$here/getopts.h" ] || fail "don't run this script through a symbolic link"
 # The version of the library. Programs linked with one version work with later ones that have the same first number.
 version=$(sed -n 's/^#define GETOPTS_VERSION "\(.*\)"/\1/p' "$here/getopts.h")
 soname=libgetopts.so.${version%%.*}
@@ -144,7 +151,8 @@ done
 strip=--strip-debug
 if [ -n "${DEBUG_INFO:-}" ]; then
     strip=''
-    printf '[profile.release]\ndebug = true\n[build]\nrustflags = ["--remap-path-prefix=%s=getopts"]\n' "$room" \
+    # In these quotes, TMPDIR may have others.
+    printf "[profile.release]\ndebug = true\n[build]\nrustflags = ['''--remap-path-prefix=%s=getopts''']\n" "$room" \
         >>"$room/config.toml"
 fi
 # shellcheck disable=SC2086
@@ -159,21 +167,21 @@ CARGO_BUILD_TARGET=x86_64-pc-windows-gnu CC=x86_64-w64-mingw32-gcc"
 [ -f "$built" ] || fail "cargo built no libgetopts.a${target:+ for $target}. If cargo's configuration sets another
 target, set CARGO_BUILD_TARGET to it, and CC to its C compiler"
 
-# put FILE PLACE [MODE]: copies FILE to PLACE. A link at PLACE is replaced, but not the file that it points to.
+# put PLACE [MODE]: writes standard input to PLACE. A link at PLACE is replaced, but not the file that it points to.
 put() {
-    mkdir -p "$(dirname "$to/$2")"
-    rm -f "$to/$2"
-    cp "$1" "$to/$2"
-    chmod "${3:-644}" "$to/$2"
+    mkdir -p "$(dirname "$to/$1")"
+    rm -f "$to/$1"
+    cat >"$to/$1"
+    chmod "${2:-644}" "$to/$1"
 }
 # link FILE PLACE: makes PLACE a link to FILE. A link at PLACE is replaced, also one to a folder.
 link() {
     rm -f "$to/$2"
     ln -s "$1" "$to/$2"
 }
-# describe LIBS: prints a file for pkg-config.
+# describe NAME: writes the file for pkg-config of the library with this name.
 describe() {
-    cat <<END
+    put "$lib/pkgconfig/$1.pc" <<END
 prefix=$place
 libdir=\${prefix}/$lib
 includedir=\${prefix}/include
@@ -182,7 +190,7 @@ Name: getopts
 Description: Formally verified parser of command-line options
 Version: $version
 License: MIT OR Apache-2.0
-Libs: $1
+Libs: "-L\${libdir}" -l$1
 Cflags: "-I\${includedir}"
 END
 }
@@ -191,34 +199,15 @@ END
 cmake_target() {
     cat <<END
 add_library(getopts::$1 $2 IMPORTED)
-set_target_properties(getopts::$1 PROPERTIES INTERFACE_INCLUDE_DIRECTORIES "\${getopts_prefix}/include"
+set_target_properties(getopts::$1 PROPERTIES INTERFACE_INCLUDE_DIRECTORIES "\${_getopts_prefix}/include"
     $3)
 END
 }
 
-awk -f "$here/man.awk" "$here/getopts.h" "$here/getopts.h" >"$room/getopts.3"
-cat >"$room/getoptsConfig.cmake" <<END
-# Defines getopts::static, for programs that contain the library, and getopts::shared if there is a shared library.
-get_filename_component(getopts_lib "\${CMAKE_CURRENT_LIST_DIR}" REALPATH)
-get_filename_component(getopts_lib "\${getopts_lib}/../.." ABSOLUTE)
-get_filename_component(getopts_prefix "\${getopts_lib}/$up" ABSOLUTE)
-if(TARGET getopts::static)
-    return()
-endif()
-END
-# shellcheck disable=SC2016
-cmake_target static STATIC 'IMPORTED_LOCATION "${getopts_lib}/libgetopts.a"' >>"$room/getoptsConfig.cmake"
-cat >"$room/getoptsConfigVersion.cmake" <<END
-set(PACKAGE_VERSION $version)
-if(PACKAGE_FIND_VERSION_MAJOR EQUAL ${version%%.*} AND NOT PACKAGE_FIND_VERSION VERSION_GREATER PACKAGE_VERSION)
-    set(PACKAGE_VERSION_COMPATIBLE TRUE)
-endif()
-if(PACKAGE_FIND_VERSION VERSION_EQUAL PACKAGE_VERSION)
-    set(PACKAGE_VERSION_EXACT TRUE)
-endif()
-END
-remove_versions
-place=$prefix system=$($cc -dumpmachine)
+awk -f "$here/man.awk" "$here/getopts.h" >"$room/getopts.3"
+# shellcheck disable=SC2086
+pointer=$(echo __SIZEOF_POINTER__ | $cc ${CFLAGS:-} -E -P -x c -)
+place=$prefix system=$($cc -dumpmachine) shared_files=''
 case $system in
 *linux* | x86_64*mingw*)
     # One object that only exports the functions of getopts.h.
@@ -244,46 +233,67 @@ case $system in
         # By default, the file would contain the time and a hash of its own path.
         # shellcheck disable=SC2086
         $cc -shared ${CFLAGS:-} ${LDFLAGS:-} ${strip:+"-Wl,$strip"} -Wl,--no-insert-timestamp \
-            -Wl,--disable-auto-image-base -Wl,--out-implib,"$room/libgetopts.dll.a" "$room/getopts.o" \
+            -Wl,--disable-auto-image-base -Xlinker --out-implib -Xlinker "$room/libgetopts.dll.a" "$room/getopts.o" \
             "$room/getopts.def" -o "$room/$dll"
-        put "$room/$dll" "bin/$dll" 755
-        put "$room/libgetopts.dll.a" "$lib/libgetopts.dll.a"
-        put "$room/getopts.def" "$lib/getopts.def"
-        files="IMPORTED_LOCATION \"\${getopts_prefix}/bin/$dll\" IMPORTED_IMPLIB \"\${getopts_lib}/libgetopts.dll.a\""
+        put "bin/$dll" 755 <"$room/$dll"
+        put "$lib/libgetopts.dll.a" <"$room/libgetopts.dll.a"
+        put "$lib/getopts.def" <"$room/getopts.def"
+        shared_files="IMPORTED_LOCATION \"\${_getopts_prefix}/bin/$dll\" IMPORTED_IMPLIB \"\${_getopts_lib}/libgetopts.dll.a\""
         ;;
     *)
         # A process may load libraries of several major versions.
         echo "GETOPTS_${version%%.*} { global: getopts_*; local: *; };" >"$room/versions"
         # shellcheck disable=SC2086
-        $cc -shared ${CFLAGS:-} ${LDFLAGS:-} -Wl,-soname,"$soname" -Wl,--version-script,"$room/versions" -Wl,-z,defs \
-            -Wl,-z,text "$room/getopts.o" -o "$room/$shared"
-        put "$room/$shared" "$lib/$shared" 755
+        $cc -shared ${CFLAGS:-} ${LDFLAGS:-} -Wl,-soname,"$soname" -Xlinker --version-script -Xlinker "$room/versions" \
+            -Wl,-z,defs -Wl,-z,text "$room/getopts.o" -o "$room/$shared"
+        # Only now: a program that uses the installed library still works if the build fails.
+        remove_versions
+        put "$lib/$shared" 755 <"$room/$shared"
         link "$shared" "$lib/$soname"
         link "$soname" "$lib/libgetopts.so"
-        files="IMPORTED_LOCATION \"\${getopts_lib}/libgetopts.so\""
+        shared_files="IMPORTED_LOCATION \"\${_getopts_lib}/libgetopts.so\""
         ;;
     esac
-    cmake_target shared SHARED "$files" >>"$room/getoptsConfig.cmake"
-    # shellcheck disable=SC2016
-    describe '"-L${libdir}" -lgetopts' >"$room/getopts.pc"
-    put "$room/getopts.pc" "$lib/pkgconfig/getopts.pc"
+    describe getopts
     ;;
 esac
-# Linked by a name that no shared library has: CMake would put an archive's path before the objects that need it.
-# shellcheck disable=SC2016
-describe '"-L${libdir}" -lgetopts-static' >"$room/getopts-static.pc"
-echo '.so man3/getopts.3' >"$room/page.3"
-put "$built" "$lib/libgetopts.a"
+put "$lib/libgetopts.a" <"$built"
+# The name for the linker, which no shared library has: CMake would put an archive's path before the objects that need it.
 link libgetopts.a "$lib/libgetopts-static.a"
-put "$room/getopts-static.pc" "$lib/pkgconfig/getopts-static.pc"
-put "$room/getoptsConfig.cmake" "$lib/cmake/getopts/getoptsConfig.cmake"
-put "$room/getoptsConfigVersion.cmake" "$lib/cmake/getopts/getoptsConfigVersion.cmake"
-put "$here/getopts.h" include/getopts.h
-put "$room/getopts.3" share/man/man3/getopts.3
+describe getopts-static
+put "$lib/cmake/getopts/getoptsConfig.cmake" <<END
+# Defines getopts::static, for programs that contain the library, and getopts::shared if there is a shared library.
+if(TARGET getopts::static)
+    return()
+endif()
+get_filename_component(_getopts_lib "\${CMAKE_CURRENT_LIST_DIR}" REALPATH)
+get_filename_component(_getopts_lib "\${_getopts_lib}/../.." ABSOLUTE)
+get_filename_component(_getopts_prefix "\${_getopts_lib}/$up" ABSOLUTE)
+$(cmake_target static STATIC "IMPORTED_LOCATION \"\${_getopts_lib}/libgetopts.a\"")
+${shared_files:+$(cmake_target shared SHARED "$shared_files")}
+unset(_getopts_lib)
+unset(_getopts_prefix)
+END
+put "$lib/cmake/getopts/getoptsConfigVersion.cmake" <<END
+set(PACKAGE_VERSION $version)
+if(PACKAGE_FIND_VERSION_MAJOR EQUAL ${version%%.*} AND NOT PACKAGE_FIND_VERSION VERSION_GREATER PACKAGE_VERSION)
+    set(PACKAGE_VERSION_COMPATIBLE TRUE)
+endif()
+if(PACKAGE_FIND_VERSION VERSION_EQUAL PACKAGE_VERSION)
+    set(PACKAGE_VERSION_EXACT TRUE)
+endif()
+# Without a language, the project's pointers are unknown.
+if(CMAKE_SIZEOF_VOID_P AND NOT CMAKE_SIZEOF_VOID_P EQUAL $pointer)
+    set(PACKAGE_VERSION "$version ($((8 * pointer))bit)")
+    set(PACKAGE_VERSION_UNSUITABLE TRUE)
+endif()
+END
+put include/getopts.h <"$here/getopts.h"
+put share/man/man3/getopts.3 <"$room/getopts.3"
 for function in $functions; do
-    put "$room/page.3" "share/man/man3/$function.3"
+    echo '.so man3/getopts.3' | put "share/man/man3/$function.3"
 done
 for file in $documents; do
-    put "$here/$file" "share/doc/getopts/${file##*/}"
+    put "share/doc/getopts/${file##*/}" <"$here/$file"
 done
 echo "installed in $to"

@@ -1,5 +1,5 @@
-# Generates getopts(3) from getopts.h, which has to be given twice: the first comment becomes the description, and each
-# declaration is followed by the comment above it.
+# Generates getopts(3) from getopts.h: the first comment becomes the description, and each declaration is followed by the
+# comment above it.
 function escaped(line) {
     gsub(/\\/, "\\e", line)
     gsub(/-/, "\\-", line)
@@ -38,14 +38,7 @@ function said(line,    starts) {
     return starts line
 }
 
-FNR == NR && /^#define GETOPTS_VERSION "/ { split($0, version, "\"") }
-FNR == NR && /^[a-z].*getopts_[a-z_]*\(.*;$/ { calls = calls call($0) "\n" }
-FNR == NR { next }
-FNR == 1 {
-    print ".TH GETOPTS 3 \"\" \"getopts " version[2] "\" \"Library Functions Manual\"\n.ad l\n.nh"
-    print ".SH NAME\ngetopts \\- parse command\\-line options from a table"
-    print ".SH SYNOPSIS\n.B #include <getopts.h>\n.P\n.RS 4\n" calls ".RE\n.SH DESCRIPTION"
-}
+/^#define GETOPTS_VERSION "/ { split($0, version, "\"") }
 /^#ifdef __cplusplus|^#if defined __GNUC__/, /^#endif/ { next }
 /^#(ifndef|include|endif)|^#define GETOPTS_H$|^GETOPTS_FREED_BY/ { next }
 /^\/\*/ { comment = 1; sub(/^\/\*/, " *") }
@@ -56,9 +49,18 @@ comment {
     next
 }
 /^$/ && text code != "" {
-    print ".P\n" (code ? code ".RS 4\n" text ".RE" : text)
+    body = body ".P\n" (code ? code ".RS 4\n" text ".RE" : text) "\n"
     text = code = ""
 }
-/^[a-z].*\(.*;$/ { code = ".RS 4\n" call($0) "\n.RE\n"; next }
+/^[a-z].*\(.*;$/ {
+    calls = calls call($0) "\n"
+    code = ".RS 4\n" call($0) "\n.RE\n"
+    next
+}
 /./ { code = (code == "" ? ".nf\n" : substr(code, 1, length(code) - 4)) member($0) "\n.fi\n" }
-END { print ".SH SEE ALSO\n.BR getopt_long (3)" }
+END {
+    print ".TH GETOPTS 3 \"\" \"getopts " version[2] "\" \"Library Functions Manual\"\n.ad l\n.nh"
+    print ".SH NAME\ngetopts \\- parse command\\-line options from a table"
+    print ".SH SYNOPSIS\n.B #include <getopts.h>\n.P\n.RS 4\n" calls ".RE\n.SH DESCRIPTION"
+    print body ".SH SEE ALSO\n.BR getopt_long (3)"
+}

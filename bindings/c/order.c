@@ -1,6 +1,6 @@
 /* Handles options and free words in the order in which they were given, as a loop over getopt_long does: an example of
  * getopts.h. The last of -q and -v wins, as in -qv. -C applies to the files after it, as in -C a f -C b g. --silent is
- * another name of --quiet. */
+ * another name of --quiet. In C++, leave out `[QUIET] =` and the like. */
 #include <getopts.h>
 #include <stdio.h>
 

@@ -4,8 +4,8 @@
 #![deny(unsafe_op_in_unsafe_fn)]
 
 use crate::options::{Getopts, NOTHING, OUT_OF_MEMORY};
-use crate::reading::{Given, Reading, none};
-use crate::{AllocResult, Error, NO_MEMORY, OK, Status};
+use crate::reading::{Given, none};
+use crate::{AllocResult, NO_MEMORY, OK, Status};
 use core::alloc::{GlobalAlloc, Layout};
 use core::ffi::{c_int, c_long, c_uint};
 use core::mem::{ManuallyDrop, size_of};
@@ -13,6 +13,7 @@ use core::{ptr, slice};
 use library::alloc::Global;
 use library::bytes::plain_text;
 use library::fallible::String;
+use library::proved::{Matches, Options};
 
 /// A C string, or NULL.
 pub type Text = *const u8;
@@ -34,15 +35,12 @@ static HEAP: Heap = Heap;
 
 // SAFETY: the functions of C have the same contracts, for these alignments.
 unsafe impl GlobalAlloc for Heap {
-    #[inline]
     unsafe fn alloc(&self, layout: Layout) -> *mut u8 {
         unsafe { malloc(layout.size()) }
     }
-    #[inline]
     unsafe fn dealloc(&self, block: *mut u8, _: Layout) {
         unsafe { free(block) }
     }
-    #[inline]
     unsafe fn realloc(&self, block: *mut u8, _: Layout, bytes: usize) -> *mut u8 {
         unsafe { realloc(block, bytes) }
     }
@@ -56,7 +54,6 @@ fn panic(_: &core::panic::PanicInfo<'_>) -> ! {
 
 /// Whether all bytes are ASCII. Tests eight or four at a time; the last group may overlap the one
 /// before.
-#[inline]
 fn is_ascii(bytes: &[u8]) -> bool {
     const HIGH: u64 = 0x8080_8080_8080_8080;
     let eight = |at: usize| bytes[at..at + 8].try_into().map_or(HIGH, u64::from_ne_bytes);
@@ -70,7 +67,6 @@ fn is_ascii(bytes: &[u8]) -> bool {
 }
 
 /// Bytes as text, if they are UTF-8 below U+10FF80.
-#[inline]
 pub fn text(bytes: &[u8]) -> Option<&str> {
     if is_ascii(bytes) {
         // SAFETY: ASCII is UTF-8.
@@ -88,35 +84,27 @@ fn other_text(bytes: &[u8]) -> Option<&str> {
 }
 
 /// The bytes of a C string, if it isn't NULL.
-#[inline]
 unsafe fn bytes<'c>(text: Text) -> Option<&'c [u8]> {
     // SAFETY: strings end with a zero byte, and don't change during the call that they are passed
     // to.
     (!text.is_null()).then(|| unsafe { slice::from_raw_parts(text, strlen(text)) })
 }
 
-/// A row of a table in C.
+/// A row of a table: its short name, long name, hint and description, and its kind.
 #[repr(C)]
 #[derive(Clone, Copy)]
-pub struct RowOfC {
-    texts: [Text; 4],
-    kind: c_uint,
-}
-
-/// A row of a table: its short name, long name, hint and description, and its kind.
-pub struct Row<'c> {
-    pub texts: [&'c [u8]; 4],
+pub struct Row<T> {
+    pub texts: [T; 4],
     pub kind: c_uint,
 }
 
 /// The rows of a table, up to the one with two names that are NULL.
 #[derive(Clone)]
-struct Rows(*const RowOfC);
+struct Rows(*const Row<Text>);
 
 impl Iterator for Rows {
-    type Item = Row<'static>;
-    #[inline]
-    fn next(&mut self) -> Option<Row<'static>> {
+    type Item = Row<&'static [u8]>;
+    fn next(&mut self) -> Option<Self::Item> {
         // SAFETY: rows are read up to the last one, whose names are NULL; the rest of that one may
         // be uninitialized. Nothing outlives the call, although the lifetime is `'static`:
         // `Getopts::new` copies the strings.
@@ -124,7 +112,7 @@ impl Iterator for Rows {
             if (*self.0).texts[0].is_null() && (*self.0).texts[1].is_null() {
                 return None;
             }
-            let RowOfC { texts, kind } = *self.0;
+            let Row { texts, kind } = *self.0;
             self.0 = self.0.add(1);
             let texts = texts.map(|text| bytes(text).unwrap_or(&[]));
             Some(Row { texts, kind })
@@ -137,27 +125,23 @@ impl Iterator for Rows {
 pub struct Words<'c>(&'c [Text]);
 
 impl<'c> Words<'c> {
-    #[inline]
-    unsafe fn of(count: c_int, words: *const Text) -> Result<Words<'c>, Error> {
+    /// `None` if a word is NULL.
+    unsafe fn of(count: c_int, words: *const Text) -> Option<Words<'c>> {
         let count = usize::try_from(count).unwrap_or(0);
         if count == 0 {
-            return Ok(Words(&[]));
+            return Some(Words(&[]));
         }
         // SAFETY: there are `count` words, or an earlier one is NULL.
         unsafe {
-            if words.is_null() || (0..count).any(|nth| (*words.add(nth)).is_null()) {
-                return Err(Error::NullWord);
-            }
-            Ok(Words(slice::from_raw_parts(words, count)))
+            let valid = !words.is_null() && (0..count).all(|nth| !(*words.add(nth)).is_null());
+            valid.then(|| Words(slice::from_raw_parts(words, count)))
         }
     }
 
-    #[inline]
     pub fn len(self) -> usize {
         self.0.len()
     }
 
-    #[inline]
     pub fn iter(self) -> impl Iterator<Item = &'c [u8]> {
         // SAFETY: words are strings.
         let bytes = |word: &Text| unsafe { bytes(*word) }.unwrap_or(&[]);
@@ -165,13 +149,8 @@ impl<'c> Words<'c> {
     }
 }
 
-/// A text as a block that C frees.
-fn owned_by_c(text: Option<String>) -> *mut u8 {
-    text.map_or(ptr::null_mut(), |text| ManuallyDrop::new(text).as_mut_ptr())
-}
-
-/// Texts, each followed by a zero byte, as a block that C frees: a pointer to each text, NULL, and
-/// the texts.
+/// Texts, each followed by a zero byte, as a block for `getopts_free`: a pointer to each text,
+/// NULL, and the texts.
 fn line_of(texts: &[u8], count: usize) -> *mut *mut u8 {
     // SAFETY: the block is large enough for the pointers and the texts, and there are `count` zero
     // bytes.
@@ -202,7 +181,7 @@ unsafe fn store<T>(to: *mut T, result: T) {
 }
 
 #[no_mangle]
-unsafe extern "C" fn getopts_new(table: *const RowOfC, modes: c_uint) -> *mut Getopts {
+unsafe extern "C" fn getopts_new(table: *const Row<Text>, modes: c_uint) -> *mut Getopts {
     let rows = (!table.is_null()).then_some(Rows(table));
     // SAFETY: a block that isn't NULL is large enough for the options.
     unsafe {
@@ -245,13 +224,7 @@ unsafe extern "C" fn getopts_read(
     }
     // SAFETY: as above. The words may belong to the previous reading: nothing uses them after it is
     // replaced.
-    unsafe {
-        let read = (*options).read(Words::of(count, words));
-        if (*options).keeps_order() {
-            return (*options).keep_in_order(read, Words::of(count, words));
-        }
-        (*options).keep(read)
-    }
+    unsafe { (*options).read(Words::of(count, words)) }
 }
 
 #[no_mangle]
@@ -285,15 +258,12 @@ extern "C" fn getopts_message_name(options: Option<&Getopts>) -> Text {
     options.map_or(NOTHING.as_ptr(), |options| options.name)
 }
 
-// SAFETY: its pointers point to its own texts, which don't change until it is dropped.
-unsafe impl Sync for Reading {}
-
-/// What options read last: nothing if they are NULL.
-#[inline]
-fn reading(options: Option<&Getopts>) -> &Reading {
-    static NOTHING: Reading = Reading::nothing();
-    options.map_or(&NOTHING, |options| &options.reading)
-}
+// Threads may share what `Getopts` contains: the library's types, and pointers to its own texts.
+const _: () = {
+    const fn shared<T: Sync>() {}
+    shared::<Options>();
+    shared::<Matches>();
+};
 
 #[no_mangle]
 unsafe extern "C" fn getopts_defined(options: Option<&Getopts>, name: Text) -> bool {
@@ -302,16 +272,22 @@ unsafe extern "C" fn getopts_defined(options: Option<&Getopts>, name: Text) -> b
     options.map_or(false, |options| options.declares(name))
 }
 
+/// Ends the program after a message.
+#[cold]
+fn end(parts: &[&[u8]]) -> ! {
+    for part in parts {
+        // SAFETY: there are as many bytes.
+        unsafe { write(2, part.as_ptr(), part.len()) };
+    }
+    // SAFETY: `abort` has no requirements.
+    unsafe { abort() }
+}
+
 /// Ends the program if strict options have no option of this name.
 #[cold]
 fn check_name(options: Option<&Getopts>, name: Option<&[u8]>) {
     if options.map_or(false, |options| options.misses(name)) {
-        for part in [b"getopts.h: no option has the name '", name.unwrap_or(b"NULL"), b"'\n"] {
-            // SAFETY: there are as many bytes.
-            unsafe { write(2, part.as_ptr(), part.len()) };
-        }
-        // SAFETY: `abort` has no requirements.
-        unsafe { abort() }
+        end(&[b"getopts.h: no option has the name '", name.unwrap_or(b"NULL"), b"'\n"]);
     }
 }
 
@@ -350,6 +326,9 @@ unsafe extern "C" fn getopts_values(options: Option<&Getopts>, name: Text) -> *c
 #[no_mangle]
 unsafe extern "C" fn getopts_nth(options: Option<&Getopts>, nth: usize, value: *mut Text) -> c_int {
     let given = options.and_then(|options| options.nth(nth));
+    if given.is_none() && options.map_or(false, Getopts::misses_order) {
+        end(&[b"getopts.h: getopts_nth needs the mode GETOPTS_KEEP_ORDER\n"]);
+    }
     unsafe { store(value, given.map_or(ptr::null(), |(_, text)| text)) };
     given.map_or(-1, |(row, _)| row as c_int)
 }
@@ -374,27 +353,35 @@ unsafe extern "C" fn getopts_long_value(
 
 #[no_mangle]
 extern "C" fn getopts_free_count(options: Option<&Getopts>) -> c_int {
-    reading(options).free_count() as c_int
+    options.map_or(0, |options| options.reading.free_count() as c_int)
 }
 
 #[no_mangle]
 extern "C" fn getopts_free_words(options: Option<&Getopts>) -> *const Text {
-    reading(options).free_words()
+    options.map_or(none(), |options| options.reading.free_words())
 }
 
 #[no_mangle]
 extern "C" fn getopts_trailing_start(options: Option<&Getopts>) -> c_int {
-    let start = reading(options).trailing_start();
+    let start = options.and_then(|options| options.reading.trailing_start());
     start.map_or(-1, |start| start as c_int)
 }
 
-/// A usage text that a call makes for `start`, as a block that C frees.
+// C has a function of its own: on Windows, its `free` may belong to another C library than ours.
+#[no_mangle]
+unsafe extern "C" fn getopts_free(block: *mut u8) {
+    // SAFETY: `malloc` or `realloc` returned it, or it is NULL.
+    unsafe { free(block) }
+}
+
+/// A usage text that a call makes for `start`, as a block for `getopts_free`.
 fn usage(
     options: Option<&Getopts>,
     start: Option<&[u8]>,
     make: impl FnOnce(&Getopts, &str) -> AllocResult<String>,
 ) -> *mut u8 {
-    owned_by_c(options.and_then(|options| options.usage(start, make)))
+    let text = options.and_then(|options| options.usage(start, make));
+    text.map_or(ptr::null_mut(), |text| ManuallyDrop::new(text).as_mut_ptr())
 }
 
 #[no_mangle]

@@ -24,24 +24,28 @@ pub const BAD: Status = 7;
 
 /// Why words are rejected.
 pub enum Error {
-    /// The table is invalid.
-    Table,
-    /// A word is NULL.
-    NullWord,
+    /// The table is invalid, or a word is NULL.
+    Bad,
     Fail(Fail),
 }
 
 impl Error {
     pub fn status(&self) -> Status {
         match self {
-            Error::Fail(Fail::ArgumentMissing(_)) => 1,
-            Error::Fail(Fail::UnrecognizedOption(_)) => 2,
-            Error::Fail(Fail::OptionMissing(_)) => 3,
-            Error::Fail(Fail::OptionDuplicated(_)) => 4,
-            Error::Fail(Fail::UnexpectedArgument(_)) => 5,
-            Error::Fail(Fail::OutOfMemory) => NO_MEMORY,
-            Error::Table | Error::NullWord => BAD,
+            Error::Fail(fail) => status_of(fail),
+            Error::Bad => BAD,
         }
+    }
+}
+
+pub fn status_of(fail: &Fail) -> Status {
+    match fail {
+        Fail::ArgumentMissing(_) => 1,
+        Fail::UnrecognizedOption(_) => 2,
+        Fail::OptionMissing(_) => 3,
+        Fail::OptionDuplicated(_) => 4,
+        Fail::UnexpectedArgument(_) => 5,
+        Fail::OutOfMemory => NO_MEMORY,
     }
 }
 

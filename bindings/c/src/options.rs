@@ -4,7 +4,7 @@ use crate::c::{Row, Text, Words, text};
 use crate::reading::{Given, Reading, nth_of};
 use crate::table::{self, KEEP_ORDER, STRICT, Table};
 use crate::words::Texts;
-use crate::{AllocResult, Error, OK, Status};
+use crate::{AllocResult, Error, OK, Status, status_of};
 use library::alloc::Global;
 use library::bytes::push_bytes;
 use library::fallible::{String, TryList, TryText, Vec};
@@ -31,22 +31,15 @@ const NULL_WORD: &str = "a word is NULL\0";
 pub const OUT_OF_MEMORY: &str = "Out of memory\0";
 
 impl Getopts {
-    #[inline]
     pub fn new<'c>(
-        rows: Option<impl Iterator<Item = Row<'c>> + Clone>,
+        rows: Option<impl Iterator<Item = Row<&'c [u8]>> + Clone>,
         modes: u32,
     ) -> AllocResult<Getopts> {
         let mut options = Options::new(Global);
         let table = table::declare(&mut options, rows, modes)?;
         let message = table.wrong.as_ref().map_or(NOTHING.as_ptr(), |wrong| wrong.as_ptr());
-        let (order, reading) = (Vec::new(), Reading::nothing());
+        let (order, reading) = (Vec::new(), Reading::default());
         Ok(Getopts { options, table, modes, order, message, name: NOTHING.as_ptr(), reading })
-    }
-
-    /// Whether a reading keeps the order of options.
-    #[inline]
-    pub fn keeps_order(&self) -> bool {
-        self.modes & KEEP_ORDER != 0
     }
 
     /// What was given of an option, if words were read and it is declared.
@@ -72,35 +65,42 @@ impl Getopts {
         self.modes & STRICT != 0 && self.table.wrong.is_none() && !self.declares(name)
     }
 
-    /// The words as texts, if the table is valid.
-    #[inline]
-    fn texts<'c>(&self, words: Result<Words<'c>, Error>) -> Result<Texts<'c>, Error> {
-        match self.table.wrong {
-            Some(_) => Err(Error::Table),
-            None => Ok(Texts::of(words?)),
-        }
+    /// Whether the order has to be kept, and isn't.
+    #[cold]
+    pub fn misses_order(&self) -> bool {
+        self.table.wrong.is_none() && self.modes & (STRICT | KEEP_ORDER) == STRICT
     }
 
-    /// Stores what was read, and returns its status.
-    pub fn keep(&mut self, read: Result<(Reading, Status), Error>) -> Status {
+    /// The words as texts, if the table is valid.
+    fn texts<'c>(&self, words: Option<Words<'c>>) -> Result<Texts<'c>, Error> {
+        words.filter(|_| self.table.wrong.is_none()).map(Texts::of).ok_or(Error::Bad)
+    }
+
+    /// Reads words, and stores what was read, or why nothing was. Returns the status.
+    pub fn read(&mut self, words: Option<Words<'_>>) -> Status {
+        let mut read = self.reading_of(words);
+        if self.modes & KEEP_ORDER != 0 {
+            read = self.in_order(read, words);
+        }
         self.name = NOTHING.as_ptr();
-        let error = match read {
+        match read {
             Ok((reading, status)) => {
                 self.message = NOTHING.as_ptr();
                 if status != OK {
                     (self.message, self.name) = (reading.message(), reading.message_name());
                 }
                 self.reading = reading;
-                return status;
+                status
             }
-            Err(error) => error,
-        };
-        self.message = match (&error, &self.table.wrong) {
-            (Error::Table, Some(wrong)) => wrong.as_ptr(),
-            (Error::Fail(_), _) => OUT_OF_MEMORY.as_ptr(),
-            _ => NULL_WORD.as_ptr(),
-        };
-        error.status()
+            Err(error) => {
+                self.message = match (&error, &self.table.wrong) {
+                    (Error::Fail(_), _) => OUT_OF_MEMORY.as_ptr(),
+                    (Error::Bad, Some(wrong)) => wrong.as_ptr(),
+                    (Error::Bad, None) => NULL_WORD.as_ptr(),
+                };
+                error.status()
+            }
+        }
     }
 
     /// Parses words if the table has options that are `needed`. Reports the first option, in order
@@ -127,64 +127,39 @@ impl Getopts {
         fail.map_or(Ok(matches), Err)
     }
 
-    /// Reads words. Returns what was read, and the status. If a word can't be read, nothing was
-    /// read; if an option is missing or was given too often, everything was.
-    #[inline]
-    pub fn read(&self, words: Result<Words<'_>, Error>) -> Result<(Reading, Status), Error> {
+    /// What words give, and the status. If a word can't be read, nothing was read; if an option is
+    /// missing or was given too often, everything was.
+    fn reading_of(&self, words: Option<Words<'_>>) -> Result<(Reading, Status), Error> {
         let (mut texts, options) = (self.texts(words)?, &self.options);
         let answer = match self.table.needed().next() {
             None => texts.ask(|words| options.parse_words(Global, words)),
             Some(_) => texts.ask(|words| self.parse_needed(words)),
         };
-        let error = match answer {
-            Ok(matches) => {
-                return Ok((Reading::of(Some(matches), None, self.table.rows, &texts)?, OK));
+        let (matches, fail) = match answer {
+            Ok(matches) => (Some(matches), None),
+            Err(Error::Fail(fail @ (Fail::OptionMissing(_) | Fail::OptionDuplicated(_)))) => {
+                let all = texts.ask(|words| options.parse_ignoring_counts(Global, words))?;
+                (Some(all), Some(fail))
             }
-            Err(error) => error,
+            Err(Error::Fail(fail)) if !matches!(fail, Fail::OutOfMemory) => (None, Some(fail)),
+            Err(error) => return Err(error),
         };
-        let status = error.status();
-        let fail = match error {
-            Error::Fail(fail) if !matches!(fail, Fail::OutOfMemory) => fail,
-            _ => return Err(error),
-        };
-        let matches = match fail {
-            Fail::OptionMissing(_) | Fail::OptionDuplicated(_) => {
-                Some(texts.ask(|words| options.parse_ignoring_counts(Global, words))?)
-            }
-            _ => None,
-        };
-        let reading = Reading::of(matches, Some(&fail), self.table.rows, &texts)?;
-        Ok((reading, status))
+        let status = fail.as_ref().map_or(OK, status_of);
+        Ok((Reading::of(matches, fail.as_ref(), self.table.rows, &texts)?, status))
     }
 
-    /// Stores what was read, as `keep` does, with the order of the options and free words.
+    /// Stores the order of the options and free words of a reading, and returns the reading.
     #[cold]
-    pub fn keep_in_order(
+    fn in_order(
         &mut self,
         read: Result<(Reading, Status), Error>,
-        words: Result<Words<'_>, Error>,
-    ) -> Status {
-        let order = match &read {
-            Ok((reading, OK)) => self.order_of(reading, words),
-            _ => Ok(Vec::new()),
-        };
-        match (read, order) {
-            (Ok(read), Ok(order)) => {
-                self.order = order;
-                self.keep(Ok(read))
-            }
-            (Err(error), _) | (_, Err(error)) => self.keep(Err(error)),
-        }
-    }
-
-    /// The options and free words that words give, in order, as stored in `order`.
-    fn order_of(
-        &self,
-        reading: &Reading,
-        words: Result<Words<'_>, Error>,
-    ) -> Result<Vec<(usize, usize)>, Error> {
-        let mut texts = self.texts(words)?;
-        texts.ask(|words| Ok(reading.in_order(&self.options.parse_in_order(Global, words)?)?))
+        words: Option<Words<'_>>,
+    ) -> Result<(Reading, Status), Error> {
+        let (reading, status) = read?;
+        let order =
+            |words: &[&str]| Ok(reading.in_order(&self.options.parse_in_order(Global, words)?)?);
+        self.order = if status == OK { self.texts(words)?.ask(order)? } else { Vec::new() };
+        Ok((reading, status))
     }
 
     /// The row of the nth option or free word, and its value.
@@ -194,10 +169,7 @@ impl Getopts {
     }
 
     /// The canonical line, with a zero byte after each word, and the number of words.
-    pub fn canonical(
-        &self,
-        words: Result<Words<'_>, Error>,
-    ) -> Result<Option<(Vec<u8>, usize)>, Error> {
+    pub fn canonical(&self, words: Option<Words<'_>>) -> Result<Option<(Vec<u8>, usize)>, Error> {
         let mut texts = self.texts(words)?;
         let line = texts.ask(|words| {
             if self.table.needed().next().is_some() {

@@ -15,6 +15,7 @@ use library::proved::{self, Fail, Matches};
 const FREE_WORD: usize = c_int::MAX as usize;
 
 /// The result of reading words: empty if they couldn't be read.
+#[derive(Default)]
 pub struct Reading {
     matches: Option<Matches>,
     /// The message and its name, if there is one, the values and the free words, each followed by a
@@ -46,7 +47,6 @@ pub struct Given<'r> {
 }
 
 impl Given<'_> {
-    #[inline]
     pub fn keep_last(&mut self) {
         self.start += self.count.saturating_sub(1);
         self.count = self.count.min(1);
@@ -57,7 +57,6 @@ impl Given<'_> {
         self.reading.lists[self.start..].as_ptr()
     }
 
-    #[inline]
     pub fn value(&self, nth: usize) -> Option<Text> {
         self.reading.lists.get(self.start + nth_of(nth, self.count)?).copied()
     }
@@ -70,10 +69,6 @@ impl Given<'_> {
 }
 
 impl Reading {
-    pub const fn nothing() -> Reading {
-        Reading { matches: None, texts: Vec::new(), name: 0, lists: Vec::new(), starts: Vec::new() }
-    }
-
     /// The result of reading words with this number of options, and the message of an error.
     pub fn of(
         matches: Option<Matches>,
@@ -81,7 +76,7 @@ impl Reading {
         groups: usize,
         of: &Texts<'_>,
     ) -> AllocResult<Reading> {
-        let mut reading = Reading::nothing();
+        let mut reading = Reading::default();
         let (before, name, after) = fail.map_or(("", "", ""), Fail::parts);
         let message = before.len() + 2 * name.len() + after.len() + 2;
         reading.texts.try_grow_exact(of.bytes.saturating_add(message))?;
@@ -127,7 +122,7 @@ impl Reading {
             (self.starts.try_clone()?, Vec::of_capacity(Global, order.len())?);
         for given in order {
             let (row, list) = match *given {
-                proved::Given::Option(row) => (row, row),
+                proved::Given::Option { place, .. } => (place, place),
                 proved::Given::Free(_) => (FREE_WORD, next.len() - 1),
             };
             found.push((row, next[list]));
@@ -143,7 +138,6 @@ impl Reading {
 
     /// Stores a text. The space was reserved: each word gives at most one text, which is no longer
     /// than the word.
-    #[inline]
     fn push_text(&mut self, text: &str, marked: bool) -> AllocResult<Text> {
         let start = self.texts.as_ptr().wrapping_add(self.texts.len());
         match marked {

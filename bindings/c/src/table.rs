@@ -2,7 +2,7 @@
 
 use crate::AllocResult;
 use crate::c::{Row, text};
-use library::alloc::{AllocError, Global};
+use library::alloc::Global;
 use library::fallible::{TryCopies, TryList, Vec};
 use library::proved::{HasArg, Occur, Options, ParsingStyle};
 
@@ -54,7 +54,7 @@ impl Table {
 /// Declares the rows of a table.
 pub fn declare<'c>(
     options: &mut Options,
-    rows: Option<impl Iterator<Item = Row<'c>> + Clone>,
+    rows: Option<impl Iterator<Item = Row<&'c [u8]>> + Clone>,
     modes: u32,
 ) -> AllocResult<Table> {
     let wrong_table = |wrong| Table { rows: 0, more: Vec::new(), wrong };
@@ -121,13 +121,12 @@ fn kind_of(kind: u32) -> Option<(HasArg, Occur)> {
     Some((hasarg, occurs.into_iter().nth((kind / REQ) as usize)?))
 }
 
-#[inline]
 fn declare_row<'c>(
     options: &mut Options,
     names: &mut Names,
-    earlier: impl Iterator<Item = Row<'c>> + Clone,
+    earlier: impl Iterator<Item = Row<&'c [u8]>> + Clone,
     place: usize,
-    row: &Row<'_>,
+    row: &Row<&[u8]>,
     repeats: bool,
 ) -> AllocResult<Wrong> {
     let [short, long, hint, desc] = row.texts;
@@ -168,7 +167,7 @@ const NO_TEXT: &[u8] = b" must be UTF-8 with all characters below U+10FF80";
 
 /// What is wrong with a row: the first mistake, in the order of the cases below.
 #[cold]
-fn wrong_row(place: usize, row: &Row<'_>) -> AllocResult<Wrong> {
+fn wrong_row(place: usize, row: &Row<&[u8]>) -> AllocResult<Wrong> {
     let ([short, long, hint, _], bad) =
         (row.texts, row.texts.iter().position(|bytes| text(bytes).is_none()));
     let kind = digits(row.kind as usize)?;
@@ -190,9 +189,9 @@ fn wrong_row(place: usize, row: &Row<'_>) -> AllocResult<Wrong> {
 /// What is wrong with a row if one of these earlier rows has one of its names.
 #[cold]
 fn repeated_name<'c>(
-    earlier: impl Iterator<Item = Row<'c>> + Clone,
+    earlier: impl Iterator<Item = Row<&'c [u8]>> + Clone,
     place: usize,
-    row: &Row<'_>,
+    row: &Row<&[u8]>,
 ) -> AllocResult<Wrong> {
     for (nth, name) in row.texts.into_iter().enumerate().take(2) {
         let same = earlier.clone().position(|other| other.texts[nth] == name);
@@ -236,14 +235,11 @@ fn message_of(parts: &[&[u8]]) -> AllocResult<Wrong> {
 }
 
 /// A number in decimal digits.
-fn digits(number: usize) -> Result<Vec<u8>, AllocError> {
-    let (mut text, mut rest) = (Vec::empty(Global), number);
-    while rest > 9 || text.is_empty() {
-        text.try_push(b'0' + (rest % 10) as u8)?;
-        rest /= 10;
-    }
-    if rest > 0 {
-        text.try_push(b'0' + rest as u8)?;
+fn digits(number: usize) -> AllocResult<Vec<u8>> {
+    let (mut text, mut rest) = (Vec::empty(Global), Some(number));
+    while let Some(number) = rest {
+        text.try_push(b'0' + (number % 10) as u8)?;
+        rest = Some(number / 10).filter(|rest| *rest > 0);
     }
     text.reverse();
     Ok(text)

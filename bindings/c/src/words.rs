@@ -20,13 +20,11 @@ pub struct Texts<'c> {
 }
 
 impl<'c> Texts<'c> {
-    #[inline]
     pub fn of(words: Words<'c>) -> Texts<'c> {
         Texts { words, bytes: 0, marked: false }
     }
 
     /// Calls a function with the words as texts.
-    #[inline]
     pub fn ask<T>(&mut self, call: impl FnOnce(&[&str]) -> Result<T, Fail>) -> Result<T, Error> {
         let (mut few, mut many) = ([""; FEW], None);
         let texts = match self.words.len() {

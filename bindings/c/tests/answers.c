@@ -56,8 +56,11 @@ static void say_list(const char *const *texts, size_t len) {
 
 static void say_and_free(char *text) {
     say(text);
-    free(text);
+    getopts_free(text);
 }
+
+/* Whether getopts_nth may be called. */
+static bool may_ask_order;
 
 /* Says what was read, also for an occurrence after the last one, and for the last. */
 static void say_reading(const struct getopts *options) {
@@ -78,7 +81,8 @@ static void say_reading(const struct getopts *options) {
     }
     int row = 0;
     for (size_t nth = 0; row >= 0; nth++) {
-        say_number(row = getopts_nth(options, nth, &value));
+        value = NULL;
+        say_number(row = may_ask_order ? getopts_nth(options, nth, &value) : -1);
         say(value);
     }
     say_number(getopts_free_count(options));
@@ -101,19 +105,16 @@ static void answer(struct getopts *options) {
     for (size_t nth = 0; line != NULL && line[nth] != NULL; nth++)
         say(line[nth]);
     say(NULL);
-    free(line);
-    say_and_free(getopts_usage(options, "brief"));
+    getopts_free(line);
+    say_and_free(getopts_usage(options, ""));
     say_and_free(getopts_usage_in(options, "brief", columns));
     say_and_free(getopts_short_usage(options, "brief"));
 }
 
 #ifdef REFUSES
-void *__real_malloc(size_t size);
-void *__real_realloc(void *block, size_t size);
-void __real_free(void *block);
-void *__wrap_malloc(size_t size);
-void *__wrap_realloc(void *block, size_t size);
-void __wrap_free(void *block);
+__typeof__(malloc) __real_malloc, __wrap_malloc;
+__typeof__(realloc) __real_realloc, __wrap_realloc;
+__typeof__(free) __real_free, __wrap_free;
 
 /* Which allocation fails (0: none), and whether later ones fail too (on). Counts: allocations, failures, used blocks. */
 static struct {
@@ -154,7 +155,7 @@ static void expect(bool holds, const char *what) {
 }
 
 static int status_of_text(char *text) {
-    free(text);
+    getopts_free(text);
     return text != NULL ? GETOPTS_OK : GETOPTS_NO_MEMORY;
 }
 
@@ -174,7 +175,7 @@ static int call(int which, struct getopts *options, enum getopts_modes modes) {
     if (which > 2)
         return status_of_text((which == 3 ? getopts_usage : getopts_short_usage)(options, "brief"));
     int status = getopts_canonical(options, count, words, &line);
-    free(line);
+    getopts_free(line);
     return status;
 }
 
@@ -207,6 +208,7 @@ static void check_failures(struct getopts *options, enum getopts_modes modes) {
 /* Reads a case, and answers it. */
 static void answer_case(void) {
     int modes = atoi(next());
+    may_ask_order = !(modes & GETOPTS_STRICT) || (modes & GETOPTS_KEEP_ORDER);
     columns = strtoul(next(), NULL, 10);
     int rows = atoi(next());
     for (struct getopts_option *row = table; row < table + rows; row++) {

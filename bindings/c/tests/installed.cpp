@@ -17,7 +17,7 @@ int main(int argc, char **argv) {
         modes |= GETOPTS_STOP;
     }
     const std::vector<getopts_option> table = {
-        { "o", "output", "FILE", "write to FILE", GETOPTS_YES + GETOPTS_OPTIONAL },
+        { "o", "output", "FILE", "write to FILE", GETOPTS_YES },
         { nullptr, "verbose", nullptr, "say more", often },
         {},
     };
