@@ -1,0 +1,232 @@
+-- `read`, a function of the definitions, finds each reading and each scan error that the relations
+-- allow. So there is at most one of these.
+--
+-- In all files, g is a grammar, w a word, ws and more are the words after it, i is an item, d are
+-- dashes, n is a name, a an argument, k its kind, bs are flags, o ends a cluster, t is a text or a
+-- tail, r a reading, f an error, m a mention, s a style and l whether long-only.
+module 03-Reads where
+
+open import Enums
+open import Names using (Text)
+open import Options
+open import Fail
+open import Reading
+open import Step
+open import Results
+open import 01-Basics
+open import 02-Characters
+
+-- What the proofs assume of a grammar: the empty name, and names of one byte from 128 up, don't
+-- resolve.
+record Sane (g : Grammar) : Set where
+  field
+    no-empty : (g .$kind) [] ≡ None
+    no-high : ∀ b → IsHigh b → (g .$kind) (b ∷ []) ≡ None
+open Sane public
+
+Outcome : Set
+Outcome = Result Reading Fault
+
+-- The outcome of the words after a step.
+after : Grammar → Step → List Text → Outcome
+after g s ws = after-step s (read-both g ws .proj₁) (read-both g ws .proj₂)
+
+-- A step that takes an argument goes on after its words.
+taken : ∀ g i a more
+  → after g (takes i a) (argument-words a ++ more) ≡ with-items (i ∷ []) (read g more)
+taken g i none more = refl
+taken g i (attached x) more = refl
+taken g i (separate x) more = refl
+
+-- Words in long form ------------------------------------------------------------------------------
+
+cut-whole : ∀ n a → holds-equals n ≡ false → cut-at-equals (n ++ with-equals a) ≡ (n , a)
+cut-whole [] None e = refl
+cut-whole [] (Some a) e = refl
+cut-whole (c ∷ n) a e with or-false {eqb c 61} e
+... | c-is , n-is rewrite c-is | cut-whole n a n-is = refl
+
+may-precede : ∀ lo d n a → MayPrecede lo d n → MayPrecede lo d (n ++ with-equals a)
+may-precede lo two n a p = tt
+may-precede lo one [] None p = p
+may-precede lo one [] (Some a) (p , q) = p , refl
+may-precede lo one (c ∷ n) a p = p
+
+module _ (g : Grammar) where
+
+  long-form : ∀ d t ws → MayPrecede (g .$long-only) d t → t ≢ []
+    → step g (dash-text d ++ t) ws ≡ long-step g d t ws
+  long-form d [] ws p filled = absurd (filled refl)
+  long-form two (c ∷ t) ws p filled = refl
+  long-form one (c ∷ t) ws (mode , no-dash) filled rewrite no-dash | mode = refl
+
+  long-form-step : ∀ d n a ws → MayPrecede (g .$long-only) d n → holds-equals n ≡ false
+    → n ++ with-equals a ≢ []
+    → step g (long-word d n a) ws ≡ long-name-step g ((g .$kind) n) d n a ws
+  long-form-step d n a ws p e filled =
+    long-form d (n ++ with-equals a) ws (may-precede _ d n a p) filled
+    ∙ cong (λ (name , a) → long-name-step g ((g .$kind) name) d name a ws) (cut-whole n a e)
+
+  -- Words in short form ---------------------------------------------------------------------------
+
+  short-form : ∀ t ws → g .$long-only ≡ false → begins-with-dash t ≡ false → t ≢ []
+    → step g (45 ∷ t) ws ≡ cluster-step g [] t ws
+  short-form [] ws mode no-dash filled = absurd (filled refl)
+  short-form (c ∷ t) ws mode no-dash filled rewrite no-dash | mode = refl
+
+  flags-read : ∀ front bs t ws → Each (IsFlag g) bs
+    → cluster-step g front (bs ++ t) ws ≡ cluster-step g (front ++ bs) t ws
+  flags-read front [] t ws _ rewrite ++-nil front = refl
+  flags-read front (b ∷ bs) t ws (flag , all) rewrite flag | sym (++-assoc front (b ∷ []) bs) =
+    flags-read (front ++ b ∷ []) bs t ws all
+
+  -- If a text begins with flags, the step takes them, and goes on after them.
+  after-flags : ∀ bs t ws → g .$long-only ≡ false → begins-with-dash (bs ++ t) ≡ false
+    → bs ++ t ≢ [] → Each (IsFlag g) bs → step g (45 ∷ bs ++ t) ws ≡ cluster-step g bs t ws
+  after-flags bs t ws mode no-dash filled all =
+    short-form (bs ++ t) ws mode no-dash filled ∙ flags-read [] bs t ws all
+
+  -- Each valid item is what the step takes --------------------------------------------------------
+
+  free-word-step : ∀ w ws → is-dashed w ≡ false → step g w ws ≡ free-step (g .$style) w ws
+  free-word-step [] ws e = refl
+  free-word-step (c ∷ []) ws e = refl
+  free-word-step (c ∷ d ∷ t) ws e rewrite e = refl
+
+  long-chosen : ∀ k n a more → FitsLong k a
+    → chosen-long k n (attached-argument a) (argument-words a ++ more) ≡ Ok a
+  long-chosen Yes n (attached x) more fits = refl
+  long-chosen Yes n (separate x) more fits = refl
+  long-chosen No n none more fits = refl
+  long-chosen Maybe n none more fits = refl
+  long-chosen Maybe n (attached x) more fits = refl
+
+  end-chosen : ∀ bs o a k more → (g .$kind) (o ∷ []) ≡ Some k → FitsEnd k a
+    → (is-bare (cluster bs (ends-in o a)) ≡ true → EndsOrIsDashed more)
+    → cluster-step g bs (end-text (ends-in o a)) (argument-words a ++ more)
+      ≡ takes (cluster bs (ends-in o a)) a
+  end-chosen bs o none .Maybe [] e refl _ rewrite e = refl
+  end-chosen bs o none .Maybe (w ∷ ws) e refl followed rewrite e | followed refl = refl
+  end-chosen bs o (attached _) No more e (no , _) _ = absurd (no refl)
+  end-chosen bs o (attached []) k more e (_ , filled) _ = absurd (filled refl)
+  end-chosen bs o (attached (x ∷ t)) Yes more e fits _ rewrite e = refl
+  end-chosen bs o (attached (x ∷ t)) Maybe more e fits _ rewrite e = refl
+  end-chosen bs o (separate w) No more e (no , _) _ = absurd (no refl)
+  end-chosen bs o (separate w) Yes more e fits _ rewrite e = refl
+  end-chosen bs o (separate w) Maybe more e (_ , plain) _ rewrite e | plain refl = refl
+
+  -- An item's first step takes it, and `read` goes on after its words.
+  item-read : ∀ i more → Sane g → IsLawfulItem g i → (is-bare i ≡ true → EndsOrIsDashed more)
+    → read g (item-words i ++ more) ≡ with-items (i ∷ []) (read g more)
+  item-read (free w) more sane (plain , style) _ rewrite free-word-step w more plain | style = refl
+  item-read (long d n a) more sane (mk p e (k , r , fits)) _ =
+    cong (λ s → after g s (argument-words a ++ more))
+      (long-form-step d n (attached-argument a) _ p e
+        (filled-left n λ { refl → None≢Some (sane .no-empty) r })
+      ∙ cong (λ k → long-name-step g k d n (attached-argument a) (argument-words a ++ more)) r
+      ∙ cong (chosen-step (long d n)) (long-chosen k n a more fits))
+    ∙ taken g (long d n a) a more
+  item-read (cluster bs flags) more sane (mk mode no-dash all filled) _ =
+    cong (λ s → after g s more) (after-flags bs [] more mode no-dash (filled-left bs filled) all)
+  item-read (cluster bs (ends-in o a)) more sane (mk mode no-dash all (k , e , fits)) followed =
+    cong (λ s → after g s (argument-words a ++ more))
+      (after-flags bs _ _ mode no-dash (++-filled bs) all
+      ∙ end-chosen bs o a k more e fits followed)
+    ∙ taken g (cluster bs (ends-in o a)) a more
+
+  tail-read : ∀ t → IsLawfulTail g t → read g (tail-words t) ≡ Ok (mk [] t)
+  tail-read line-end _ = refl
+  tail-read (stop ws) _ = refl
+  tail-read (rest (w ∷ ws)) (plain , style) rewrite free-word-step w ws plain | style = refl
+
+  -- A reading is what `read` finds, item by item. So there is at most one.
+  reading-read : ∀ {r words} → Sane g → IsReading g r words → read g words ≡ Ok r
+  reading-read {mk items t} sane (mk refl all lawful followed) = go items all followed
+    where
+      go : ∀ items → Each (IsLawfulItem g) items → AreWellFollowed items (tail-words t)
+        → read g (spelled-all items (tail-words t)) ≡ Ok (mk items t)
+      go [] all followed = tail-read t lawful
+      go (i ∷ items) (l , all) (f , followed) =
+        item-read i _ sane l f ∙ cong (with-items (i ∷ [])) (go items all followed)
+
+  -- Words with an error ---------------------------------------------------------------------------
+
+  long-fault : ∀ {w ws n a k} → (lf : IsLongForm g w n a) → (g .$kind) n ≡ k
+    → step g w ws ≡ long-name-step g k (lf .$dashes) n a ws
+  long-fault {n = n} {a} (mk d p e refl filled) refl = long-form-step d n a _ p e
+    λ empty → filled (cong (dash-text d ++_) empty ∙ ++-nil (dash-text d))
+
+  short-fault : ∀ {w ws f} t → HasAfterFlags g w t → t ≢ []
+    → (∀ bs → cluster-step g bs t ws ≡ faults f) → step g w ws ≡ faults f
+  short-fault t (mk bs mode refl no-dash all) filled e =
+    after-flags bs t _ mode no-dash (filled-right bs) all ∙ e bs
+    where
+      filled-right : ∀ (xs : Text) → xs ++ t ≢ []
+      filled-right [] = filled
+      filled-right (x ∷ xs) ()
+
+  byte-fault : ∀ b {t ws} c {char} more bs → (g .$kind) (b ∷ []) ≡ None → encode c ≡ char
+    → b ∷ t ≡ char ++ more → cluster-step g bs (b ∷ t) ws ≡ faults (unrecognized-option char)
+  byte-fault b {t} c more bs absent bytes is rewrite absent =
+    cong (λ char → faults (unrecognized-option char)) (first-decoded (b ∷ t) (cong chars
+      (is ∙ cong (_++ more) (sym bytes)) ∙ decoded c more) ∙ bytes)
+    where
+      first-decoded : ∀ t {cs} → chars t ≡ c ∷ cs → first-char t ≡ encode c
+      first-decoded t e rewrite e = refl
+
+  -- A word with an error: its step is that error.
+  fault-step : ∀ {w ws f} → Sane g → IsFaultAt g w ws f → step g w ws ≡ faults f
+  fault-step sane (unknown-name n a lf absent) = long-fault lf absent
+  fault-step sane (unwanted-argument n a lf no) = long-fault lf no
+  fault-step sane (long-unfinished n lf yes refl) = long-fault lf yes
+  fault-step sane (short-unfinished o hf yes refl) = short-fault _ hf (λ ()) at
+    where
+      at : ∀ bs → cluster-step g bs (o ∷ []) [] ≡ faults (argument-missing (o ∷ []))
+      at bs rewrite yes = refl
+  fault-step sane (unknown-byte b more low hf absent) = short-fault _ hf (λ ())
+    λ bs → byte-fault b b more bs absent (narrow b (<→ltb low)) refl
+  fault-step {w} {ws} sane (wide-character c more _ long-enough hf) =
+    go (wide c (not-narrow c long-enough))
+    where
+      go : Wide c → step g w ws ≡ faults (unrecognized-option (encode c))
+      go (b , b₂ , bs , is , high) = short-fault _
+        (subst (λ t → HasAfterFlags g w (t ++ more)) is hf) (λ ()) λ front →
+          byte-fault b c more front (sane .no-high b (subst (Each IsHigh) is high .proj₁)) refl
+            (cong (_++ more) (sym is))
+
+  -- A free word takes no step that is an error.
+  fault-dashed : ∀ w ws {f} → step g w ws ≡ faults f → is-dashed w ≡ true
+  fault-dashed w ws e with split (is-dashed w)
+  ... | inl dashed = dashed
+  ... | inr plain with g .$style | sym (free-word-step w ws plain) ∙ e
+  ...   | FloatingFrees | ()
+  ...   | StopAtFirstFree | ()
+
+-- Whole lines -------------------------------------------------------------------------------------
+
+spelled-then : ∀ items more → spelled-all items [] ++ more ≡ spelled-all items more
+spelled-then [] more = refl
+spelled-then (i ∷ items) more =
+  ++-assoc (item-words i) _ more ∙ cong (item-words i ++_) (spelled-then items more)
+
+-- What may follow items depends on their first word, if there is one.
+ends-same : ∀ items {more more′} → (EndsOrIsDashed more → EndsOrIsDashed more′)
+  → EndsOrIsDashed (spelled-all items more) → EndsOrIsDashed (spelled-all items more′)
+ends-same [] h e = h e
+ends-same (free _ ∷ items) h e = e
+ends-same (long _ _ _ ∷ items) h e = e
+ends-same (cluster _ _ ∷ items) h e = e
+
+-- A scan error is what `read` finds: it takes the items before the word, whose step is the error.
+fault-read : ∀ {g words f} → Sane g → IsScanFault g words f → read g words ≡ Err f
+fault-read {g} {f = f} sane (mk _ w ws items refl (mk refl all _ followed) fault) =
+  cong (read g) (spelled-then items (w ∷ ws)) ∙ go items all followed
+  where
+    the-step = fault-step g sane fault
+    go : ∀ items → Each (IsLawfulItem g) items → AreWellFollowed items []
+      → read g (spelled-all items (w ∷ ws)) ≡ Err f
+    go [] _ _ = cong (λ s → after g s ws) the-step
+    go (i ∷ items) (l , all) (before , followed) =
+      item-read g i _ sane l
+        (λ bare → ends-same items (λ _ → fault-dashed g w ws the-step) (before bare))
+      ∙ cong (with-items (i ∷ [])) (go items all followed)

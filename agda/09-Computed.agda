@@ -1,0 +1,351 @@
+-- The functions of the definitions, such as `parse_result`, compute the only value that their
+-- relations allow.
+module 09-Computed where
+
+open import Enums
+open import Only
+open import Names
+open import Options
+open import Fail
+open import Reading
+open import Matches
+open import Parse
+open import Accessors
+open import Canon
+open import CanonAnswers
+open import Unless
+open import Returns
+open import Step using (with-equals; cut-at-equals)
+open import Results
+open import 01-Basics
+open import 03-Reads
+open import 04-Decided
+open import 05-Resolved
+open import 06-Accepted
+open import 07-Canonical
+
+-- A relation of results has one value if each part of it has, and no two parts do.
+one-result : ∀ {X E : Set} {P : X → Set} {Q : E → Set} → AtMostOne P
+  → (∀ {x f} → P x → ¬ (Q f)) → AtMostOne Q → AtMostOne (λ a → MatchResult a P Q)
+one-result unique apart unique′ (Ok x) (Ok x′) p q = cong Ok (unique x x′ p q)
+one-result unique apart unique′ (Ok x) (Err f) p q = absurd (apart p q)
+one-result unique apart unique′ (Err f) (Ok x) p q = absurd (apart q p)
+one-result unique apart unique′ (Err f) (Err f′) p q = cong Err (unique′ f f′ p q)
+
+Decides : Bool → Set → Set
+Decides true G = G
+Decides false G = ¬ G
+
+-- A value h if G holds, and otherwise a value with the property R. If R has only one value, so has
+-- this, and a test of G chooses it.
+Or : {A : Set} → Set → A → (A → Set) → A → Set
+Or G h R a = (G × (a ≡ h)) ⊎ (¬ G × R a)
+
+only-or : ∀ {A : Set} {G : Set} {h y : A} {R : A → Set} b → Decides b G → IsTheOnly R y
+  → IsTheOnly (Or G h R) (if b then h else y)
+only-or true g only a =
+  (λ { (inl (_ , e)) → e ; (inr (n , _)) → absurd (n g) }) , λ { refl → inl (g , refl) }
+only-or false n only a = (λ { (inl (g , _)) → absurd (n g) ; (inr (_ , p)) → only a .proj₁ p })
+  , λ { refl → inr (n , only a .proj₂ refl) }
+
+only-same : ∀ {A : Set} {P Q : A → Set} {x} → (∀ a → P a ↔ Q a) → IsTheOnly Q x → IsTheOnly P x
+only-same same only a =
+  (λ p → only a .proj₁ (same a .proj₁ p)) , λ e → same a .proj₂ (only a .proj₂ e)
+
+-- Main names with `=` -----------------------------------------------------------------------------
+
+-- A text that contains `=` is cut before its end.
+cut-before : ∀ xs ys → holds-equals xs ≡ true
+  → Σ[ more ∈ Text ] cut-at-equals (xs ++ ys) .proj₂ ≡ Some (more ++ ys)
+cut-before (c ∷ xs) ys e with eqb c 61
+... | true = xs , refl
+... | false = cut-before xs ys e
+
+longer : ∀ (x : Text) more → x ≢ more ++ 61 ∷ x
+longer x more e = not-less (subst (length x <_)
+  (sym (cong length e ∙ length-++ more (61 ∷ x))) (≤-after (length more) ≤-refl))
+
+-- A main name with `=` would be cut at it, so no valid item spells it.
+no-item : ∀ options m → holds-equals (main-at (options .$groups) (m .$group)) ≡ true
+  → HasNoItem options m
+no-item options m eq s l (free w) lawful () first
+no-item options m eq s l (cluster bs end) (mk _ plain _ _) ms first =
+  true≢false (cong begins-with-dash (cons-tail (some first))) plain
+no-item options m eq s l (long d n a) (mk p no-equals _) ms first = go d p a (value ms) (some first)
+  where
+    main = main-at (options .$groups) (m .$group)
+    value : ∀ {m m′ : Mention} {ms} → m ∷ [] ≡ m′ ∷ ms → m .$value ≡ m′ .$value
+    value refl = refl
+    go : ∀ d → MayPrecede l d n → ∀ a → value-of a ≡ m .$value
+      → long-word d n (attached-argument a) ≢ long-word two main (m .$value)
+    go one (_ , plain) a v e = true≢false (cong begins-with-dash (cons-tail e)) (dashless n a plain)
+      where
+        dashless : ∀ n a → begins-with-dash n ≡ false
+          → begins-with-dash (n ++ with-equals (attached-argument a)) ≡ false
+        dashless [] none _ = refl
+        dashless [] (attached x) _ = refl
+        dashless [] (separate x) _ = refl
+        dashless (c ∷ n) a plain = plain
+    go two _ a v e with cut-before main (with-equals (m .$value)) eq
+    ... | more , is = cut a v (cong proj₂ (sym (cut-whole n (attached-argument a) no-equals)
+        ∙ cong cut-at-equals (cons-tail (cons-tail e))) ∙ is)
+      where
+        cut : ∀ a → value-of a ≡ m .$value
+          → attached-argument a ≢ Some (more ++ with-equals (m .$value))
+        cut none v ()
+        cut (separate x) v ()
+        cut (attached x) v e rewrite sym v = longer x more (some e)
+
+-- A content is plain, or one of its mentions isn't.
+plain-or-not : ∀ groups ms
+  → let plain = list-all (λ m → not (holds-equals (main-at groups (m .$group)))) ms in
+  (plain ≡ true × Each (Plain groups) ms)
+  ⊎ (plain ≡ false × (Σ[ m ∈ Mention ] Contains ms m
+    × (holds-equals (main-at groups (m .$group)) ≡ true)))
+plain-or-not groups [] = inl (refl , tt)
+plain-or-not groups (m ∷ ms) with holds-equals (main-at groups (m .$group)) in is
+... | true = inr (refl , m , (0 , s≤s z≤n , refl) , is)
+... | false with plain-or-not groups ms
+...   | inl (e , all) = inl (e , refl , all)
+...   | inr (e , m′ , (k , below , at) , eq) = inr (e , m′ , (suc k , s≤s below , at) , eq)
+
+-- Whether a name is given -------------------------------------------------------------------------
+
+decides-iff : ∀ b {G H : Set} → (G → H) → (H → G) → Decides b G → Decides b H
+decides-iff true to from g = to g
+decides-iff false to from n h = n (from h)
+
+Mentioned : ℕ → List Occurrence → Set
+Mentioned p os = Any (λ o → Some p ≡ Some (o .$mention .$group)) os
+
+found? : ∀ p os → Decides (ltb 0 (length (occurrences-mentioning p os))) (Mentioned p os)
+found? p [] (_ , _ , () , _)
+found? p (o ∷ os) with eqb (o .$mention .$group) p in is
+... | true = 0 , o , s≤s z≤n , refl , cong Some (sym (eqb→≡ _ p is))
+... | false with ltb 0 (length (occurrences-mentioning p os)) | found? p os
+...   | true | k , x , below , at , same = suc k , x , s≤s below , at , same
+...   | false | others = λ
+        { (zero , _ , _ , refl , refl) → true≢false (eqb-refl p) is
+        ; (suc k , x , s≤s below , at , same) → others (k , x , below , at , same) }
+
+held-all : ∀ k gs os → held-names (matched k (signatures-of gs) os) ≡ names-of gs
+held-all k [] os = refl
+held-all k (g ∷ gs) os = cong (g .$signature .$names ∷_) (held-all (k + 1) gs os)
+
+found-at-place : ∀ k sigs os at {s} → slice-get sigs at ≡ Some s
+  → occurrences-of-group (matched k sigs os) at ≡ occurrences-mentioning (k + at) os
+found-at-place k (x ∷ sigs) os zero e rewrite +-zero k = refl
+found-at-place k (x ∷ sigs) os (suc at) e rewrite +-suc k at | sym (+-comm 1 k) =
+  found-at-place _ sigs os at e
+
+signature-at : ∀ gs n p → resolution (names-of gs) n ≡ Some p
+  → Σ[ s ∈ Signature ] slice-get (signatures-of gs) p ≡ Some s
+signature-at gs n p e with place-valid (names-of gs) n p e
+... | x , at with get-map (λ g → g .$signature .$names) gs p at
+...   | g , here = g .$signature , map-get (λ g → g .$signature) gs p here
+
+-- Any options have at most one result of each call ------------------------------------------------
+
+module _ (options : Declared) (words : List Text) where
+
+  one-accepted : ∀ {c c′} (p : IsAcceptedWith options words c) (q : IsAcceptedWith options words c′)
+    → p .$reading ≡ q .$reading
+  one-accepted (mk r only _ _) (mk _ only′ _ _) = only′ r .proj₁ (only r .proj₂ refl)
+
+  one-content : AtMostOne (IsAcceptedWith options words)
+  one-content c c′ p q =
+    p .$content-is ∙ cong (content-of options) (one-accepted p q) ∙ sym (q .$content-is)
+
+  content-or-refused : ∀ {c f} → IsAcceptedWith options words c → ¬ (IsRefused options words f)
+  content-or-refused (mk r only kept _) =
+    accepted-or-refused options words (mk (mk r only refl) kept)
+
+  one-parse-answer : AtMostOne (IsParseAnswer options words)
+  one-parse-answer = one-result (λ m m′ p q → one-matches options words m m′ (p .$read) (q .$read))
+    (accepted-or-refused options words) (one-fault options words)
+
+  one-unread : AtMostOne (HasNoReading options words)
+  one-unread f f′ p q = one-fault options words f f′ (inl p) (inl q)
+
+  one-read-answer : AtMostOne (IsReadAnswer options words)
+  one-read-answer = one-result (one-matches options words) (not-unread options words) one-unread
+
+  one-canonical-answer : AtMostOne (IsCanonicalAnswer options words)
+  one-canonical-answer = one-result one-written
+      (λ { {None} (mk _ p _ _ _) → content-or-refused p
+         ; {Some l} (mk _ p _ _) → content-or-refused p })
+      (one-fault options words)
+    where
+      plain-and-not : ∀ {line} → IsUnwritable options words → ¬ (IsWritten options words line)
+      plain-and-not (mk _ p _ not-plain _) (mk _ q plain _) =
+        not-plain (subst (IsPlain (options .$groups)) (one-content _ _ q p) plain)
+      one-written : AtMostOne (λ written →
+        MatchOption written (IsUnwritable options words) (IsWritten options words))
+      one-written None None p q = refl
+      one-written None (Some line) p q = absurd (plain-and-not p q)
+      one-written (Some line) None p q = absurd (plain-and-not q p)
+      one-written (Some _) (Some _) (mk _ p _ refl) (mk _ q _ refl) =
+        cong (λ c → Some (canonical-line (options .$groups) c)) (one-content _ _ p q)
+
+  one-order-answer : AtMostOne (IsOrderAnswer options words)
+  one-order-answer =
+    one-result one-order (λ { (mk _ p _ _ _) → content-or-refused p }) (one-fault options words)
+    where
+      one-order : AtMostOne (IsOrder options words)
+      one-order _ _ (mk _ p refl _ _) (mk _ q refl _ _) =
+        cong (order-of-reading (grammar-of options)) (one-accepted p q)
+
+  -- What `parse` answers, in the type of another call.
+  Parses : {X : Set} → (Matched → X) → Result X Fault → Set
+  Parses make a =
+    Σ[ line ∈ _ ] IsParseAnswer options words line × (a ≡ result-map-both make (λ f → f) line)
+
+  Unless : Text → Result (Option Matched) Fault → Set
+  Unless flag = Or (Gives options words flag) (Ok None) (Parses Some)
+
+  unless-says : ∀ flag a → IsUnlessAnswer options flag words a ↔ Unless flag a
+  unless-says flag a = to a , from
+    where
+      to : ∀ a → IsUnlessAnswer options flag words a → Unless flag a
+      to (Ok None) p = inl (p , refl)
+      to (Ok (Some m)) (n , p) = inr (n , Ok m , p , refl)
+      to (Err f) (n , p) = inr (n , Err f , p , refl)
+      from : Unless flag a → IsUnlessAnswer options flag words a
+      from (inl (p , refl)) = p
+      from (inr (n , Ok m , p , refl)) = n , p
+      from (inr (n , Err f , p , refl)) = n , p
+
+  Requests : Result (Request Matched) Fault → Set
+  Requests = Or (Gives options words (codes "help")) (Ok Help)
+    (Or (Gives options words (codes "version")) (Ok Version) (Parses Parsed))
+
+  request-says : ∀ a → IsRequestAnswer options words a ↔ Requests a
+  request-says a = to a , from
+    where
+      to : ∀ a → IsRequestAnswer options words a → Requests a
+      to (Ok Help) p = inl (p , refl)
+      to (Ok Version) (n , p) = inr (n , inl (p , refl))
+      to (Ok (Parsed m)) ((n , n′) , p) = inr (n , inr (n′ , Ok m , p , refl))
+      to (Err f) ((n , n′) , p) = inr (n , inr (n′ , Err f , p , refl))
+      from : Requests a → IsRequestAnswer options words a
+      from (inl (p , refl)) = p
+      from (inr (n , inl (p , refl))) = n , p
+      from (inr (n , inr (n′ , Ok m , p , refl))) = (n , n′) , p
+      from (inr (n , inr (n′ , Err f , p , refl))) = (n , n′) , p
+
+-- The functions give answers ----------------------------------------------------------------------
+
+module _ (options : Declared) (named : Each IsNamed (names-of (options .$groups)))
+  (words : List Text) (texts : AreTexts words) where
+  private
+    open module N = Named options named
+    gs = options .$groups
+
+  reading-is : IsReadingOf options words (reading-or-error options words)
+  reading-is with read g words | decided g sane words texts
+  ... | Ok r | p = p
+  ... | Err f | scan = unread scan
+
+  line-is : IsLineOf options words (accepted-reading options words)
+  line-is with read g words | decided g sane words texts
+  ... | Err f | scan = inl (unread scan)
+  ... | Ok r | p
+    with first-count-fault (matches-of options r .$groups) | counted (matches-of options r .$groups)
+  ...   | None | kept = mk p kept
+  ...   | Some f | breaks = inr (mk _ (has-reading r p) breaks)
+
+  -- What is made of a reading that keeps the counts, if it is right for each.
+  made-of-line : ∀ {X : Set} (P : X → Set) (make : Reading → X)
+    → (∀ r → IsCountKeeping options r words → P (make r))
+    → MatchResult (made-of make (accepted-reading options words)) P (IsRefused options words)
+  made-of-line P make h with accepted-reading options words | line-is
+  ... | Ok r | kept = h r kept
+  ... | Err f | refused = refused
+
+  only-parse : IsTheOnly (IsParseAnswer options words) (parse-result options words)
+  only-parse = only-by (made-of-line _ (matches-of options) accept) (one-parse-answer options words)
+
+  only-parses : ∀ {X : Set} (make : Matched → X) → IsTheOnly (Parses options words make)
+    (result-map-both make (λ f → f) (parse-result options words))
+  only-parses make a = (λ { (line , p , refl) → cong _ (only-parse line .proj₁ p) })
+    , λ { refl → _ , only-parse _ .proj₂ refl , refl }
+
+  read-is : IsReadAnswer options words (parse-ignoring-counts-result options words)
+  read-is with read g words | reading-is
+  ... | Ok r | p = has-reading r p
+  ... | Err f | none-is = none-is
+
+  accepted-with : ∀ r → IsCountKeeping options r words
+    → IsAcceptedWith options words (content-of options r)
+  accepted-with r (mk p kept) = mk r (only-by p (one-reading words)) kept refl
+
+  canonical-is : IsCanonicalAnswer options words (canonical-result options words)
+  canonical-is = made-of-line (λ written → IsCanonicalAnswer options words (Ok written)) _ written?
+    where
+      written? : ∀ r → IsCountKeeping options r words
+        → IsCanonicalAnswer options words (Ok (written-line gs (content-of options r)))
+      written? r kept with plain-or-not gs (content-of options r .$mentions)
+      ... | inl (is , plain) rewrite is = mk _ (accepted-with r kept) plain refl
+      ... | inr (is , m , inside , eq) rewrite is = mk (content-of options r) (accepted-with r kept)
+        (Lines.sound options named (Lines.says-accepted options named (accepted-with r kept)))
+        (λ all → true≢false eq (each-at (content-of options r .$mentions) all inside))
+        (mk m inside (no-item options m eq))
+
+  order-is : IsOrderAnswer options words (parse-in-order-result options words)
+  order-is = made-of-line _ (order-of-reading g) λ { r@(mk items t) kept →
+    mk (content-of options r) (accepted-with r kept) refl
+      (options-of-items g items _
+        ∙ cong (mentions-in g items ++_) (only-words (tail-frees t) .proj₁) ∙ ++-nil _
+        ∙ sym (mentions-are g 0 items))
+      (frees-of-items g items _ ∙ cong (free-items items ++_) (only-words (tail-frees t) .proj₂)) }
+
+  present : Reading → Text → Bool
+  present r name = is-present (matches-of options r .$groups) name
+
+  occurs? : ∀ r name → Decides (present r name)
+    (Any (λ o → resolution (names-of gs) name ≡ Some (o .$mention .$group)) (occurrences-of g r))
+  occurs? r name rewrite held-all 0 gs (occurrences-of g r) with resolution (names-of gs) name in e
+  ... | None = λ { (_ , _ , _ , _ , ()) }
+  ... | Some p with signature-at gs name p e
+  ...   | s , at rewrite found-at-place 0 (signatures-of gs) (occurrences-of g r) p at =
+    found? p (occurrences-of g r)
+
+  gives? : ∀ r name → IsReading g r words → Decides (present r name) (Gives options words name)
+  gives? r name p = decides-iff (present r name) (mk r p)
+    (λ { (mk r′ q o) → subst (λ r → Any _ (occurrences-of g r)) (one-reading words r′ r q p) o })
+    (occurs? r name)
+
+  gives-not : ∀ {f name} → IsScanFault g words f → ¬ (Gives options words name)
+  gives-not scan (mk r p _) = not-both g sane words p scan
+
+  only-unless : ∀ flag
+    → IsTheOnly (IsUnlessAnswer options flag words) (parse-unless-result options flag words)
+  only-unless flag = only-same (unless-says options words flag) chosen
+    where
+      chosen : IsTheOnly (Unless options words flag) (parse-unless-result options flag words)
+      chosen with read g words | decided g sane words texts | only-parses Some
+      ... | Err f | scan | line = only-or false (gives-not scan) line
+      ... | Ok r | p | line = only-or _ (gives? r flag p) line
+
+  only-request : IsTheOnly (IsRequestAnswer options words) (parse-request-result options words)
+  only-request = only-same (request-says options words) chosen
+    where
+      chosen : IsTheOnly (Requests options words) (parse-request-result options words)
+      chosen with read g words | decided g sane words texts | only-parses Parsed
+      ... | Err f | scan | line =
+        only-or false (gives-not scan) (only-or false (gives-not scan) line)
+      ... | Ok r | p | line = only-or _ (gives? r (codes "help") p)
+        (only-or _ (gives? r (codes "version") p) line)
+
+  -- Each result is right, and at most one is.
+  has-results : HasResults options words
+  has-results = mk
+    (only-by reading-is (one-result (one-reading words)
+      (λ p q → q .$no-reading _ p) (one-unread options words)))
+    (only-by line-is (one-result (λ r r′ p q → one-reading words r r′ (p .$reads) (q .$reads))
+      (λ kept → accepted-or-refused options words (accept _ kept)) (one-fault options words)))
+    only-parse
+    (only-by read-is (one-read-answer options words))
+    (only-by canonical-is (one-canonical-answer options words))
+    (only-by order-is (one-order-answer options words))
+    only-unless only-request

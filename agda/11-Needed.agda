@@ -1,0 +1,64 @@
+-- Premises that the main theorem needs: without each, it is false.
+module 11-Needed where
+
+open import Enums
+open import Names
+open import Options
+open import Fail
+open import Reading
+open import Parse using (mk)
+open import Returns using (HasResults; $reading)
+open import Theorem
+open import 01-Basics
+open import 03-Reads
+
+declared-with : List Group → Declared
+declared-with groups = mk groups FloatingFrees false
+
+flag : Text → Group
+flag short = group-of short [] [] [] No Multi
+
+-- Without `named` of `AreLawful`: a group without names. `--` is the stop, and its option.
+two-readings : ¬ (OneReading (declared-with (flag [] ∷ [])))
+two-readings unique
+  with unique (stop-word ∷ []) (mk [] (stop [])) (mk (long two [] none ∷ []) line-end)
+    (mk refl tt tt tt) (mk refl (mk tt refl (No , refl , tt) , tt) tt ((λ ()) , tt))
+... | ()
+
+-- Without `shorts` of `MayBeDeclared`: flags of the two bytes of `é`. `-éx` has two scan errors.
+halves : Declared
+halves = declared-with (flag (195 ∷ []) ∷ flag (169 ∷ []) ∷ [])
+
+halves-named : AreLawfullyNamed (halves .$groups)
+halves-named = lawful , lawful , tt
+  where
+    lawful : ∀ {b} → AreLawful (b ∷ []) []
+    lawful = mk (s≤s z≤n) (λ ()) (s≤s z≤n)
+
+e-acute-x : List Text
+e-acute-x = (45 ∷ 195 ∷ 169 ∷ 120 ∷ []) ∷ []
+
+two-errors : IsScanFault (grammar-of halves) e-acute-x (unrecognized-option (195 ∷ 169 ∷ []))
+  × IsScanFault (grammar-of halves) e-acute-x (unrecognized-option (120 ∷ []))
+two-errors =
+  mk [] _ [] [] refl (mk refl tt tt tt)
+    (wide-character 233 (120 ∷ []) refl (s≤s (s≤s z≤n)) (mk [] refl refl refl tt))
+  , mk [] _ [] [] refl (mk refl tt tt tt) (unknown-byte 120 [] (ltb→< 120 128 refl)
+    (mk (195 ∷ 169 ∷ []) refl refl refl (refl , refl , tt)) refl)
+
+-- Without `AreTexts` in `HaveResults`: `-` and a byte that begins no character. `read` gives an
+-- error with an empty name, which no scan error has.
+no-result : ¬ (HasResults (declared-with []) ((45 ∷ 200 ∷ []) ∷ []))
+no-result results with results .$reading (Err (unrecognized-option [])) .proj₂ refl
+... | mk only _ with only (unrecognized-option []) .proj₂ refl
+...   | mk (x ∷ xs) _ _ _ e _ _ = ++-filled xs (sym (cons-tail e))
+...   | mk [] _ _ _ refl _ fault = named fault refl
+  where
+    named : ∀ {ws f} → IsFaultAt (grammar-of (declared-with [])) (45 ∷ 200 ∷ []) ws f
+      → f ≢ unrecognized-option []
+    named (unknown-name _ _ (mk one (() , _) _ _ _) _) is
+    named (unknown-name [] None (mk two _ _ () _) _) refl
+    named (unknown-name [] (Some x) (mk two _ _ () _) _) refl
+    named (wide-character c _ _ several _) is with encode c
+    named (wide-character c _ _ () _) is | []
+    named (wide-character c _ _ several _) () | x ∷ bytes

@@ -1,0 +1,91 @@
+-- The lemmas of src/laws.rt about the definitions. Their clauses are translated to the records of
+-- gen/Statement.agda. Those about columns hold for any function in the place of the widths of
+-- `unicode_width`.
+import Base
+module 13-All (str-width : Base.Bool → Base.List Base.ℕ → Base.ℕ) where
+
+open import Names using (MainNameResolves; OneByteIsShort; EmptyResolvesNot)
+open import Options
+open import Matches using (Matched; $groups)
+open import Holds using (AreGroupsOf)
+open import 01-Basics
+open import 05-Resolved
+import Statement
+import 06-Accepted
+import 07-Canonical
+import 08-Laws
+import 09-Computed
+import 10-Rows
+import 11-Needed
+import 12-Examples
+open Statement str-width
+
+module _ (options : Declared) where
+  private
+    gs = options .$groups
+    ns = names-of gs
+
+  -- The theorem needs that each group has a name, and that none is a byte of a longer character.
+  main-theorem : Each IsNamed ns → MainTheorem options
+  main-theorem named = λ where
+      .$one-reading → one-reading
+      .$one-reading-in-each → one-reading-in-each
+      .$accepted → accepted
+      .$refused → refused
+      .$results → 09-Computed.has-results options named
+      .$holds-same → one-content-holds-same
+      .$one-line-one-content → one-line-one-content
+      .$canonical-lines words → canonical-lines
+      .$line-laws → line-laws
+      .$read-again → lines-read-again
+      .$reading-laws → 08-Laws.keeps-reading-laws g sane
+      .$sound words content → sound
+    where
+      open 06-Accepted.Named options named
+      open 07-Canonical.Lines options named
+
+  -- Options that may be declared have such names.
+  declared-theorem : MayBeDeclared gs → MainTheorem options
+  declared-theorem declared = main-theorem (each-map is-named _ (valid-groups gs declared))
+
+  names-resolve : MayBeDeclared gs → NamesResolve options
+  names-resolve declared = mk (main-name-resolves ns) (one-byte-is-short ns valid)
+      (empty-resolves-not ns (each-map is-named ns valid))
+    where valid = valid-groups gs declared
+
+  -- For matches with the groups of these options.
+  held-names-resolve : ∀ (matches : Matched) → MayBeDeclared gs
+    → AreGroupsOf options (matches .$groups) → HeldNamesResolve matches
+  held-names-resolve matches declared same = mk (subst MainNameResolves is (facts .$main-name))
+      (subst OneByteIsShort is (facts .$one-byte)) (subst EmptyResolvesNot is (facts .$empty))
+    where
+      facts = names-resolve declared
+      is = sym (held-are options matches same)
+
+  -- A part of `declared`: an added group with valid names, and a short one in UTF-8, keeps it.
+  declared-with : ∀ group → MayBeDeclared gs → IsValid (group .$signature .$names)
+    → MayBeDeclared (with-group options group .$groups)
+  declared-with group (mk named shorts) (valid , utf8) =
+    mk (each-++ gs named (valid , tt)) (each-++ gs shorts (utf8 , tt))
+
+equal-answers : EqualAnswers
+equal-answers = mk 09-Computed.one-parse-answer 09-Computed.one-canonical-answer
+
+results-are-computed : ResultsAreComputed
+results-are-computed = mk λ options words declared →
+  declared-theorem options declared .$results words
+
+laws-of-declared : LawsOfDeclared
+laws-of-declared = λ where
+  .$reading-laws options declared → declared-theorem options declared .$reading-laws
+  .$line-laws options declared → declared-theorem options declared .$line-laws
+  .$holds-same options declared → declared-theorem options declared .$holds-same
+  .$one-reading options declared → declared-theorem options declared .$one-reading
+  .$accepted options declared → declared-theorem options declared .$accepted
+  .$refused options declared → declared-theorem options declared .$refused
+  .$one-line-one-content options declared →
+    declared-theorem options declared .$one-line-one-content
+
+usage-texts : UsageTexts
+usage-texts = mk usage-text-is usage-rows description fewest-rows
+  where open 10-Rows str-width

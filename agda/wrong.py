@@ -1,0 +1,85 @@
+"""Wrong definitions, which Agda must reject at the lemma that they are for. `check.sh --wrong` runs
+this in a folder in which all is checked: wrong.py CRATE STD."""
+import re
+import shutil
+import subprocess
+import sys
+import time
+from concurrent.futures import ThreadPoolExecutor
+from pathlib import Path
+
+CRATE, STD = map(Path, sys.argv[1:])
+# The clause that becomes false, what the definitions say instead, file, old text, new text, lemma.
+WRONG = [
+    ("one_reading", "in long form, an optional argument may be the next word", "Reading",
+     "FitsLong Maybe (separate word) = ⊥", "FitsLong Maybe (separate word) = ⊤",
+     "03-Reads.long-chosen"),
+    ("accepted", "matches are accepted whatever their counts", "Parse",
+     "pub counts : KeepsCounts matches.groups", "pub counts : matches ≡ matches",
+     "06-Accepted.accepted-or-refused"),
+    ("refused", "in short form, an unknown byte needn't be ASCII", "Reading",
+     "→ byte < 128 → HasAfterFlags", "→ byte < 256 → HasAfterFlags", "03-Reads.fault-step"),
+    ("results", "if help and the version are requested, the version is the result", "Unless",
+     'if is_present read.groups (codes "help") then Ok Help',
+     'if is_present read.groups (codes "version") then Ok Help', "09-Computed.only-request"),
+    ("holds_same", "equal contents have equal trailing starts", "Theorem",
+     "pub free : other.free ≡ matches.free",
+     "pub free : other.trailing_start ≡ matches.trailing_start", "07-Canonical.same-values"),
+    ("one_line_one_content", "the other content needn't be plain", "Theorem",
+     "→ Says options others other → IsPlain options.groups other",
+     "→ Says options others other → IsPlain options.groups content",
+     "07-Canonical.one-line-one-content"),
+    ("canonical_lines", "a canonical line ends its options without `--`", "Canon",
+     "content.mentions ++ stop_word ∷ content.free", "content.mentions ++ content.free",
+     "07-Canonical.canonical-reads"),
+    ("reading_laws", "lines may be joined after a bare cluster", "ReadingLaws",
+     "→ is_last_bare first.items ≡ false",
+     "→ is_last_bare first.items ≡ is_last_bare first.items", "08-Laws.lines-law"),
+    ("empty", "an empty short name is an alias", "Names",
+     "not (is_empty names.long) && not (is_empty names.short)",
+     "not (is_empty names.long) && not (is_empty names.long)", "05-Resolved.alias"),
+    ("fewest", "a row has no room for all of the next row", "Wrap",
+     "¬ FitsIn limit (run ++ take 1 next)", "¬ FitsIn limit (run ++ next)",
+     "10-Rows.takes-no-more"),
+]
+
+
+def rejected_at(said, folder):
+    """The lemma of the first error."""
+    module, line = re.search(r"([\w-]+)\.agda:(\d+)", said).groups()
+    path = folder / f"{module}.agda"
+    lines = path.read_text(encoding="utf-8").split("\n")[:int(line)] if path.exists() else []
+    names = [found[1] for text in lines if (found := re.match(r"(?:  )?([^\s:]+) : ", text))]
+    return f"{module}.{names[-1]}" if names else module
+
+
+def failure(wrong):
+    """What is wrong with Agda's answer, if anything. What hasn't changed isn't checked again."""
+    clause, what, file, old, new, lemma = wrong
+    folder = Path("wrong") / clause
+    shutil.copytree(".", folder, ignore=shutil.ignore_patterns("wrong"))
+    for part in ("specs", "src"):
+        shutil.copytree(CRATE / part, folder / "crates/getopts" / part)
+    path = folder / f"crates/getopts/specs/{file}.antt"
+    text = path.read_text(encoding="utf-8")
+    if text.count(old) != 1:
+        return f"{clause}: found {text.count(old)} times in {file}.antt, not once: {old}"
+    path.write_text(text.replace(old, new), encoding="utf-8")
+    subprocess.run([sys.executable, Path(__file__).parent / "translate.py", "crates/getopts", STD,
+                    "gen"], cwd=folder, check=True, stdout=subprocess.DEVNULL)
+    agda = "agda --safe --without-K --no-libraries -i gen -i .".split()
+    run = subprocess.run([*agda, f"{lemma.split('.')[0]}.agda"], cwd=folder, capture_output=True,
+                         text=True)
+    said = "\n".join(line for line in run.stdout.split("\n") if "Checking" not in line)
+    at = rejected_at(said, folder) if run.returncode else "nowhere"
+    return at != lemma and f"{clause}, if {what}: expected an error at {lemma}, not at {at}\n{said}"
+
+
+start = time.time()
+with ThreadPoolExecutor(2) as pool:
+    failures = [it for it in pool.map(failure, WRONG) if it]
+for it in failures:
+    print(f"wrong.py: {it}", file=sys.stderr)
+print(f"wrong.py: Agda rejects {len(WRONG) - len(failures)} of {len(WRONG)} wrong definitions at "
+      f"the expected lemma, in {time.time() - start:.0f} s")
+sys.exit(len(failures) > 0)
