@@ -3,15 +3,16 @@
 # usage: test.sh [--quick] [--no-install] [CRATE]
 #        test.sh [--quick] [--no-install] -k NAME [FLAG ..]
 #
-# As root, it first installs the packages of tests/packages.txt that are missing, and unpacks a newer Rust if Debian 12 has
-# only rustc 1.63. If there is no pytest, pip installs it. Both are put into ~/.cache/proved-getopts, since `rt ci` refuses
-# a repository that contains links. The first line of its output names all this. --no-install leaves it out.
+# As root, it first installs the packages of tests/packages.txt that are missing. On Debian 12, it also unpacks Agda and, if
+# there is only rustc 1.63, a newer Rust into ~/.cache/proved-getopts, since `rt ci` refuses a repository that contains
+# links. The first line of its output names all this. --no-install leaves it out.
 #
 # CRATE is a folder with the Rust crate getopts 0.2.24, to compare with. --quick proves nothing: programs run unproved,
 # tests of built programs run only if these exist, other targets are left out, and there are fewer random cases. Without
 # rt, --quick leaves out the tests that need it. -k runs only the tests that match NAME, and accepts pytest's flags.
 set -uo pipefail
-start=$SECONDS quick=() install=1 absent=tests/out/absent
+unset CDPATH
+start=$SECONDS quick=() install=1
 for flag; do
     case $flag in
     --help | -h) sed -n '2,/^[^#]/s/^# \{0,1\}//p' "$0"; exit ;;
@@ -27,7 +28,7 @@ case ${XDG_CACHE_HOME:-} in /*) ;; *) unset XDG_CACHE_HOME ;; esac
 # Other users could put programs into a cache below /tmp.
 [ "${XDG_CACHE_HOME:-${HOME:-}}" ] || stop "set HOME or XDG_CACHE_HOME"
 cache=${XDG_CACHE_HOME:-${HOME:-}/.cache}/proved-getopts
-own=$cache/venv rust=$cache/rust
+rust=$cache/rust agda=$cache/agda
 [ ! -d "${1:-}" ] || set -- "$(cd "$1" && pwd)"
 cd "$(dirname "$0")" || exit
 # Cargo and rustup read configurations, and toolchains, in all folders above. A machine for CI has no other users.
@@ -42,62 +43,62 @@ command -v rt >/dev/null || [ ${#quick[@]} = 1 ] || [ "${1:-}" = -k ] ||
 [ $# = 0 ] || [ "$1" = -k ] || [ -f "$1/Cargo.toml" ] ||
     stop "$1 doesn't contain the crate getopts (usage: test.sh [--quick] [--no-install] [CRATE])"
 
-# The packages of tests/packages.txt that aren't installed, except those that this release doesn't have.
+# The packages of tests/packages.txt that aren't installed.
 lacking() {
-    { cat $absent 2>/dev/null; dpkg-query -W -f '${db:Status-Status} ${Package}\n' | sed -n 's/^installed //p'; } |
-        grep -vxFf - <(sed 's/#.*//; /^unpack:/d' tests/packages.txt | xargs -n 1)
+    dpkg-query -W -f '${db:Status-Status} ${Package}\n' | sed -n 's/^installed //p' |
+        grep -vxFf - <(sed 's/#.*//; /^[a-z]*:/d' tests/packages.txt | xargs -n 1)
 }
-# Installs those packages. $absent stores the ones that the release doesn't have, so that later runs don't look again.
-install_packages() {
-    local known
-    mkdir -p tests/out
-    apt-get -o APT::Update::Error-Mode=any update && known=1
-    apt-cache pkgnames | grep -xFf <(lacking) |
-        DEBIAN_FRONTEND=noninteractive xargs -r apt-get install -y --no-install-recommends
-    [ -z "${known:-}" ] || lacking | grep -vxFf <(apt-cache pkgnames) >>$absent
-}
+# Those that this release has.
+offered() { apt-cache pkgnames | grep -xFf <(lacking); }
 # Whether the first rustc in $PATH is older than this version 1.N, or missing.
 rust_older() { [ "$(rustc --version 2>/dev/null | sed -n 's/^rustc 1\.\([0-9]*\).*/\1/p' | grep . || echo 0)" -lt "$1" ]; }
-# Unpacks Rust from Debian 12 itself: the cargo of its security updates is newer, but fails to clone git repositories.
-unpack_rust() {
-    local packages package part=$rust.part
-    packages=$(sed -n 's/^unpack: *//p' tests/packages.txt)
-    rm -rf "$rust" "$part" && mkdir -p "$part/partial"
+# Unpacks into this folder the packages of this line in tests/packages.txt, which this command downloads.
+unpack() {
+    local package packages part=$1.part into=$1
+    packages=$(sed -n "s/^$2: *//p" tests/packages.txt)
+    shift 2
     # shellcheck disable=SC2086
-    apt-get install -y -t bookworm --no-install-recommends --download-only -o "Dir::Cache::Archives=$part" $packages &&
-        for package in "$part"/*.deb; do dpkg -x "$package" "$part" && rm "$package" || return; done && mv "$part" "$rust"
+    rm -rf "$into" "$part" && mkdir -p "$part/partial" && (cd "$part" && "$@" $packages) &&
+        for package in "$part"/*.deb; do
+            dpkg --fsys-tarfile "$package" | tar -xC "$part" --exclude=./usr/lib/haskell-packages && rm "$package" || return
+        done && mv "$part" "$into"
 }
-find_pytest() {
-    for python in python3 /usr/bin/python3 "$own/bin/python"; do
-        "$python" -c 'import pytest, pytest_timeout, xdist' 2>/dev/null && return
-    done
+# From Debian 12 itself: the cargo of its security updates is newer, but fails to clone git repositories.
+unpack_rust() {
+    unpack "$rust" rust apt-get install -y -t bookworm --no-install-recommends --download-only -o "Dir::Cache::Archives=$rust.part"
 }
-# What to install, as text in $news.
+unpack_agda() { unpack "$agda" agda apt-get download; }
+# What to install, as text in $news. Without lists of packages, those that this release has aren't known yet.
 find_news() {
     packages='' unpack='' news=''
-    if [ "$install" ] && [ "$(id -u)" = 0 ] && command -v apt-get >/dev/null; then
-        packages=$(lacking 2>/dev/null | xargs)
-        ! rust_older 85 || [ -x "$rust/usr/bin/rustc" ] || ! grep -qs '^VERSION_CODENAME=bookworm' /etc/os-release || unpack=1
-        news="${packages:+, the Debian packages $packages}${unpack:+, Rust 1.85 into $rust}"
-    elif [ "$install" ] && ! find_pytest; then
-        news=", pytest into $own"
-    fi
+    [ "$install" ] && [ "$(id -u)" = 0 ] && command -v apt-get >/dev/null || return
+    packages=$(if [ "$(find /var/lib/apt/lists -name '*Packages*' -print -quit)" ]; then offered; else lacking; fi 2>/dev/null | xargs)
+    news="${packages:+, the Debian packages $packages}"
+    grep -qs '^VERSION_CODENAME=bookworm' /etc/os-release || return
+    ! rust_older 85 || [ -x "$rust/usr/bin/rustc" ] || { unpack=rust && news="$news, Rust 1.85 into $rust"; }
+    [ ${#quick[@]} = 1 ] || command -v agda >/dev/null || [ -x "$agda/usr/bin/agda" ] ||
+        { unpack="$unpack agda" && news="$news, Agda into $agda"; }
 }
 find_news
 # Another run may be installing the same: wait until it has, and look again.
 [ -z "$news" ] || { mkdir -p "$cache" && exec 9>"$cache/lock" && flock 9; find_news; }
-[ -z "$news" ] || echo "test.sh: about to install (--no-install leaves this out)${news/,/:}"
-apt_errors() { sed -n 's/^E: /test.sh: apt-get: /p' | tail -1; }
-[ -z "$packages" ] || install_packages 2>&1 | apt_errors
-[ -z "$unpack" ] || { unpack_rust || { apt-get update && unpack_rust; }; } 2>&1 | apt_errors
+if [ "$news" ]; then
+    echo "test.sh: about to install (--no-install leaves this out)${news/,/:}"
+    {
+        apt-get -o APT::Update::Error-Mode=any update
+        [ -z "$packages" ] || offered | DEBIAN_FRONTEND=noninteractive xargs -r apt-get install -y --no-install-recommends
+        for it in $unpack; do "unpack_$it"; done
+    } 2>&1 | sed -n 's/^E: /test.sh: apt-get: /p' | tail -1
+fi
+exec 9>&-
 if rust_older 85 && [ -x "$rust/usr/bin/rustc" ]; then
     libraries=$rust/usr/lib/$(uname -m)-linux-gnu:$rust/lib/$(uname -m)-linux-gnu
     export PATH=$rust/usr/bin:$PATH LD_LIBRARY_PATH=$libraries${LD_LIBRARY_PATH:+:$LD_LIBRARY_PATH}
 fi
-find_pytest || [ -z "$install" ] ||
-    { python3 -m venv "$own" && "$own/bin/pip" install pytest pytest-xdist pytest-timeout; } >/dev/null 2>&1
-exec 9>&-
-find_pytest || stop "pytest not found: apt-get install python3-pytest python3-pytest-xdist python3-pytest-timeout"
+for python in python3 /usr/bin/python3 ''; do
+    [ "$python" ] || stop "pytest not found: apt-get install python3-pytest python3-pytest-xdist python3-pytest-timeout"
+    ! "$python" -c 'import pytest, pytest_timeout, xdist' 2>/dev/null || break
+done
 command -v rt >/dev/null || echo "test.sh: rt not found: tests that need it are left out"
 [ "${1:-}" != -k ] || exec "$python" -m pytest tests "${quick[@]}" "$@"
 

@@ -7,9 +7,9 @@ usage: bench.py OUT [--getopts FOLDER] [JOB..]      prints the tables of all or 
        bench.py --shell [PROGRAM]                   prints what calls of getopts_shell, getopt(1) and true cost
 
 It needs rt, cargo, a C compiler and valgrind; without a network, --getopts and the librust-* packages of
-tests/packages.txt. chart.py needs python3-matplotlib. The peers' programs are built in OUT, a folder outside the repository. FOLDER contains the Rust crate getopts; without
-it, cargo downloads the crate. OURS may name a getopts_bench that is already built; otherwise `rt run` proves and builds
-one.
+tests/packages.txt. The peers' programs are built in OUT, a folder outside the repository. FOLDER contains the Rust crate
+getopts; without it, cargo downloads the crate. OURS may name a getopts_bench that is already built; otherwise `rt run`
+proves and builds one.
 
 WHAT is `instructions`, `peak` (the most bytes allocated at once) or `microseconds` (of processor time, the least of ten
 runs). The program's last argument is the number of iterations. One iteration costs the difference between B and A
@@ -20,6 +20,7 @@ of the Rust crate depends.
 """
 
 import concurrent.futures
+import functools
 import os
 import platform
 import random
@@ -28,7 +29,7 @@ import resource
 import shutil
 import subprocess
 import sys
-import time
+import timeit
 from pathlib import Path
 
 HERE = Path(__file__).resolve().parent
@@ -62,22 +63,23 @@ def job_of(name):
 #
 # - `typical`: `FIRST_GROUPS` 32, `FIRST_TEXT` 15, `FIRST_VALUES` 3.5; `SignatureRecord`, `Signatures`, `Kinds` and the
 #   texts that they store 7; `Signatures::push` and `Groups::push` 3.3; `MatchedGroups::occurrences_at`,
-#   `Matches::occurrences_at` and `Index::places` 2.4
-# - `small`: `FIRST_ROOM` (lines of any length count their dashed words) 2.6
+#   `Matches::occurrences_at` and `Index::indices` 2.4
+# - `typical`, in `proved-getopts`: `Entry::order`, `main_entries`, `sort` and `Entry::name_order` (`inline(never)`) 6
 # - `usage`: `ROW_ROOM` 40
-# - `asked-front`: `key_of` 6; `search` and `search_long` 9.6
-# - `none`: `accepted_line` and `read_line` 6.5; `check_counts` 1.5
-# - `long`: `push_value`, `LineOccurrences::at` and `LineOccurrences::push` 9.5; `Occurrences::into_iter` and
-#   `OccurrencesIter::next` 5
-# - `equal`: `Occurrences::get` and `Occurrences::at` 80; `Occurrences::same` 20; `same_at` (`inline(never)`) 15;
+# - `asked-front`: `key_of` 6; `search` 9.6
+# - `none`, in `proved-getopts`: `parse_words`, `read_matches`, `read_rest` and `read_line` 8; `check_counts` 1.5
+# - `long`: `Scanner::shape` 6; `push_text`, `push_value`, `value_from`, `LineOccurrences::at` and
+#   `LineOccurrences::push` 9.5; `Occurrences::into_iter` and `OccurrencesIter::next` 5
+# - `equal`: `Occurrences::get` and `Occurrences::at` 80; `Occurrences::same` 20;
 #   `MatchedGroups::same` (`inline(never)`) 14
 # - `files`, in `proved-getopts`: `push_copy` 3
+# - `long`, in `proved-getopts`: `Table::resolve` 2.3
 # - 480 words, half of them options, in C: `Scanner::read_long` and `Scanner::cluster` 6, because two loops call them
 JOBS = {name: job_of(name) for name in """small read-small canonical-small copied-small os-small typical read-typical
     copied-typical long read-long canonical-long copied-long os-long many read-many canonical-many copied-many many11 front
-    read-front asked-front none rustc sub60 files equal usage defined-4000""".split()}
+    read-front asked-front none rustc sub60 files equal usage defined-4000 order-small order-typical order-long""".split()}
 GROWING = {line: on(line) for line in WORDS | OPTIONS}
-OF_C = {name: JOBS[name] for name in ("small", "read-small", "typical", "long", "none")}
+OF_C = {name: JOBS[name] for name in "small read-small typical long none order-small order-typical order-long".split()}
 # Jobs that keep their matches.
 HELD = {f"held-{line}": ("held", line, few, more) for line, few, more in
         [("small", 10, 110), ("long", 10, 110), ("described", 10, 110), ("cluster", 1, 2), ("values", 1, 2)]}
@@ -140,7 +142,8 @@ def described():
 # In Rust, libraries get the words as from `args_os().skip(1)`, and free them or move them into their results; copying
 # them before the first iteration isn't counted. In Rattle and C, libraries borrow them. In Rattle and with
 # proved-getopts, programs borrow values (`opt_place` and `occurrences_at`; `occurrences`), except in the jobs `copied-`.
-# The program for lexopt stores what it reads in a struct. pico-args searches the words for each option, and again for
+# The program for lexopt stores what it reads in a struct, except in the jobs `order-`, which take options and free words
+# in command-line order. pico-args searches the words for each option, and again for
 # each repetition. In C, the programs for getopt_long and argp add up the results but don't store them; `getopts_new` is
 # counted.
 # Generated lines: their options and their words.
@@ -182,16 +185,11 @@ def lexopt_line(line):
     return text + "    }\n"
 
 
-def lexopt_lines():
-    """The lines of the jobs that read everything, for the peer lexopt."""
-    lines = dict.fromkeys(line for work, line, *_ in (JOBS | GROWING).values()
-                          if work == "whole" and ("lexopt", line) not in SKIPPED)
-    return f"lines! {{\n{''.join(lexopt_line(line) for line in lines)}}}\n"
-
-
-def stop(why):
-    print(f"bench.py: {why}", file=sys.stderr)
-    sys.exit(2)
+def lexopt_lines(work, head):
+    """The lines of the jobs that do this work, for the peer lexopt."""
+    lines = dict.fromkeys(line for of_job, line, *_ in (JOBS | GROWING).values()
+                          if of_job == work and ("lexopt", line) not in SKIPPED)
+    return f"lines! {{{head}\n{''.join(lexopt_line(line) for line in lines)}}}\n"
 
 
 def counted(what, words, env=None, cwd=None):
@@ -228,12 +226,13 @@ def sum_of(words, cwd):
 def built(out, getopts):
     """The programs by their columns, each as the start of its command line."""
     for tool in ("cargo", "cc", "valgrind", os.environ.get("OURS", "rt")):
-        shutil.which(tool) or stop(f"{tool} not found")
+        shutil.which(tool) or sys.exit(f"bench.py: {tool} not found")
     build = HERE.parent / "tests/differential/build.sh"
     drop_in = HERE.parent / "bindings/rust/getopts"
     for name, crate, flags in ("peers", getopts, ""), ("over_ours", drop_in, " --features over_ours"):
         (out / name / "src").mkdir(parents=True, exist_ok=True)
-        (out / name / "src/lines.rs").write_text(lexopt_lines(), encoding="utf-8")
+        lines = lexopt_lines("whole", "") + lexopt_lines("order", " in order")
+        (out / name / "src/lines.rs").write_text(lines, encoding="utf-8")
         subprocess.run(["bash", build, HERE / "peers", out / name, *([crate] if crate else [])], check=True,
                        env={**os.environ, "CARGO_FLAGS": os.environ.get("CARGO_FLAGS", "") + flags})
     if "OURS" not in os.environ:
@@ -315,39 +314,29 @@ def shell_calls(program=BINARY):
     return {"getopts_shell": [program, "backup", table, *words], "getopt": [*getopt, *words], "true": [shutil.which("true")]}
 
 
-def shell(program=BINARY):
-    """The instructions of whole runs of these programs, in a fixed environment."""
-    return {name: counted("instructions", words, SHELL_ENV) for name, words in shell_calls(program).items()}
-
-
 def milliseconds(words):
     """The least time in which a program started and ended."""
-    times = []
-    for _ in range(100):
-        start = time.perf_counter()
-        subprocess.run(words, env=SHELL_ENV, stdout=subprocess.DEVNULL, check=True)
-        times.append(1000 * (time.perf_counter() - start))
-    return min(times)
+    call = functools.partial(subprocess.run, words, env=SHELL_ENV, stdout=subprocess.DEVNULL, check=True)
+    return 1000 * min(timeit.repeat(call, number=1, repeat=100))
 
 
 def main(words):
-    if words[:1] == ["--count"]:
-        print(of_an_iteration(words[1], int(words[2]), int(words[3]), words[4:]))
-    elif words[:1] == ["--rows"]:
-        print(rows(words[1]), end="")
-    elif words[:1] == ["--shell"]:
-        calls = shell_calls(*words[1:])
-        for name, count in shell(*words[1:]).items():
-            print(f"{name}: {count} instructions, {milliseconds(calls[name]):.1f} ms")
-    elif words and not words[0].startswith("-"):
-        if words[1:] == ["--getopts"]:
-            sys.exit("bench.py: --getopts needs a folder with the Rust crate getopts")
-        getopts = words[2] if words[1:2] == ["--getopts"] else None
-        tables(words[0], getopts, words[3 if getopts else 1:])
-    elif words[:1] in (["--help"], ["-h"]):
-        print(__doc__.strip())
-    else:
-        sys.exit(__doc__)
+    match words:
+        case ["--help" | "-h", *_]:
+            print(__doc__.strip())
+        case ["--count", what, few, more, *program]:
+            print(of_an_iteration(what, int(few), int(more), program))
+        case ["--rows", line]:
+            print(rows(line), end="")
+        case ["--shell", *program]:
+            for name, call in shell_calls(*program).items():
+                print(f"{name}: {counted('instructions', call, SHELL_ENV)} instructions, {milliseconds(call):.1f} ms")
+        case [out, "--getopts", crate, *jobs]:
+            tables(out, crate, jobs)
+        case [out, *jobs] if not any(word.startswith("-") for word in words):
+            tables(out, None, jobs)
+        case _:
+            sys.exit(__doc__)
 
 
 if __name__ == "__main__":

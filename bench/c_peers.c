@@ -1,11 +1,12 @@
-/* Runs two jobs of getopts_bench in C, with bindings/c and two parsers of glibc, and prints the same checksums.
+/* Runs three jobs of getopts_bench in C, with bindings/c and two parsers of glibc, and prints the same checksums.
  *
- * usage: c_peers PEER whole|read ROWS TIMES
+ * usage: c_peers PEER whole|order|read ROWS TIMES
  *
  * PEER is `getopts`, `getopt_long` or `argp`. Tables and words are prepared before the first iteration. With
  * bindings/c, an iteration creates the options (`read`: all share those created before), parses the words, and takes
- * each count and value. The other two have no options to create. They return one option after the other, and an
- * iteration takes each value as it comes; they reorder the words, so each iteration gets a copy of the pointers. */
+ * each count and value or, for `order`, each option and free word in order. The other two have no options to create.
+ * They return one option after the other, and an iteration takes each value as it comes; except for `order`, they
+ * reorder the words, so each iteration gets a copy of the pointers. */
 #define _GNU_SOURCE
 #include <argp.h>
 #include <getopt.h>
@@ -14,15 +15,16 @@
 #include <stdlib.h>
 #include <string.h>
 
-enum { MOST = 32, FIRST_KEY = 256 };
+enum { MOST = 32, FREE_KEY = 1, FIRST_KEY = 256 };
 
 static struct getopts_option table[MOST + 1];
 static struct option long_options[MOST + 1];
 static struct argp_option argp_options[MOST + 1];
-static char short_options[2 * MOST + 1];
+static char short_options[2 * MOST + 2] = "-"; /* with the dash, getopt_long returns free words in order */
 static char **words, **moved;
 static int options, count;
 static struct getopts *shared; /* the options of all iterations, if they share them */
+static bool in_order;
 
 /* Adds an option to each table. */
 static void declare(int takes, const char *short_name, const char *long_name) {
@@ -80,14 +82,26 @@ static size_t getopts_iteration(void) {
     return sum;
 }
 
+static size_t order_iteration(void) {
+    struct getopts *given = getopts_new(table, GETOPTS_KEEP_ORDER);
+    if (getopts_read(given, count - 1, words + 1) != GETOPTS_OK)
+        exit(2);
+    const char *value;
+    size_t sum = 0;
+    for (int row, nth = 0; (row = getopts_nth(given, nth, &value)) >= 0; nth++)
+        sum += (row != GETOPTS_FREE_WORD) + length(value);
+    getopts_delete(given);
+    return sum;
+}
+
 static size_t getopt_long_iteration(void) {
     size_t sum = 0;
     memcpy(moved, words, (count + 1) * sizeof *words);
     optind = 0;
-    for (int key; (key = getopt_long(count, moved, short_options, long_options, NULL)) != -1;) {
+    for (int key; (key = getopt_long(count, moved, short_options + !in_order, long_options, NULL)) != -1;) {
         if (key == '?')
             exit(2);
-        sum += 1 + length(optarg);
+        sum += (key != FREE_KEY) + length(optarg);
     }
     for (int at = optind; at < count; at++)
         sum += strlen(moved[at]);
@@ -105,18 +119,21 @@ static size_t argp_iteration(void) {
     static const struct argp argp = { argp_options, take, "FILE..", NULL, NULL, NULL, NULL };
     size_t sum = 0;
     memcpy(moved, words, (count + 1) * sizeof *words);
-    if (argp_parse(&argp, count, moved, 0, NULL, &sum) != 0)
+    if (argp_parse(&argp, count, moved, in_order ? ARGP_IN_ORDER : 0, NULL, &sum) != 0)
         exit(2);
     return sum;
 }
 
 int main(int argc, char **argv) {
     bool reads = argc == 5 && strcmp(argv[2], "read") == 0;
-    if (argc != 5 || (!reads && strcmp(argv[2], "whole") != 0) || !read_rows(argv[3]))
+    in_order = argc == 5 && strcmp(argv[2], "order") == 0;
+    if (argc != 5 || (!reads && !in_order && strcmp(argv[2], "whole") != 0) || !read_rows(argv[3]))
         return 2;
     shared = reads ? getopts_new(table, GETOPTS_ORDINARY) : NULL;
-    size_t (*iteration)(void) = strcmp(argv[1], "getopts") == 0 ? getopts_iteration : getopt_long_iteration;
+    size_t (*iteration)(void) = in_order ? order_iteration : getopts_iteration;
     size_t sum = 0;
+    if (strcmp(argv[1], "getopt_long") == 0)
+        iteration = getopt_long_iteration;
     if (strcmp(argv[1], "argp") == 0)
         iteration = argp_iteration;
     for (int times = atoi(argv[4]); times > 0; times--)

@@ -39,23 +39,21 @@ MARGIN = " " * 7
 def pytest_addoption(parser):
     parser.addoption("--quick", action="store_true", help="fewer random cases, no other targets, no proofs")
     parser.addoption("--many", action="store_true", help="ten times as many random cases")
-    parser.addoption("--release", action="store_true", help="also try the mutants that rt ci leaves out, and all wrong rules")
+    parser.addoption("--release", action="store_true", help="also try the mutants that rt ci leaves out")
     parser.addoption("--fix", action="store_true", help="update figures, tables and contracts on the pages, and checksums of contracts")
     parser.addoption("--getopts", help="a folder with the Rust crate getopts 0.2.24")
 
 
-# Programs built by `rt ci`, and other fixtures that need the toolchain.
+# Fixtures for programs built by `rt ci`.
 PROGRAMS = {"show", "shell", "vectors", "bench", "built"}
-BY_RT = PROGRAMS | {"failing_malloc", "preload"}
 
 
 def pytest_collection_modifyitems(config, items):
     """Marks tests by the programs that they use, and deselects those that this run leaves out."""
     for item in items:
-        names, built = set(item.fixturenames), item.get_closest_marker("built") is not None
-        marks = {"built": built or PROGRAMS & names, "rt": built or BY_RT & names}
-        for mark in (mark for mark, has in marks.items() if has):
-            item.add_marker(mark)
+        if item.get_closest_marker("built") or PROGRAMS & set(item.fixturenames):
+            item.add_marker("built")
+            item.add_marker("rt")
         # These wait for proofs, until `rt ci` ends.
         if "CI_LOG" in os.environ and item.get_closest_marker("built"):
             item.add_marker(pytest.mark.timeout(24 * 3600))
@@ -153,9 +151,9 @@ def script(path, text):
 
 
 def wait_for(crate):
-    """If test.sh is running `rt ci`, waits until this crate is proved."""
+    """If test.sh is running `rt ci`, waits until this crate is proved, or kept since an earlier run proved it."""
     log = Path(os.environ.get("CI_LOG", "/nowhere"))
-    while log.exists() and not re.search(rf"^rt: {crate} proved$", log.read_text(errors="replace"), re.M):
+    while log.exists() and not re.search(rf"^rt: {crate} (proved$|is kept:)", log.read_text(errors="replace"), re.M):
         if Path(f"{log}.ended").exists():
             pytest.fail(f"{crate} wasn't proved")
         time.sleep(1)
@@ -242,10 +240,9 @@ def copy_tree(to):
 
 
 def preload_library(source, room):
-    """A library for LD_PRELOAD, built by the toolchain's compiler and linker."""
-    tools, flags = kit() / "toolchain/bin", "-O2 -Wall -Wextra -Werror -ffreestanding -nostdinc -fPIC -c".split()
-    run(tools / "clang", *flags, source, "-o", room / "it.o")
-    run(tools / "ld.lld", "-shared", "-o", room / "it.so", room / "it.o")
+    """A library for LD_PRELOAD."""
+    need_compiler("cc")
+    run("cc", *"-O2 -Wall -Wextra -Werror -shared -fPIC".split(), source, "-o", room / "it.so")
     return room / "it.so"
 
 
@@ -255,32 +252,32 @@ def failing_malloc(tmp_path_factory):
     return preload_library(ROOT / "tests/memory/failing_malloc.c", tmp_path_factory.mktemp("malloc"))
 
 
-def fail_each_allocation(preload, words, failure=(b"", 3), like=None, marks=False):
+def fail_each_allocation(preload, words, failure=(b"", 3), errors=b"", marks=False):
     """Makes each allocation fail in turn, once alone and once with all later ones, and returns how many failed. A run
-    with a failure has to have the output and status `failure`. A run without one has to end like the command `like` or,
-    without `like`, like the first run. With marks, only allocations between the program's marks are counted."""
+    with a failure has to have the output and status `failure`, and to report `errors`. A run without one, or which only
+    keeps a block that it would have made smaller, has to end like the first run. With marks, only allocations between
+    the program's marks are counted."""
     def outcome(at, on):
-        env = {**os.environ, "FAIL_AT": str(at), "FAIL_ON": str(on), "FAIL_MARKS": str(int(marks))}
-        env.update({"LD_PRELOAD": str(preload)} if preload else {})
+        settings = {"LD_PRELOAD": preload, "FAIL_AT": at, "FAIL_ON": on, "FAIL_MARKS": int(marks)}
+        env = {**os.environ, **{name: str(value) for name, value in settings.items()}}
         done = subprocess.run([str(word) for word in words], capture_output=True, env=env)
         # A program killed by a signal doesn't report its failures.
-        said = re.search(rb"^failed (\d+) marks (\d+)\n\Z", done.stderr, re.M)
-        return (done.stdout, done.returncode), *((int(said[1]), int(said[2])) if said else (1, None))
+        said = re.search(rb"^failed (\d+) kept (\d+) marks (\d+)\n\Z", done.stderr, re.M)
+        ended = (done.stdout, done.returncode, done.stderr[:said.start()] if said else done.stderr)
+        return ended, *(map(int, said.groups()) if said else (1, 0, None))
 
-    ever, _, marked = outcome(0, 0)
+    ever, _, _, marked = outcome(0, 0)
     assert (marked > 0) == marks and marked % 2 == 0
-    if like:
-        done = subprocess.run([str(word) for word in like], stdout=subprocess.PIPE, stderr=subprocess.DEVNULL)
-        assert ever == (done.stdout, done.returncode)
     count = 0
     for on in (0, 1):
         for at in range(1, 10_001):
-            ended, failed, met = outcome(at, on)
+            ended, failed, kept, met = outcome(at, on)
             assert met == marked or (met is None and ended[1] < 0), f"allocation {at}: {met} of {marked} marks: {ended}"
-            if failed == 0:
+            if failed == kept:
                 assert ended == ever
+            if failed == 0:
                 break
-            assert ended == failure, f"allocation {at}, with all later ones: {on}"
+            assert failed == kept or ended == (*failure, errors), f"allocation {at}, with all later ones: {on}"
             count += 1
         else:
             pytest.fail("more than 10,000 allocations")

@@ -2,22 +2,18 @@
 # Runs a command in a clone of the current commit, on a bare Debian 12 with only Python, git and Rattle's toolchain, as on
 # a new user's machine: this shows what a page or a script forgets to install. It needs root, debootstrap and rt. Packages
 # come from the mirror of this machine's apt, or else from deb.debian.org.
-# usage: tests/fresh.sh [--with PACKAGE,..] [COMMAND]
-#   tests/fresh.sh                                   README's first command, then 'bash test.sh --quick'
-#   tests/fresh.sh --with gcc,libc6-dev,cargo,python3-pytest,python3-pytest-xdist,python3-pytest-timeout \
-#       'bash test.sh --quick --no-install'          the tests with cargo, but without a registry
+# usage: tests/fresh.sh [COMMAND]     by default, README's first command, then 'bash test.sh --quick'
 #
-# The bare system is kept in tests/out, as a file for each list of packages.
+# The bare system is kept in tests/out/fresh.tar.
 set -euo pipefail
+unset CDPATH
 case ${1:-} in --help | -h) sed -n '2,/^[^#]/s/^# \{0,1\}//p' "$0"; exit ;; esac
-with=''
-[ "${1:-}" != --with ] || { with=,$2; shift 2; }
 cd "$(dirname "$0")/.."
 stop() { echo "tests/fresh.sh: $1" >&2; exit 2; }
 [ "$(id -u)" = 0 ] || stop "needs root, for chroot"
 command -v debootstrap >/dev/null || stop "debootstrap not found: apt-get install debootstrap"
 command -v rt >/dev/null || stop "rt not found: put the toolchain's bin folder on the path"
-kit=$(dirname "$(rt doc)") base=tests/out/fresh$with.tar root=$(mktemp -d)
+kit=$(dirname "$(rt doc)") base=tests/out/fresh.tar root=$(mktemp -d)
 trap 'rm -rf "$root"' EXIT
 command=${1:-$(sed -n '/^ *(cd .*rt try/{s/^ *//p;q;}' README.md) && bash test.sh --quick}
 if [ ! -f "$base" ]; then
@@ -27,7 +23,7 @@ if [ ! -f "$base" ]; then
         sed -nE 's,^(URIs:|deb( \[[^]]*\])?) *(http[^ ]*).*,\3,p') || :
     mirror=$(grep -m1 '/debian/*$' <<<"$urls" || echo http://deb.debian.org/debian)
     security=$(grep -m1 'debian-security/*$' <<<"$urls" || echo http://deb.debian.org/debian-security)
-    debootstrap --variant=minbase --include="python3,ca-certificates,git$with" bookworm "$root" "$mirror" >"$base.log" 2>&1 ||
+    debootstrap --variant=minbase --include=python3,ca-certificates,git bookworm "$root" "$mirror" >"$base.log" 2>&1 ||
         stop "debootstrap failed: see $base.log"
     printf 'deb %s main\n' "$mirror bookworm" "$mirror bookworm-updates" "$security bookworm-security" \
         >"$root/etc/apt/sources.list"

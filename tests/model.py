@@ -216,22 +216,24 @@ def optional(value):
 
 
 class Session:
-    """The state of a case: its options, and the result of its last words."""
+    """The state of a case: its options, the result of its last words, and what was kept of both."""
 
-    def __init__(self):
-        self.options, self.read = Options(), None
+    def __init__(self, kept=None):
+        self.options, self.read, self.kept = Options(), None, kept
 
     def answer(self, word, fields):
         """The answer to a row, as lines. A line is None if the rules don't determine it."""
         if word in ("case", "anew"):
-            self.__init__()
+            self.__init__(self.kept if word == "anew" else None)
             return [line("case", *fields)] if word == "case" else []
-        if word in ("words", "parse_words", "parse_filtered", "ignoring_counts"):
+        if word in ("keep", "same"):
+            return self.compared(word, *fields)
+        if word in ("words", "parse_words", "parse_promised", "ignoring_counts"):
             self.read = self.options.parse(fields, word != "ignoring_counts")
             return [self.result("accepted", self.read)]
         if word in ("parse_request", "parse_unless"):
             return [self.unless(word, fields)]
-        if word in ("canonical", "canonical_words", "canonical_filtered"):
+        if word in ("canonical", "canonical_words", "canonical_promised"):
             return [self.canonical(word, fields)]
         if word == "error" and not fields:
             rejected = self.read is not None and len(self.read) == 2
@@ -239,8 +241,8 @@ class Session:
         if word == "parse_in_order":
             read = self.options.parse(fields)
             return [line(word) + b"\t" + (self.result("", read) if len(read) == 2 else
-                                          line("order", *(b"=" + text if place is None else place
-                                                          for place, text in read[3])))]
+                                          line("order", *(field for place, text in read[3] for field in (
+                                              [b"=" + text] if place is None else [place, optional(text)]))))]
         if word == "lawful":
             short, long = fields
             return [line("lawful", "true" if len(short) < 2 and len(long) != 1 and short + long else "false")]
@@ -266,9 +268,24 @@ class Session:
             return [line("short", self.options.short_usage(*fields))]
         elif word in ("usage", "usage_in", "usage_rows", "rows", "wrap"):
             return [self.help(word, *fields)]
-        elif word != "keep":
+        else:
             return [None]
         return []
+
+    def compared(self, word, what=None):
+        """Keeps what makes options and results equal, or compares one of the two with what was kept."""
+        declared = [(group.short, group.long, group.kind, group.occur) for group in self.options.groups]
+        texts = [(group.desc, group.hint) for group in self.options.groups]
+        result = self.read
+        if result is not None and len(result) > 2:
+            occurrences, free, start, _ = self.read
+            own = [[(at, value) for place, at, value in occurrences if place == mine] for mine in range(len(declared))]
+            result = declared, own, free, start
+        now = {b"options": (declared, texts, self.options.stops, self.options.long_only), b"answers": result}
+        if word == "keep":
+            self.kept = now
+            return []
+        return [line(word, what, "true" if self.kept[what] == now[what] else "false")]
 
     def help(self, word, *fields):
         """Help texts, if all texts are ASCII. Descriptions may also contain the white space that Python removes."""
@@ -295,6 +312,8 @@ class Session:
 
     def taken_off(self, word):
         """Takes all words off the free ones or, for `take_trailing`, those from the trailing start on."""
+        if len(self.read) == 2:
+            return [self.result("accepted", self.read)]
         occurrences, free, start, order = self.read
         left = [] if word == "clear" else free[:start]
         self.read = occurrences, left, start, order
@@ -358,21 +377,23 @@ def rows_of(text):
     return rows
 
 
-def answer_rows(rows):
-    """Answers rows. Returns three things: the rows, with more rows added (for all words, whether they give a flag, their
-    canonical line and their order; for all names, their positions); the number of stored answers that were checked; and
-    the rows whose stored answers are wrong."""
+def answer_rows(rows, stored=True):
+    """Answers rows. Returns three things: the rows, with more rows added (for all words, whether they give a flag or request
+    help, their canonical line and their order; for all names, their positions); the number of stored answers that were
+    checked; and the rows whose stored answers are wrong. If none are stored, the rows have the answers that the rules
+    determine, and rows without one are left out."""
     session, beyond, given, differ, case = Session(), [], 0, [], b""
     for one, answers in rows:
         word, fields = parts(one)
         case = one if word == "case" else case
         names = list({name: 0 for group in session.options.groups for name in (group.short, group.long) if name})
         if word == "words" and names:  # The words themselves follow, and have the last result.
-            asked = line("parse_unless", names[len(beyond) % len(names)], *fields)
-            beyond.append((asked, session.answer(*parts(asked))))
+            for asked in line("parse_unless", names[len(beyond) % len(names)], *fields), line("parse_request", *fields):
+                beyond.append((asked, session.answer(*parts(asked))))
         expected = session.answer(word, fields)
-        beyond.append((one, answers))
-        if word != "case" and expected != [None]:
+        if stored or expected != [None]:
+            beyond.append((one, answers if stored or word == "case" else expected))
+        if stored and word != "case" and expected != [None]:
             given += len(answers)
             if expected != answers:
                 differ.append((case, one, b"model: " + b" / ".join(expected), b"stored: " + b" / ".join(answers)))

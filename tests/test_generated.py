@@ -6,18 +6,32 @@ import importlib.util
 from pathlib import Path
 
 import pytest
-from conftest import ROOT, answer, copy_tree, kit, need_rustfmt, other_version, run
+from conftest import MACHINE, ROOT, answer, copy_tree, kit, need_compiler, need_rustfmt, other_version, run
 
 BUILD = "bindings/build.py"
 UP_TO_DATE = "bindings/shell is up to date\n", ""
 
 
-@pytest.mark.parametrize("processor", ["x86_64", "aarch64"])
-def test_binaries_match_checksums(processor):
-    folder = ROOT / "bindings/shell"
-    of_it = hashlib.sha256((folder / processor / "getopts_shell").read_bytes()).hexdigest()
-    assert (folder / processor / "getopts_shell.sha256").read_text() == f"{of_it}  getopts_shell\n"
-    assert f"{of_it}  bindings/shell/{processor}/getopts_shell" in (folder / "proved.sha256").read_text().splitlines()
+@pytest.fixture
+def build(tmp_path):
+    """build.py of a copy of the repository, as a module."""
+    spec = importlib.util.spec_from_file_location("build", copy_tree(tmp_path / "copy") / BUILD)
+    build = importlib.util.module_from_spec(spec)
+    spec.loader.exec_module(build)
+    return build
+
+
+def check_sums(folder):
+    """Both binaries have their checksums, beside them and in proved.sha256."""
+    for processor in ("x86_64", "aarch64"):
+        checksum = hashlib.sha256((folder / processor / "getopts_shell").read_bytes()).hexdigest()
+        assert (folder / processor / "getopts_shell.sha256").read_text() == f"{checksum}  getopts_shell\n"
+        line = f"{checksum}  bindings/shell/{processor}/getopts_shell"
+        assert line in (folder / "proved.sha256").read_text().splitlines()
+
+
+def test_binaries_match_checksums():
+    check_sums(ROOT / "bindings/shell")
 
 
 @pytest.mark.rt
@@ -29,53 +43,48 @@ def test_binaries_match_source():
     assert run(ROOT / BUILD, "--check", "shell") == UP_TO_DATE
 
 
-def module_of(copy):
-    """build.py of a copy of the repository, as a module."""
-    spec = importlib.util.spec_from_file_location("build", copy / BUILD)
-    build = importlib.util.module_from_spec(spec)
-    spec.loader.exec_module(build)
-    return build
-
-
 @pytest.mark.rt
-def test_rebuilt_binaries(tmp_path, monkeypatch, capsys):
-    """After a change, both binaries are replaced by what was built and linked for their processors, with their checksums."""
-    copy = copy_tree(tmp_path / "copy")
-    build, folder = module_of(copy), copy / "bindings/shell"
-    with open(folder / "start.c", "a") as changed:
+def test_rebuilt_binaries(build, monkeypatch, capsys):
+    """After a change, both binaries are replaced by what was built and linked for their processors."""
+    with open(build.FOLDER / "start.c", "a") as changed:
         changed.write("int more;\n")
     monkeypatch.setattr(build, "build", lambda processor, to: Path(to).write_text(f"object for {processor}\n"))
     monkeypatch.setattr(build, "link", lambda processor, to, of: Path(to).write_text(Path(of).read_text() + processor))
     build.shell(False)
     for processor in ("x86_64", "aarch64"):
-        binary = folder / processor / "getopts_shell"
+        binary = build.FOLDER / processor / "getopts_shell"
         assert binary.read_text() == f"object for {processor}\n{processor}" and binary.stat().st_mode & 0o777 == 0o755
-        of_it = hashlib.sha256(binary.read_bytes()).hexdigest()
-        assert (folder / processor / "getopts_shell.sha256").read_text() == f"{of_it}  getopts_shell\n"
-    assert run(copy / BUILD, "--check", "shell") == UP_TO_DATE
+    check_sums(build.FOLDER)
     capsys.readouterr()
     build.shell(False)
-    assert capsys.readouterr().out == UP_TO_DATE[0]
+    assert (capsys.readouterr().out, "") == run(build.__file__, "--check", "shell") == UP_TO_DATE
 
 
 @pytest.mark.rt
-def test_changed_binary_is_found(tmp_path, monkeypatch, capsys):
+@pytest.mark.skipif(MACHINE != "x86_64", reason="needs x86-64")
+def test_linked_program(build, tmp_path):
+    """build.py links programs with start.c and musl."""
+    need_compiler("musl-gcc")
+    run("musl-gcc", "-c", ROOT / "tests/system/start.c", "-o", tmp_path / "start.o")
+    build.link("x86_64", tmp_path / "program", tmp_path / "start.o")
+    assert run(tmp_path / "program", "", "three")[0] == "as declared\n"
+
+
+@pytest.mark.rt
+def test_changed_binary_is_found(build, monkeypatch, capsys):
     """`--rebuild` compares the binaries with what their source gives, so a changed checksum doesn't hide a change."""
-    copy = copy_tree(tmp_path / "copy")
-    build, folder = module_of(copy), copy / "bindings/shell"
+    binaries = {it: (build.FOLDER / it / "getopts_shell").read_bytes() for it in ("x86_64", "aarch64")}
     monkeypatch.setattr(build, "build", lambda processor, to: Path(to).write_text("object"))
-    binaries = {it: (folder / it / "getopts_shell").read_bytes() for it in ("x86_64", "aarch64")}
     monkeypatch.setattr(build, "link", lambda processor, to, of: Path(to).write_bytes(binaries[processor]))
     build.main(["--rebuild"])
     same = "bindings/shell/{}/getopts_shell is what its source gives, byte for byte\n"
     assert capsys.readouterr().out == same.format("x86_64") + same.format("aarch64")
-    with open(folder / "aarch64/getopts_shell", "ab") as changed:
+    with open(build.FOLDER / "aarch64/getopts_shell", "ab") as changed:
         changed.write(b"\n")
-    (folder / "proved.sha256").write_text("\n".join(build.sums()) + "\n")
-    assert run(copy / BUILD, "--check", "shell") == UP_TO_DATE
-    with pytest.raises(SystemExit) as error:
+    (build.FOLDER / "proved.sha256").write_text("\n".join(build.sums()) + "\n")
+    assert run(build.__file__, "--check", "shell") == UP_TO_DATE
+    with pytest.raises(SystemExit, match="^build.py: bindings/shell/aarch64/getopts_shell isn't what its source gives$"):
         build.main(["--rebuild"])
-    assert str(error.value) == "build.py: bindings/shell/aarch64/getopts_shell isn't what its source gives"
     assert capsys.readouterr().out == same.format("x86_64")
 
 
@@ -84,16 +93,14 @@ def test_changed_binary_is_found(tmp_path, monkeypatch, capsys):
     ("crates/getopts/src/scan.rt", "\n", True), ("crates/getopts/src/scan.rt", "    // A comment.\n", False),
     ("bindings/shell/start.c", ";", True), ("bindings/shell/start.h", ";", True), ("bindings/shell/start.c", "/* A */", False),
     ("bindings/shell/x86_64/getopts_shell", "\n", True), ("bindings/shell/Cargo.toml", 'version = "9"\n', True)])
-def test_change_is_found(file, text, found, tmp_path):
+def test_change_is_found(build, file, text, found):
     """A change of anything but comments requires a new build. Changes of other files make no difference here."""
-    copy = copy_tree(tmp_path / "copy")
-    build = module_of(copy)
     version, *others = build.sums()
-    (copy / "bindings/shell/proved.sha256").write_text("\n".join([version, *others]) + "\n")
-    (copy / file).write_bytes(text.encode() + (copy / file).read_bytes())
+    (build.FOLDER / "proved.sha256").write_text("\n".join([version, *others]) + "\n")
+    (build.ROOT / file).write_bytes(text.encode() + (build.ROOT / file).read_bytes())
     changed = f"{version[2:]}, getopts_shell 9" if file.endswith("Cargo.toml") else file
     out_of_date = f"build.py: bindings/shell is out of date: run bindings/build.py (changed: {changed})\n"
-    assert run(copy / BUILD, "--check", "shell", status=int(found)) == (("", out_of_date) if found else UP_TO_DATE)
+    assert run(build.__file__, "--check", "shell", status=int(found)) == (("", out_of_date) if found else UP_TO_DATE)
 
 
 def test_erased_rust_matches_source():
@@ -120,7 +127,7 @@ def test_stale_rust_is_found(tmp_path):
 
 @pytest.mark.parametrize("file", ["LICENSE-MIT", "LICENSE-APACHE", "NOTICE"])
 def test_licences(file):
-    for folder in ("crates/getopts", "bindings/rust"):
+    for folder in ("crates/getopts", "bindings/rust", "bindings/rust/getopts"):
         assert (ROOT / folder / file).read_bytes() == (ROOT / file).read_bytes()
 
 

@@ -47,13 +47,11 @@ def body_of(function):
     return (re.search(rf"^{function[1]}\{{", function[0], re.M) or re.search(r" \{$", function[0], re.M)).start()
 
 
-def public_functions(text, types):
-    """The names of public functions that return something, with the starts of each and of its body, and the end."""
+def functions_in(text):
+    """The functions of a source, each with the first line of its `impl`, and its name behind that of its type."""
     for it in FUNCTION.finditer(text):
         impl = re.findall(r"^impl.*", text[: it.start()], re.M)[-1] if it[1] else ""
-        of = re.search(r"^impl(?:<.*?>)? (?:.* for )?(\w+)", impl)
-        if (it[2] or " for " in impl and of[1] in types) and "->" in re.split(r"\n *(?:ensures|requires|\{)", it[4])[0]:
-            yield f"{of[1]}::{it[3]}" if of else it[3], it.start(), it.start() + body_of(it), it.end()
+        yield it, impl, re.sub(r"^impl(?:<.*?>)? (?:.* for )?(\w+).*", r"\1::", impl) + it[3]
 
 
 def test_public_functions_have_mutants():
@@ -66,9 +64,13 @@ def test_public_functions_have_mutants():
         text = path.read_text(encoding="utf-8")
         # What is only added after a clause is another body. A mutant that changes a clause says nothing about the body.
         places = [(text.find(old), new.startswith(old)) for of, old, new in edits if of == path]
-        for name, start, body, end in public_functions(text, types):
+        for it, impl, name in functions_in(text):
+            is_public = it[2] or " for " in impl and name.split("::")[0] in types
+            if not is_public or "->" not in re.split(r"\n *(?:ensures|requires|\{)", it[4])[0]:
+                continue
             names.append(name)
-            mutated = any((start if adds else body) <= place < end for place, adds in places)
+            start, body = it.start(), it.start() + body_of(it)
+            mutated = any((start if adds else body) <= place < it.end() for place, adds in places)
             if not mutated and name not in ONLY_RESULT:
                 without.append(name)
     assert len(names) > 50 and not without, f"no mutant of their own: {without}"
@@ -127,10 +129,9 @@ def contracts(mutant):
     depends = {mutant: [mutant.read_text(encoding="utf-8")]}
     for path, old, _ in changes(mutant):
         text = path.read_text(encoding="utf-8")
-        functions = list(FUNCTION.finditer(text))
-        changed = [it for it in functions if it.start() <= text.find(old) < it.end()]
-        for it in changed or functions:
-            impl = re.findall(r"^impl.*", text[: it.start()], re.M)[-1] if it[1] else ""
+        functions = list(functions_in(text))
+        changed = [one for one in functions if one[0].start() <= text.find(old) < one[0].end()]
+        for it, impl, _ in changed or functions:
             head = impl + it[0][: body_of(it)]
             depends[path, head] = tokens(head)
             reached(head, path, depends)

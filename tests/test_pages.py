@@ -16,6 +16,7 @@ import reading
 from conftest import ROOT, answer, kit, need, need_rustfmt, run
 from conftest import tracked as all_tracked
 from model import TEXTS, Group, Options
+from test_mutants import MUTANTS, body_of, functions_in
 from test_readings import conditions
 
 
@@ -30,7 +31,6 @@ pages = {name: read(name) for name in tracked if name.endswith(".md") and name !
 sources = {name: read(name) for name in tracked if re.match(r"crates/\w*/src/.*\.rt$", name)}
 modules = sources | {name: read(name) for name in tracked if re.match(r"bindings/.*\.rs$", name)}
 CALLING = "crates/getopts/CALLING.md"
-mutants = [name for name in tracked if re.match(r"crates/\w*/(must-fail|mutants)/.*\.edit$", name)]
 
 
 def assert_none(failures):
@@ -57,17 +57,24 @@ def described(job):
     return f"`{job}`: {options:,} options, {words:,} words"
 
 
-def shown(groups, brief, **settings):
-    """A help text, as the second implementation of the rules prints it."""
-    return f"```text\n{Options(groups, **settings).usage(brief).decode()}```"
+def instructions(heads, title, jobs, *columns):
+    return table(heads, *([described(job), *measured(title, job, *columns)] for job in jobs))
+
+
+def listing(texts):
+    """A block with these texts, each in lines of at most 120 columns."""
+    wrap = textwrap.TextWrapper(120, subsequent_indent="    ", break_long_words=False).wrap
+    return "\n".join(["```text", *(line for text in texts for line in wrap(text)), "```"])
 
 
 def usage_example():
-    """GRAMMAR: a usage text with each kind of row."""
-    return shown([Group(b"i", b"input", "yes", "required", b"read this file", b"FILE"),
-                  Group(b"", b"color", "maybe", "optional", b"colour the output: always, never or, which is usual, only on a terminal", b"WHEN"),
-                  Group(b"v", b"", "no", "multi", b"say more"),
-                  Group(b"", b"stay-in-the-first-folder", "no", "optional", b"ignore the others")], b"Usage: x FILE..")
+    """GRAMMAR: a usage text with each kind of row, as the second implementation of the rules prints it."""
+    when = b"colour the output: always, never or, which is usual, only on a terminal"
+    options = Options([Group(b"i", b"input", "yes", "required", b"read this file", b"FILE"),
+                       Group(b"", b"color", "maybe", "optional", when, b"WHEN"),
+                       Group(b"v", b"", "no", "multi", b"say more"),
+                       Group(b"", b"stay-in-the-first-folder", "no", "optional", b"ignore the others")])
+    return f"```text\n{options.usage(b'Usage: x FILE..').decode()}```"
 
 
 def speed():
@@ -87,19 +94,18 @@ def speed():
 
 def speed_in_c():
     columns = "bindings/c", "getopt_long", "argp"
-    return table(["job", *columns], *([described(job), *measured("Instructions per iteration in C", job, *columns)]
-                                      for job in ("small", "typical", "long")))
+    return instructions(["job", *columns], "Instructions per iteration in C", ["small", "typical", "long"], *columns)
 
 
 def behind():
     """The jobs on which a library that declares options takes fewer instructions than this one."""
-    rows = []
-    for title, ours, peer, jobs in [("Instructions per iteration", "bindings/rust", "Rust crate", bench_py.JOBS),
-                                    ("Instructions per iteration in C", "bindings/c", "argp", bench_py.OF_C)]:
-        for job in jobs:
-            mine, theirs = (bench_py.recorded()[title, job][column].rstrip("*") for column in (ours, peer))
-            if not job.startswith("read-") and "-" not in (mine, theirs) and int(theirs) < int(mine):
-                name = ours.replace("bindings/rust", "proved-getopts")
+    rows, compared = [], {"Instructions per iteration": ("bindings/rust", "proved-getopts", "Rust crate"),
+                          "Instructions per iteration in C": ("bindings/c", "bindings/c", "argp")}
+    for (title, job), cells in bench_py.recorded().items():
+        if title in compared and not job.startswith(("read-", "order-")):
+            column, name, peer = compared[title]
+            mine, theirs = (cells[it].rstrip("*") for it in (column, peer))
+            if "-" not in (mine, theirs) and int(theirs) < int(mine):
                 rows.append([f"`{job}`", f"`{name}`: {int(mine):,}", f"{peer}: {int(theirs):,}",
                              f"{int(mine) / int(theirs):.2f}"])
     return table(["job", "this library", "the other", "times as many"], *rows)
@@ -136,9 +142,8 @@ def first_output():
 
 def speed_here():
     """The library's page: some jobs' instructions, beside the Rust crate's."""
-    columns = "this library", "Rust crate"
-    return table(["instructions (valgrind)", "here", "Rust crate"], *(
-        [described(job), *measured("Instructions per iteration", job, *columns)] for job in ("small", "typical", "long", "files")))
+    heads, jobs = ["instructions (valgrind)", "here", "Rust crate"], ["small", "typical", "long", "files"]
+    return instructions(heads, "Instructions per iteration", jobs, "this library", "Rust crate")
 
 
 def compared():
@@ -162,36 +167,51 @@ def sizes():
     unproved = [lines_in("bindings/rust/erase.py"), lines_in("bindings/rust/src/", "proved", "bytes"), lines_in("bindings/c/src/"),
                 lines_in(("bindings/shell/start", "bindings/shell/src/host"))]
     return table(["definitions", "source", "proofs", "mutants", "unproved: `erase.py`", "for Rust", "for C", "for shell"],
-                 [*library, str(len(mutants)), *unproved])
+                 [*library, str(len(MUTANTS)), *unproved])
 
 
 def calls():
     """CALLING: the types of all calls. Those with equal types share a line."""
     lines = {}
     for name, text in contracts().items():
-        owner, _, call = name.rpartition("::")
+        owner, separator, call = name.rpartition("::")
         head = re.split(r"\n +(?=(?:requires|ensures)\b)", text)[0].removeprefix(f"fn {name}")
         types = re.sub(r"(?<=\() |,? (?=\))|\b(mut )?[a-z]\w*: ", "", " ".join(head.split()))
         if "->" in types:
-            lines.setdefault((owner, types), []).append(call)
-    rows = (textwrap.wrap(f"{f'{owner}::' * bool(owner)}{', '.join(names)}{types}", 120, subsequent_indent="    ", break_long_words=False)
-            for (owner, types), names in lines.items())
-    return "```text\n" + "\n".join(line for row in rows for line in row) + "\n```"
+            lines.setdefault((owner, separator, types), []).append(call)
+    return listing(f"{owner}{separator}{', '.join(names)}{types}" for (owner, separator, types), names in lines.items())
 
 
-def quoted_contracts():
-    """CALLING: the contracts that callers cite most, in few lines."""
-    names = "Options::parse_words", "Matches::opt_str"
-    parts = (re.split(r"\n +(?=(?:requires|ensures)\b)", contracts()[name]) for name in names)
-    joined = ([re.sub(r"(?<=\() |,? (?=\))", "", " ".join(part.split())) for part in of_it] for of_it in parts)
-    rows = (textwrap.wrap(part, 120, initial_indent=4 * " " * (at > 0), subsequent_indent=8 * " ")
-            for of_it in joined for at, part in enumerate(of_it))
-    return "```text\n" + "\n".join(line for of_it in rows for line in of_it) + "\n```"
+def variants():
+    """CALLING: the variants of enums, with what their comments say about contents. Those with equal contents share a line."""
+    lines, library = {}, "".join(text for name, text in sources.items() if name.startswith("crates/getopts/src/"))
+    for owner, body in re.findall(r"^pub enum (.*?) \{\n(.*?)^\}", library, re.M | re.S):
+        for docs, name, held in re.findall(r"^((?: {4}///.*\n)*) {4}(\w+)(.*?(?:\n {8}.*)*(?:\n {4}\})?),$", body, re.M):
+            comments = re.findall(r"\b(?:Contains|Its) .*?\.", " ".join(re.findall(r"/// (.*)", docs + held)))
+            held = re.sub(r",? +\}", " }", " ".join(re.sub(r"///.*", "", held).split()).replace("{", " {"))
+            lines.setdefault((owner, held + " // " * bool(comments) + " ".join(comments)), []).append(name)
+    return listing(f"{owner}::{', '.join(names)}{text}" for (owner, text), names in lines.items())
+
+
+# The calls that callers use most, each with the clauses that they cite.
+CITED = {"Options::parse_words": ["result", "declared"], "Options::parse_request": ["result"], "Options::parse_unless": ["result"],
+         "Matches::opt_present": ["present"], "Matches::opt_count": ["count"], "Matches::opt_str": ["value"],
+         "Matches::opt_strs": ["values"], "Matches::opt_get": ["parsed"], "Matches::opt_get_default": ["parsed"],
+         "Options::usage": ["result"]}
+
+
+def cited_clauses():
+    """CALLING: the clauses that callers cite most."""
+    rows = []
+    for call, clauses in CITED.items():
+        stated = dict(re.findall(r"\n +ensures (\w+) \{ (.*?) \}(?=\n|$)", contracts()[call], re.S))
+        rows += [f"{call} {clause}: {' '.join(stated[clause].split())}" for clause in clauses]
+    return listing(rows)
 
 
 # What --fix writes between `<!-- generated: NAME -->` and `<!-- end -->`.
 GENERATED = {make.__name__: make for make in (usage_example, speed, speed_here, speed_in_c, behind, memory, times,
-                                              first_output, compared, sizes, conditions, calls, quoted_contracts)}
+                                              first_output, compared, sizes, conditions, calls, variants, cited_clauses)}
 
 
 @pytest.mark.parametrize("page", pages)
@@ -248,7 +268,7 @@ def test_versions():
     assert found == VERSIONS
     header, (major, minor, patch) = read("bindings/c/getopts.h"), map(int, version.split("."))
     assert re.search(r"^#define GETOPTS_VERSION_NUMBER (.*)", header, re.M)[1] == str(1_000_000 * major + 1000 * minor + patch)
-    crate = re.search(r'GETOPTS_CRATE_VERSION "(.*)"', header)[1]
+    crate = re.search(r"crate `getopts` ([\d.]+)", pages["README.md"])[1]
     for name in ("bindings/rust/README.md", "bindings/rust/getopts/Cargo.toml"):
         assert f"{crate}+proved.{version}" in read(name)
     assert f'"getopts {version}"' in run("awk", "-f", *(ROOT / f"bindings/c/{it}" for it in ("man.awk", "getopts.h", "getopts.h")))[0]
@@ -274,8 +294,8 @@ def test_theorem_is_quoted():
 
 
 def test_example_lines():
-    """The command lines at the top of GRAMMAR are read as model.py reads them, and are the examples of OnLiterals.antt."""
-    proofs = read("crates/getopts/proofs/OnLiterals.antt")
+    """The command lines at the top of GRAMMAR are read as model.py reads them, and are examples for both provers."""
+    examples = "crates/getopts/proofs/OnLiterals.antt", "agda/12-Examples.agda"
     groups = [Group(b"o", b"output", "yes", "optional"), Group(b"v", b"verbose", "no", "multi"),
               Group(b"c", b"color", "maybe", "optional")]
     rows = re.findall(r"^\| `(.*)` \| (.*?) \|(?: (.*))? \|$", pages["docs/GRAMMAR.md"].partition("\n## ")[0], re.M)
@@ -289,7 +309,8 @@ def test_example_lines():
             wanted = [", ".join(given), ", ".join(f"`{word.decode()}`" for word in found[1])]
         assert reading == wanted, line
         texts = " ∷ ".join(f'codes "{word}"' for word in line.split())
-        assert f"({texts} ∷ [])" in proofs, f"OnLiterals.antt doesn't state {line}"
+        for file in examples:
+            assert f"({texts} ∷ [])" in read(file), f"{file} doesn't state {line}"
 
 
 # ---- code
@@ -335,19 +356,6 @@ def test_code_blocks(page, block):
 
 # ---- contracts
 
-# A public function with its contract: up to a brace after its signature, or to one below its clauses.
-FUNCTION = re.compile(r"""^(\ *)pub\ fn\ (\w+)
-    (?: (?:(?!\n\ *(?:requires|ensures)\ )[\s\S])*? (?=\ \{(?:.*\})?$) | [\s\S]*? (?=\n\1\{\}?$) )""", re.M | re.X)
-
-
-def contracts_in(text):
-    """Each public function of a module: its type if it is a method, its name and its contract."""
-    for item in text.split("\n}\n"):
-        owner = re.search(r"^impl(?:<[^>]*>)? (?:[\w<>: ]+ for )?(\w+)", item, re.M)
-        for it in FUNCTION.finditer(item):
-            yield owner[1] if owner else "", it[2], re.sub(f"^{it[1]}", "", it[0], flags=re.M)
-
-
 @functools.cache
 def contracts():
     """The library's public functions with their contracts, without comments."""
@@ -355,10 +363,10 @@ def contracts():
     public = set(re.findall(r"\w+", " ".join(re.findall(r"^pub use (.*?);", root, re.M | re.S))))
     found = {}
     for visible, module in re.findall(r"^(pub )?mod (\w+);", root, re.M):
-        for owner, name, text in contracts_in(read(f"crates/getopts/src/{module}.rt")):
-            if (owner or name) in public or visible:
-                full = f"{owner}::{name}" if owner else name
-                found[full] = re.sub(r"\n *//.*|\n(?=\n)", "", text).replace(f"pub fn {name}", f"fn {full}", 1)
+        for it, _, name in functions_in(read(f"crates/getopts/src/{module}.rt")):
+            if it[2] and (name.split("::")[0] in public or visible):
+                text = re.sub(r"\n *//.*|\n(?=\n)", "", textwrap.dedent(it[0][:body_of(it)]).rstrip())
+                found[name] = text.replace(f"pub fn {it[3]}", f"fn {name}", 1)
     return found
 
 
@@ -376,20 +384,14 @@ def test_offered_lemmas_are_cited():
 
 # ---- promises
 
-def clauses_of():
-    """The names of each function's clauses."""
-    clauses = {}
+def test_promised_clauses_exist():
+    """Each function in a table of PROOFS has the clauses listed beside it."""
+    clauses, missing = {}, []
     for text in sources.values():
         for function in re.split(r"\bfn (?=\w)", text)[1:]:
             here = clauses.setdefault(re.match(r"\w+", function)[0], set())
             here |= set(re.findall(r"ensures\*? (\w+) \{", function))
     clauses["there"] = clauses["one_reading_one_canonical_line"]
-    return clauses
-
-
-def test_promised_clauses_exist():
-    """Each function in a table of PROOFS has the clauses listed beside it."""
-    clauses, missing = clauses_of(), []
     for row in re.findall(r"^\|.*\|$", pages["docs/PROOFS.md"], re.M):
         for part in re.split(r"[;|]", re.sub(r"\([^)]*\)", "", row)):
             if it := re.match(r"\s*((?:`\w+`(?:, )?)+|there): ((?:`\w+`(?:, )?)+)", part):
@@ -430,7 +432,7 @@ def words():
     """The words in the sources, and the file names."""
     found = set(OTHERS.split()) | {part for name in tracked for part in re.split(r"[/.]", name)}
     for name in tracked:
-        if re.search(r"\.(rt|antt|rs|c|h|cpp|sh|py|edit|toml|txt|ini|rows|sha256)$|/stdin$|^crates.txt$|^HANDLES$", name):
+        if re.search(r"\.(rt|antt|agda|rs|c|h|cpp|sh|py|edit|toml|txt|ini|rows|sha256)$|/stdin$|^crates.txt$|^HANDLES$", name):
             text = read(name)
             found |= set(re.findall(r"[\w+-]+", text)) | set(re.findall(r"\w+", text))
     return found
@@ -463,12 +465,12 @@ def test_names_and_links(page):
 
 # ---- modules
 
-@pytest.mark.parametrize("crate", sorted({name.split("/")[1] for name in sources}))
-def test_no_circular_imports(crate):
+def test_no_circular_imports():
     uses = {}
     for name, text in sources.items():
-        if (it := re.match(rf"crates/{crate}/src/(\w+)\.rt$", name)) and it[1] not in ("lib", "main"):
-            uses[it[1]] = set(re.findall(r"^\s*use crate::(\w+)", text, re.M)) - {it[1]}
+        if not name.endswith(("/lib.rt", "/main.rt")):
+            imported = re.findall(r"^\s*use crate::(\w+)", text, re.M)
+            uses[name] = {f"{os.path.dirname(name)}/{it}.rt" for it in imported} - {name}
     # Raises an error that names the modules of a circle.
     graphlib.TopologicalSorter(uses).prepare()
 
@@ -489,9 +491,12 @@ def test_width_of_comments():
 
 
 def test_shell_scripts():
+    """ShellCheck has no warnings. With CDPATH set, cd may choose another folder."""
     need("shellcheck")
-    scripts = (name for name in tracked if re.match(rb"#!.*[ /](ba)?sh\n", (ROOT / name).read_bytes()))
+    scripts = [name for name in tracked if re.match(rb"#!.*[ /](ba)?sh\n", (ROOT / name).read_bytes())]
     run("shellcheck", *scripts, cwd=ROOT)
+    assert_none(f"{name}: unset CDPATH" for name in scripts
+                if re.search(r"^[^#\n]*\bcd ", read(name), re.M) and "\nunset CDPATH\n" not in read(name))
 
 
 def test_line_ends():
@@ -517,11 +522,12 @@ def test_scripts_are_executable():
 
 @pytest.mark.parametrize("name", [name for name in scripts if not re.match(r"\.ci/|bindings/shell/examples/", name)])
 def test_help_of_scripts(name, tmp_path):
-    """--help and -h print how a script is called, and do nothing else."""
+    """--help and -h print how a script is called: the comment or text at its top. They do nothing else."""
+    top = re.match(r'#!.*\n(?:((?:#.*\n)+)|"""((?:.|\n)*?)""")', read(name))
+    text = re.sub("^# ?", "", top[1], flags=re.M) if top[1] else f"{top[2].strip()}\n"
     for word in ("--help", "-h"):
         words = ["env", "-i", "PATH=/usr/bin:/bin", f"HOME={tmp_path}", f"TMPDIR={tmp_path}", ROOT / name, word]
-        said, errors = run(*words, cwd=tmp_path)
-        assert os.path.basename(name) in said and errors == "" and not [*tmp_path.iterdir()]
+        assert os.path.basename(name) in text and run(*words, cwd=tmp_path) == (text, "") and not [*tmp_path.iterdir()]
 
 
 def test_folders_of_others(tmp_path):

@@ -38,11 +38,12 @@ CONDITIONS = {
     "a cluster isn't empty": ("IsLawfulEnd grammar bytes flags = bytes ≢ []", "IsLawfulEnd grammar bytes flags = ⊤", "-", {}),
     "flags are of kind `No`": ("IsFlag grammar name = grammar.kind (name ∷ []) ≡ Some No",
                                "IsFlag grammar name = grammar.kind (name ∷ []) ≢ None", "-cv", {}),
-    "a cluster's last option isn't of kind `No`": ("FitsEnd No argument = ⊥", "FitsEnd No argument = ⊤", "-v", {}),
-    "in a cluster, an attached argument isn't empty": ("FitsEnd kind (attached argument) = argument ≢ []",
-                                                       "FitsEnd kind (attached argument) = ⊤", "-o x", {}),
+    "a cluster's last option isn't of kind `No`": ("FitsEnd kind none = kind ≡ Maybe", "FitsEnd kind none = kind ≢ Yes", "-v", {}),
+    "in a cluster, an attached argument isn't empty": (
+        "FitsEnd kind (attached argument) = (kind ≢ No) × (argument ≢ [])", "FitsEnd kind (attached argument) = kind ≢ No", "-o x", {}),
     "in short form, an optional separate argument isn't dashed": (
-        "FitsEnd Maybe (separate word) = is_dashed word ≡ false", "FitsEnd Maybe (separate word) = ⊤", "-c -v", {}),
+        "FitsEnd kind (separate word) = (kind ≢ No) × (kind ≡ Maybe → is_dashed word ≡ false)",
+        "FitsEnd kind (separate word) = kind ≢ No", "-c -v", {}),
     "after a bare cluster, the line ends or a dashed word follows": (
         "EndsOrIsDashed (word ∷ words) = is_dashed word ≡ true", "EndsOrIsDashed (word ∷ words) = ⊤", "-c x", {}),
     "a group has a name": ("pub named : 0 < length short + length long", "pub named : ⊤", "--", {"names": {"": "No"}}),
@@ -120,27 +121,25 @@ def first_items(words, names, long_only, stops, without):
 def readings(words, names, long_only=False, stops=False, without=None):
     """All readings of words, each a list of texts, by the definition `IsReading`, without one of its conditions."""
     names = {name: kind for name, kind in names.items() if name or without == "a group has a name"}
-    found = []
 
     def holds(condition, is_so):
         return is_so or condition == without
 
-    def go_on(at, before):
-        more = words[at:]
-        if not more:
-            found.append(before)
-        if more[:1] == ["--"]:
-            found.append([*before, "stop", *(f"free {code(it)}" for it in more[1:])])
-        if holds("the rest isn't empty", more) and holds("there is a rest only under `StopAtFirstFree`", stops) and \
-                holds("the rest doesn't begin with a dashed word", not is_dashed((more or [""])[0])) and (stops or more):
-            found.append([*before, " ".join(["rest", *map(code, more)])])
-        for item, count, bare in first_items(more, names, long_only, stops, without) if more else []:
-            follow = more[count:count + 1]
-            if not bare or holds("after a bare cluster, the line ends or a dashed word follows", not follow or is_dashed(follow[0])):
-                go_on(at + count, [*before, item])
+    def found(words):
+        if not words:
+            yield []
+        if words[:1] == ["--"]:
+            yield ["stop", *(f"free {code(it)}" for it in words[1:])]
+        if holds("the rest isn't empty", words) and holds("there is a rest only under `StopAtFirstFree`", stops) and \
+                holds("the rest doesn't begin with a dashed word", not is_dashed((words or [""])[0])) and (stops or words):
+            yield [" ".join(["rest", *map(code, words)])]
+        for item, count, bare in first_items(words, names, long_only, stops, without) if words else []:
+            rest = words[count:]
+            ends = not rest or is_dashed(rest[0])
+            if not bare or holds("after a bare cluster, the line ends or a dashed word follows", ends):
+                yield from ([item, *others] for others in found(rest))
 
-    go_on(0, [])
-    return found
+    return list(found(words))
 
 
 def of_condition(condition):

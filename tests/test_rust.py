@@ -1,9 +1,7 @@
 """The Rust crate: its source is the proved one, and it behaves like the crate getopts 0.2.24 on five targets."""
 
 import functools
-import itertools
 import os
-import random
 import re
 import shlex
 import shutil
@@ -11,9 +9,8 @@ import subprocess
 import sys
 from pathlib import Path
 
-import model
+import generate
 import pytest
-import test_c
 import test_rows
 from conftest import LINES, ROOT, ROWS, VECTORS, answer, need_rustfmt, run
 from targets import (REGISTRY, TARGETS, UNWINDS, cargo, cargo_for, commit_repository, copy_folders, need_cargo, offline,
@@ -47,7 +44,7 @@ def test_tokens_match_source(crate):
 
 @pytest.mark.parametrize("file, right, wrong", [
     ("counts.rs", "count <= 1", "count < 1"),
-    ("scan.rs", "line.try_grow(words, stops)?;", "line.try_grow(words, stops);"),
+    ("scan.rs", "copies.try_grow(words.len())?;", "copies.try_grow(words.len());"),
     ("table.rs", "entries.dedup_by", "entries.reverse(); entries.dedup_by"),
     ("occurrences.rs", "pub fn len", "#[doc(hidden)] pub fn len")])
 def test_changed_tokens_are_found(file, right, wrong, tmp_path):
@@ -66,16 +63,23 @@ def test_source_that_ends_in_a_clause(tmp_path):
 
 
 @pytest.fixture
-def reader(tmp_path):
-    """A copy of the eraser, and the source folder that it reads."""
-    source = tmp_path / "crates/getopts/src"
-    source.mkdir(parents=True)
-    (tmp_path / "bindings/rust").mkdir(parents=True)
-    shutil.copy(RUST / "erase.py", tmp_path / "bindings/rust")
-    return tmp_path / "bindings/rust/erase.py", source
+def erase(tmp_path):
+    """erase(TEXT, FLAG.., file=.., status=..) runs a copy of the eraser on a crate with this module: its errors."""
+    source, eraser = tmp_path / "crates/getopts/src", tmp_path / "bindings/rust/erase.py"
+    for folder in (source, eraser.parent):
+        folder.mkdir(parents=True)
+    shutil.copy(RUST / "erase.py", eraser)
+
+    def erased(text, *flags, file="names", status=0):
+        (source / "lib.rt").write_text(f"mod {file};\n")
+        (source / f"{file}.rt").write_text(text)
+        return run(sys.executable, eraser, *flags, status=status)[1]
+
+    return erased
 
 
-REJECTED = sorted(path.stem for path in (ROOT / "tests/eraser").glob("*.rejected"))
+# The sources that erase.py has to reject: names, sources and errors.
+REJECTED = re.findall(r"^(\w+): .*\n((?:  .*\n)+)  (.*)\n", (ROOT / "tests/eraser/rejected.txt").read_text(), re.M)
 
 
 def compile_over_types(tmp_path, proved=ERASED["getopts"], program=ERASED["getopts_shell"]):
@@ -101,89 +105,35 @@ def test_erased_sources_compile_over_types(tmp_path):
     assert "no method named `to_string`" in compile_over_types(tmp_path / "edited", program=program)
 
 
-def source_and_error(name):
-    """The text of a source that has to be rejected, and the error that its last line names."""
-    text = (ROOT / f"tests/eraser/{name}.rejected").read_text()
-    return text, text.splitlines()[-1].removeprefix("// ")
-
-
-@pytest.mark.parametrize("name", [name for name in REJECTED if name.endswith("by_type")])
-def test_types_reject_sources(name, reader, tmp_path):
-    """Source that calls a function of Rust that doesn't report failed allocations. The eraser accepts the call, mostly
-    because the source defines a function of the same name."""
+def test_rustc_rejects_sources(erase, tmp_path):
     need_rustfmt()
-    (eraser, source), (text, error) = reader, source_and_error(name)
-    (source / "lib.rt").write_text(text)
-    run(sys.executable, eraser)
-    said = compile_over_types(tmp_path, tmp_path / "bindings/rust/src/proved")
-    assert all(word in said for word in error.split(" ", 1)) and len(re.findall("^error", said, re.M)) == 2
+    erase((ROOT / "tests/eraser/rejected_by_rustc.txt").read_text(), file="lib")
+    proved = tmp_path / "bindings/rust/src/proved"
+    said = compile_over_types(tmp_path, proved)
+    lines = enumerate((proved / "mod.rs").read_text().splitlines(), 1)
+    wanted = {(code, str(at)) for at, line in lines for code in re.findall(r"// error(\[E\d+\])?", line)}
+    assert set(re.findall(r"^error(\[E\d+\])?: .*\n +--> .*/proved/mod.rs:(\d+)", said, re.M)) == wanted
 
 
-@pytest.mark.parametrize("name", [name for name in REJECTED if not name.endswith("by_type")])
-def test_eraser_rejects_sources(name, reader):
+@pytest.mark.parametrize("name, text, error", REJECTED, ids=[name for name, *_ in REJECTED])
+def test_eraser_rejects_sources(name, text, error, erase):
     """Source that could mean something else after its contracts are erased."""
-    (eraser, source), (text, error) = reader, source_and_error(name)
-    file = next((part for part in ("laws", "lib") if name.endswith(part)), "names")
-    (source / "lib.rt").write_text(f"mod {file};\n")
-    (source / f"{file}.rt").write_text(text)
-    said = run(sys.executable, eraser, status=1)[1]
-    assert re.search(rf"erase.py: crates/getopts/src/{file}.rt:\d+: {re.escape(error.removeprefix('error: '))}\n", said)
-
-
-def test_erased_forms(reader):
-    """Source with forms of which the library has only some: `Drop` at each place, and calls of values."""
-    (eraser, source), text = reader, """ghost use Rattle.std.specs.Prelude.{ℕ};
-
-#[derive(Drop, Clone)]
-pub struct First;
-
-#[derive(Clone, Drop, Copy)]
-pub struct Middle;
-
-#[derive(Debug, Drop)]
-pub struct Last;
-
-#[derive(Drop)]
-pub struct Only;
-
-pub fn called<F: FnMut(u8) -> u8 + Drop>(given: F) -> u8 {
-    let own = |byte: u8| byte;
-    let mut next = |byte: u8| byte;
-    next(own(given(1)))
-}
-"""
-    (source / "lib.rt").write_text("mod names;\n")
-    (source / "names.rt").write_text(text)
-    run(sys.executable, eraser)
-    wanted = re.sub("#.derive.Drop.]\n|ghost.*\n| [+] Drop|Drop, |, Drop", "", text)
-    assert (eraser.parent / "src/proved/names.rs").read_text().partition("\n")[2] == wanted
-
-
-@pytest.mark.parametrize("file, right, wrong, why", [
-    ("row.rt", "const MARGIN: usize = 24", "const MARGIN: usize ≡ 24", "'≡': it isn't Rust"),
-    ("index.rt", "let Index { groups: _, held: _ } = self;", "let _ = self;",
-     "'Drop': its impl does more than destructure a value"),
-    ("names.rt", "    short.len()", "    (short.len()", "'}': unmatched bracket")])
-def test_eraser_errors(file, right, wrong, why, reader):
-    eraser, source = reader
-    shutil.copytree(ROOT / "crates/getopts/src", source, dirs_exist_ok=True)
-    edited(source / file, right, wrong)
-    assert re.search(rf"{file}:\d+: {re.escape(why)}", run(sys.executable, eraser, "--check", status=1)[1])
+    file = "laws" if name.endswith("laws") else "names"
+    said = erase(text, file=file, status=1)
+    assert re.search(rf"erase.py: crates/getopts/src/{file}.rt:\d+: {re.escape(error)}\n", said)
 
 
 @pytest.mark.parametrize("text, error", [
-    ("fn one(", "'(': unclosed bracket"), ("use std::fmt", "'': missing ';' before it"),
+    ("fn one(", "'(': unclosed bracket"), ("fn one() { (1 }", "'}': unmatched bracket"),
+    ("impl Drop for One { fn drop(self) { let _ = self; } }", "'Drop': its impl does more than destructure a value"),
+    ("use std::fmt", "'': missing ';' before it"), ("use ::std::fmt;", "':': expected a name"),
+    ("use core::mem;", "'core': core::mem isn't among the known imports"),
+    ("mod std;", "'std': Rust has a type of this name"),
     ("impl One { ghost use A.{B} }", "'}': missing ';' before it"), ("fn { 1 }", "'{': expected a name"),
     ("fn ghost() {}", "'ghost': expected a name"), ("fn one<T where>() {}", "'where': it isn't allowed in generics"),
-    ("fn one { 1 }", "'{': expected parameters"), ("fn one() ensures one 1 { 2 }", "'1': expected '{'"),
-    ("impl Model for One { fn one() {} }", "'fn': an impl of `Model` may only have `ghost` members"),
-    ("pub fn law() -> u8 { 1 }", "'fn': a law may not return or change anything"),
-    ("pub fn law(one: &mut u8) {}", "'fn': a law may not return or change anything")])
-def test_eraser_rejects_other_grammar(text, error, reader):
-    (eraser, source), file = reader, "laws" if "law" in error else "names"
-    (source / "lib.rt").write_text(f"mod {file};\n")
-    (source / f"{file}.rt").write_text(text)
-    assert run(sys.executable, eraser, status=1)[1] == f"bindings/rust/erase.py: crates/getopts/src/{file}.rt:1: {error}\n"
+    ("fn one() ensures one 1 { 2 }", "'1': expected '{'")])
+def test_eraser_rejects_other_grammar(text, error, erase):
+    assert erase(text, "--check", status=1) == f"bindings/rust/erase.py: crates/getopts/src/names.rt:1: {error}\n"
 
 
 # ---- the crate
@@ -195,7 +145,7 @@ def folder(tmp_path_factory):
 
 
 @pytest.mark.parametrize("features, tests, programs", [
-    ("std,unicode,proved", [], 8), ("std", ["--tests"], 6), ("proved", [], 4)])
+    ("std,unicode,proved", [], 7), ("std", ["--tests"], 5), ("proved", [], 4)])
 def test_own_tests_of_the_crate(folder, features, tests, programs):
     said, _ = cargo(folder, "test", "--no-default-features", "--features", features, *tests)
     assert len(passed(said)) == programs
@@ -215,7 +165,8 @@ def test_features_compose(folder, tmp_path):
         ("other", f'proved-getopts = {{ path = "{folder}" }}\none = {{ path = "../one" }}', "pub use getopts::Options;"),
         ("glob", f'getopts = {{ path = "{folder}/getopts" }}\nother = {{ path = "../other" }}',
          "extern crate alloc;\npub mod cli {\nuse getopts::*;\npub use alloc::vec::Vec as List;\npub type All = (List<Fail>, "
-         "HasArg, Matches, Occur, Options, OsGetError<()>, OsMatches, ParsingStyle, Result);\n}"),
+         "HasArg, Matches, Occur, Options, OsGetError<()>, OsMatches, ParsingStyle, Result);\n}\n"
+         "pub mod std_too {\nuse getopts::*;\nuse std::*;\npub type Same = iter::Repeat<Occur>;\n}"),
     ):
         (tmp_path / name / "src").mkdir(parents=True)
         (tmp_path / name / "src/lib.rs").write_text(f"{source}\n")
@@ -225,11 +176,13 @@ def test_features_compose(folder, tmp_path):
 
 
 def test_names_of_the_replacement():
-    """The package that replaces the crate getopts exports all that `proved-getopts` does."""
+    """The package that replaces the crate getopts exports all that `proved-getopts` documents, except for `iter`: programs
+    with `use getopts::*` may mean `std::iter`."""
     ours, theirs = ((RUST / f"{folder}src/lib.rs").read_text() for folder in ("", "getopts/"))
     lists = [re.findall(r"^ *pub use \S*?(?:::)?(?:\{([^}]*)\}|(\w+));", source, re.M) for source in (ours, theirs)]
     names, listed = (sorted(name for pair in found for name in re.findall(r"\w+", "".join(pair))) for found in lists)
-    assert sorted(names + re.findall(r"^ *(?:\$seen|pub) mod (\w+);", ours, re.M)) == listed
+    names = {*names, *re.findall(r"^ *(?:\$seen|pub) mod (\w+);", ours, re.M)}
+    assert sorted(names - {"iter", *re.findall(r"hidden\)\]\n.*\b(\w+);", ours)}) == listed
 
 
 @pytest.mark.parametrize("features", ["", "std", "std,unicode", "std,unicode,proved"])
@@ -241,9 +194,11 @@ def test_documentation_has_no_broken_links(folder, features):
 def test_documentation(folder):
     cargo(folder, "doc", "--no-deps", "--all-features")
     shown = {str(page.relative_to(folder / "target/doc/getopts")) for page in (folder / "target/doc/getopts").rglob("*.html")}
-    assert {"enum.HasArg.html", "iter/struct.Values.html", "bytes/fn.plain_text.html"} <= shown
-    # Lemmas do nothing.
-    assert not {"bytes/fn.words_come_back.html", "proved/fn.are_texts.html"} & shown
+    assert {"enum.HasArg.html", "iter/struct.Values.html", "fallible/trait.TryClone.html", "alloc/struct.Global.html"} <= shown
+    # Lemmas do nothing. What the C library and the shell program need may change in any version.
+    assert not {"proved/fn.are_texts.html", "bytes/index.html", "fn.bytes_of.html", "alloc/struct.AllocFailed.html"} & shown
+    assert not {*map("fallible/trait.{}.html".format, ("TryText", "TryList", "TryCopies"))} & shown
+    assert "method.declared" not in (folder / "target/doc/getopts/proved/struct.Options.html").read_text()
     for name in ("fail", "iter", "options", "matches", "os"):
         example = False
         for line in (RUST / f"src/{name}.rs").read_text().splitlines():
@@ -267,6 +222,8 @@ def test_package(folder, tmp_path):
     (tmp_path / archive.stem / ".cargo-checksum.json").write_text('{"files": {}}')
     if offline():
         cargo(folder / "getopts", "package", "--allow-dirty", registry=tmp_path)
+    names = cargo(folder / "getopts", "package", "--allow-dirty", "--list", registry=tmp_path)[0].split()
+    assert {"LICENSE-MIT", "LICENSE-APACHE", "NOTICE", "src/lib.rs"} <= set(names)
 
 
 def test_versions_of_rust(folder, tmp_path):
@@ -342,47 +299,6 @@ def test_example_matches_getopts_show(line, example, show):
     assert answer(example, *line.split()) == answer(show, *line.split())
 
 
-def answers_of_parse_os(modes, _, rows, names, words):
-    options = model.Options(test_c.groups_of(rows), modes & test_c.STOP, modes & test_c.LONG_ONLY)
-    read, kept = options.parse(words), options.parse(words, with_counts=False)
-    yield (model.TEXTS[read[0]] % read[1]).decode(errors="replace") if len(read) == 2 else None
-    occurrences, free, start, _ = kept if len(kept) > 2 else ([], [], None, [])
-    for name in names:
-        yield from (it for place, at, value in occurrences if place == options.resolve(name) for it in (at, value))
-    for place, text in read[3] if len(read) > 2 else []:
-        yield from (None if place is None else options.groups[place].main, text)
-    yield from [*free, start] if len(kept) > 2 else []
-
-
-def with_named_kinds(rows):
-    return [[*row[:4], model.KINDS[row[4] % 4], test_c.OCCURS[row[4] // 4]] for row in rows]
-
-
-# Parts of words: characters, bytes that aren't UTF-8, and beginnings of characters.
-PARTS = ["-", "--", "a", "=", "é", "日", "\ufeff", "\U0010ffff", "\udc80", "\udcff", "\udcc3", "\udce2\udc82", "\udced\udca0\udc80"]
-
-
-def os_cases(count):
-    """Random tables and words of any bytes, and what `reference os` reads for them."""
-    rng, chosen = random.Random(1), []
-    for modes, columns, rows, wrong, words in (test_c.random_case(rng) for _ in range(count)):
-        if rng.randrange(4) == 0:
-            words = ["".join(rng.choices(PARTS, k=rng.randint(1, 5))), *words]
-        names = ["nope", *(name for row in rows for name in row[:2] if name)]
-        chosen += [(modes, columns, rows, [*map(test_c.in_bytes, names)], [*map(test_c.in_bytes, words)])] if wrong is None else []
-    return chosen, b"".join(test_c.fields_of(modes, columns, with_named_kinds(rows), *more) for modes, columns, rows, *more in chosen)
-
-
-def test_answers_of_parse_os(ours, cases):
-    """On random tables and words of any bytes, `parse_os` and what follows it answer as the model does."""
-    chosen, fields = os_cases(cases(10_000))
-    printed = iter(subprocess.run([ours, "os"], input=fields, stdout=subprocess.PIPE, check=True).stdout.split(b"\0"))
-    for case in chosen:
-        for nth, wanted in enumerate(answers_of_parse_os(*case)):
-            assert next(printed) == test_c.said(wanted), (case, nth, wanted)
-    assert [*printed] == [b""]
-
-
 # ---- compared with the crate getopts 0.2.24
 
 def reference_over(room, over, edit=None):
@@ -409,18 +325,13 @@ def reference(tmp_path_factory):
     return reference
 
 
+# With the second feature, the program calls the proved modules, whose accessors `proved-getopts` doesn't use.
+CANONICAL, PROVED = ("--features", "canonical"), ("--features", "proved,getopts/proved")
+
+
 @pytest.fixture(scope="module")
 def ours(reference):
-    return reference(RUST, "--features", "canonical")
-
-
-# With this feature, the program calls the proved modules, whose accessors `proved-getopts` doesn't use.
-PROVED = "--features", "proved,getopts/proved"
-
-
-@pytest.fixture(scope="module")
-def proved(reference):
-    return reference(RUST, *PROVED)
+    return reference(RUST, *CANONICAL)
 
 
 @pytest.mark.parametrize("rows", ROWS, ids=lambda path: path.stem)
@@ -428,14 +339,17 @@ def test_stored_answers(ours, rows):
     assert ", 0 differ" in run(ours, "check", rows)[0]
 
 
-def test_proved_modules_match_model(proved, tmp_path):
-    (tmp_path / "all.rows").write_bytes(test_rows.written(test_rows.all_rows()))
-    assert run(proved, "check", tmp_path / "all.rows")[0].endswith(" 0 differ, 0 skipped\n")
+@pytest.mark.parametrize("flags", [CANONICAL, PROVED], ids=["package", "modules"])
+def test_answers_match_model(reference, cases, flags, tmp_path):
+    for name, text in ("all", test_rows.written(test_rows.all_rows())), ("random", test_rows.random_rows(cases(5_000))):
+        (tmp_path / name).write_bytes(text)
+        assert ", 0 differ" in run(reference(RUST, *flags), "check", tmp_path / name)[0]
 
 
-def test_laws(proved, cases):
-    """Laws of the calls that the Rust crate lacks, on random cases."""
-    run(proved, "laws", 7, cases(10_000))
+def test_laws(reference, cases, tmp_path):
+    """Laws of what rows can't ask, on random cases."""
+    (tmp_path / "rows").write_bytes(random_cases(7, cases(10_000)))
+    run(reference(RUST, *PROVED), "laws", tmp_path / "rows")
 
 
 def test_build_in_shared_folder(tmp_path):
@@ -452,35 +366,32 @@ def test_recorded_answers(reference, crate):
     assert ", 0 differ" in run(reference(crate), "check", VECTORS / "data/recorded.rows")[0]
 
 
-def random_rows(reference, generator, seed, count):
-    """This many cases of a seed, with the answers of a reference program."""
-    return run(reference, "answer", input=os.fsencode(run(generator, "generate", seed, count)[0]))[0]
+random_cases = functools.cache(generate.written)
+
+
+def random_rows(program, room, seed, count):
+    """A file of random cases, with the answers of a program."""
+    rows = room / f"{seed}.rows"
+    with open(rows, "wb") as file:
+        subprocess.run([program, "answer"], input=random_cases(seed, count), stdout=file, check=True)
+    return rows
 
 
 def test_proved_library_matches_rust_crate(vectors, reference, crate, cases, tmp_path):
     """The proved library gives the Rust crate's answers to random cases."""
-    (tmp_path / "random.rows").write_bytes(os.fsencode(random_rows(reference(crate), reference(crate), 5, cases(20_000))))
-    assert run(vectors, "random.rows", cwd=tmp_path)[0].endswith(" 0 differ\n")
+    assert run(vectors, random_rows(reference(crate), tmp_path, 1, cases(20_000)))[0].endswith(" 0 differ\n")
 
 
-def differing(ours, theirs, seed, count):
-    """The first of this many cases of a seed to which the two programs give different answers."""
-    answers = (random_rows(reference, theirs, seed, count).split("\ncase\t") for reference in (ours, theirs))
-    return next((pair for pair in itertools.zip_longest(*answers) if pair[0] != pair[1]), None)
+@pytest.mark.parametrize("flags", [CANONICAL, ("--no-default-features",), PROVED], ids=["package", "bytes", "modules"])
+def test_random_cases_match_rust_crate(reference, crate, cases, flags, tmp_path):
+    ours, theirs = reference(RUST, *flags), reference(crate, *(flags if "--no-default-features" in flags else ()))
+    for seed in (1, 2):
+        assert ", 0 differ" in run(ours, "check", random_rows(theirs, tmp_path, seed, cases(20_000)))[0]
 
 
-@pytest.mark.parametrize("flags, seed", [(("--features", "canonical"), 1), (("--no-default-features",), 3), (PROVED, 5)])
-def test_random_cases_match_rust_crate(reference, crate, cases, flags, seed):
-    without = flags if "--no-default-features" in flags else ()
-    ours, theirs = reference(RUST, *flags), reference(crate, *without)
-    for of in (seed, seed + 1):
-        assert differing(ours, theirs, of, cases(20_000)) is None
-    assert flags == PROVED or run(ours, "panics") == run(theirs, "panics")
-
-
-def test_difference_is_found(reference, crate):
+def test_difference_is_found(reference, crate, tmp_path):
     changed = reference(RUST, edit=("matches.rs", "first_value_or(def)", 'first_value_or("")'))
-    assert differing(changed, reference(crate), 1, 2000)
+    run(changed, "check", random_rows(reference(crate), tmp_path, 1, 2000), status=1)
 
 
 # ---- other targets
@@ -489,21 +400,21 @@ def test_difference_is_found(reference, crate):
 @pytest.mark.parametrize("target", TARGETS)
 def test_crate_on_target(target, tmp_path, request, ours, example):
     """With Debian's rustc 1.63: getopts' public tests, the rows, the example, arguments of any bytes, and no `std`."""
-    reference = reference_over(tmp_path, RUST)
-    for file, to in (("examples/show.rs", "src/bin"), ("tests/os.rs", "tests")):
-        (reference / to).mkdir()
-        shutil.copy(RUST / file, reference / to)
+    reference, tests = reference_over(tmp_path, RUST), [tmp_path / "crate/tests/os.rs"]
+    for folder in ("src/bin", "tests"):
+        (reference / folder).mkdir()
+    shutil.copy(RUST / "examples/show.rs", reference / "src/bin")
     panics = [] if target in UNWINDS else ["panics", "test_long_name_too_short", "test_undefined_opt_present"]
     left_out = [word for name in panics for word in ("--skip", name)]
     crate = request.config.getoption("--getopts")
     if crate and (Path(crate) / "tests/public.rs").exists():
-        shutil.copy(Path(crate) / "tests/public.rs", reference / "tests")
+        tests.append(Path(shutil.copy(Path(crate) / "tests/public.rs", reference / "tests")))
+    for file in tests:
+        said, _ = cargo_for(target, file.parents[1], "test", "--release", "--test", file.stem, "--", *left_out)
+        # With wine, a program that panics exits with status 0.
+        names = re.findall(r"#\[test\]\n(?:#.*\n)*fn (\w+)", file.read_text())
+        assert passed(said) == [len([name for name in names if not any(skip in name for skip in panics)])]
     cargo_for(target, reference, "build", "--release", "--features", "canonical")
-    said, _ = cargo_for(target, reference, "test", "--release", "--features", "canonical", "--test", "*", "--", *left_out)
-    # With wine, a program that panics exits with status 0.
-    source = "".join(file.read_text() for file in (reference / "tests").iterdir())
-    tests = [name for name in re.findall(r"#\[test\]\n(?:#.*\n)*fn (\w+)", source) if not any(skip in name for skip in panics)]
-    assert sum(passed(said)) == len(tests)
     cargo_for(target, tmp_path / "crate", "build", "--no-default-features", "--features", "proved")
     by, built = runner(target, tmp_path), reference / "target" / target / "release"
     program = {path.stem: path for path in built.iterdir() if path.suffix in ("", ".exe", ".wasm") and path.is_file()}

@@ -1,14 +1,15 @@
 """test.sh and release.sh, with other programs in the place of those that take long."""
 
-import hashlib
+import contextlib
 import json
 import re
+import shutil
 import tarfile
 from concurrent.futures import ThreadPoolExecutor
 from pathlib import Path
 
 import pytest
-from conftest import ROOT, answer, copy_tree, need, run, script, tracked
+from conftest import ROOT, answer, copy_tree, need, run, script, tracked, wait_for
 from targets import commit_repository
 
 VERSION = re.search(r'^version = "(.*)"', (ROOT / "bindings/rust/Cargo.toml").read_text(), re.M)[1]
@@ -21,12 +22,14 @@ LOGS = '#!/bin/sh\nline="{name} $*"\necho "$line" >>"{log}"\ncase $line in *${{F
 @pytest.fixture
 def test_sh(tmp_path):
     """test_sh(WORD.., FAIL=.., status=..) runs a copy of test.sh: its output, its errors, and the calls of rt and pytest.
-    In the place of /usr/bin, the copy looks for Python in a folder that doesn't exist."""
+    In the place of /usr/bin, the copy looks for Python in a folder that doesn't exist, and so for lists of packages."""
     for name in ("test.sh", "tests/packages.txt"):
         (tmp_path / "copy" / name).parent.mkdir(parents=True, exist_ok=True)
         text = (ROOT / name).read_text()
-        assert name != "test.sh" or text.count("/usr/bin/python3") == 1
-        (tmp_path / "copy" / name).write_text(text.replace("/usr/bin/python3", f"{tmp_path}/absent/python3"))
+        for path, own in ("/usr/bin/python3", "absent/python3"), ("/var/lib/apt/lists", "lists"):
+            assert name != "test.sh" or text.count(path) == 1
+            text = text.replace(path, f"{tmp_path}/{own}")
+        (tmp_path / "copy" / name).write_text(text)
     (tmp_path / "bin").mkdir()
     (tmp_path / "crate").mkdir()
     (tmp_path / "crate/Cargo.toml").write_text("")
@@ -40,7 +43,7 @@ def test_sh(tmp_path):
         log.write_text("")
         said, errors = run("bash", tmp_path / "copy/test.sh", *words, status=status, cwd=tmp_path, env={
             "PATH": f"{tmp_path}/bin:/usr/bin:/bin", "XDG_CACHE_HOME": str(tmp_path / "cache"), "FAIL": "", "CI": "", **env})
-        return said, errors, sorted(re.sub(" --durations.*", "", line) for line in log.read_text().splitlines())
+        return said, errors, sorted(log.read_text().splitlines())
 
     return called
 
@@ -54,9 +57,10 @@ def test_failed_parts_are_reported(test_sh, fail, parts):
     assert re.findall("^== (.*): status 1", said, re.M) == parts.split("; ")
 
 
-def test_all_parts_are_run(test_sh):
+def test_all_parts_are_run(test_sh, tmp_path):
     said, errors, calls = test_sh("--no-install", "crate")
     assert re.search(r"\nall passed after \d+ s; ", said) and errors == "" and len(calls) == 3
+    assert sum(f" --getopts={tmp_path}/crate -n 3 -m " in line for line in calls) == 2
     assert [line.partition(": status 0 ")[0] for line in re.findall("^== .*", said, re.M)] == [
         "== proofs", "== tests", "== tests of what is built"]
     said, _, calls = test_sh("--no-install", "--quick")
@@ -65,11 +69,21 @@ def test_all_parts_are_run(test_sh):
     assert said.splitlines()[-1] == "failed: tests"
 
 
-def test_flags_reach_pytest(test_sh, tmp_path):
+def test_flags_reach_pytest(test_sh):
     assert test_sh("--no-install", "--quick", "-k", "a or b", "-x")[2] == ["python3 -m pytest tests --quick -k a or b -x"]
     test_sh("--no-install", "-k", "a", FAIL="pytest", status=1)
-    run("bash", tmp_path / "copy/test.sh", "--no-install", "crate", cwd=tmp_path, env={"PATH": f"{tmp_path}/bin:/usr/bin:/bin"})
-    assert len(re.findall(f"pytest .*--getopts={tmp_path}/crate( |$)", (tmp_path / "log").read_text(), re.M)) == 2
+
+
+@pytest.mark.parametrize("line, proved", [
+    ("proved", True), ("NOT PROVED", False),
+    ("is kept: an earlier run on this machine proved the same files over the same libraries", True)])
+def test_wait_for_rt_ci(line, proved, tmp_path, monkeypatch):
+    """Tests of a program begin once `rt ci` says that it proved the crate, or that an earlier run did."""
+    (tmp_path / "ci").write_text(f"rt: getopts_show {line}\n")
+    (tmp_path / "ci.ended").touch()
+    monkeypatch.setenv("CI_LOG", str(tmp_path / "ci"))
+    with contextlib.nullcontext() if proved else pytest.raises(pytest.fail.Exception, match="wasn't proved"):
+        wait_for("getopts_show")
 
 
 def test_clone_in_shared_folder(test_sh, tmp_path):
@@ -80,14 +94,15 @@ def test_clone_in_shared_folder(test_sh, tmp_path):
     assert len(test_sh("--no-install", "--quick", CI="true")[2]) == 1
 
 
-def stubs(test_sh, tmp_path, lacks, **more):
+def stubs(tmp_path, lacks, **more):
     """Programs that install what test.sh asks for: root's, of a Debian without these packages, and others."""
-    listed = re.sub("#.*|^unpack:.*", "", (ROOT / "tests/packages.txt").read_text(), flags=re.M).split()
+    listed = re.sub("#.*|^[a-z]*:.*", "", (ROOT / "tests/packages.txt").read_text(), flags=re.M).split()
     others = "".join(f"installed {name}\\n" for name in listed if name not in lacks)
     for name, text in {
         "id": "echo 0", "rustc": "echo rustc 1.95.0", "apt-cache": "printf 'zsh\\nmore\\n'",
         "dpkg-query": f"printf '{others}'; [ ! -e '{tmp_path}/zsh' ] || echo installed zsh",
-        "apt-get": f"echo \"apt-get $*\" >>'{tmp_path}/log'; case $* in *'install -y'*) sleep 1; touch '{tmp_path}/zsh' ;; esac",
+        "apt-get": f"""echo "apt-get $*" >>'{tmp_path}/log'
+case $* in *update) mkdir -p '{tmp_path}/lists/x_Packages' ;; *'install -y'*) sleep 1; touch '{tmp_path}/zsh' ;; esac""",
         **more,
     }.items():
         script(tmp_path / "bin" / name, f"#!/bin/sh\n{text}\n")
@@ -98,65 +113,53 @@ def test_wrong_arguments_of_test_sh(test_sh, tmp_path):
     (tmp_path / "bin/rt").unlink()
     assert "rt not found: put the toolchain's bin folder on the path" in test_sh("--no-install", status=2)[1]
     assert "rt not found: tests that need it are left out" in test_sh("--no-install", "--quick")[0]
+    script(tmp_path / "bin/python3", "#!/bin/sh\nexit 1\n")
+    message = "test.sh: pytest not found: apt-get install python3-pytest python3-pytest-xdist python3-pytest-timeout\n"
+    assert test_sh("--no-install", "--quick", status=2) == ("", message, [])
 
 
 def test_missing_packages_are_installed(test_sh, tmp_path):
-    """As root, before the tests, those of tests/packages.txt that are missing, and that this release of Debian has. The
-    others aren't looked for again."""
-    stubs(test_sh, tmp_path, ["zsh", "fish"])
+    """As root, before the tests, those of tests/packages.txt that are missing, and that this release of Debian has. Which
+    these are isn't known before there are lists of packages."""
+    stubs(tmp_path, ["zsh", "fish"])
     said, errors, (update, install, tests) = test_sh("--quick")
     assert said.startswith("test.sh: about to install (--no-install leaves this out): the Debian packages zsh fish\n")
     assert errors == "" and update.endswith(" update") and install.endswith("--no-install-recommends zsh")
     assert "pytest" in tests and "all passed" in said
     said, _, calls = test_sh("--quick")
     assert "about to install" not in said and len(calls) == 1
+    (tmp_path / "zsh").unlink()
+    assert "the Debian packages zsh\n" in test_sh("--quick")[0]
 
 
 def test_two_runs_install_once(test_sh, tmp_path):
-    stubs(test_sh, tmp_path, ["zsh"])
+    stubs(tmp_path, ["zsh"])
     with ThreadPoolExecutor(2) as pool:
         said = [one.result()[0] for one in [pool.submit(test_sh, "--quick") for _ in range(2)]]
     assert all("all passed" in one for one in said) and sum("about to install" in one for one in said) == 1
 
 
-def test_rust_is_unpacked(test_sh, tmp_path):
-    """On Debian 12, if its rustc is all there is: into the cache, once, and tests run with it."""
-    if "VERSION_CODENAME=bookworm" not in Path("/etc/os-release").read_text():
-        pytest.skip("only on Debian 12")
-    stubs(test_sh, tmp_path, [], rustc="echo rustc 1.63.0", **{
-        "apt-get": """for word; do part=${word#Dir::Cache::Archives=}; [ "$part" = "$word" ] || touch "$part/rust.deb"; done""",
-        "dpkg": """mkdir -p "$3/usr/bin"; printf '#!/bin/sh\\necho rustc 1.85.1' >"$3/usr/bin/rustc"; chmod 755 "$3/usr/bin/rustc" """})
+@pytest.mark.parametrize("words, programs", [(["--quick"], ["rust"]), (["-k", "a"], ["rust", "agda"])])
+def test_programs_are_unpacked(test_sh, tmp_path, words, programs):
+    """On Debian 12, Rust if its rustc is all there is, and Agda for proofs: into the cache, once, and tests run with Rust. A
+    relative cache is ignored."""
+    if "VERSION_CODENAME=bookworm" not in Path("/etc/os-release").read_text() or shutil.which("agda", path="/usr/bin:/bin"):
+        pytest.skip("only on Debian 12 without Agda")
+    stubs(tmp_path, [], rustc="echo rustc 1.63.0", **{
+        "apt-get": """[ "$1" != download ] || touch agda.deb
+for word; do part=${word#Dir::Cache::Archives=}; [ "$part" = "$word" ] || touch "$part/rust.deb"; done""",
+        "dpkg": """cd "$(mktemp -d)" && mkdir -p usr/bin && printf '#!/bin/sh\necho rustc 1.85.1' >usr/bin/rustc &&
+cp usr/bin/rustc usr/bin/agda && chmod 755 usr/bin/* && tar -c ./usr"""})
     script(tmp_path / "bin/python3", f'#!/bin/sh\n[ "$1" = -c ] || rustc --version >>"{tmp_path}/log"\n')
-    rust = tmp_path / "cache/proved-getopts/rust"
-    said, errors, calls = test_sh("--quick")
-    assert f"about to install (--no-install leaves this out): Rust 1.85 into {rust}\n" in said and errors == ""
-    assert calls == ["rustc 1.85.1"] and sorted(path.name for path in rust.rglob("*")) == ["bin", "partial", "rustc", "usr"]
-    assert "about to install" not in test_sh("--quick")[0]
-
-
-def test_pytest_is_installed(test_sh, tmp_path):
-    """By other users, into the cache, without pip's messages; without it, nothing runs."""
-    missing = '#!/bin/sh\n[ "$1" != -c ] || exit 1\n'
-    script(tmp_path / "bin/python3", missing)
-    script(tmp_path / "bin/id", "#!/bin/sh\necho 1000\n")
-    message = "test.sh: pytest not found: apt-get install python3-pytest python3-pytest-xdist python3-pytest-timeout\n"
-    assert test_sh("--no-install", "--quick", status=2) == ("", message, [])
-    assert test_sh("--quick", status=2)[1] == message
-    own = tmp_path / "cache/proved-getopts/venv"
-    noise = f'mkdir -p "{own}/bin"; echo noise; echo noise >&2\n'
-    script(tmp_path / "bin/python3", missing + noise + f"""printf '#!/bin/sh\\necho "pip $*" >>{tmp_path}/log
-echo noise; echo noise >&2' >"{own}/bin/pip"
-printf '#!/bin/sh\\n[ "$1" = -c ] || echo "own $*" >>{tmp_path}/log' >"{own}/bin/python"; chmod 755 "{own}"/bin/*\n""")
-    said, errors, (tests, pip) = test_sh("--quick")
-    assert said.startswith(f"test.sh: about to install (--no-install leaves this out): pytest into {own}\n")
-    assert "noise" not in said and errors == "" and tests.startswith("own -m pytest tests") and pip.startswith("pip install pytest")
-
-
-def test_relative_cache_is_ignored(test_sh, tmp_path):
-    script(tmp_path / "bin/id", "#!/bin/sh\necho 1000\n")
-    script(tmp_path / "bin/python3", '#!/bin/sh\nexit 1\n')
-    said, _, _ = test_sh("--quick", status=2, XDG_CACHE_HOME="cache", HOME=str(tmp_path / "home"))
-    assert f"pytest into {tmp_path}/home/.cache/proved-getopts/venv\n" in said and not (tmp_path / "copy/cache").exists()
+    env = {"XDG_CACHE_HOME": "cache", "HOME": str(tmp_path / "home")}
+    cache = tmp_path / "home/.cache/proved-getopts"
+    news = ", ".join(f"{dict(rust='Rust 1.85', agda='Agda')[name]} into {cache / name}" for name in programs)
+    said, errors, calls = test_sh(*words, **env)
+    assert f"about to install (--no-install leaves this out): {news}\n" in said and errors == ""
+    assert calls == ["rustc 1.85.1"] and {path.name for path in cache.iterdir()} == {"lock", *programs}
+    for name in programs:
+        assert sorted(path.name for path in (cache / name).rglob("*")) == ["agda", "bin", "partial", "rustc", "usr"]
+    assert "about to install" not in test_sh(*words, **env)[0] and not (tmp_path / "copy/cache").exists()
 
 
 # ---- release.sh
@@ -177,6 +180,13 @@ def clone(tmp_path_factory):
     return clone
 
 
+def unpacked(archive, folder):
+    """The files of an archive, by their paths in this folder: the mode and the contents of each."""
+    with tarfile.open(archive) as files:
+        return {it.name.removeprefix(f"{folder}/"): (it.mode & 0o777, files.extractfile(it).read())
+                for it in files if it.isfile()}
+
+
 CHECKS = ["test.sh --quick --no-install -k versions -q", "build.py --check"]
 
 
@@ -195,39 +205,36 @@ def test_files_of_a_release(clone):
     binaries = {f"getopts_shell-{VERSION}-{machine}": machine for machine in ("x86_64", "aarch64")}
     files = {f"{name}.tar.gz", f"{name}-kit.tar.gz", f"proved-getopts-{VERSION}.crate", *binaries}
     assert {path.name for path in out.iterdir()} == {"SHA256SUMS", *files}
-    sums = dict(line.split("  ")[::-1] for line in (out / "SHA256SUMS").read_text().splitlines())
-    assert sums == {file: hashlib.sha256((out / file).read_bytes()).hexdigest() for file in files}
+    sums = (out / "SHA256SUMS").read_text()
+    assert run("sha256sum", "-c", "SHA256SUMS", cwd=out)[0] == "".join(f"{file}: OK\n" for file in sorted(files))
     for file, machine in binaries.items():
         assert (out / file).read_bytes() == (ROOT / f"bindings/shell/{machine}/getopts_shell").read_bytes()
-    with tarfile.open(out / f"{name}.tar.gz") as archive:
-        modes = {it.name.removeprefix(f"{name}/"): it.mode for it in archive if it.isfile()}
-    assert sorted(modes) == sorted(tracked()) and modes["release.sh"] & 0o777 == 0o775
-    uses = ROOT / "crates/getopts_uses"
-    with tarfile.open(out / f"{name}-kit.tar.gz") as archive:
-        kit = {it.name: archive.extractfile(it).read().decode() for it in archive if it.isfile()}
+    source = unpacked(out / f"{name}.tar.gz", name)
+    assert sorted(source) == sorted(tracked()) and source["release.sh"][0] == 0o775
+    uses, kit = ROOT / "crates/getopts_uses", unpacked(out / f"{name}-kit.tar.gz", "getopts")
     taken = [it for it in tracked() if re.match(r"crates/getopts(_uses)?/(\w+\.md|LICENSE|NOTICE|src|specs|proofs)", it)]
-    made = {"getopts/uses/BUILD.bazel", "getopts/uses/src/lib.rt", "getopts/uses/src/tests.rt"}
-    assert set(kit) == made | {re.sub(r"crates/getopts(_uses)?", lambda it: "getopts/uses" if it[1] else "getopts", it)
+    made = {"uses/BUILD.bazel", "uses/src/lib.rt", "uses/src/tests.rt"}
+    assert set(kit) == made | {re.sub(r"crates/getopts(_uses)?/", lambda it: "uses/" if it[1] else "", it)
                                for it in taken if not it.endswith("/main.rt")}
     modules = re.findall(r"^mod \w+;", (uses / "src/main.rt").read_text(), re.M)
-    assert re.findall(r"^pub (mod \w+;)", kit["getopts/uses/src/lib.rt"], re.M) == modules
-    cases = [json.loads(f"[{it}]") for it in re.findall(r"^ {8}\((.*)\),$", kit["getopts/uses/src/tests.rt"], re.M)]
+    library, tests = (kit[f"uses/src/{it}.rt"][1].decode() for it in ("lib", "tests"))
+    assert re.findall(r"^pub (mod \w+;)", library, re.M) == modules
+    cases = [json.loads(f"[{it}]") for it in re.findall(r"^ {8}\((.*)\),$", tests, re.M)]
     assert "".join(f"{case}\n" for case, _ in cases) == (uses / "args").read_text()
     assert "".join(line for _, line in cases) == (uses / "stdout").read_text()
-    with tarfile.open(out / f"proved-getopts-{VERSION}.crate") as archive:
-        packed = {it.name.partition("/")[2]: archive.extractfile(it).read() for it in archive}
+    packed = unpacked(out / f"proved-getopts-{VERSION}.crate", f"proved-getopts-{VERSION}")
     assert {"LICENSE-MIT", "LICENSE-APACHE", "NOTICE", "src/proved/mod.rs", "Cargo.toml"} <= packed.keys()
     assert "Cargo.lock" not in packed
-    assert packed["CHANGELOG.md"] == (clone / "CHANGELOG.md").read_bytes()
+    assert packed["CHANGELOG.md"][1] == (clone / "CHANGELOG.md").read_bytes()
     settings = clone.parent / "settings"
     settings.write_text("[core]\nautocrlf = true\n[tar]\numask = 0077\n")
     release(clone, VERSION, GIT_CONFIG_GLOBAL=str(settings))
-    assert sums == dict(line.split("  ")[::-1] for line in (out / "SHA256SUMS").read_text().splitlines())
+    assert sums == (out / "SHA256SUMS").read_text()
 
 
 def test_release_runs_all_tests(clone, tmp_path):
     whole = [*CHECKS, f"test.sh {tmp_path}", "build.py --rebuild",
-             "test.sh -k rejected or wrong_rules or theorem --release -n 3", "fresh.sh "]
+             "test.sh -k rejected or theorem --release -n 3", "fresh.sh "]
     assert release(clone, VERSION, tmp_path, TESTED="")[1] == whole
     for at, call in enumerate(whole):
         calls = release(clone, VERSION, tmp_path, status=1, TESTED="", FAIL=call)[1]

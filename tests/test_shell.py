@@ -5,7 +5,6 @@ All programs have to print the same: the proved one, the checked-in ones (for aa
 builds, also for Windows. So only one of them is tried in each shell. The checked-in programs are left out if the source
 has another version."""
 
-import functools
 import os
 import random
 import re
@@ -25,7 +24,23 @@ SHELL = ROOT / "bindings/shell"
 SHELLS = ["dash", "bash", "bash --posix", "zsh", "ksh93", "mksh", "yash", "busybox sh"]
 START = ["-std=c11", "-Wall", "-Wextra", "-Wpedantic", "-Wshadow", "-Wconversion", "-Wno-sign-conversion", "-Werror",
          "-Wl,--wrap=main", ROOT / "tests/system/start.c", SHELL / "start.c", "-o"]
-ROWS = rows_in("tests/shell/answers.rows")
+
+
+def stored_rows():
+    """The rows of answers.rows, with a row for each item in the place of the rows 'invalid'."""
+    above = None
+    for (first, *fields), text in rows_in("tests/shell/answers.rows"):
+        if first == "invalid":
+            for item in fields:
+                # A newline tells a table from a word.
+                table = item + "\n" * (item.startswith("-") and " " not in item)
+                yield ["5", "x", table], f"getopts_shell: line 1 of the table: {item}: {text}"
+        else:
+            above = above if first == "=" else (first, text)
+            yield [above[0], *fields], above[1]
+
+
+ROWS = [*stored_rows()]
 TABLE = next(fields[3] for fields, _ in ROWS if fields[1:3] == ["-u", "backup"])
 
 # The programs, by the names of their fixtures. One worker builds everything that cargo builds.
@@ -127,11 +142,6 @@ def one_shell(request):
     return words
 
 
-@functools.cache
-def random_scripts(program, way, count):
-    return lines.random_scripts(program, way, count)
-
-
 # ---- output
 
 @EACH
@@ -146,12 +156,6 @@ def test_stored_answers(program):
     assert not wrong, "\n".join(wrong)
 
 
-@pytest.mark.parametrize("program", [BY_CARGO], indirect=True)
-def test_version_matches_package(program):
-    version = re.search(r'^version = "(.*)"', (SHELL / "Cargo.toml").read_text(), re.M)[1]
-    assert run(program, "--version")[0] == f"getopts_shell {version}\n"
-
-
 @EACH
 def test_completion_matches_other_program(program, in_shells):
     for name in ("bash", "zsh", "fish"):
@@ -163,7 +167,7 @@ def test_completion_matches_other_program(program, in_shells):
 @pytest.mark.parametrize("way", ["words", "variables", "arrays"])
 def test_random_code_matches_other_program(program, in_shells, cases, way):
     count = cases(100, 50)
-    assert random_scripts(program, way, count) == random_scripts(in_shells, way, count)
+    assert lines.random_scripts(program, way, count) == lines.random_scripts(in_shells, way, count)
 
 
 @pytest.mark.full
@@ -171,16 +175,6 @@ def test_random_code_matches_other_program(program, in_shells, cases, way):
 def test_arguments_on_windows(by_wine, for_windows):
     """The tests in host.rs, one of them of arguments that aren't Unicode."""
     assert passed(for_windows[1]("test")) == [2]
-
-
-@HERE
-def test_help_and_errors_with_variables(program):
-    for words in ["--help"], ["-x"], ["x"], ["-ia", "-ib"], ["-i"]:
-        three = [subprocess.run([program, *own, "try", TABLE, *words], capture_output=True)
-                 for own in ([], ["-V", "opt_"], ["-AV", "opt_"])]
-        plain, *others = [(done.returncode, done.stdout, done.stderr) for done in three]
-        status, name = (0, 1) if words == ["--help"] else (2, 2)
-        assert others == [plain, plain] and plain[0] == status and b"Usage: try " in plain[name], words
 
 
 @HERE
@@ -253,7 +247,7 @@ WAYS = [(way, name) for name in SHELLS for way in ("words", "variables", "arrays
 @IN_SHELLS
 @pytest.mark.parametrize("way, one_shell", WAYS, indirect=["one_shell"])
 def test_random_lines(program, one_shell, tmp_path, cases, way):
-    lines.run_in_shell(one_shell, tmp_path, *random_scripts(program, way, cases(500, 40)))
+    lines.run_in_shell(one_shell, tmp_path, *lines.random_scripts(program, way, cases(500, 40)))
 
 
 @IN_SHELLS
@@ -285,25 +279,7 @@ def test_scripts_on_page(program, one_shell, tmp_path, monkeypatch):
     assert "\n_getopts_shell_complete 'backup' '\n-i|--input FILE " in code
 
 
-@IN_SHELLS
-def test_file_called_like_an_option(program, one_shell, tmp_path):
-    """If a script passes its file's name as NAME, and the file is called like an option of the program that prints
-    something other than code, the script evaluates nothing. After `--`, any name is NAME."""
-    for name in "-u", "-hA", "--version", "--usage", "--complete=bash", "-czsh", "--complete-words=fish":
-        for before, status, wrote in ("", 5, b""), ("-- ", 0, b"1 A\n"):
-            (tmp_path / name).write_text(f"""code=$(getopts_shell --variables opt_ {before}"${{0##*/}}" '[-a]  x
-[FILE]..  y' "$@") || exit
-eval "$code"
-echo "$opt_a" "${{1%%?\\[*}}"
-""")
-            words = ["A\n[-a]  $(touch canary)", "$(touch canary)", "-a"]
-            done = subprocess.run([*one_shell, f"./{name}", *words], cwd=tmp_path, capture_output=True)
-            assert (done.returncode, done.stdout) == (status, wrote), name
-            assert (b"write '--' before it" in done.stderr) == (not wrote), name
-    assert not (tmp_path / "canary").exists()
-
-
-# Each sentence of the page, with each shell that it is about.
+# What the page says about shells, with each shell that it is about.
 SENTENCES = [pytest.param(row, name, id=f"{row[0][0]}-{name}") for row in rows_in("tests/shell/sentences.rows")
              for name in SHELLS if row[0][1] == "all" or name.split()[0] in row[0][1].split()]
 
@@ -335,30 +311,6 @@ eval "$code\""""
             (tmp_path / "canary").unlink(missing_ok=True)
 
 
-@pytest.fixture
-def open_room():
-    """A folder that every user can read and write."""
-    with tempfile.TemporaryDirectory(dir="/tmp") as room:
-        os.chmod(room, 0o777)
-        yield Path(room)
-
-
-def run_limited(seconds, program, room, *words, **env):
-    """Runs a command with this program as getopts_shell: its output, and how many processes it started. It runs as a
-    user of its own with at most thirty processes at a time, and is killed after these seconds."""
-    need("unshare", "setpriv", "prlimit")
-    if os.getuid() != 0:
-        pytest.skip("needs root, to limit another user's processes")
-    shutil.copy2(program, room / "getopts_shell")
-    user = 100_000 + os.getpid()
-    counted = f"""timeout -s KILL {seconds} "$@"; printf '\\0'; sh -c 'echo $$'; :"""
-    wrote, _ = run("unshare", "--pid", "--fork", "--kill-child=KILL", "setpriv", f"--reuid={user}", f"--regid={user}",
-                   "--clear-groups", "prlimit", "--nproc=30", "sh", "-c", counted, "sh", *words,
-                   cwd=room, env={"PATH": f"{room}:{os.environ['PATH']}", "TMPDIR": str(room), **env})
-    wrote, _, count = wrote.rpartition("\0")
-    return wrote, int(count)
-
-
 # Commands that a script may run before it reads its options, each with the shells that fork endlessly after it even
 # without getopts_shell.
 SETTINGS = {"set -eu": [], "set -fx": [], "set -v": [], "IFS=-_o2": [], "PS4='$(date)'; set -x": ["yash"],
@@ -368,35 +320,27 @@ SET = [(setting, name) for setting, forking in SETTINGS.items() for name in SHEL
 
 @IN_SHELLS
 @pytest.mark.parametrize("setting, one_shell", SET, indirect=["one_shell"])
-def test_same_options_after_a_setting(program, one_shell, open_room, setting):
-    """After such a command, a script reads the same options, and starts few processes."""
-    (open_room / "script").write_text(f"""{setting}
+def test_same_options_after_a_setting(program, one_shell, setting):
+    """After such a command, a script reads the same options, and starts few processes. It runs as a user of its own with
+    at most thirty processes at a time, and is killed after five minutes."""
+    need("unshare", "setpriv", "prlimit")
+    if os.getuid() != 0:
+        pytest.skip("needs root, to limit another user's processes")
+    user, counted = 100_000 + os.getpid(), """timeout -s KILL 300 "$@"; printf '\\0'; sh -c 'echo $$'; :"""
+    with tempfile.TemporaryDirectory(dir="/tmp") as room:
+        os.chmod(room, 0o777)
+        shutil.copy2(program, f"{room}/getopts_shell")
+        Path(room, "script").write_text(f"""{setting}
 code=$(getopts_shell --variables o_ n "[-v]  say more
 [-L DIR]..  a folder" -v -L 1 -L '2 3' "a b") || exit
 eval "$code"
 printf '%s|' "$o_v" "$o_L" "$1"
 """)
-    wrote, count = run_limited(300, program, open_room, *one_shell, "script")
-    assert wrote == "1|'1' '2 3'|a b|" and count < 25
-
-
-@IN_SHELLS
-@pytest.mark.parametrize("where", ["its name", "BASH_ENV", ".zshenv"])
-def test_script_that_calls_itself(program, open_room, where):
-    """A script called getopts_shell calls itself forever. As the README warns, so does a script whose shell runs the
-    line for completion at every start."""
-    shell = {"BASH_ENV": "bash", ".zshenv": "zsh"}.get(where, "sh")
-    need(shell)
-    text = f"""#!/usr/bin/env {shell}
-if [ "${{1-}}" = --completion ]; then exec getopts_shell --complete "$2" backup '[-v]  say more'; fi
-code=$(getopts_shell backup '[-v]  say more' "$@") || exit
-"""
-    script(open_room / "backup", text)
-    (open_room / ".zshenv").write_text(f'eval "$(backup --completion {shell})"\n')
-    env = {} if where == "its name" else {"BASH_ENV": f"{open_room}/.zshenv", "ZDOTDIR": str(open_room)}
-    # Ten seconds are enough for 25 processes, even on a busy machine.
-    _, count = run_limited(10, program if env else open_room / "backup", open_room, "backup", **env)
-    assert count > 25
+        wrote, _ = run("unshare", "--pid", "--fork", "--kill-child=KILL", "setpriv", f"--reuid={user}", f"--regid={user}",
+                       "--clear-groups", "prlimit", "--nproc=30", "sh", "-c", counted, "sh", *one_shell, "script",
+                       cwd=room, env={"PATH": f"{room}:{os.environ['PATH']}", "TMPDIR": room})
+    wrote, _, count = wrote.rpartition("\0")
+    assert wrote == "1|'1' '2 3'|a b|" and int(count) < 25
 
 
 @SAME_VERSION
@@ -433,72 +377,88 @@ def test_functions_of_start_c(compiler, tmp_path):
     assert run(*by, tmp_path / "start", "", "three") == ("as declared\n", "")
 
 
-def test_install(checked_in, tmp_path):
-    """Installs to PREFIX, below DESTDIR, and for another processor; --uninstall leaves nothing."""
-    def install(*words, status=0, **env):
-        """Runs the script, and returns its errors, or what it removed."""
-        said, errors = run("sh", SHELL / "install.sh", *words, status=status, cwd=tmp_path, env=env)
-        return errors or (said if words[0] == "--uninstall" else "")
+LICENCES = [SHELL / "LICENSE-musl", SHELL / "LICENSE-unicode", ROOT / "LICENSE-MIT", ROOT / "LICENSE-APACHE", ROOT / "NOTICE"]
 
-    install("a prefix", CDPATH=f"/:{SHELL}")
-    assert (tmp_path / "a prefix/bin/getopts_shell").read_bytes() == checked_in.read_bytes()
-    assert (tmp_path / "a prefix/share/man/man1/getopts_shell.1").is_file()
-    papers = {"LICENSE-musl", "LICENSE-unicode", "LICENSE-MIT", "LICENSE-APACHE", "NOTICE", "examples"}
-    assert set(os.listdir(tmp_path / "a prefix/share/doc/getopts_shell")) == papers
-    for name in papers - {"examples"}:
-        source = SHELL if (SHELL / name).exists() else ROOT
-        assert (tmp_path / "a prefix/share/doc/getopts_shell" / name).read_bytes() == (source / name).read_bytes()
-    # The page, from which the manual page is generated, names the examples.
-    named = set(re.findall(r"`(examples/\w+)`", (SHELL / "README.md").read_text()))
-    assert named == {f"examples/{name}" for name in os.listdir(SHELL / "examples")}
-    for name in named:
-        there = tmp_path / "a prefix/share/doc/getopts_shell" / name
-        assert there.read_bytes() == (SHELL / name).read_bytes() and os.access(there, os.X_OK)
-    for path in (tmp_path / "a prefix").rglob("*"):
-        assert path.is_dir() or path.stat().st_mode & 0o777 == (0o755 if path.parent.name in ("bin", "examples") else 0o644), path
-    (tmp_path / "a prefix/share/doc/getopts_shell/examples/own").write_text("others'")
+
+def files_in(folder):
+    return {str(path.relative_to(folder)): (path.stat().st_mode & 0o777, path.read_bytes())
+            for path in folder.rglob("*") if not path.is_dir()}
+
+
+def files_of(program, licences=LICENCES):
+    """What is installed. The page, from which the manual page is generated, names the examples."""
+    page, papers = SHELL / "README.md", "share/doc/getopts_shell"
+    examples = set(re.findall(r"`(examples/\w+)`", page.read_text()))
+    assert examples == {f"examples/{name}" for name in os.listdir(SHELL / "examples")}
+    return {"bin/getopts_shell": (0o755, program.read_bytes()),
+            "share/man/man1/getopts_shell.1": (0o644, run("awk", "-f", SHELL / "man.awk", page)[0].encode()),
+            **{f"{papers}/{it.name}": (0o644, it.read_bytes()) for it in licences},
+            **{f"{papers}/{name}": (0o755, (SHELL / name).read_bytes()) for name in examples}}
+
+
+@pytest.fixture(params=["sh", "zsh"])
+def install(request, tmp_path):
+    """install(WORD.., status=.., NAME=TEXT..) runs the script under a strict umask: its output and its errors."""
+    need(request.param)
+    return lambda *words, status=0, **env: run(
+        request.param, SHELL / "install.sh", *words, status=status, env=env, cwd=tmp_path, umask=0o077)
+
+
+def test_install(install, checked_in, tmp_path):
+    """--uninstall leaves only files of others."""
+    to = tmp_path / "a prefix"
+    said = f"installed {to}/bin/getopts_shell, its manual page and examples\n"
+    assert install("a prefix", CDPATH=f"/:{SHELL}") == (said, "") and files_in(to) == files_of(checked_in)
+    assert all(path.stat().st_mode & 0o555 == 0o555 for path in to.rglob("**"))
+    (to / "share/doc/getopts_shell/examples/own").write_text("others'")
+    for said in said.replace("installed", "removed"), f"nothing to remove in {to}\n":
+        assert install("--uninstall", "a prefix") == (said, "")
+    assert [*files_in(tmp_path)] == ["a prefix/share/doc/getopts_shell/examples/own"]
+
+
+def test_install_for_each_machine(install, tmp_path):
     for machine in ("x86_64", "aarch64"):
         install("/usr", DESTDIR="stage\n", MACHINE=machine)
-        there = SHELL / machine / "getopts_shell"
-        assert (tmp_path / "stage\n/usr/bin/getopts_shell").read_bytes() == there.read_bytes()
-    assert "no binary for m68k, only for aarch64 x86_64" in install("/nowhere", status=1, MACHINE="m68k")
-    assert not Path("/nowhere").exists()
-    # A link in the place of a file is replaced, its target stays. A folder there is an error, and so is another system.
-    (tmp_path / "page").write_text("others'")
-    (tmp_path / "a prefix/share/man/man1/getopts_shell.1").unlink()
-    (tmp_path / "a prefix/share/man/man1/getopts_shell.1").symlink_to(tmp_path / "page")
-    (tmp_path / "a prefix/bin/getopts_shell.new").symlink_to(tmp_path / "page")
-    install("a prefix")
-    assert (tmp_path / "page").read_text() == "others'" and not (tmp_path / "a prefix/bin/getopts_shell").is_symlink()
-    (tmp_path / "page").unlink()
-    (tmp_path / "to/bin/getopts_shell").mkdir(parents=True)
-    assert "to/bin/getopts_shell is a folder" in install("to", status=1)
-    (tmp_path / "bsd").mkdir()
-    (tmp_path / "bsd/uname").write_text('#!/bin/sh\n[ "$1" = -s ] && echo FreeBSD || echo amd64\n')
-    (tmp_path / "bsd/uname").chmod(0o755)
-    assert "no binary for FreeBSD, only for Linux" in install("other", status=1, PATH=f"{tmp_path}/bsd:{os.environ['PATH']}")
-    (tmp_path / "bsd/uname").unlink()
-    # A program built by cargo, which contains nothing of musl, and a root whose files nobody else may read.
-    script(tmp_path / "built", "own")
-    run("sh", "-c", 'umask 077; exec sh "$0" own', SHELL / "install.sh", cwd=tmp_path, env={"PROGRAM": "built"})
-    assert (tmp_path / "own/bin/getopts_shell").read_text() == "own"
-    assert set(os.listdir(tmp_path / "own/share/doc/getopts_shell")) == papers - {"LICENSE-musl"}
-    assert all(path.stat().st_mode & 0o555 == 0o555 for path in (tmp_path / "own").rglob("**"))
-    install("--uninstall", "own")
-    (tmp_path / "built").unlink()
-    assert f"no file {tmp_path}/built" in install("own", status=1, PROGRAM="built")
-    (tmp_path / "link").symlink_to(SHELL / "install.sh")
-    assert "through a symbolic link" in run("sh", tmp_path / "link", "other", status=1)[1]
-    (tmp_path / "link").unlink()
-    for said in ("removed {}/bin/getopts_shell, its manual page and examples\n", "nothing to remove in {}\n"):
-        assert install("--uninstall", "a prefix") == said.format(tmp_path / "a prefix")
-    (tmp_path / "a prefix/share/doc/getopts_shell/examples/own").unlink()
-    # If another folder of CDPATH has a folder of the script's name, cd would prefer it.
-    (tmp_path / "others/shell").mkdir(parents=True)
-    run("sh", "shell/install.sh", tmp_path / "third", cwd=SHELL.parent, env={"CDPATH": str(tmp_path / "others")})
-    install("--uninstall", "third")
+        assert files_in(tmp_path / "stage\n/usr") == files_of(SHELL / machine / "getopts_shell")
     install("--uninstall", "/usr", DESTDIR="stage\n/")
-    assert not [path for path in tmp_path.rglob("*") if not path.is_dir()]
+    assert not files_in(tmp_path) and not (tmp_path / "stage\n/usr/share/doc/getopts_shell").exists()
+
+
+def test_install_of_own_program(install, tmp_path):
+    """A program built by cargo contains nothing of musl. Links in the place of files are replaced, their targets stay."""
+    program, page = script(tmp_path / "built", "own"), script(tmp_path / "page", "others'")
+    for name in ("bin/getopts_shell.new", "share/man/man1/getopts_shell.1"):
+        (tmp_path / "to" / name).parent.mkdir(parents=True)
+        (tmp_path / "to" / name).symlink_to(page)
+    install("to", PROGRAM="built")
+    assert files_in(tmp_path / "to") == files_of(program, LICENCES[1:]) and page.read_text() == "others'"
+
+
+def test_install_with_cdpath(checked_in, tmp_path):
+    """If another folder of CDPATH has a folder of the script's name, cd would prefer it."""
+    (tmp_path / "others/shell").mkdir(parents=True)
+    run("sh", "shell/install.sh", tmp_path / "to", cwd=SHELL.parent, env={"CDPATH": str(tmp_path / "others")})
+    assert files_in(tmp_path / "to") == files_of(checked_in)
+
+
+def test_failed_installations(install, checked_in, tmp_path):
+    """Nothing is left of a file that can't be written, and the installed one stays."""
+    install("to")
+    (tmp_path / "folder/bin/getopts_shell").mkdir(parents=True)
+    (tmp_path / "own").mkdir()
+    script(tmp_path / "own/uname", '#!/bin/sh\n[ "$1" = -s ] && echo FreeBSD || echo amd64\n')
+    script(tmp_path / "own/cat", '#!/bin/sh\nhead -c 9 "$1"; echo "no space left" >&2; exit 1\n')
+    path = {"PATH": f"{tmp_path}/own:{os.environ['PATH']}"}
+    for prefix, env, error in [
+            ("folder", {}, f"install.sh: {tmp_path}/folder/bin/getopts_shell is a folder"),
+            ("to", {"MACHINE": "m68k"}, "install.sh: no binary for m68k, only for aarch64 x86_64"),
+            ("to", {"PROGRAM": "built"}, f"install.sh: no file {tmp_path}/built"),
+            ("to", path, "install.sh: no binary for FreeBSD, only for Linux; see README.md for building with cargo"),
+            ("to", path | {"MACHINE": MACHINE}, f"no space left\ninstall.sh: can't write {tmp_path}/to/bin/getopts_shell")]:
+        assert install(prefix, status=1, **env) == ("", f"{error}\n")
+    (tmp_path / "link").symlink_to(SHELL / "install.sh")
+    assert "through a symbolic link" in run("sh", tmp_path / "link", tmp_path / "to", status=1)[1]
+    assert files_in(tmp_path / "to") == files_of(checked_in)
 
 
 def test_damaged_binary(checked_in, tmp_path):
@@ -509,22 +469,6 @@ def test_damaged_binary(checked_in, tmp_path):
     assert errors == (f"install.sh: {MACHINE}/getopts_shell is damaged: run 'git checkout -- {MACHINE}' in {folder}, "
                       "or clone the repository again\n")
     assert not (tmp_path / "to").exists()
-
-
-def test_failed_copy(checked_in, tmp_path):
-    """If a file can't be written, nothing is left of it, and the installed one stays."""
-    run("sh", SHELL / "install.sh", tmp_path / "to")
-    script(tmp_path / "cat", '#!/bin/sh\nhead -c 9 "$1"; echo "no space left" >&2; exit 1\n')
-    errors = run("sh", SHELL / "install.sh", tmp_path / "to", status=1, env={"PATH": f"{tmp_path}:{os.environ['PATH']}"})[1]
-    assert errors == f"no space left\ninstall.sh: can't write {tmp_path}/to/bin/getopts_shell\n"
-    assert os.listdir(tmp_path / "to/bin") == ["getopts_shell"]
-    assert (tmp_path / "to/bin/getopts_shell").read_bytes() == checked_in.read_bytes()
-
-
-@pytest.mark.parametrize("word", ["--help", "-h"])
-def test_help_of_install(word):
-    comment = re.match(r"#!.*\n((?:#.*\n)+)", (SHELL / "install.sh").read_text())[1]
-    assert run("sh", SHELL / "install.sh", word) == (re.sub("^# ?", "", comment, flags=re.M), "")
 
 
 @pytest.mark.parametrize("words", [[], [""], ["--nope"], ["a", "b"], ["--uninstall"]])

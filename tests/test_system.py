@@ -26,7 +26,6 @@ SHOWN, REJECTED, NOTHING, NOT_WRITTEN = 0, 2, 3, 4
 NOT_LOADED = 127
 
 MIB = 1 << 20
-LARGE = 100_000_000
 # The longest argument, without its NUL, that Linux passes to a program.
 LONGEST = 131_071
 LONG_WORDS = ["x" * 100_000] * 15
@@ -34,6 +33,8 @@ ERROR = b"getopts_show: Unrecognized option: 'nope'\n"
 # What each program writes to standard error if its output fails.
 FAILED = {SHOW: b"", SHELL: b"getopts_shell: writing the output failed\n"}
 FAILED[BUILT] = FAILED[SHELL]
+# And if memory runs out.
+NO_MEMORY = {SHOW: b"", SHELL: b"getopts_shell: out of memory\n"}
 
 
 @pytest.fixture(autouse=True)
@@ -86,10 +87,6 @@ def output(given=(), free=()):
 
 
 V_X = output([("verbose", 0, None)], ["x"])
-
-
-def test_many_words():
-    check("200 words", run(["free"] * 200), SHOWN, output(free=["free"] * 200))
 
 
 def test_words_that_are_not_utf8():
@@ -165,15 +162,6 @@ def test_limited_file_size(program, words, ignored, tmp_path):
               (FAILED[program] if wanted == NOT_WRITTEN else b"") + text[:most])
 
 
-def test_full_pipe():
-    reader, writer = os.pipe()
-    os.set_blocking(writer, False)
-    status, _ = run([*GIVEN, *LONG_WORDS], SHELL, stdout=writer)
-    os.close(writer)
-    with os.fdopen(reader, "rb") as some:
-        check("static, a full pipe", (status, some.read()[:6]), NOT_WRITTEN, CODE[:6])
-
-
 @pytest.mark.parametrize("program, words, status, text", [
     (SHOW, ["-v", "x"], SHOWN, V_X), (SHOW, ["--nope"], REJECTED, ERROR),
     (BUILT, ["x", "[-a]", "-a"], SHOWN, b"\\set -- '--a' '--'\n"),
@@ -190,9 +178,12 @@ def test_short_and_failing_writes(program, words, status, text, preload):
             assert again or ended == (NOT_WRITTEN, text[:at - 1] + FAILED[program]), f"write {at} fails with error {error}"
 
 
-def test_large_words(preload):
+def test_large_words():
     word = "x" * LONGEST
     check("the longest word that the system allows", run([word]), SHOWN, output(free=[word]))
+    value = word[:-len("--output=")]
+    check("the longest value", run([f"--output={value}"]), SHOWN, output([("output", 0, value)]))
+    check("the longest name", run([f"--{word[2:]}"]), REJECTED, b"getopts_show: Unrecognized option: '%s'\n" % word[2:].encode())
     check("many long words", run(LONG_WORDS), SHOWN, output(free=LONG_WORDS))
     for what, free in (("words", ["x", ""]), ("the longest word", [word]), ("long words", LONG_WORDS),
                        ("many words", ["f"] * 20_000), ("no words", [])):
@@ -202,46 +193,40 @@ def test_large_words(preload):
     with pytest.raises(OSError) as longer:
         run(["x" * (LONGEST + 1)])
     assert longer.value.errno == errno.E2BIG
-    letters = "x" * LARGE
-    for head, text in (("", lambda: output(free=[letters])), ("--output=", lambda: output([("output", 0, letters)])),
-                       ("-o", lambda: output([("output", 0, letters)])),
-                       ("--", lambda: b"getopts_show: Unrecognized option: '" + letters.encode() + b"'\n")):
-        given = {**preload, "WORD_BYTES": str(LARGE), "WORD_HEAD": head}
-        check(f"a word of {head!r} and 100 MB", run(environment=given), REJECTED if head == "--" else SHOWN, text())
-        with open("/dev/full", "wb") as full:
-            check("the same with a full output", run(environment=given, stdout=full), NOT_WRITTEN, b"")
 
 
 def try_limits(what, limits, status, text, **how):
     """Runs with increasing limits on memory. With too little, the system can't start the program, and nothing is
-    written; with more, the program reports that it is out of memory, and writes nothing; with enough, it works."""
+    written; with more, the program reports that it is out of memory, and writes nothing else; with enough, it works."""
     begun = enough = 0
+    nothing = NOTHING, NO_MEMORY[how.get("program", SHOW)]
     for most in limits:
         try:
             ended = run(limits={resource.RLIMIT_AS: most}, **how)
         except OSError as error:
             ended = (-error.errno, b"")
-        begun += ended in ((NOTHING, b""), (status, text))
+        begun += ended in (nothing, (status, text))
         enough += ended == (status, text)
-        right = ended in ((NOTHING, b""), (status, text)) or (not begun and not ended[1])
-        assert right, f"{what} in {most} bytes: status {ended[0]}, wrote {described(ended[1])}"
+        # Status 3 without its error is wrong, and doesn't mean that the system couldn't start the program.
+        not_started = not begun and not ended[1] and ended[0] != NOTHING
+        assert not_started or ended in (nothing, (status, text)), \
+            f"{what} in {most} bytes: status {ended[0]}, wrote {described(ended[1])}"
     assert 0 < enough < begun, f"{what}: started {begun} times, with enough memory {enough} times"
 
 
-def test_little_memory(preload):
+def test_little_memory():
     try_limits("long words", range(MIB // 4, 20 * MIB, MIB // 4), SHOWN, output(free=LONG_WORDS), words=LONG_WORDS)
     try_limits("an error", range(MIB // 8, 4 * MIB, MIB // 32), REJECTED, ERROR, words=["--nope"])
-    try_limits("a word of 100 MB", range(200 * MIB, 900 * MIB, 50 * MIB), SHOWN, output([("output", 0, "x" * LARGE)]),
-               environment={**preload, "WORD_BYTES": str(LARGE), "WORD_HEAD": "-o"})
     try_limits("static, words", range(MIB // 8, MIB, 4096), SHOWN, CODE, words=[*GIVEN, "x"], program=SHELL)
     try_limits("static, long words", range(MIB // 4, 20 * MIB, MIB // 4), SHOWN, run([*GIVEN, *LONG_WORDS], SHELL)[1],
                words=[*GIVEN, *LONG_WORDS], program=SHELL)
 
 
 @pytest.mark.parametrize("program, words, text, sizes", [
-    (SHOW, ["-v", "x"], V_X, (16, 24, 32, 48, 64, 96, 128, 256, 1024)), (SHELL, [*GIVEN, "x"], CODE, (16, 32, 64, 256)),
+    (SHOW, ["-v", "x"], V_X, (24, 32, 48, 64, 96, 128, 256, 1024)), (SHELL, [*GIVEN, "x"], CODE, (24, 32, 64, 256)),
     (SHOW, ["f"] * 20_000, output(free=["f"] * 20_000), (2048, 4096, 8192))], ids=["show", "shell", "many words"])
 def test_little_stack(program, words, text, sizes):
-    """Limits on the stack. The system itself puts the arguments there before the program starts."""
+    """Limits on the stack. Before the program starts, the system itself puts the arguments and the environment there, and
+    leaves up to 8 KiB unused at random."""
     for kib in sizes:
         check(f"a stack of {kib} KiB", run(words, program, {resource.RLIMIT_STACK: kib * 1024}), SHOWN, text)

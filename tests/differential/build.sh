@@ -8,6 +8,7 @@
 # With GETOPTS, Debian's packages replace the public registry if they include all dependencies. CARGO_FLAGS is passed
 # to cargo.
 set -euo pipefail
+unset CDPATH
 case ${1:-} in --help | -h) sed -n '2,/^[^#]/s/^# \{0,1\}//p' "$0"; exit ;; esac
 if [ $# -lt 2 ] || [ $# -gt 3 ]; then
     echo 'usage: tests/differential/build.sh PACKAGE OUT [GETOPTS]' >&2

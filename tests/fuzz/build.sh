@@ -1,23 +1,21 @@
 #!/usr/bin/env bash
 # Builds a fuzzer, the program OUT/TARGET, with cargo and clang's libFuzzer.
-# usage: tests/fuzz/build.sh TARGET OUT [CRATE]
-#   TARGET   compare, promises, shell or c (see README.md)
-#   OUT      a folder outside the repository; later builds reuse what is there
-#   CRATE    a folder with the crate getopts; without it, cargo downloads 0.2.24
+# usage: tests/fuzz/build.sh shell|c OUT
+#   OUT   a folder outside the repository; later builds reuse what is there
 #
-# With CRATE, and for c, Debian's unicode-width is used if it is installed. CARGO_FLAGS is passed to cargo.
+# Debian's unicode-width is used if it is installed. CARGO_FLAGS is passed to cargo.
 set -euo pipefail
+unset CDPATH
 case ${1:-} in --help | -h) sed -n '2,/^[^#]/s/^# \{0,1\}//p' "$0"; exit ;; esac
-if [ $# -lt 2 ] || [ $# -gt 3 ] || [[ ! $1 =~ ^(compare|promises|shell|c)$ ]]; then
-    echo 'usage: tests/fuzz/build.sh compare|promises|shell|c OUT [CRATE]' >&2
+if [ $# != 2 ] || [[ ! $1 =~ ^(shell|c)$ ]]; then
+    echo 'usage: tests/fuzz/build.sh shell|c OUT' >&2
     exit 2
 fi
 mkdir -p "$2"
 target=$1 out=$(cd "$2" && pwd) here=$(cd "$(dirname "$0")" && pwd)
 read -r -a flags <<<"${CARGO_FLAGS:-}"
-[ -z "${3:-}" ] || flags+=(--config "patch.crates-io.getopts.path = '$(cd "$3" && pwd)'")
 registry=/usr/share/cargo/registry
-if { [ "${3:-}" ] || [ "$target" = c ]; } && compgen -G "$registry/unicode-width-*" >/dev/null; then
+if compgen -G "$registry/unicode-width-*" >/dev/null; then
     flags+=(--offline --config 'source.crates-io.replace-with="debian"' --config "source.debian.directory='$registry'")
 fi
 # Cargo looks for configurations above the current folder, and other users may put some into /tmp.
@@ -31,20 +29,16 @@ done
 export RUSTFLAGS RUSTC_BOOTSTRAP=1
 build() {
     cargo build --release --quiet --manifest-path "$package/Cargo.toml" --target "$host" \
-        --target-dir "$out/$target.build" "${flags[@]}" "$@"
+        --target-dir "$out/$target.build" "${flags[@]}"
 }
 built=$out/$target.build/$host/release
 if [ "$target" = c ]; then
     package=$here/../../bindings/c
     export CARGO_PROFILE_RELEASE_{LTO=off,DEBUG_ASSERTIONS=true,OVERFLOW_CHECKS=true}
     RUSTFLAGS+=' -Zsanitizer=address' build
-    # The program's own functions make allocations fail.
-    objcopy --redefine-sym malloc=fuzz_malloc --redefine-sym realloc=fuzz_realloc "$built/libgetopts.a" "$out/libgetopts.a"
     clang -g -O1 -Wall -Wextra -fsanitize=fuzzer,address,undefined -fno-sanitize-recover=undefined -I "$package" \
-        "$here/c.c" "$out/libgetopts.a" -o "$out/c"
+        "$here/c.c" "$built/libgetopts.a" -o "$out/c"
 else
-    [ "$target" = compare ] || flags+=(--features proved)
-    RUSTFLAGS+=" -Clink-arg=$(clang -print-runtime-dir)/libclang_rt.fuzzer-${host%%-*}.a -Clink-arg=-lstdc++"
-    build --bin "$target"
-    cp "$built/$target" "$out/$target"
+    RUSTFLAGS+=" -Clink-arg=$(clang -print-runtime-dir)/libclang_rt.fuzzer-${host%%-*}.a -Clink-arg=-lstdc++" build
+    cp "$built/shell" "$out/shell"
 fi

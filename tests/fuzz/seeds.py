@@ -1,5 +1,5 @@
 #!/usr/bin/env python3
-"""Writes first inputs for a fuzzer: seeds.py compare|promises|shell|c FOLDER."""
+"""Writes first inputs for a fuzzer: seeds.py shell|c FOLDER."""
 
 import sys
 from itertools import product
@@ -10,18 +10,7 @@ from texts import CLASSES
 
 # The ASCII characters of each class.
 TEXTS = [text for members in CLASSES.values() if (text := "".join(filter(str.isascii, members[:20])).encode())]
-# 0xFE ends a field; bytes from 0x80 stand for texts. For compare and promises:
-OPTIONS = [
-    b"\x10v\xfeverbose\xfe\xfesay more",
-    b"\x24o\xfeoutput\xfeNAME\xfeset the output file, which is a long description that has to be wrapped twice or more",
-    b"\x2do\xfeoutput\xfeNAME\xfe\xfe\x12c\xfecolor\xfeWHEN\xfe\x82\x83 wide \x85\xfe\x09v\xfe\xfe\xfe\xfe\x1bI\xfe\xfeDIR\xfe",
-    b"\x3f\xfeprefix-0123456789a\xfe\xfe\xfe\x3f\xfeprefix-0123456789b\xfe\xfe\xfe\x3f\xfea=b\xfe\xfe\xfe\x12-\xfe\xa8a\xfe\xfe",
-]
-LINES = [b"-v\xfe--output=x\xfey", b"-vvo\xfex\xfe--\xfe-v", b"\xfe-\xfe--", b"-Ia\xfe-cIx\xfe--color=\xfe\xe0\xe1",
-         b"\xaa\xe0=z\xfe\xaa\xe2", b"-c\xfe-\xfe-c\xfe-v", b"-\xbe\xfe\xbf"]
-OPTIONS += [b"\xfe".join(b"\x09%c\xfe\xfe\xfe" % char for char in text) for text in TEXTS]
-LINES += [b"\xfe".join(b"-%c\xfe--%c" % (char, char) for char in text) for text in TEXTS]
-# For shell:
+# 0xFE ends a field; bytes from 0x80 stand for texts. For shell:
 TABLES = [b"\x93\x92\x94\x90\x91", b"\x92-i|--input FILE  read\n\x95[SOURCE]", b"\x96\x97[--a-b]\n[-x [Y]]..\n",
           b"-a\n--bc D\nSRC\n[DEST]\n", b"\x93# text\n  [-q]!  say \x9c\nFILE.."]
 ARGUMENTS = [b"\xad\xfex\xfe\xa6\xfey", b"\xaf\x9c\xfe-L\xfe\x9d\xfe\x9e", b"\x90\xfe\x98", b"-a\xfe--bc=\xa2\xfea\xfeb",
@@ -40,10 +29,7 @@ WORDS = [b"-av\xfe--output=7\xfex\xfe--\xfe-v", b"-b\xfe5\xfe-c\xfered\xfe--dir=
 
 
 def seeds(target):
-    if target in ("compare", "promises"):
-        for number, (options, line) in enumerate(product(OPTIONS, LINES)):
-            yield bytes([number % 4, 78]) + b"Usage: x\xfe" + options + b"\xffv\xfeoutput\xfeno\xff" + line
-    elif target == "shell":
+    if target == "shell":
         modes = [0, 4, 8, 12, 20, 36, 64, 96, 129, 140]
         for number, (mode, table, line) in enumerate(product(modes, TABLES, ARGUMENTS)):
             yield bytes([mode, number % 64]) + b"p_\xfe" + table + b"\xfe" + line
@@ -56,7 +42,7 @@ def seeds(target):
 if sys.argv[1:] in (["--help"], ["-h"]):
     print(__doc__)
     sys.exit()
-if len(sys.argv) != 3 or sys.argv[1] not in ("compare", "promises", "shell", "c"):
-    sys.exit("usage: tests/fuzz/seeds.py compare|promises|shell|c FOLDER")
+if len(sys.argv) != 3 or sys.argv[1] not in ("shell", "c"):
+    sys.exit("usage: tests/fuzz/seeds.py shell|c FOLDER")
 for place, seed in enumerate(seeds(sys.argv[1])):
     (Path(sys.argv[2]) / f"seed{place:03}").write_bytes(seed)

@@ -1,6 +1,7 @@
 """Random arguments for random tables, and what a shell does with the program's code. Expected results are computed here
 and by model.py, from the rules and not from the program."""
 
+import functools
 import os
 import random
 import re
@@ -112,6 +113,7 @@ def canonical(options, given, free):
     return [f"--{mains[place]}" + ("" if value is None else f"={value}") for place, value in given] + ["--"] + free
 
 
+@functools.cache
 def random_scripts(program, way, count):
     """Scripts that read random words, each with its expected output: the words of the canonical line, or the values of
     variables or arrays. Also the program's code for each, and an environment with other values for all variables."""

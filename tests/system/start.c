@@ -11,7 +11,6 @@
 #include <string.h>
 #include <unistd.h>
 
-
 static int failed;
 
 static void expect(bool holds, const char *what) {

@@ -20,6 +20,8 @@ pub fn run(
         "copied" => return Some(whole(input, args, times, copied)),
         #[cfg(feature = "over_ours")]
         "os" => return Some(over_ours::os(input, args, times)),
+        #[cfg(feature = "over_ours")]
+        "order" => return Some(over_ours::order(input, args, times)),
         _ => {}
     }
     let options = declared(&input.options);
@@ -118,7 +120,7 @@ fn total_length(texts: &[String]) -> usize {
 mod over_ours {
     use super::{declared, iterations, total_length};
     use crate::input::{Args, Input, Named};
-    use getopts::Matches;
+    use getopts::{Given, Matches};
 
     /// Adds up the matches with a call that borrows the values.
     pub fn taken(matches: &Matches, named: &[Named]) -> usize {
@@ -129,6 +131,20 @@ mod over_ours {
             }
         }
         sum
+    }
+
+    /// Each iteration declares the options, parses the words, and takes options and free words in
+    /// order.
+    pub fn order(input: &Input, args: &mut dyn FnMut() -> Args, times: usize) -> usize {
+        iterations(times, || {
+            let options = declared(&input.options);
+            let given = options.parse_in_order(args()).expect("the line is valid");
+            let lengths = given.iter().map(|given| match given {
+                Given::Option { value, .. } => 1 + value.as_ref().map_or(0, String::len),
+                Given::Free(word) => word.len(),
+            });
+            lengths.sum()
+        })
     }
 
     /// Each iteration declares the options, parses the words as `OsString`s, and takes counts and

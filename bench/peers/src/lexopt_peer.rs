@@ -12,7 +12,7 @@ use std::ffi::OsString;
 pub type Iteration = fn(Args) -> usize;
 
 /// The iteration for a line, by its name: a struct with a field for each option, and a `match` on
-/// each item.
+/// each item. In order, it stores nothing.
 macro_rules! lines {
     ($($line:literal { $($field:ident: $held:ty = $option:pat,)* })*) => {
         pub fn iteration_of(line: &str) -> Option<Iteration> {
@@ -40,6 +40,24 @@ macro_rules! lines {
             }
         }
     };
+    (in order $($line:literal { $($field:ident: $held:ty = $option:pat,)* })*) => {
+        pub fn order_of(line: &str) -> Option<Iteration> {
+            match line {
+                $($line => Some(|args| {
+                    let (mut sum, mut parser) = (0, Parser::from_args(args));
+                    while let Some(item) = parser.next().expect("the line is valid") {
+                        sum += match item {
+                            $($option => <$held>::taken(&mut parser),)*
+                            Value(word) => text(word).len(),
+                            _ => panic!("the option is declared"),
+                        };
+                    }
+                    sum
+                }),)*
+                _ => None,
+            }
+        }
+    };
 }
 
 include!("lines.rs");
@@ -51,6 +69,11 @@ trait Held {
 
     /// Its count, and the lengths of its values.
     fn sum(&self) -> usize;
+
+    /// What the option that the parser returned adds to that.
+    fn taken(parser: &mut Parser) -> usize {
+        1 + value(parser).len()
+    }
 }
 
 /// A flag's count.
@@ -61,6 +84,10 @@ impl Held for usize {
 
     fn sum(&self) -> usize {
         *self
+    }
+
+    fn taken(_parser: &mut Parser) -> usize {
+        1
     }
 }
 

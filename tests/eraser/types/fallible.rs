@@ -31,6 +31,7 @@ impl String {
     pub fn try_grow(&mut self, _: usize) -> Result<(), AllocError> { loop {} }
     pub fn try_push_str(&mut self, _: &str) -> Result<(), AllocError> { loop {} }
     pub fn try_push(&mut self, _: char) -> Result<(), AllocError> { loop {} }
+    pub fn try_shrink(&mut self) { loop {} }
     pub fn try_clone(&self) -> Result<String, AllocError> { loop {} }
     pub fn as_str(&self) -> &str { loop {} }
 }
@@ -38,11 +39,9 @@ impl<T> Vec<T> {
     pub fn empty(_: Global) -> Vec<T> { loop {} }
     pub fn of_capacity(_: Global, _: usize) -> Result<Vec<T>, AllocError> { loop {} }
     pub fn try_grow(&mut self, _: usize) -> Result<(), AllocError> { loop {} }
-    pub fn try_grow_exact(&mut self, _: usize) -> Result<(), AllocError> { loop {} }
     pub fn try_push(&mut self, _: T) -> Result<(), AllocFailed<T>> { loop {} }
     pub fn try_split_off(&mut self, _: usize) -> Result<Vec<T>, AllocError> { loop {} }
     pub fn push_reserved(&mut self, _: T) { loop {} }
-    pub fn capacity(&self) -> usize { loop {} }
     pub fn as_slice(&self) -> &[T] { loop {} }
     pub fn truncate(&mut self, _: usize) { loop {} }
     pub fn dedup_by(&mut self, _: impl FnMut(&mut T, &mut T) -> bool) { loop {} }
@@ -51,6 +50,7 @@ impl<T> Vec<T> {
 impl<T: Copy> Vec<T> {
     pub fn filled(_: Global, _: T, _: usize) -> Result<Vec<T>, AllocError> { loop {} }
     pub fn try_extend_from_slice(&mut self, _: &[T]) -> Result<(), AllocError> { loop {} }
+    pub fn try_shrink(&mut self) { loop {} }
     pub fn try_clone(&self) -> Result<Vec<T>, AllocError> { loop {} }
     pub fn try_sort_by(&mut self, _: impl FnMut(&T, &T) -> Ordering) -> Result<(), AllocError> { loop {} }
 }

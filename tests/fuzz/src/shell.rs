@@ -1,11 +1,13 @@
 //! Runs the shell program in this process, on a table and words that contain code. Checks that the
 //! output, which a script evaluates, only assigns quoted words to variables with the script's
-//! prefix, and sets the operands to quoted words. If an allocation fails, the program prints
-//! nothing and returns 3.
+//! prefix, and sets the operands to quoted words. If an allocation fails, the program only reports
+//! that, and returns 3.
 #![no_main]
 
-use fuzz::check;
-use fuzz::heap::{Heap, exempt, failing};
+#[path = "../../../bindings/rust/tests/heap/mod.rs"]
+mod heap;
+
+use heap::{Heap, exempt, failing};
 
 #[allow(dead_code, unused_imports)]
 #[rustfmt::skip]
@@ -203,7 +205,7 @@ impl Code<'_> {
 fn call(words: &[Vec<u8>], count: usize) -> (u8, Vec<u8>, Vec<u8>, bool) {
     let (out, err) = (host::Output::default(), host::Output::default());
     let host = host::HostRuntime { words: words.to_vec(), out: out.clone(), err: err.clone() };
-    let (status, failed) = failing(count, || program::main(host));
+    let (status, failed) = failing(count, false, || program::main(host));
     // An `ExitCode` can only be printed.
     let status = (0..6)
         .find(|code| format!("{:?}", std::process::ExitCode::from(*code)) == format!("{status:?}"));
@@ -251,12 +253,17 @@ fn run(input: &[u8]) {
         }
     }
     let (other, part, errors, failed) = call(&words, *nth as usize % 60);
-    check!(failed == (other == 3), failed, other);
+    assert_eq!(failed, other == 3, "status {other}");
     assert!(if failed {
-        part.is_empty() && errors.is_empty()
+        part.is_empty() && errors == b"getopts_shell: out of memory\n"
     } else {
         part == out && errors == err
     });
 }
 
-fuzz::target!(run);
+#[no_mangle]
+extern "C" fn LLVMFuzzerTestOneInput(input: *const u8, len: usize) -> i32 {
+    // A panic ends the process here.
+    run(if len == 0 { &[] } else { unsafe { std::slice::from_raw_parts(input, len) } });
+    0
+}

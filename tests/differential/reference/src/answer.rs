@@ -1,10 +1,9 @@
 //! The Rust crate's answers to the lines of cases.
 
 use crate::form::Line;
-use crate::library::{copy_of, Fail, HasArg, Matches, Occur, Options, ParsingStyle};
+use crate::library::{copy_of, Fail, Matches, Options, ParsingStyle};
 use crate::options::{Group, CALLS};
-#[cfg(feature = "canonical")]
-use getopts::Given;
+use std::fmt::Display;
 use std::panic::catch_unwind;
 use std::str::FromStr;
 
@@ -45,7 +44,7 @@ pub struct Session {
 }
 
 /// `-` without a value, else `=` and the value.
-pub fn optional(value: Option<String>) -> String {
+pub fn optional(value: Option<impl Display>) -> String {
     value.map_or("-".to_string(), |value| format!("={value}"))
 }
 
@@ -80,7 +79,6 @@ impl Session {
                 "long-only" => _ = options.long_only(true),
                 other => panic!("unknown mode {other}"),
             },
-            "chained" => chained(options),
             "words" => self.side.read = Some(options.parse(fields)),
             #[cfg(feature = "canonical")]
             "ignoring_counts" => self.side.read = Some(options.parse_ignoring_counts(fields)),
@@ -140,51 +138,13 @@ impl Session {
     }
 }
 
-/// Sets style and mode, and adds a group with each method, in one chain.
-fn chained(options: &mut Options) {
-    options
-        .parsing_style(ParsingStyle::StopAtFirstFree)
-        .long_only(true)
-        .optflag("a", "apple", "take an apple")
-        .optopt("o", "output", "write to this file", "NAME")
-        .parsing_style(ParsingStyle::FloatingFrees)
-        .optflagmulti("v", "verbose", "say more")
-        .long_only(false)
-        .optmulti("L", "", "add a folder", "DIR")
-        .optflagopt("c", "color", "colour the output", "WHEN")
-        .reqopt("i", "input", "read this file", "NAME")
-        .opt("t", "tag", "add a tag", "TAG", HasArg::Maybe, Occur::Multi)
-        .long_only(true)
-        .parsing_style(ParsingStyle::StopAtFirstFree);
-}
-
 #[cfg(feature = "canonical")]
 fn canonical(options: &Options, words: &[String]) -> String {
     match options.canonical(words) {
-        Ok(Some(written)) => {
-            assert!(is_in_order(&options.parse_in_order(words).unwrap(), &written));
-            line(&["canonical", "line"], written)
-        }
+        Ok(Some(written)) => line(&["canonical", "line"], written),
         Ok(None) => line(&["canonical", "none"], []),
-        Err(fail) => {
-            assert_eq!(options.parse_in_order(words).err().as_ref(), Some(&fail));
-            line(&["canonical", "refused"], error_fields(&fail))
-        }
+        Err(fail) => line(&["canonical", "refused"], error_fields(&fail)),
     }
-}
-
-/// Whether a canonical line consists of these options, then `--`, then these free words.
-#[cfg(feature = "canonical")]
-fn is_in_order(given: &[Given], line: &[String]) -> bool {
-    let (mut options, mut free) = (Vec::new(), vec!["--".to_string()]);
-    for given in given {
-        match given {
-            Given::Option { name, value: Some(value) } => options.push(format!("--{name}={value}")),
-            Given::Option { name, value: None } => options.push(format!("--{name}")),
-            Given::Free(word) => free.push(word.clone()),
-        }
-    }
-    [options, free].concat() == line
 }
 
 /// The kind of an error and its name.
@@ -249,12 +209,11 @@ fn ask_of_matches(matches: &Matches, asked: &Line) -> String {
 }
 
 /// A converted value, without and with a default.
-fn got<T: FromStr + ToString>(matches: &Matches, name: &str, default: &str) -> [String; 2] {
+fn got<T: FromStr + Display>(matches: &Matches, name: &str, default: &str) -> [String; 2] {
     let default = default.parse::<T>().ok().expect("a default");
-    let value = matches.opt_get::<T>(name).map(|got| got.map(|it| it.to_string()));
-    let or = matches.opt_get_default(name, default).map(|it| it.to_string());
-    let error = "error".to_string();
-    [value.map_or(error.clone(), optional), or.unwrap_or(error)]
+    let (value, or) = (matches.opt_get::<T>(name), matches.opt_get_default(name, default));
+    let error = || "error".to_string();
+    [value.map_or_else(|_| error(), optional), or.map_or_else(|_| error(), |it| it.to_string())]
 }
 
 fn positions(matches: &Matches, name: &str) -> Vec<String> {
@@ -288,10 +247,10 @@ fn any(matches: &Matches, names: &[String]) -> String {
 /// have to agree.
 fn names_lawful(short: &str, long: &str) -> bool {
     let taken = CALLS.iter().map(|(call, ..)| {
-        let group = Group::named(short, long, (call, "no", "multi"));
+        let fields = [call, short, long].map(String::from).to_vec();
         catch_unwind(move || {
             let mut options = Options::new();
-            group.add(&mut options);
+            Group::of_line(&Line(fields)).expect("a group").add(&mut options);
             let _ = options.parse(Vec::<String>::new());
         })
         .is_ok()

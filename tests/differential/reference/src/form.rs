@@ -3,17 +3,7 @@
 
 /// Escapes a text for a field.
 pub fn escaped(text: &str) -> String {
-    let mut field = String::with_capacity(text.len());
-    for c in text.chars() {
-        match c {
-            '\t' => field.push_str("\\t"),
-            '\n' => field.push_str("\\n"),
-            '\r' => field.push_str("\\r"),
-            '\\' => field.push_str("\\\\"),
-            c => field.push(c),
-        }
-    }
-    field
+    text.replace('\\', "\\\\").replace('\t', "\\t").replace('\n', "\\n").replace('\r', "\\r")
 }
 
 /// The text of an escaped field.
@@ -37,14 +27,10 @@ fn text_of(field: &str) -> Option<String> {
 }
 
 /// A line: its word and its fields.
-#[derive(Clone, Debug, PartialEq, Eq, Hash, PartialOrd, Ord)]
+#[derive(Clone, Debug)]
 pub struct Line(pub Vec<String>);
 
 impl Line {
-    pub fn new(parts: &[&str]) -> Line {
-        Line(parts.iter().map(|part| part.to_string()).collect())
-    }
-
     /// The line as written, with a newline.
     pub fn written(&self) -> String {
         let fields: Vec<String> = self.0.iter().map(|part| escaped(part)).collect();
@@ -69,27 +55,8 @@ impl Line {
     }
 }
 
-/// The lines of one case.
-#[derive(Clone, Debug)]
-pub struct Case {
-    pub lines: Vec<Line>,
-}
-
-impl Case {
-    pub fn written(&self) -> String {
-        self.lines.iter().map(Line::written).collect()
-    }
-}
-
 /// A line with its answer below it, each of whose lines begins with `> `. `case` has no answer.
 pub fn row(line: &Line, answer: &str) -> String {
-    let mut row = line.written();
-    if line.word() != "case" {
-        for answered in answer.lines() {
-            row += "> ";
-            row += answered;
-            row.push('\n');
-        }
-    }
-    row
+    let answered = if line.word() == "case" { "" } else { answer };
+    answered.lines().fold(line.written(), |row, line| row + "> " + line + "\n")
 }

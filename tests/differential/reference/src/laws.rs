@@ -1,31 +1,14 @@
-//! Laws of the calls that the Rust crate lacks, as their documentation promises them. They don't
-//! follow the definitions: they compare calls with each other, and with the words. `reference laws`
-//! tries them on random cases, and `tests/fuzz` on its inputs.
+//! Laws of calls that rows don't ask about: what the documentation promises of errors, conversions
+//! and help texts with any characters. They compare answers with each other, and those of the
+//! package with those of the proved modules.
 
+use crate::form::Line;
+use crate::library::{copy_of, Fail, HasArg, Matches, Options};
+use crate::options::{Declared, Group};
 use getopts::alloc::Global;
-use getopts::fallible::TryClone;
 use getopts::proved::wrap::each_split_within;
-use getopts::proved::{self, Fail, Matches, Options, Request};
-use getopts::{HasArg, Occur, ParsingStyle};
+use getopts::proved::{self, Request};
 use unicode_width::UnicodeWidthStr;
-
-/// A declared option.
-#[derive(Clone, Debug, PartialEq)]
-pub struct Row {
-    pub short: String,
-    pub long: String,
-    pub desc: String,
-    pub hint: String,
-    pub hasarg: HasArg,
-    pub occur: Occur,
-}
-
-#[derive(Clone, Debug)]
-pub struct Table {
-    pub rows: Vec<Row>,
-    pub stop: bool,
-    pub long_only: bool,
-}
 
 /// Panics unless a law holds.
 macro_rules! law {
@@ -37,311 +20,199 @@ macro_rules! law {
     };
 }
 
-const STYLES: [ParsingStyle; 2] = [ParsingStyle::FloatingFrees, ParsingStyle::StopAtFirstFree];
-
-impl Row {
-    fn main(&self) -> &str {
-        [&self.long, &self.short].into_iter().find(|name| !name.is_empty()).expect("a name")
+/// Checks the laws of each line of words, and of the options of each case. Returns the number of
+/// lines.
+pub fn check(rows: &str) -> usize {
+    let (mut declared, mut lines) = (Declared::default(), 0);
+    for (nth, row) in rows.lines().filter(|row| !row.starts_with('>')).enumerate() {
+        let line = Line::read(row).expect("a row");
+        if line.word() == "case" {
+            of_options(&declared, "Usage: x", 20 + nth % 70);
+        }
+        declared.take(&line);
+        if line.word() == "words" {
+            of_line(&declared, line.fields());
+            lines += 1;
+        }
     }
+    of_options(&declared, "Usage: x", 20);
+    lines
 }
 
-impl Table {
-    fn with(&self, rows: Vec<Row>) -> Table {
-        Table { rows, ..self.clone() }
-    }
+fn options_of(declared: &Declared) -> Options {
+    let mut options = Options::new();
+    declared.groups.iter().for_each(|group| group.add(&mut options));
+    options.parsing_style(declared.style()).long_only(declared.long_only);
+    options
+}
 
-    pub fn options(&self) -> Options {
-        let mut options = Options::new(Global);
-        for Row { short, long, desc, hint, hasarg, occur } in &self.rows {
-            options.add_group(short, long, desc, hint, *hasarg, *occur).unwrap();
-        }
-        options.parsing_style(STYLES[usize::from(self.stop)]).long_only(self.long_only);
-        options
+/// The same options of the package.
+fn package_of(declared: &Declared) -> getopts::Options {
+    let mut options = getopts::Options::new();
+    for group in &declared.groups {
+        let Group { short, long, desc, hint, kind, occur, .. } = group;
+        options.opt(short, long, desc, hint, *kind, *occur);
     }
-
-    /// The same options, with the methods of the Rust crate.
-    pub fn dropin(&self) -> getopts::Options {
-        let mut options = getopts::Options::new();
-        for Row { short, long, desc, hint, hasarg, occur } in &self.rows {
-            options.opt(short, long, desc, hint, *hasarg, *occur);
-        }
-        options.parsing_style(STYLES[usize::from(self.stop)]).long_only(self.long_only);
-        options
-    }
+    options.parsing_style(declared.style()).long_only(declared.long_only);
+    options
 }
 
 // ---- parsing
 
-/// The place, the position and the value of each option of an accepted line, in order.
-type Given = Vec<(usize, usize, Option<String>)>;
-
-fn given(options: &Options, words: &[String], matches: &Matches) -> Given {
-    let order = options.parse_in_order(Global, words).unwrap().into_iter();
-    let order = order.filter_map(|given| match given {
-        proved::Given::Option(place) => Some(place),
-        proved::Given::Free(_) => None,
+fn of_line(declared: &Declared, words: &[String]) {
+    let (options, package) = (options_of(declared), package_of(declared));
+    let parsed = options.0.parse_words(Global, words);
+    for fail in parsed.as_ref().err().into_iter().chain([&Fail::OutOfMemory]) {
+        let (before, name, after) = fail.parts();
+        law!(fail.to_string() == [before, name, after].concat() && !before.is_empty(), fail);
+        law!(copy_of(fail) == *fail, fail);
+    }
+    let texts = || words.iter().map(String::as_str);
+    law!(options.0.parse(Global, texts()) == parsed, declared, words);
+    let line = options.0.canonical_words(Global, words);
+    law!(options.0.canonical(Global, texts()) == line, declared, words);
+    let names: Vec<_> = options.0.declared().map(|(names, ..)| names).collect();
+    let order = options.0.parse_in_order(Global, words).map(|given| {
+        let parts = given.into_iter().map(|given| match given {
+            proved::Given::Option { place, value } => (Some(names[place]), value.map(String::from)),
+            proved::Given::Free(word) => (None, Some(word.to_string())),
+        });
+        parts.collect::<Vec<_>>()
     });
-    let mut nexts = std::collections::HashMap::new();
-    let with_value = |place| {
-        let next = nexts.entry(place).or_insert(0);
-        let (position, value) = matches.occurrences_at(place).get(*next).expect("an occurrence");
-        *next += 1;
-        (place, position, value.map(str::to_string))
-    };
-    order.map(with_value).collect()
-}
-
-/// What a line says: its options with their values in order, and its free words.
-fn content(
-    options: &Options,
-    words: &[String],
-) -> Option<(Vec<(usize, Option<String>)>, Vec<String>)> {
-    let matches = options.parse_words(Global, words).ok()?;
-    let given = given(options, words, &matches).into_iter();
-    Some((given.map(|(place, _, value)| (place, value)).collect(), matches.free))
-}
-
-/// The laws of a line. `names` are asked for, declared or not.
-pub fn of_line(table: &Table, words: &[String], names: &[String]) {
-    let (options, dropin) = (table.options(), table.dropin());
-    let parsed = options.parse_words(Global, words);
-    law!(options.parse(Global, words.iter().map(String::as_str)) == parsed, table, words);
-    counts_and_requests(table, &options, &parsed, words, names);
-    let order = options.parse_in_order(Global, words);
-    let line = options.canonical_words(Global, words);
-    law!(options.canonical(Global, words.iter().map(String::as_str)) == line, table, words);
-    let matches = match parsed {
+    let same = package.parse_in_order(words).map(|given| given.into_iter().map(parts).collect());
+    law!(order.map_err(|it| it.to_string()) == same.map_err(|it| it.to_string()), declared, words);
+    #[cfg(unix)]
+    any_bytes(&package, words);
+    let matches = match options.parse(words) {
         Ok(matches) => matches,
-        Err(fail) => {
-            law!(order.as_ref().err() == Some(&fail), order, fail, table, words);
-            law!(line.as_ref().err() == Some(&fail), line, fail, table, words);
-            let text = dropin.parse(words).err().map(|fail| fail.to_string());
-            law!(text == Some(fail.to_string()), text, fail, table, words);
-            return;
-        }
+        Err(_) => return,
     };
-    accessors(table, &matches, &dropin.parse(words).unwrap(), names);
-    in_order(table, &options, &dropin, &matches, words);
+    law!(options.parse_ignoring_counts(words).as_ref() == Ok(&matches), declared, words);
+    law!(options.0.parse_unless(Global, words, "nope").ok().flatten() == parsed.ok(), words);
+    if let Ok(Request::Parsed(read)) = options.0.parse_request(Global, words) {
+        law!(read == *matches, declared, words);
+    }
+    accessors(declared, &matches, &package.parse(words).unwrap());
     trailing(&matches, words);
-    canonical(table, &options, &dropin, line, words);
-    equality(table, &options, &matches, words);
 }
 
-/// Whether counts are checked is the only difference between the calls that parse, and a request is
-/// answered exactly if the line, read without counts, has it.
-fn counts_and_requests(
-    table: &Table,
-    options: &Options,
-    parsed: &Result<Matches, Fail>,
-    words: &[String],
-    names: &[String],
-) {
-    let ignoring = options.parse_ignoring_counts(Global, words);
-    if let Ok(matches) = &ignoring {
-        let keeps =
-            |(place, row): (usize, &Row)| match (row.occur, matches.occurrences_at(place).len()) {
-                (Occur::Req, count) => count == 1,
-                (Occur::Optional, count) => count <= 1,
-                (Occur::Multi, _) => true,
-            };
-        law!(parsed.is_ok() == table.rows.iter().enumerate().all(keeps), parsed, table, words);
+/// The names of an option and its value, or a free word.
+fn parts<T>(given: getopts::Given<'_, T>) -> (Option<[&str; 2]>, Option<T>) {
+    match given {
+        getopts::Given::Option { short, long, value, .. } => (Some([short, long]), value),
+        getopts::Given::Free(word) => (None, Some(word)),
     }
-    let counts = matches!(parsed, Err(Fail::OptionMissing(_) | Fail::OptionDuplicated(_)));
-    law!(
-        if counts { ignoring.is_ok() } else { ignoring == *parsed },
-        parsed,
-        ignoring,
-        table,
-        words
-    );
+}
 
-    let has = |name: &str| ignoring.as_ref().map_or(false, |read| read.opt_present(name));
-    let (help, version) = (has("help"), has("version"));
-    let same = |read: &Result<Matches, Fail>| read == parsed;
-    match options.parse_request(Global, words) {
-        Ok(Request::Help) => law!(help, table, words),
-        Ok(Request::Version) => law!(version && !help, table, words),
-        Ok(Request::Parsed(read)) => law!(!help && !version && same(&Ok(read)), table, words),
-        Err(fail) => law!(!help && !version && same(&Err(fail)), table, words),
-    }
-    for name in names {
-        match options.parse_unless(Global, words, name) {
-            Ok(None) => law!(has(name), name, table, words),
-            Ok(Some(read)) => law!(!has(name) && same(&Ok(read)), name, table, words),
-            Err(fail) => law!(!has(name) && same(&Err(fail)), name, table, words),
+/// `parse_os` reads words of any bytes as `parse` reads the texts that encode them.
+#[cfg(unix)]
+fn any_bytes(package: &getopts::Options, words: &[String]) {
+    use std::ffi::{OsStr, OsString};
+    use std::os::unix::ffi::{OsStrExt, OsStringExt};
+    const ENDS: [&[u8]; 6] =
+        [b"", b"\xff", b"\xe2\x82", b"\xc0\x80", b"\xed\xa0\xbd\xed\xb8\x80", b"\xf4\x8f\xbf\xbf"];
+    let text = |word: &OsStr| text_of(word.as_bytes());
+    let ends = ENDS.iter().cycle().skip(words.len());
+    let words = words.iter().zip(ends).map(|(word, end)| [word.as_bytes(), end].concat());
+    let words: Vec<_> = words.map(OsString::from_vec).collect();
+    let texts: Vec<_> = words.iter().map(|word| text(word)).collect();
+    let (read, same) = match (package.parse_os(&words), package.parse(&texts)) {
+        (Ok(read), Ok(same)) => (read, same),
+        (read, same) => {
+            let kinds = (read.err().map(|fail| kind(&fail)), same.err().map(|fail| kind(&fail)));
+            return law!(kinds.0 == kinds.1, words, kinds);
         }
+    };
+    law!(read.free.iter().map(|word| text(word)).eq(same.free.iter().cloned()), read, words);
+    law!(read.free_trailing_start() == same.free_trailing_start(), read, words);
+    let order = package.parse_os_in_order(&words).unwrap().into_iter().map(parts);
+    let order: Vec<_> = order.map(|(names, value)| (names, value.map(|it| text(&it)))).collect();
+    let others = package.parse_in_order(&texts).unwrap().into_iter().map(parts);
+    law!(others.eq(order.iter().cloned()), order, words);
+    for [short, long] in order.iter().filter_map(|(names, _)| *names) {
+        let name = if long.is_empty() { short } else { long };
+        let found = same.occurrences(name).map(|(at, value)| (at, value.map(str::to_string)));
+        law!(
+            found.eq(read.occurrences(name).map(|(at, value)| (at, value.map(text)))),
+            name,
+            words
+        );
     }
+}
+
+#[cfg(unix)]
+fn kind(fail: &getopts::Fail) -> std::mem::Discriminant<getopts::Fail> {
+    std::mem::discriminant(fail)
+}
+
+/// The text that encodes a word: bytes of no character are marks, and so are those of marks.
+#[cfg(unix)]
+fn text_of(mut word: &[u8]) -> String {
+    let mut text = String::new();
+    while !word.is_empty() {
+        let valid = std::str::from_utf8(word).map_or_else(|error| error.valid_up_to(), str::len);
+        let (head, rest) = word.split_at(valid);
+        let (wrong, rest) = rest.split_at(rest.len().min(1));
+        for char in std::str::from_utf8(head).unwrap().chars().map(String::from) {
+            text += &if char.as_str() < "\u{10ff80}" { char } else { marks(char.as_bytes()) };
+        }
+        text += &marks(wrong);
+        word = rest;
+    }
+    text
+}
+
+#[cfg(unix)]
+fn marks(bytes: &[u8]) -> String {
+    bytes.iter().map(|byte| char::from_u32(0x10ff00 + u32::from(*byte)).unwrap()).collect()
 }
 
 /// `occurrences_at` gives what the accessors give for the names of its option, and so do those of
-/// the drop-in.
-fn accessors(table: &Table, matches: &Matches, other: &getopts::Matches, names: &[String]) {
-    law!(matches.free == other.free, matches, other);
-    law!(matches.free_trailing_start() == other.free_trailing_start(), matches, other);
-    let declared = |place: usize| table.rows.get(place).map_or(false, |row| !row.main().is_empty());
-    for name in names {
+/// the package. Conversions get the first value.
+fn accessors(declared: &Declared, matches: &Matches, package: &getopts::Matches) {
+    let names = declared.groups.iter().flat_map(|group| [&group.short[..], &group.long]);
+    for name in names.chain(["help", "version", "nope"]) {
         let place = matches.opt_place(name);
-        law!(matches.opt_defined(name) == place.is_some(), name, table);
-        law!(place.map_or(true, declared), name, table);
-        let found = place.map(|place| matches.occurrences_at(place));
-        let found: Vec<_> = found.into_iter().flatten().collect();
-        let positions = found.iter().map(|(position, _)| *position).collect();
-        law!(matches.opt_positions(Global, name) == Ok(positions), name, found, table);
-        law!(matches.opt_count(name) == found.len(), name, found, table);
-        law!(matches.opt_present(name) == !found.is_empty(), name, found, table);
-        let values = found.iter().filter_map(|(_, value)| value.map(str::to_string)).collect();
-        law!(matches.opt_strs(Global, name) == Ok(values), name, found, table);
-        law!(other.opt_defined(name) == place.is_some(), name, table);
-        let same = || other.occurrences(name).eq(found.iter().copied());
-        law!(place.is_none() || same(), name, found, other, table);
+        law!(matches.opt_defined(name) == place.is_some(), name, declared);
+        let found: Vec<_> =
+            place.map(|at| matches.occurrences_at(at)).into_iter().flatten().collect();
+        law!(matches.opt_positions(name).iter().eq(found.iter().map(|(at, _)| at)), name, found);
+        law!(matches.opt_strs(name).iter().eq(found.iter().filter_map(|one| one.1)), name, found);
+        law!(place.is_none() || package.occurrences(name).eq(found.iter().copied()), name, found);
         let first = found.first().and_then(|(_, value)| value.map(str::to_string));
-        law!(matches.opt_str(Global, name) == Ok(first), name, found, table);
+        law!(matches.opt_get::<String>(name) == Ok(first.clone()), name, found, declared);
+        let got = matches.opt_get_default(name, "def".to_string()).ok();
+        law!(got == first.or(Some("def".to_string())), name, got, found, declared);
     }
-    let past = table.rows.len();
+    let past = declared.groups.len();
     for place in (0..past).chain([past, past + 1, usize::MAX]) {
         let found = matches.occurrences_at(place);
-        law!(place < past || found.is_empty(), place, table);
-        law!(found.get(found.len()).is_none() && found.get(usize::MAX).is_none(), place, table);
+        law!(place < past || found.is_empty(), place, declared);
+        law!(found.get(found.len()).is_none() && found.get(usize::MAX).is_none(), place, declared);
         let one_by_one: Vec<_> = (0..found.len()).map(|nth| found.get(nth).unwrap()).collect();
-        law!(found.into_iter().eq(one_by_one), place, table);
+        law!(found.into_iter().eq(one_by_one), place, declared);
     }
 }
 
-/// Options come in the order of their words and, in a cluster, of their letters.
-fn in_order(
-    table: &Table,
-    options: &Options,
-    dropin: &getopts::Options,
-    matches: &Matches,
-    words: &[String],
-) {
-    let given = given(options, words, matches);
-    law!(given.windows(2).all(|two| two[0].1 <= two[1].1), given, table, words);
-    for place in 0..table.rows.len() {
-        let own = given.iter().filter(|one| one.0 == place).map(|one| (one.1, one.2.as_deref()));
-        law!(own.eq(matches.occurrences_at(place)), given, place, table, words);
-    }
-    for (nth, (place, position, value)) in given.iter().enumerate() {
-        let (word, next) = (&words[*position], words.get(position + 1));
-        let before = given[..nth].iter().filter(|one| one.1 == *position).count();
-        let long = ["-", "--"].map(|dashes| word.strip_prefix(dashes).filter(|_| before == 0));
-        let long = long.map(|name| name.and_then(|name| name.split('=').next()));
-        let names = [word.get(1 + before..2 + before), long[0], long[1]];
-        let means = |name: &Option<&str>| matches.opt_place(name.unwrap_or("")) == Some(*place);
-        law!(names.iter().any(means), given, nth, table, words);
-        let has = |value: &String| word.ends_with(value) || next == Some(value);
-        law!(value.iter().all(has), given, nth, table, words);
-    }
-    let mut rest = words.iter();
-    law!(matches.free.iter().all(|word| rest.any(|other| other == word)), matches, words);
-    // Free words are between the options, where they are in the line.
-    let order = options.parse_in_order(Global, words).unwrap();
-    let (mut options, mut free, mut at) = (given.iter(), matches.free.iter(), 0);
-    let named = order.iter().map(|given| match given {
-        proved::Given::Option(_) => {
-            let (place, position, value) = options.next().unwrap();
-            law!(*position + 1 >= at, order, table, words);
-            at = *position + 1;
-            getopts::Given::Option { name: table.rows[*place].main(), value: value.clone() }
-        }
-        proved::Given::Free(word) => {
-            law!(free.next().map_or(false, |free| free == word), order, table, words);
-            let next = words[at..].iter().position(|other| other == word);
-            law!(next.is_some(), order, table, words);
-            at += next.unwrap() + 1;
-            getopts::Given::Free(word.to_string())
-        }
-    });
-    law!(dropin.parse_in_order(words).ok() == Some(named.collect()), given, table, words);
-    law!(free.next().is_none(), order, table, words);
-}
-
-/// The words after `--` are taken off the free words, once.
+/// The words after `--` are taken off the free words, once, also if a caller added or removed some.
 fn trailing(matches: &Matches, words: &[String]) {
-    let (mut left, start) = (matches.try_clone().unwrap(), matches.free_trailing_start());
-    let taken = left.take_trailing().unwrap();
-    law!([&left.free[..], &taken].concat() == matches.free, left, taken, words);
-    law!(taken.is_empty() == start.is_none(), left, taken, words);
-    law!(start.map_or(true, |start| start == left.free.len()), left, taken, words);
-    let (before, after) = words.split_at(words.len() - taken.len());
-    let stopped = before.last().map_or(false, |word| word == "--");
-    law!(after == taken && (taken.is_empty() || stopped), left, taken, words);
-    law!(left.free_trailing_start() == start, left, words);
-    let once = left.try_clone().unwrap();
-    law!(left.take_trailing() == Ok(vec![]) && left == once, left, once, words);
-}
-
-/// A canonical line says the same as the words, in each style and mode, and is its own canonical
-/// line. Lines that say the same have the same one.
-fn canonical(
-    table: &Table,
-    options: &Options,
-    dropin: &getopts::Options,
-    line: Result<Option<Vec<String>>, Fail>,
-    words: &[String],
-) {
-    let line = line.unwrap();
-    law!(dropin.canonical(words).ok().as_ref() == Some(&line), line, table, words);
-    let said = content(options, words).unwrap();
-    let equals = said.0.iter().any(|(place, _)| table.rows[*place].main().contains('='));
-    law!(line.is_none() == equals, line, table, words);
-    for other in similar(words, line.as_deref().unwrap_or(&[])) {
-        if let (Some(line), Some(another)) = (&line, content(options, &other)) {
-            let same = options.canonical_words(Global, &other).unwrap().as_ref() == Some(line);
-            law!(same == (said == another), line, other, table, words);
-        }
-    }
-    for (stop, long_only) in [(false, false), (false, true), (true, false), (true, true)] {
-        let options = Table { stop, long_only, ..table.clone() }.options();
-        if let Some(line) = &line {
-            let (again, own) = (content(&options, line), options.canonical_words(Global, line));
-            law!(again.as_ref() == Some(&said), line, again, stop, long_only, table, words);
-            law!(own.as_ref().ok() == Some(&Some(line.clone())), line, own, table, words);
-        }
-    }
-    let word = |(place, value): &(usize, Option<String>)| match value {
-        Some(value) => format!("--{}={value}", table.rows[*place].main()),
-        None => format!("--{}", table.rows[*place].main()),
+    let start = matches.free_trailing_start();
+    let take = |free: usize| {
+        let mut left = matches.clone();
+        left.free.resize(free, "x".to_string());
+        let (all, taken) = (left.free.clone(), left.take_trailing().unwrap());
+        law!([&left.free[..], &taken].concat() == all, left, taken, words);
+        law!(left.free.len() == start.unwrap_or(free).min(free), left, taken, words);
+        (left, taken)
     };
-    let free = std::iter::once("--".to_string()).chain(said.1.iter().cloned());
-    let written: Vec<_> = said.0.iter().map(word).chain(free).collect();
-    law!(line.is_none() || line.as_ref() == Some(&written), line, written, table, words);
-}
-
-/// Lines of almost the same words.
-fn similar(words: &[String], line: &[String]) -> Vec<Vec<String>> {
-    let (mut swapped, mut split) = (words.to_vec(), Vec::new());
-    swapped.rotate_left(words.len().min(1));
-    for word in line {
-        match word.split_once('=') {
-            Some((name, value)) => split.extend([name, value].map(String::from)),
-            None => split.push(word.clone()),
-        }
+    for free in [0, matches.free.len() + 2] {
+        take(free);
     }
-    let short = words[..words.len().saturating_sub(1)].to_vec();
-    let longer = [words, &["x".to_string()]].concat();
-    let ended = [words, &["--".to_string()]].concat();
-    vec![swapped, split, short, longer, ended, line.to_vec(), words.to_vec()]
-}
-
-/// Matches are equal exactly if what they return is.
-fn equality(table: &Table, options: &Options, matches: &Matches, words: &[String]) {
-    let copy = matches.try_clone().unwrap();
-    law!(matches == matches && copy == *matches && *matches == copy, table, words);
-    for other in
-        similar(words, &options.canonical_words(Global, words).unwrap().unwrap_or_default())
-    {
-        let another = match options.parse_words(Global, &other) {
-            Ok(another) => another,
-            Err(_) => continue,
-        };
-        let same =
-            |place| matches.occurrences_at(place).into_iter().eq(another.occurrences_at(place));
-        let same = (0..table.rows.len()).all(same)
-            && matches.free == another.free
-            && matches.free_trailing_start() == another.free_trailing_start();
-        law!((*matches == another) == same && (another == *matches) == same, other, table, words);
-    }
+    let (mut left, taken) = take(matches.free.len());
+    law!(taken.is_empty() == start.is_none(), left, taken, words);
+    law!(left.free_trailing_start() == start, left, words);
+    let once = left.clone();
+    law!(left.take_trailing() == Ok(vec![]) && left == once, left, once, words);
 }
 
 // ---- declarations and help
@@ -350,29 +221,25 @@ fn equality(table: &Table, options: &Options, matches: &Matches, words: &[String
 const MARGIN: usize = 24;
 
 /// The laws of options, and of their help within these columns and others.
-pub fn of_options(table: &Table, brief: &str, columns: usize) {
-    let options = table.options();
-    let help = |columns| options.usage_in(Global, brief, columns).unwrap();
-    law!(help(MARGIN + 54) == options.usage(Global, brief).unwrap(), table, brief);
-    law!(table.dropin().usage_in(brief, columns) == help(columns), table, brief, columns);
-    let formatted =
-        options.usage_with_format(Global, |rows| Ok(rows.collect::<Vec<_>>().join("\n")));
-    let rows = options.usage_rows(Global).unwrap().join("\n");
-    law!(formatted.as_ref() == Ok(&rows), formatted, rows, table);
-    // Rows of large tables take too long.
-    let all = [columns, MARGIN + 54, MARGIN, 0, usize::MAX];
-    for columns in all.into_iter().filter(|_| table.rows.len() < 10) {
-        let rows: Vec<_> = (0..table.rows.len()).map(|place| row(table, place, columns)).collect();
-        let text = format!("{brief}\n\nOptions:\n{}\n", rows.join("\n"));
-        law!(help(columns) == text, help(columns), text, table, columns);
-    }
-    let words = |text: String| text.split_whitespace().map(str::to_string).collect::<Vec<_>>();
-    law!(words(help(columns)) == words(help(MARGIN + 54)), table, brief, columns);
-    let lines = table.rows.iter().flat_map(|row| row.desc.split('\n'));
+fn of_options(declared: &Declared, brief: &str, columns: usize) {
+    let options = options_of(declared);
+    let help = |columns| options.0.usage_in(Global, brief, columns).unwrap();
+    law!(help(MARGIN + 54) == options.usage(brief), declared, brief);
+    law!(package_of(declared).usage_in(brief, columns) == help(columns), declared, columns);
+    let formatted = options.usage_with_format(|rows| rows.collect::<Vec<_>>().join("\n"));
+    law!(formatted == options.0.usage_rows(Global).unwrap().join("\n"), formatted, declared);
+    let lines = declared.groups.iter().flat_map(|group| group.desc.split('\n'));
     let widest = MARGIN + lines.map(width).max().unwrap_or(0);
-    law!(help(widest) == help(usize::MAX), table, brief, widest);
-    short(table, &options);
-    same_options(table, &options);
+    for columns in [columns, columns.rotate_right(16), widest, MARGIN, 0, usize::MAX] {
+        let rows: Vec<_> = declared.groups.iter().map(|own| row(declared, own, columns)).collect();
+        let text = format!("{brief}\n\nOptions:\n{}\n", rows.join("\n"));
+        law!(help(columns) == text, help(columns), text, declared, columns);
+    }
+    let names = declared.groups.iter().flat_map(|group| [&group.short, &group.long]);
+    let names: Vec<_> = names.filter(|name| !name.is_empty()).collect();
+    let twice = (0..names.len()).find(|nth| names[..*nth].contains(&names[*nth]));
+    let name = twice.map(|nth| names[nth].as_str());
+    law!(package_of(declared).repeated_name() == name, name, declared);
 }
 
 /// The columns of words with one space between them.
@@ -381,27 +248,29 @@ fn width(text: &str) -> usize {
     columns.sum::<usize>().saturating_sub(1)
 }
 
-/// The row of one option, which depends on no other option, except on whether one has a short name.
-/// Checks how its description is wrapped.
-fn row(table: &Table, place: usize, columns: usize) -> String {
-    let without = |row: &Row| Row { desc: String::new(), ..row.clone() };
-    let text = |rows: Vec<Row>| {
-        let text = table.with(rows).options().usage_in(Global, "", columns).unwrap();
-        text.strip_prefix("\n\nOptions:\n").expect("a head").to_string()
+/// The row of one option, as documented. Checks how its description is wrapped.
+fn row(declared: &Declared, own: &Group, columns: usize) -> String {
+    let dashes = if declared.long_only { "-" } else { "--" };
+    let long = Some(&own.long).filter(|long| long.width() > 0);
+    let short = match (&own.short[..], long) {
+        ("", _) if declared.groups.iter().all(|group| group.short.is_empty()) => String::new(),
+        ("", _) => " ".repeat(4),
+        (short, Some(_)) => format!("-{short}, "),
+        (short, None) => format!("-{short} "),
     };
-    let own = &table.rows[place];
-    let short = table.rows.iter().find(|row| !row.short.is_empty()).map(without);
-    let after = short.clone().map_or(String::new(), |short| text(vec![short]));
-    let [full, bare] = [own.clone(), without(own)].map(|row| {
-        let text = text([row].into_iter().chain(short.clone()).collect());
-        text.strip_suffix(&format!("\n{after}")).expect("two rows").to_string()
-    });
-    let rest = full.strip_prefix(&bare).expect("the row without its description");
+    let long = long.map_or(String::new(), |long| format!("{dashes}{long} "));
+    let hint = match own.kind {
+        HasArg::Yes => own.hint.clone(),
+        HasArg::No => String::new(),
+        HasArg::Maybe => format!("[{}]", own.hint),
+    };
+    let head = format!("    {short}{long}{hint}");
     let next = format!("\n{}", " ".repeat(MARGIN));
-    let rows: Vec<_> = rest.split(&next).filter(|row| !row.is_empty()).collect();
+    let padding = MARGIN.checked_sub(head.width()).filter(|columns| *columns > 0);
+    let padding = padding.map_or(next.clone(), |columns| " ".repeat(columns));
     let limit = columns.saturating_sub(MARGIN);
     let wrap = |text| each_split_within(Global, text, limit).unwrap();
-    law!(rows == wrap(&own.desc), own, rows, columns);
+    let rows = wrap(&own.desc);
     law!(rows == own.desc.split('\n').flat_map(wrap).collect::<Vec<_>>(), own, rows, columns);
     for line in own.desc.split('\n') {
         let (rows, words) = (wrap(line), line.split_whitespace().collect::<Vec<_>>());
@@ -412,41 +281,5 @@ fn row(table: &Table, place: usize, columns: usize) -> String {
         let is_short = |two: &[String]| room(&two[0], two[1].split(' ').next().unwrap());
         law!(!rows.windows(2).any(is_short), own, rows, columns);
     }
-    full
-}
-
-/// The short usage consists of the options', which depend on nothing else.
-fn short(table: &Table, options: &Options) {
-    let of = |rows: &[Row]| {
-        let other = Table { rows: rows.to_vec(), stop: !table.stop, long_only: !table.long_only };
-        other.options().short_usage(Global, "x").unwrap()["Usage: x ".len()..].to_string()
-    };
-    let alone = table.rows.iter().map(|row| of(&[Row { desc: "text".to_string(), ..row.clone() }]));
-    let text = format!("Usage: x {}", alone.collect::<Vec<_>>().join(" "));
-    law!(options.short_usage(Global, "x") == Ok(text), table);
-}
-
-/// Options are equal exactly if they are declared in the same way, and a name is repeated exactly
-/// if it occurs twice.
-fn same_options(table: &Table, options: &Options) {
-    let copy = options.try_clone().unwrap();
-    law!(copy == *options && *options == copy && options == options, table);
-    let (rows, len) = (&table.rows, table.rows.len());
-    let (mut changed, mut reversed) = (rows.clone(), rows.clone());
-    changed.iter_mut().take(1).for_each(|row| row.desc.push('x'));
-    reversed.reverse();
-    let longer = rows.iter().chain(rows.first()).cloned().collect();
-    let others = [rows[..len.saturating_sub(1)].to_vec(), changed, reversed, longer];
-    let others = others.map(|rows| (rows == table.rows, table.with(rows)));
-    let modes = [(!table.stop, table.long_only), (table.stop, !table.long_only)];
-    let modes = modes.map(|(stop, long_only)| (false, Table { stop, long_only, ..table.clone() }));
-    for (same, other) in others.iter().chain(&modes) {
-        let other = other.options();
-        law!((*options == other) == *same && (other == *options) == *same, other, table);
-    }
-    let names = rows.iter().flat_map(|row| [&row.short, &row.long]);
-    let names: Vec<_> = names.filter(|name| !name.is_empty()).collect();
-    let twice = (0..names.len()).find(|nth| names[..*nth].contains(&names[*nth]));
-    let name = twice.map(|nth| names[nth].as_str());
-    law!(table.dropin().repeated_name() == name, name, table);
+    head + &padding + &rows.join(&next)
 }

@@ -1,171 +1,98 @@
-//! The groups that a case declares, for generating cases and naming their kinds.
+//! The groups that a case declares.
 
 use crate::form::Line;
-use crate::library::{HasArg, Occur, Options, ParsingStyle};
+#[cfg(feature = "proved")]
+use crate::library::ParsingStyle;
+use crate::library::{HasArg, Occur, Options};
 
-#[derive(Clone, Debug, PartialEq, Eq)]
+#[derive(Clone, Debug)]
 pub struct Group {
     pub short: String,
     pub long: String,
     pub desc: String,
     pub hint: String,
-    pub kind: &'static str,
-    pub occur: &'static str,
-    /// The method in the line that declares it.
-    pub call: &'static str,
+    pub kind: HasArg,
+    pub occur: Occur,
+    /// The index in `CALLS` of the method that declares it.
+    call: usize,
 }
 
-type Add = fn(&mut Options, &Group);
+/// Adds a group with these names, this description and this hint.
+type Add = fn(&mut Options, [&str; 4], &Group);
 
-/// The methods that declare groups, each with its kind and occurrence kind; for `opt`, a line has
-/// both.
+/// The methods that declare groups, each with its kind and occurrence kind. For `opt`, a line has
+/// others.
 #[rustfmt::skip]
-pub const CALLS: &[(&str, &str, &str, Add)] = &[
-    ("opt", "", "", |o, g| _ = o.opt(&g.short, &g.long, &g.desc, &g.hint, g.kind(), g.occur())),
-    ("optflag", "no", "optional", |o, g| _ = o.optflag(&g.short, &g.long, &g.desc)),
-    ("optflagmulti", "no", "multi", |o, g| _ = o.optflagmulti(&g.short, &g.long, &g.desc)),
-    ("optflagopt", "maybe", "optional", |o, g| _ = o.optflagopt(&g.short, &g.long, &g.desc, &g.hint)),
-    ("optmulti", "yes", "multi", |o, g| _ = o.optmulti(&g.short, &g.long, &g.desc, &g.hint)),
-    ("optopt", "yes", "optional", |o, g| _ = o.optopt(&g.short, &g.long, &g.desc, &g.hint)),
-    ("reqopt", "yes", "req", |o, g| _ = o.reqopt(&g.short, &g.long, &g.desc, &g.hint)),
+pub const CALLS: &[(&str, HasArg, Occur, Add)] = &[
+    ("opt", HasArg::No, Occur::Multi, by_opt),
+    ("add_group", HasArg::No, Occur::Multi, by_opt),
+    ("optflag", HasArg::No, Occur::Optional, |o, [s, l, d, _], _| _ = o.optflag(s, l, d)),
+    ("optflagmulti", HasArg::No, Occur::Multi, |o, [s, l, d, _], _| _ = o.optflagmulti(s, l, d)),
+    ("optflagopt", HasArg::Maybe, Occur::Optional,
+        |o, [s, l, d, h], _| _ = o.optflagopt(s, l, d, h)),
+    ("optmulti", HasArg::Yes, Occur::Multi, |o, [s, l, d, h], _| _ = o.optmulti(s, l, d, h)),
+    ("optopt", HasArg::Yes, Occur::Optional, |o, [s, l, d, h], _| _ = o.optopt(s, l, d, h)),
+    ("reqopt", HasArg::Yes, Occur::Req, |o, [s, l, d, h], _| _ = o.reqopt(s, l, d, h)),
 ];
 
-pub const KINDS: &[(&str, HasArg)] =
-    &[("yes", HasArg::Yes), ("no", HasArg::No), ("maybe", HasArg::Maybe)];
-pub const OCCURS: &[(&str, Occur)] =
-    &[("req", Occur::Req), ("optional", Occur::Optional), ("multi", Occur::Multi)];
-
-/// The entry of a table with this name.
-fn known<T: Copy>(name: &str, among: &[(&'static str, T)]) -> (&'static str, T) {
-    *among.iter().find(|(one, _)| *one == name).expect("a known word")
+fn by_opt(options: &mut Options, [short, long, desc, hint]: [&str; 4], group: &Group) {
+    options.opt(short, long, desc, hint, group.kind, group.occur);
 }
 
 impl Group {
-    /// A group without texts.
-    pub fn named(
-        short: &str,
-        long: &str,
-        call: (&'static str, &'static str, &'static str),
-    ) -> Group {
-        let [short, long, desc, hint] = [short, long, "", ""].map(String::from);
-        let (call, kind, occur) = call;
-        Group { short, long, desc, hint, kind, occur, call }
-    }
-
     /// The group that a line declares, if any.
     pub fn of_line(line: &Line) -> Option<Group> {
-        let fields = line.fields();
-        let field = |place: usize| fields.get(place).cloned().unwrap_or_default();
-        let (call, kind, occur) = match line.word() {
-            "opt" | "add_group" => ("opt", known(&field(4), KINDS).0, known(&field(5), OCCURS).0),
-            word => {
-                CALLS.iter().find(|call| call.0 == word).map(|call| (call.0, call.1, call.2))?
-            }
+        let call = CALLS.iter().position(|call| call.0 == line.word())?;
+        let (_, kind, occur, _) = CALLS[call];
+        let field = |place| line.fields().get(place).map_or("", String::as_str);
+        let [short, long, desc, hint] = [0, 1, 2, 3].map(|place| field(place).to_string());
+        let kind = match field(4) {
+            "" => kind,
+            "yes" => HasArg::Yes,
+            "no" => HasArg::No,
+            "maybe" => HasArg::Maybe,
+            other => panic!("unknown kind {other}"),
         };
-        let [short, long, desc, hint] = [0, 1, 2, 3].map(field);
+        let occur = match field(5) {
+            "" => occur,
+            "req" => Occur::Req,
+            "optional" => Occur::Optional,
+            "multi" => Occur::Multi,
+            other => panic!("unknown kind {other}"),
+        };
         Some(Group { short, long, desc, hint, kind, occur, call })
-    }
-
-    pub fn line(&self) -> Line {
-        let Group { short, long, desc, hint, .. } = self;
-        match self.call {
-            "opt" => Line::new(&["opt", short, long, desc, hint, self.kind, self.occur]),
-            _ if self.has_hint() => Line::new(&[self.call, short, long, desc, hint]),
-            _ => Line::new(&[self.call, short, long, desc]),
-        }
     }
 
     /// Adds the group to options.
     pub fn add(&self, options: &mut Options) {
-        let call = CALLS.iter().find(|call| call.0 == self.call).expect("a known call");
-        call.3(options, self);
-    }
-
-    /// Whether its method takes a hint.
-    pub fn has_hint(&self) -> bool {
-        self.call == "opt" || self.kind != "no"
-    }
-
-    pub fn kind(&self) -> HasArg {
-        known(self.kind, KINDS).1
-    }
-
-    pub fn occur(&self) -> Occur {
-        known(self.occur, OCCURS).1
-    }
-
-    pub fn main(&self) -> &str {
-        if self.long.is_empty() {
-            &self.short
-        } else {
-            &self.long
-        }
+        let texts = [&self.short, &self.long, &self.desc, &self.hint].map(String::as_str);
+        CALLS[self.call].3(options, texts, self);
     }
 }
 
 /// The declarations of a case so far.
-#[derive(Clone, Debug, Default)]
+#[cfg(feature = "proved")]
+#[derive(Debug, Default)]
 pub struct Declared {
     pub groups: Vec<Group>,
     pub stop: bool,
     pub long_only: bool,
 }
 
+#[cfg(feature = "proved")]
 impl Declared {
-    /// The lines that declare this.
-    pub fn lines(&self) -> Vec<Line> {
-        let mut lines = Vec::new();
-        if self.stop {
-            lines.push(Line::new(&["style", "stop"]));
-        }
-        if self.long_only {
-            lines.push(Line::new(&["mode", "long-only"]));
-        }
-        lines.extend(self.groups.iter().map(Group::line));
-        lines
-    }
-
-    /// Adds the declaration of a line.
+    /// Adds the declaration of a line, as if by `opt`.
     pub fn take(&mut self, line: &Line) {
         match (line.word(), line.fields()) {
             ("case" | "anew", _) => *self = Declared::default(),
             ("style", [style]) => self.stop = style == "stop",
             ("mode", [mode]) => self.long_only = mode == "long-only",
-            _ => self.groups.extend(Group::of_line(line)),
+            // The first of `CALLS` is `opt`.
+            _ => self.groups.extend(Group::of_line(line).map(|group| Group { call: 0, ..group })),
         }
     }
 
-    /// The same options in the Rust crate, all repeatable, with the flag `PROBE` added.
-    fn probed(&self) -> Options {
-        let mut options = Options::new();
-        if self.stop {
-            options.parsing_style(ParsingStyle::StopAtFirstFree);
-        }
-        options.long_only(self.long_only);
-        for group in &self.groups {
-            options.opt(&group.short, &group.long, "", "", group.kind(), Occur::Multi);
-        }
-        options.optflagmulti("", PROBE, "");
-        options
-    }
-
-    /// Whether no word of a line is the separate argument of an option, so that counting items and
-    /// counting words give the same positions. Lines that can't be parsed have no positions.
-    ///
-    /// The flag `PROBE` is added where the line's options end: its position is the number of words
-    /// before it exactly if each of these words is an item.
-    pub fn counts_words(&self, words: &[String]) -> bool {
-        let options = self.probed();
-        let probe = format!("--{PROBE}");
-        for end in (0..=words.len()).rev() {
-            let line = words[..end].iter().chain([&probe]);
-            let places = options.parse(line).map(|matches| matches.opt_positions(PROBE));
-            if let Some(place) = places.unwrap_or_default().first() {
-                return *place == end;
-            }
-        }
-        true
+    pub fn style(&self) -> ParsingStyle {
+        [ParsingStyle::FloatingFrees, ParsingStyle::StopAtFirstFree][usize::from(self.stop)]
     }
 }
-
-const PROBE: &str = "probe of the place where options end";

@@ -5,17 +5,16 @@ use crate::answer::{error_fields, line, optional, Side};
 use crate::form::Line;
 use getopts::alloc::Global;
 use getopts::fallible::TryClone;
-use getopts::proved::{self, wrap::each_split_within, Request};
-use getopts::Given;
+use getopts::proved::{self, wrap::each_split_within, Given, Request};
 use std::ops::{Deref, DerefMut};
 
 pub use getopts::proved::{Fail, HasArg, Occur, ParsingStyle};
 
-#[derive(PartialEq)]
+#[derive(Debug, PartialEq)]
 pub struct Options(pub proved::Options);
 
 /// Methods that the crate doesn't share are those of the proved modules.
-#[derive(PartialEq)]
+#[derive(Debug, PartialEq)]
 pub struct Matches(proved::Matches);
 
 impl Deref for Matches {
@@ -119,23 +118,6 @@ impl Options {
     pub fn canonical(&self, words: &[String]) -> Result<Option<Vec<String>>, Fail> {
         self.0.canonical_words(Global, words)
     }
-
-    /// As the crate's other package returns it.
-    pub fn parse_in_order(&self, words: &[String]) -> Result<Vec<Given<'_>>, Fail> {
-        let (order, matches) = (self.0.parse_in_order(Global, words)?, self.parse(words)?);
-        let main = |([short, long], ..): ([_; 2], _, _, _)| if long == "" { short } else { long };
-        let mains: Vec<&str> = self.0.declared().map(main).collect();
-        let mut nexts = vec![0; mains.len()];
-        let given = order.into_iter().map(|given| match given {
-            proved::Given::Free(word) => Given::Free(word.to_string()),
-            proved::Given::Option(place) => {
-                let next = matches.occurrences_at(place).get(nexts[place]).expect("an occurrence");
-                nexts[place] += 1;
-                Given::Option { name: mains[place], value: next.1.map(str::to_string) }
-            }
-        });
-        Ok(given.collect())
-    }
 }
 
 #[rustfmt::skip]
@@ -176,16 +158,14 @@ pub fn answer(side: &mut Side, asked: &Line) -> Option<String> {
             return Some(line(&[word], each_split_within(Global, desc, number(limit)).unwrap()))
         }
         ("parse_in_order", words) => {
+            let parts = |given: &Given| match *given {
+                Given::Option { place, value } => vec![place.to_string(), optional(value)],
+                Given::Free(word) => vec![optional(Some(word))],
+            };
             return Some(match options.parse_in_order(Global, words) {
-                Ok(order) => line(
-                    &[word, "order"],
-                    order.iter().map(|given| match given {
-                        proved::Given::Option(place) => place.to_string(),
-                        proved::Given::Free(word) => format!("={word}"),
-                    }),
-                ),
+                Ok(order) => line(&[word, "order"], order.iter().flat_map(parts)),
                 Err(fail) => line(&[word, "refused"], error_fields(&fail)),
-            })
+            });
         }
         ("parse_request", words) => {
             options.parse_request(Global, words).map(|request| match request {
@@ -230,7 +210,7 @@ fn of_matches(matches: &mut proved::Matches, word: &str, fields: &[String]) -> S
             let found = matches.occurrences_at(place.parse().expect("a place"));
             let one = found.get(nth.parse().expect("a number"));
             let one = one.map_or(vec!["none".to_string()], |(position, value)| {
-                vec![position.to_string(), optional(value.map(str::to_string))]
+                vec![position.to_string(), optional(value)]
             });
             line(&[word, place, nth, &found.len().to_string()], one)
         }
