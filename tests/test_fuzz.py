@@ -1,4 +1,4 @@
-"""The fuzzers of tests/fuzz can be built, and find nothing in some seconds."""
+"""The fuzzers of tests/fuzz can be built, and find nothing in some seconds, always from the same seed."""
 
 from pathlib import Path
 
@@ -8,8 +8,8 @@ from targets import copy_folders, need_cargo
 
 
 @pytest.mark.full
-@pytest.mark.parametrize("target", ["shell", "c"])
-def test_fuzzer(target, tmp_path):
+@pytest.mark.parametrize("target, runs", [("shell", 20_000), ("c", 8_000)])
+def test_fuzzer(target, runs, tmp_path):
     need("clang")
     need_cargo(ROOT / "bindings/c")
     libraries = Path(run("rustc", "--print", "target-libdir")[0].strip())
@@ -19,5 +19,5 @@ def test_fuzzer(target, tmp_path):
     (tmp_path / "inputs").mkdir()
     run(ROOT / "tests/fuzz/seeds.py", target, tmp_path / "inputs")
     run(fuzz / "build.sh", target, tmp_path)
-    _, said = run(tmp_path / target, "-max_len=600", "-len_control=0", "-max_total_time=5", tmp_path / "inputs", cwd=tmp_path)
-    assert "\nDone " in said
+    _, said = run(tmp_path / target, "-max_len=600", "-len_control=0", "-seed=1", f"-runs={runs}", tmp_path / "inputs", cwd=tmp_path)
+    assert f"\nDone {runs} runs" in said

@@ -1,7 +1,7 @@
 //! Runs the shell program in this process, on a table and words that contain code. Checks that the
 //! output, which a script evaluates, only assigns quoted words to variables with the script's
-//! prefix, and sets the operands to quoted words. If an allocation fails, the program only reports
-//! that, and returns 3.
+//! prefix, and sets the operands to quoted words. If an allocation fails that it needs, the program
+//! only reports that, and returns 3.
 #![no_main]
 
 #[path = "../../../bindings/rust/tests/heap/mod.rs"]
@@ -253,8 +253,11 @@ fn run(input: &[u8]) {
         }
     }
     let (other, part, errors, failed) = call(&words, *nth as usize % 60);
-    assert_eq!(failed, other == 3, "status {other}");
-    assert!(if failed {
+    // With more than 1,024 bytes of values, of which a mark has four, the program gives back memory
+    // that it doesn't use. If that fails, it continues.
+    let long = words.iter().map(Vec::len).sum::<usize>() > 1024 / 4;
+    assert!(if other == 3 { failed } else { !failed || long }, "status {other}");
+    assert!(if other == 3 {
         part.is_empty() && errors == b"getopts_shell: out of memory\n"
     } else {
         part == out && errors == err
