@@ -23,8 +23,8 @@ def roles(occurrences, free):
     """The class and the name of each word's role, and what the word gives."""
     found, free = [], list(free)
     for at, word in enumerate(WORDS):
-        given = [f"{name} = {value}" if value else name for name, place, value in occurrences if place == at]
-        before = [value for _, place, value in occurrences if place == at - 1 and value]
+        given = [f"{name} = {value}" if value else name for name, position, value in occurrences if position == at]
+        before = [value for _, position, value in occurrences if position == at - 1 and value]
         if given:
             found.append(("option", "option" if word.startswith("--") or len(word) == 2 else "cluster", given))
         elif word in before and not WORDS[at - 1].endswith(word):
@@ -38,10 +38,10 @@ def roles(occurrences, free):
 
 def draw(answers):
     """The picture, from what getopts_show prints for WORDS."""
-    values = {(name, int(place)): value for name, place, value in re.findall(r"^(\w+) @(\d+) = (.*)$", answers, re.M)}
-    places = [(name, int(place)) for name, _, of in re.findall(r"^(\w+): (\d+)((?: @\d+)+)$", answers, re.M)
-              for place in re.findall(r"\d+", of)]
-    occurrences = sorted(((name, place, values.get((name, place))) for name, place in places),
+    values = {(name, int(at)): value for name, at, value in re.findall(r"^(\w+) @(\d+) = (.*)$", answers, re.M)}
+    positions = [(name, int(at)) for name, _, of in re.findall(r"^(\w+): (\d+)((?: @\d+)+)$", answers, re.M)
+                 for at in re.findall(r"\d+", of)]
+    occurrences = sorted(((name, at, values.get((name, at))) for name, at in positions),
                          key=lambda it: (it[1], WORDS[it[1]].find(it[0][0])))
     free, line = (re.findall(rf"^{kind}: (.*)$", answers, re.M) for kind in ("free", "line"))
     parts, left = [], 120

@@ -159,7 +159,7 @@ class Options:
         return b"    " + short + (b"%s%s " % (dashes, group.long) if group.long else b"") + group.argument
 
     def usage_rows(self, columns):
-        """The rows of the usage text within so many columns."""
+        """The rows of the usage text within this many columns."""
         for group in self.groups:
             head, rows = self.head(group), wrapped(columns - MARGIN, group.desc)
             yield (head.ljust(MARGIN) if len(head) < MARGIN else head + NEXT_ROW) + NEXT_ROW.join(rows)

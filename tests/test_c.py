@@ -738,7 +738,7 @@ def test_destdir_and_uninstall(shell, relative, copies, tmp_path):
 
 
 def test_uninstall_keeps_other_files(copies, tmp_path):
-    """Other files stay, also the target of a link that is replaced; a folder in the place of a file is an error."""
+    """Other files stay, also the target of a link that is replaced; a folder instead of a file is an error."""
     need_install()
     to, others = tmp_path / "to", ["share/doc/getopts/others", f"lib/{SONAME}.others", "others.h"]
     for other in others:

@@ -48,7 +48,7 @@ def body_of(function):
 
 
 def functions_in(text):
-    """The functions of a source, each with the first line of its `impl`, and its name behind that of its type."""
+    """The functions of a source, each with the first line of its `impl`, and its name after its type's."""
     for it in FUNCTION.finditer(text):
         impl = re.findall(r"^impl.*", text[: it.start()], re.M)[-1] if it[1] else ""
         yield it, impl, re.sub(r"^impl(?:<.*?>)? (?:.* for )?(\w+).*", r"\1::", impl) + it[3]

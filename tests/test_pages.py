@@ -258,7 +258,7 @@ VERSIONS = {"CHANGELOG.md": 1, "README.md": 1, "bindings/c/Cargo.toml": 1, "bind
 
 
 def test_versions():
-    """All parts have the same version. Only the package for patches has the crate's, and ours behind it."""
+    """All parts have the same version. Only the package for patches has the crate's, followed by ours."""
     version = re.search(r"^## ([\d.]+)", pages["CHANGELOG.md"], re.M)[1]
     place, found = re.compile(rf"(?<!\d)(?<!\d\.){re.escape(version)}(?!\.?\d)"), {}
     for name in tracked:

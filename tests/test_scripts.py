@@ -1,4 +1,4 @@
-"""test.sh and release.sh, with other programs in the place of those that take long."""
+"""test.sh and release.sh, with stand-ins for programs that take long."""
 
 import contextlib
 import json
@@ -22,7 +22,7 @@ LOGS = '#!/bin/sh\nline="{name} $*"\necho "$line" >>"{log}"\ncase $line in *${{F
 @pytest.fixture
 def test_sh(tmp_path):
     """test_sh(WORD.., FAIL=.., status=..) runs a copy of test.sh: its output, its errors, and the calls of rt and pytest.
-    In the place of /usr/bin, the copy looks for Python in a folder that doesn't exist, and so for lists of packages."""
+    The copy looks for /usr/bin's Python, and for lists of packages, in a folder that doesn't exist."""
     for name in ("test.sh", "tests/packages.txt"):
         (tmp_path / "copy" / name).parent.mkdir(parents=True, exist_ok=True)
         text = (ROOT / name).read_text()

@@ -27,7 +27,7 @@ START = ["-std=c11", "-Wall", "-Wextra", "-Wpedantic", "-Wshadow", "-Wconversion
 
 
 def stored_rows():
-    """The rows of answers.rows, with a row for each item in the place of the rows 'invalid'."""
+    """The rows of answers.rows, with a row for each item instead of the rows 'invalid'."""
     above = None
     for (first, *fields), text in rows_in("tests/shell/answers.rows"):
         if first == "invalid":
@@ -55,7 +55,7 @@ HERE = pytest.mark.parametrize("program", [PROVED, CHECKED_IN, BY_CARGO], indire
 # The program that is tried in each shell.
 ONE = BY_CARGO if OTHER else CHECKED_IN
 IN_SHELLS = pytest.mark.parametrize("program", [ONE], indirect=True)
-# The indexes of rows whose arguments are too long for Windows.
+# The indices of rows whose arguments are too long for Windows.
 LONG = [at for at, (fields, _) in enumerate(ROWS) if sum(map(len, fields)) > 10_000]
 
 
@@ -425,7 +425,7 @@ def test_install_for_each_machine(install, tmp_path):
 
 
 def test_install_of_own_program(install, tmp_path):
-    """A program built by cargo contains nothing of musl. Links in the place of files are replaced, their targets stay."""
+    """A program built by cargo contains nothing of musl. Links are replaced by files, and their targets stay."""
     program, page = script(tmp_path / "built", "own"), script(tmp_path / "page", "others'")
     for name in ("bin/getopts_shell.new", "share/man/man1/getopts_shell.1"):
         (tmp_path / "to" / name).parent.mkdir(parents=True)

@@ -77,9 +77,9 @@ def output(given=(), free=()):
     """The output of getopts_show for options (name, position and value of each) and free words."""
     lines = []
     for name in ("output", "help", "verbose", "L", "color"):
-        own = [(place, value) for each, place, value in given if each == name]
-        lines.append(" ".join([f"{name}: {len(own)}", *(f"@{place}" for place, _ in own)]))
-        lines += [f"{name} @{place} = {value}" for place, value in own if value is not None]
+        own = [(at, value) for each, at, value in given if each == name]
+        lines.append(" ".join([f"{name}: {len(own)}", *(f"@{at}" for at, _ in own)]))
+        lines += [f"{name} @{at} = {value}" for at, value in own if value is not None]
     lines += [f"free: {word}" for word in free]
     lines += [f"line: --{name}" + ("" if value is None else f"={value}") for name, _, value in given]
     lines += ["line: --", *(f"line: {word}" for word in free)]

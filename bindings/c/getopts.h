@@ -234,9 +234,9 @@ void getopts_free(void *block);
 GETOPTS_FREED_BY(getopts_free)
 char *getopts_usage(const struct getopts *options, const char *brief);
 
-/* Like getopts_usage, but descriptions end within this many columns, such as the width of a terminal;
- * getopts_usage wraps them within 78. They begin after 24 columns. A word that doesn't fit has a row
- * of its own. */
+/* Like getopts_usage, but descriptions end within this many columns, such as the width of a
+ * terminal; getopts_usage wraps them within 78. They begin after 24 columns. A word that doesn't
+ * fit has a row of its own. */
 GETOPTS_FREED_BY(getopts_free)
 char *getopts_usage_in(const struct getopts *options, const char *brief, size_t columns);
 
@@ -250,8 +250,8 @@ char *getopts_short_usage(const struct getopts *options, const char *program);
  * name. Returns what getopts_read would return, but keeps what was read before.
  *
  * Stores the result in *line: a list like argv, to free with one getopts_free. Stores NULL if the
- * status isn't GETOPTS_OK. Also stores NULL, with GETOPTS_OK, if the words give an option whose main
- * name contains `=`. */
+ * status isn't GETOPTS_OK. Also stores NULL, with GETOPTS_OK, if the words give an option whose
+ * main name contains `=`. */
 int getopts_canonical(const struct getopts *options, int count, char *const *words, char ***line);
 
 /* The version of the library that the program runs with, such as "1.0.0". */

@@ -276,7 +276,7 @@ unsafe extern "C" fn getopts_defined(options: Option<&Getopts>, name: Text) -> b
 #[cold]
 fn end(parts: &[&[u8]]) -> ! {
     for part in parts {
-        // SAFETY: there are as many bytes.
+        // SAFETY: the part has this many bytes.
         unsafe { write(2, part.as_ptr(), part.len()) };
     }
     // SAFETY: `abort` has no requirements.

@@ -39,7 +39,7 @@ pub fn none() -> *const Text {
 /// The occurrences of an option that count: all, or the last one.
 pub struct Given<'r> {
     reading: &'r Reading,
-    /// The index of the option.
+    /// The place of the option.
     pub place: usize,
     /// The index in the lists of the first value.
     start: usize,
@@ -132,8 +132,8 @@ impl Reading {
     }
 
     /// The text at an index of the lists.
-    pub fn text_at(&self, place: usize) -> Text {
-        self.lists[place]
+    pub fn text_at(&self, at: usize) -> Text {
+        self.lists[at]
     }
 
     /// Stores a text. The space was reserved: each word gives at most one text, which is no longer

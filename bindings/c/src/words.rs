@@ -47,7 +47,7 @@ impl<'c> Texts<'c> {
     }
 }
 
-/// Encodes the words that aren't valid text, and puts the results in their places.
+/// Encodes the words that aren't valid text, and stores the results in `texts`.
 #[cold]
 fn put_marked<'m>(
     texts: &mut [&'m str],

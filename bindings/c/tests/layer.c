@@ -144,7 +144,7 @@ static void null_is_rejected(void) {
     expect_message(NULL, GETOPTS_ORDINARY, "the table is NULL");
     expect(!getopts_defined(none, "v"), "a name without a table");
     expect(getopts_read(options, 1, words + 2) == GETOPTS_OK && getopts_nth(options, 0, NULL) == GETOPTS_FREE_WORD
-           && getopts_nth(options, 1, NULL) == -1, "a free word without a place for it");
+           && getopts_nth(options, 1, NULL) == -1, "a free word, with nowhere to store it");
     expect(getopts_read(options, 1, words) == GETOPTS_OK, "words before a NULL");
     expect(getopts_read(options, 3, words) == GETOPTS_BAD, "a NULL word");
     expect(strcmp(getopts_message(options), "a word is NULL") == 0 && *getopts_message_name(options) == '\0', "its message");
@@ -154,7 +154,7 @@ static void null_is_rejected(void) {
     expect(getopts_position(options, NULL, 0) == -1 && getopts_value(options, NULL, 0) == NULL, "what it was given");
     expect(getopts_usage(options, NULL) == NULL && getopts_short_usage(options, NULL) == NULL, "a NULL brief");
     expect(getopts_usage_in(options, NULL, 40) == NULL && getopts_usage_in(none, "brief", 40) == NULL, "within 40 columns");
-    expect(getopts_canonical(options, 1, words, NULL) == GETOPTS_OK, "no place for a line");
+    expect(getopts_canonical(options, 1, words, NULL) == GETOPTS_OK, "nowhere to store a line");
     expect(getopts_read(options, 1, NULL) == GETOPTS_BAD, "NULL words");
     expect(getopts_read(options, 1, words + 1) == GETOPTS_BAD, "a NULL first word");
     expect(getopts_read(options, 0, NULL) == GETOPTS_OK && getopts_read(options, -1, words + 1) == GETOPTS_OK, "no words");
@@ -219,7 +219,7 @@ static void numbers_are_checked(void) {
     expect(getopts_long_value(options, "output", 1, &value) && value == 42, "a missing number");
     expect(getopts_long_value(options, "nope", 0, &value) && value == 42, "a number of an unknown option");
     char *seven[] = { "-o7", NULL };
-    expect(getopts_read(options, 1, seven) == GETOPTS_OK && getopts_long_value(options, "o", 0, NULL), "no place for a number");
+    expect(getopts_read(options, 1, seven) == GETOPTS_OK && getopts_long_value(options, "o", 0, NULL), "nowhere to store a number");
     getopts_delete(options);
 }
 

@@ -149,7 +149,7 @@ fn read_few<A: AsRef<OsStr>, I: Iterator<Item = A>, T>(
 }
 
 /// Reads the words after those with the texts `first`. An item can't move once its text is
-/// borrowed: if there is no place for it in the list, calls itself with a larger one.
+/// borrowed: if the list has no room for it, calls itself with a larger one.
 fn read_list<A: AsRef<OsStr>, I: Iterator<Item = A>, T>(
     first: &[&str],
     mut words: I,
@@ -160,7 +160,7 @@ fn read_list<A: AsRef<OsStr>, I: Iterator<Item = A>, T>(
     let promised = words.size_hint().0.min(MOST / size_of::<Option<A>>().max(1));
     let room = promised.max(first.len()).max(FEW);
     let (mut items, mut texts) = (Vec::new(), Vec::with_capacity(first.len() + room));
-    // The last place is for the end of the iterator.
+    // The last item is for the end of the iterator.
     items.resize_with(room + 1, || None);
     texts.extend_from_slice(first);
     for item in &mut items {

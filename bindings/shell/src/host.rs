@@ -18,8 +18,8 @@ pub mod env {
 
     /// The program's arguments.
     pub trait Env {
-        /// Writes the argument at `place` to the front of a buffer, and returns its length.
-        fn arg(&self, place: usize, buffer: &mut [u8]) -> Result<usize, FillError>;
+        /// Writes the argument at `index` to the front of a buffer, and returns its length.
+        fn arg(&self, index: usize, buffer: &mut [u8]) -> Result<usize, FillError>;
     }
 }
 
@@ -59,8 +59,8 @@ impl HostRuntime {
 }
 
 impl Env for HostRuntime {
-    fn arg(&self, place: usize, buffer: &mut [u8]) -> Result<usize, FillError> {
-        let word = self.words.get(place).ok_or(FillError::NotPresent)?;
+    fn arg(&self, index: usize, buffer: &mut [u8]) -> Result<usize, FillError> {
+        let word = self.words.get(index).ok_or(FillError::NotPresent)?;
         let buffer = buffer.get_mut(..word.len()).ok_or(FillError::TooLong)?;
         buffer.copy_from_slice(word);
         Ok(word.len())

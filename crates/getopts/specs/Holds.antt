@@ -77,7 +77,7 @@ pub record EndsInTrailing (words : List Text) (matches : Matched) (start : ℕ) 
   pub before : List Text
   pub words_are : words ≡ before ++ stop_word ∷ drop start matches.free
 
--- Positions are indexes of words. Under `StopAtFirstFree` the words end in the free words. If there
+-- Positions are indices of words. Under `StopAtFirstFree` the words end in the free words. If there
 -- is a trailing start, they end in `--` and the free words from there on.
 -- The options accept the words with these matches.
 pub record Accepts (options : Declared) (words : List Text) (matches : Matched) : Type 0 where

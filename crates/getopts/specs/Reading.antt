@@ -333,7 +333,7 @@ frees_in [] = []
 frees_in (option place value ∷ order) = frees_in order
 frees_in (free_word word ∷ order) = word ∷ frees_in order
 
--- The place is the number of free words before the stop. There is none if no word follows the stop.
+-- This is the number of free words before the stop. There is none if no word follows the stop.
 -- where the words after a stop begin among the free words
 abbrev pub trailing_after : ℕ → Tail → Option ℕ
 trailing_after before (stop (word ∷ words)) = Some before

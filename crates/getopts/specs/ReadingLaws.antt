@@ -134,7 +134,7 @@ pub record LinesCompose (grammar : Grammar) : Type 0 where
       × ((whole : Reading) → IsReading grammar whole (words ++ more)
       → HasContentOfBoth grammar first second whole)
 
--- The free words from this place on are the words after the stop, and there is at least one.
+-- The free words from this index on are the words after the stop, and there is at least one.
 pub record IsAfterStop (reading : Reading) (start : ℕ) : Type 0 where
   pub below : start < length (free_words reading)
   pub tail_is : reading.tail ≡ stop (drop start (free_words reading))
@@ -189,7 +189,7 @@ pub record BelongsToItem (grammar : Grammar) (reading : Reading) (words : List T
   pub in_order : FollowsItems grammar (order_of_reading grammar reading) before item
 
 -- Each occurrence of a reading belongs to an item, and is at its first word.
--- Positions are indexes of words.
+-- Positions are indices of words.
 pub record PositionsAreWords (grammar : Grammar) : Type 0 where
   pub of_occurrence : (reading : Reading) (words : List Text) (occurrence : Occurrence)
       → IsReading grammar reading words

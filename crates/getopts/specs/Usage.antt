@@ -103,11 +103,11 @@ padding head = if nat_lt (width_of head) margin then spaces (margin - width_of h
 abbrev pub row_text : Text → List Text → Text
 row_text head description = head ++ (padding head ++ joined next_row description)
 
--- the most columns of a description's row, if rows end within so many columns
+-- the most columns of a description's row, if rows end within this many columns
 abbrev pub description_columns : ℕ → ℕ
 description_columns columns = columns - margin
 
--- This is the group's row within so many columns: its head, its padding, and the description's
+-- This is the group's row within this many columns: its head, its padding, and the description's
 -- rows, which end within them.
 abbrev pub IsUsageRowIn : ℕ → Bool → Bool → Group → Text → Type 0
 IsUsageRowIn columns long_only among_shorts group row =
@@ -115,7 +115,7 @@ IsUsageRowIn columns long_only among_shorts group row =
     × IsDescriptionRows (description_columns columns) group.description description
     × (row ≡ row_text (head long_only among_shorts group) description)
 
--- These are the rows of the groups within so many columns, in order of declaration.
+-- These are the rows of the groups within this many columns, in order of declaration.
 abbrev pub AreUsageRowsIn : ℕ → Declared → List Text → Type 0
 AreUsageRowsIn columns options rows =
     AllZip (IsUsageRowIn columns options.long_only (any_short options.groups)) options.groups rows
@@ -135,7 +135,7 @@ abbrev pub usage_text : Text → List Text → Text
 usage_text brief rows =
     brief ++ (codes "\n\nOptions:\n" ++ (joined (codes "\n") rows ++ codes "\n"))
 
--- This is the usage text of these options within so many columns.
+-- This is the usage text of these options within this many columns.
 abbrev pub IsUsageTextIn : ℕ → Declared → Text → Text → Type 0
 IsUsageTextIn columns options brief text =
     (rows : List Text) × AreUsageRowsIn columns options rows × (text ≡ usage_text brief rows)

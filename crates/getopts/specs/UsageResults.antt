@@ -37,13 +37,13 @@ description_rows limit desc = rows_of limit (lines_of desc)
 
 -- ---- usage texts
 
--- a group's row within so many columns
+-- a group's row within this many columns
 abbrev pub usage_row_in : ℕ → Bool → Bool → Group → Text
 usage_row_in columns long_only among_shorts group =
     row_text (head long_only among_shorts group)
     (description_rows (description_columns columns) group.description)
 
--- the rows within so many columns
+-- the rows within this many columns
 abbrev pub usage_rows_in_result : ℕ → Declared → List Text
 usage_rows_in_result columns options =
     map (usage_row_in columns options.long_only (any_short options.groups)) options.groups

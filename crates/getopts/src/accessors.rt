@@ -228,8 +228,7 @@ impl Matches {
     /// Returns the index, among the free words, of the first word after `--`.
     ///
     /// After `a -- b` it is `Some(1)`. Returns `None` if no word follows a `--` that ends the
-    /// options. The index is that of the parsed command line: later changes to `free` don't affect
-    /// it.
+    /// options. Later changes to `free` don't affect it.
     pub fn free_trailing_start(&self) -> Option<usize>
         ensures start { result ≡ self.now.trailing_start }
     {

@@ -25,7 +25,7 @@ use std::convert::AsStr;
 /// words than it promises.
 pub(crate) const FIRST_ROOM: usize = 32;
 
-/// How many words tell how many of a longer line's words are dashed.
+/// How many words are looked at to judge how many of a longer line's words are dashed.
 const SAMPLE: usize = 1024;
 
 /// A lemma for proofs, which compiles to nothing: a `&str` is UTF-8.

@@ -483,7 +483,7 @@ pub(crate) fn cut_at(bytes: &[u8], byte: u8) -> (&[u8], &[u8])
     (&bytes[..place], without_first(&bytes[place..]))
 }
 
-/// The place of the first such byte, or the end.
+/// The index of the first such byte, or the end.
 fn place_of(bytes: &[u8], byte: u8) -> usize
     ensures within { result ≤ length bytes.now }
     ensures place { result ≡ position_or_len (λ other. other == byte) bytes.now }

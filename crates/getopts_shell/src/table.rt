@@ -205,7 +205,7 @@ fn cut_at_gap(text: &str) -> (&str, &str)
     (text, "")
 }
 
-/// Whether a line has a gap at a place.
+/// Whether a line has a gap at this index.
 fn has_gap(bytes: &[u8], at: usize) -> bool
     requires { at < length bytes.now }
     ensures is { result ≡ is_gap (take at bytes.now) (drop at bytes.now) }

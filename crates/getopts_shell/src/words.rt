@@ -25,8 +25,8 @@ pub(crate) fn system_words(rt: &HostRuntime) -> Result<Vec<String>, AllocError> 
     Ok(words)
 }
 
-/// Reads the word at a place to the front of a buffer, which grows until the word fits, and returns
-/// its length. There is none after the last word.
+/// Reads the word with this index to the front of a buffer, which grows until the word fits, and
+/// returns its length. There is none after the last word.
 fn read_word(
     rt: &HostRuntime,
     place: usize,

@@ -36,7 +36,7 @@ impl<'a> Iterator for Promising<'a, '_> {
     }
 }
 
-/// Words of which none has been taken, with a promise of so many.
+/// An iterator over words that promises this many.
 pub fn promised<'a, 'c>(
     words: &'a [String],
     promise: usize,

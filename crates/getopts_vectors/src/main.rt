@@ -55,7 +55,7 @@
 //! - `same options` and `same answers`: `same options true` if the options equal the kept ones,
 //!   else `same options false`; `same answers` compares the results of the last `words`
 //! - `short PROGRAM` and `usage BRIEF`: the text
-//! - `usage_in COLUMNS BRIEF`: the usage text within so many columns
+//! - `usage_in COLUMNS BRIEF`: the usage text within this many columns
 //! - `rows`: the result of the closure of `usage_with_format`, which counts its rows, then the rows
 //! - `usage_rows`: the rows
 //! - `closures`: the result and the number of calls of a closure of `usage_with_format` that takes

@@ -58,8 +58,8 @@ mod host {
     }
 
     impl env::Env for HostRuntime {
-        fn arg(&self, place: usize, buffer: &mut [u8]) -> Result<usize, env::FillError> {
-            let word = self.words.get(place).ok_or(env::FillError::NotPresent)?;
+        fn arg(&self, index: usize, buffer: &mut [u8]) -> Result<usize, env::FillError> {
+            let word = self.words.get(index).ok_or(env::FillError::NotPresent)?;
             let buffer = buffer.get_mut(..word.len()).ok_or(env::FillError::TooLong)?;
             buffer.copy_from_slice(word);
             Ok(word.len())

@@ -8,8 +8,8 @@ use crate::alloc::{AllocError, Global};
 /// A stored occurrence of an option: the place of its group, the index of its item's first word,
 /// and its value.
 ///
-/// In the text of all values, a value ends where that of the next record starts. `value` is twice
-/// the place where it starts, plus one if there is a value.
+/// In the text of all values, a value ends where the next record's starts. `value` is twice the
+/// index of its first byte, plus one if there is a value.
 #[derive(Clone, Copy, Debug)]
 pub(crate) struct OccurrenceRecord {
     pub place: usize,
@@ -54,7 +54,8 @@ fn push_value(values: &mut String, value: Option<&str>) -> Result<usize, AllocEr
     }
 }
 
-/// The value that starts here among all values, and ends where that of the record at `next` starts.
+/// The value that starts here among all values, and ends where the value of the record at `next`
+/// starts.
 #[inline(always)]
 fn value_from<'v>(
     values: &'v str,

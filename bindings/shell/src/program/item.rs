@@ -371,7 +371,7 @@ pub(crate) fn cut_at(bytes: &[u8], byte: u8) -> (&[u8], &[u8]) {
     (&bytes[..place], without_first(&bytes[place..]))
 }
 
-/// The place of the first such byte, or the end.
+/// The index of the first such byte, or the end.
 fn place_of(bytes: &[u8], byte: u8) -> usize {
     bytes
         .iter()

@@ -141,7 +141,7 @@ fn cut_at_gap(text: &str) -> (&str, &str) {
     (text, "")
 }
 
-/// Whether a line has a gap at a place.
+/// Whether a line has a gap at this index.
 fn has_gap(bytes: &[u8], at: usize) -> bool {
     // Most bytes aren't blank, and need no closer look.
     is_blank(bytes[at]) && is_gap(&bytes[..at], &bytes[at..])

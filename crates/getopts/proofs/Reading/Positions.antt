@@ -246,7 +246,7 @@ belongs grammar reading words occurrence before (item ∷ items) reads are held 
           (are ∙ sym (append_assoc before (item ∷ []) items)) (rw count at later)
     ]
 
--- positions are indexes of words
+-- positions are indices of words
 pub PositionsAreWords_lem : (grammar : Grammar) → Spec.PositionsAreWords grammar
 PositionsAreWords_lem grammar = record {
   of_occurrence = λ reading words occurrence reads held.

@@ -80,13 +80,13 @@ with_tail found frees tail = record {
   trailing_start = trailing_after (length frees) tail;
 }
 
--- what these occurrences and free words give with a reading of the words from this place on
+-- what these occurrences and free words give with a reading of the words from this position on
 abbrev pub with_reading : Grammar → ℕ → List Occurrence → List Text → Reading → Parts
 with_reading grammar at found frees reading =
     with_tail (found ++ occurrences_after at grammar reading.items)
     (frees ++ free_items reading.items) reading.tail
 
--- what a line gives with the words from this place on
+-- what a line gives with the words from this position on
 abbrev pub given_with : Grammar → ℕ → Line → List Text → Result Parts Fault
 given_with grammar at line words =
     made_of (with_reading grammar at line.found (map string_bytes line.free.items))

@@ -61,7 +61,7 @@ impl Session {
         }
         let fields = asked.fields();
         let options = &mut self.side.options;
-        let f = |place: usize| fields[place].as_str();
+        let f = |nth: usize| fields[nth].as_str();
         match asked.word() {
             "case" => {
                 *self = Session::default();
@@ -218,13 +218,13 @@ fn got<T: FromStr + Display>(matches: &Matches, name: &str, default: &str) -> [S
 
 fn positions(matches: &Matches, name: &str) -> Vec<String> {
     let positions = matches.opt_positions(name).into_iter();
-    positions.map(|place| place.to_string()).collect()
+    positions.map(|position| position.to_string()).collect()
 }
 
 /// The positions and texts of values.
 fn pairs(matches: &Matches, name: &str) -> Vec<String> {
     let pairs = matches.opt_strs_pos(name).into_iter();
-    let fields = pairs.flat_map(|(place, text)| [place.to_string(), text]);
+    let fields = pairs.flat_map(|(position, text)| [position.to_string(), text]);
     fields.collect()
 }
 

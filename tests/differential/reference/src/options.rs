@@ -44,8 +44,8 @@ impl Group {
     pub fn of_line(line: &Line) -> Option<Group> {
         let call = CALLS.iter().position(|call| call.0 == line.word())?;
         let (_, kind, occur, _) = CALLS[call];
-        let field = |place| line.fields().get(place).map_or("", String::as_str);
-        let [short, long, desc, hint] = [0, 1, 2, 3].map(|place| field(place).to_string());
+        let field = |nth: usize| line.fields().get(nth).map_or("", String::as_str);
+        let [short, long, desc, hint] = [0, 1, 2, 3].map(|nth| field(nth).to_string());
         let kind = match field(4) {
             "" => kind,
             "yes" => HasArg::Yes,
@@ -58,7 +58,7 @@ impl Group {
             "req" => Occur::Req,
             "optional" => Occur::Optional,
             "multi" => Occur::Multi,
-            other => panic!("unknown kind {other}"),
+            other => panic!("unknown occurrence {other}"),
         };
         Some(Group { short, long, desc, hint, kind, occur, call })
     }
