@@ -182,7 +182,7 @@ impl Options {
                 let texts =
                     words.iter().map(|word| text_of(word)).collect::<Result<Vec<_>, _>>()?;
                 let given = answer(&borrowed(&texts), true);
-                // The first mark of an encoded character in a cluster: the character has a name.
+                // In a cluster, the name is only a character's first mark: name the character.
                 if matches!(&given, Err(Fail::UnrecognizedOption(name)) if name == "\u{FFFD}") {
                     let texts: Vec<_> = words.iter().map(|word| word.to_string_lossy()).collect();
                     if let Err(fail @ Fail::UnrecognizedOption(_)) =
