@@ -352,8 +352,8 @@ def test_words_in_utf8_on_windows(build, tmp_path):
 ORDER = [  # arguments, output lines
     ("-qv", "verbose"), ("-vq", "quiet"), ("-v --silent", "quiet"), ("--verbose -q --quiet -v -q", "quiet"),
     ("-q f -- -v", "take ./f,take ./-v,quiet"), ("-C a f -C b g", "take a/f,take b/g,verbose"),
-    ("f -Ca g -vXb h --directory=c -X d=e -q i", "take ./f,take a/g,leave b,take a/h,leave d=e,take c/i,quiet"),
-    ("-Xa -C- - --directory -- -- --", "leave a,take -/-,take --/--,verbose"),
+    ("f -Ca g -vXb h --directory=c -X d=e -q i", "take ./f,take a/g,skip b,take a/h,skip d=e,take c/i,quiet"),
+    ("-Xa -C- - --directory -- -- --", "skip a,take -/-,take --/--,verbose"),
 ]
 
 

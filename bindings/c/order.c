@@ -1,6 +1,7 @@
-/* Handles options and free words in the order in which they were given, as a loop over getopt_long does: an example of
- * getopts.h. The last of -q and -v wins, as in -qv. -C applies to the files after it, as in -C a f -C b g. --silent is
- * another name of --quiet. In C++, leave out `[QUIET] =` and the like. */
+/* Handles options and free words in the order in which they were given, as a loop over getopt_long
+ * does: an example of getopts.h. The last of -q and -v wins, as in -qv. -C applies to the files
+ * after it, as in -C a f -C b g. --silent is another name for --quiet. In C++, leave out
+ * `[QUIET] =` and the like. */
 #include <getopts.h>
 #include <stdio.h>
 
@@ -11,7 +12,7 @@ static const struct getopts_option table[ROWS + 1] = {
     [SILENT] = { NULL, "silent", NULL, "the same as --quiet", GETOPTS_NO },
     [VERBOSE] = { "v", "verbose", NULL, "say more", GETOPTS_NO },
     [DIRECTORY] = { "C", "directory", "DIR", "take the next files from this folder", GETOPTS_YES },
-    [EXCLUDE] = { "X", NULL, "NAME", "leave files of this name", GETOPTS_YES },
+    [EXCLUDE] = { "X", NULL, "NAME", "skip files of this name", GETOPTS_YES },
 };
 
 static int run(struct getopts *options, int count, char **words) {
@@ -27,7 +28,7 @@ static int run(struct getopts *options, int count, char **words) {
         case QUIET: case SILENT: quiet = true; break;
         case VERBOSE: quiet = false; break;
         case DIRECTORY: folder = value; break;
-        case EXCLUDE: printf("leave %s\n", value); break;
+        case EXCLUDE: printf("skip %s\n", value); break;
         case GETOPTS_FREE_WORD: printf("take %s/%s\n", folder, value); break;
         }
     }
