@@ -159,11 +159,7 @@ module _ (g : Grammar) where
   short-fault : ∀ {w ws f} t → HasAfterFlags g w t → t ≢ []
     → (∀ bs → cluster-step g bs t ws ≡ faults f) → step g w ws ≡ faults f
   short-fault t (mk bs mode refl no-dash all) filled e =
-    after-flags bs t _ mode no-dash (filled-right bs) all ∙ e bs
-    where
-      filled-right : ∀ (xs : Text) → xs ++ t ≢ []
-      filled-right [] = filled
-      filled-right (x ∷ xs) ()
+    after-flags bs t _ mode no-dash (filled-right bs filled) all ∙ e bs
 
   byte-fault : ∀ b {t ws} c {char} more bs → (g .$kind) (b ∷ []) ≡ None → encode c ≡ char
     → b ∷ t ≡ char ++ more → cluster-step g bs (b ∷ t) ws ≡ faults (unrecognized-option char)

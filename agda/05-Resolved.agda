@@ -3,9 +3,8 @@ module 05-Resolved where
 
 open import Names
 open import Options
-open import Matches using (Matched; MatchedGroup; $groups; $signature)
+open import Matches using ($signature)
 open import Accessors using (held-names)
-open import Holds using (AreGroupsOf)
 open import 01-Basics
 open import 02-Characters
 open import 03-Reads
@@ -147,14 +146,9 @@ one-byte-is-short ns valid byte place e with bearer ns (byte ∷ []) place e
     short (mk s []) _ (as-main is) = is
     short (mk s (c ∷ l)) (mk _ long-fits _ , _) (as-main is) = absurd (long-fits (cong length is))
 
--- Matches with the groups of options have their names.
-held-are : ∀ options (m : Matched) → AreGroupsOf options (m .$groups)
-  → held-names (m .$groups) ≡ names-of (options .$groups)
-held-are options m = go (m .$groups) (options .$groups)
-  where
-    go : ∀ (groups : List MatchedGroup) gs
-      → map (λ m → m .$signature) groups ≡ signatures-of gs
-      → held-names groups ≡ names-of gs
-    go [] [] _ = refl
-    go (m ∷ ms) (g ∷ gs) e
-      rewrite cong (λ s → s .$names) (cons-head e) | go ms gs (cons-tail e) = refl
+-- Matched groups with these signatures have their names.
+held-are : ∀ groups {gs} → map (λ m → m .$signature) groups ≡ signatures-of gs
+  → held-names groups ≡ names-of gs
+held-are [] {[]} e = refl
+held-are (m ∷ ms) {g ∷ gs} e =
+  cong₂ _∷_ (cong (λ s → s .$names) (cons-head e)) (held-are ms (cons-tail e))

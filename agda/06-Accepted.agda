@@ -2,9 +2,8 @@
 module 06-Accepted where
 
 open import Only
-open import Names using (Text; AreTexts)
+open import Names using (Text)
 open import Options
-open import Fail
 open import Reading
 open import Matches
 open import Parse
@@ -13,7 +12,6 @@ open import Theorem
 open import Results using (read; first-count-fault; broken-count)
 open import 01-Basics
 open import 03-Reads
-open import 04-Decided
 open import 05-Resolved
 
 -- Any sane grammar --------------------------------------------------------------------------------

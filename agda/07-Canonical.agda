@@ -2,18 +2,16 @@
 module 07-Canonical where
 
 open import Enums
-open import Only
 open import Names
 open import Options
 open import Reading
 open import Matches
 open import Parse
 open import Accessors
-open import ReadingLaws using (mentions-of)
 open import Canon
-open import CanonAnswers using (KeepsLineLaws; IsWritten; mk)
+open import CanonAnswers using (KeepsLineLaws; mk)
 open import Theorem
-open import Step using (with-equals; cut-at-equals)
+open import Step using (cut-at-equals)
 open import 01-Basics
 open import 03-Reads
 open import 05-Resolved
@@ -130,6 +128,10 @@ values-are place (o ∷ os) with eqb (o .$mention .$group) place
 ... | true = cong (_ ∷_) (values-are place os)
 ... | false = values-are place os
 
+held-all : ∀ place gs os → held-names (matched place (signatures-of gs) os) ≡ names-of gs
+held-all place [] os = refl
+held-all place (g ∷ gs) os = cong (g .$signature .$names ∷_) (held-all (place + 1) gs os)
+
 module _ (os os′ : List Occurrence) (same : map mention-in os ≡ map mention-in os′) where
 
   same-of-group : ∀ place
@@ -150,15 +152,13 @@ module _ (os os′ : List Occurrence) (same : map mention-in os ≡ map mention-
   same-at place (s ∷ sigs) zero = same-of-group place
   same-at place (s ∷ sigs) (suc at) = same-at (place + 1) sigs at
 
-  held : ∀ place sigs → held-names (matched place sigs os) ≡ held-names (matched place sigs os′)
-  held place [] = refl
-  held place (s ∷ sigs) = cong (s .$names ∷_) (held (place + 1) sigs)
-
-  same-of-name : ∀ sigs name → each-value (occurrences-of-name (matched 0 sigs os) name)
-    ≡ each-value (occurrences-of-name (matched 0 sigs os′) name)
-  same-of-name sigs name rewrite held 0 sigs with resolution (held-names (matched 0 sigs os′)) name
+  same-of-name : ∀ gs name
+    → each-value (occurrences-of-name (matched 0 (signatures-of gs) os) name)
+    ≡ each-value (occurrences-of-name (matched 0 (signatures-of gs) os′) name)
+  same-of-name gs name rewrite held-all 0 gs os | held-all 0 gs os′
+    with resolution (names-of gs) name
   ... | None = refl
-  ... | Some at = same-at 0 sigs at
+  ... | Some at = same-at 0 (signatures-of gs) at
 
 -- The canonical reading ---------------------------------------------------------------------------
 
@@ -328,7 +328,7 @@ module Lines (options : Declared) (named : Each IsNamed (names-of (options .$gro
     → HaveSameValues (matches-of (with-setting options s l) r)
       (matches-of (with-setting options s′ l′) r′)
   same-values s l s′ l′ r r′ e =
-    mk (same-of-name _ _ (cong (λ c → c .$mentions) e) (signatures-of gs)) (cong (λ c → c .$free) e)
+    mk (same-of-name _ _ (cong (λ c → c .$mentions) e) gs) (cong (λ c → c .$free) e)
 
   -- Words with the content of accepted words keep the counts, and have the same values.
   one-content-holds-same : OneContentHoldsSame options

@@ -128,10 +128,6 @@ found? p (o ∷ os) with eqb (o .$mention .$group) p in is
         { (zero , _ , _ , refl , refl) → true≢false (eqb-refl p) is
         ; (suc k , x , s≤s below , at , same) → others (k , x , below , at , same) }
 
-held-all : ∀ k gs os → held-names (matched k (signatures-of gs) os) ≡ names-of gs
-held-all k [] os = refl
-held-all k (g ∷ gs) os = cong (g .$signature .$names ∷_) (held-all (k + 1) gs os)
-
 found-at-place : ∀ k sigs os at {s} → slice-get sigs at ≡ Some s
   → occurrences-of-group (matched k sigs os) at ≡ occurrences-mentioning (k + at) os
 found-at-place k (x ∷ sigs) os zero e rewrite +-zero k = refl

@@ -10,41 +10,50 @@ open import Parse using (mk)
 open import Returns using (HasResults; $reading)
 open import Theorem
 open import 01-Basics
-open import 03-Reads
 
 declared-with : List Group → Declared
 declared-with groups = mk groups FloatingFrees false
 
-flag : Text → Group
-flag short = group-of short [] [] [] No Multi
+flag : Text → Text → Group
+flag s l = group-of s l [] [] No Multi
 
 -- Without `named` of `AreLawful`: a group without names. `--` is the stop, and its option.
-two-readings : ¬ (OneReading (declared-with (flag [] ∷ [])))
+two-readings : ¬ (OneReading (declared-with (flag [] [] ∷ [])))
 two-readings unique
   with unique (stop-word ∷ []) (mk [] (stop [])) (mk (long two [] none ∷ []) line-end)
     (mk refl tt tt tt) (mk refl (mk tt refl (No , refl , tt) , tt) tt ((λ ()) , tt))
 ... | ()
 
--- Without `shorts` of `MayBeDeclared`: flags of the two bytes of `é`. `-éx` has two scan errors.
-halves : Declared
-halves = declared-with (flag (195 ∷ []) ∷ flag (169 ∷ []) ∷ [])
+-- Without `shorts` of `MayBeDeclared`, or `long_fits` of `AreLawful`: flags of the two bytes of
+-- `é`, as short names or as long names. `-éx` has two scan errors.
+halves : (Text → Group) → Declared
+halves named = declared-with (named (195 ∷ []) ∷ named (169 ∷ []) ∷ [])
 
-halves-named : AreLawfullyNamed (halves .$groups)
+halves-named : AreLawfullyNamed (halves (λ name → flag name []) .$groups)
 halves-named = lawful , lawful , tt
   where
     lawful : ∀ {b} → AreLawful (b ∷ []) []
     lawful = mk (s≤s z≤n) (λ ()) (s≤s z≤n)
 
-e-acute-x : List Text
-e-acute-x = (45 ∷ 195 ∷ 169 ∷ 120 ∷ []) ∷ []
+TwoErrors : (Text → Group) → Set
+TwoErrors named = IsScanFault g words (unrecognized-option (195 ∷ 169 ∷ []))
+  × IsScanFault g words (unrecognized-option (120 ∷ []))
+  where
+    g = grammar-of (halves named)
+    words = (45 ∷ 195 ∷ 169 ∷ 120 ∷ []) ∷ []
 
-two-errors : IsScanFault (grammar-of halves) e-acute-x (unrecognized-option (195 ∷ 169 ∷ []))
-  × IsScanFault (grammar-of halves) e-acute-x (unrecognized-option (120 ∷ []))
-two-errors =
+two-errors : ∀ named → Each (IsFlag (grammar-of (halves named))) (195 ∷ 169 ∷ [])
+  → kind-of (halves named .$groups) (120 ∷ []) ≡ None → TwoErrors named
+two-errors named are-flags unknown =
   mk [] _ [] [] refl (mk refl tt tt tt)
     (wide-character 233 (120 ∷ []) refl (s≤s (s≤s z≤n)) (mk [] refl refl refl tt))
   , mk [] _ [] [] refl (mk refl tt tt tt) (unknown-byte 120 [] (ltb→< 120 128 refl)
-    (mk (195 ∷ 169 ∷ []) refl refl refl (refl , refl , tt)) refl)
+    (mk (195 ∷ 169 ∷ []) refl refl refl are-flags) unknown)
+
+without-shorts : TwoErrors (λ name → flag name [])
+without-shorts = two-errors (λ name → flag name []) (refl , refl , tt) refl
+without-long-fits : TwoErrors (λ name → flag [] name)
+without-long-fits = two-errors (λ name → flag [] name) (refl , refl , tt) refl
 
 -- Without `AreTexts` in `HaveResults`: `-` and a byte that begins no character. `read` gives an
 -- error with an empty name, which no scan error has.

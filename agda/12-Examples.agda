@@ -55,6 +55,9 @@ rows : description-rows 15 (codes "\nMary had a little lamb\nLittle lamb\n")
   ≡ codes "Mary had a" ∷ codes "little lamb" ∷ codes "Little lamb" ∷ []
 rows = refl
 
+line-ends : description-rows 15 (codes "a\nb") ≡ codes "a" ∷ codes "b" ∷ []
+line-ends = refl
+
 usage : usage-result (options-of
       (optopt (codes "o") (codes "output") (codes "set output file name") (codes "NAME")
       ∷ optflag (codes "h") (codes "help") (codes "print this") ∷ []))

@@ -1,13 +1,12 @@
--- The lemmas of src/laws.rt about the definitions. Their clauses are translated to the records of
--- gen/Statement.agda. Those about columns hold for any function in the place of the widths of
--- `unicode_width`.
+-- All lemmas of src/laws.rt. In gen/Statement.agda, translate.py writes a record of the clauses of
+-- each lemma, and `Laws`, the record of all lemmas. Clauses about columns hold for any function in
+-- the place of the widths of `unicode_width`.
 import Base
 module 13-All (str-width : Base.Bool → Base.List Base.ℕ → Base.ℕ) where
 
 open import Names using (MainNameResolves; OneByteIsShort; EmptyResolvesNot)
 open import Options
-open import Matches using (Matched; $groups)
-open import Holds using (AreGroupsOf)
+open import Matches using ($groups)
 open import 01-Basics
 open import 05-Resolved
 import Statement
@@ -26,7 +25,7 @@ module _ (options : Declared) where
     ns = names-of gs
 
   -- The theorem needs that each group has a name, and that none is a byte of a longer character.
-  main-theorem : Each IsNamed ns → MainTheorem options
+  main-theorem : Each IsNamed ns → OneReadingOneCanonicalLine options
   main-theorem named = λ where
       .$one-reading → one-reading
       .$one-reading-in-each → one-reading-in-each
@@ -45,7 +44,7 @@ module _ (options : Declared) where
       open 07-Canonical.Lines options named
 
   -- Options that may be declared have such names.
-  declared-theorem : MayBeDeclared gs → MainTheorem options
+  declared-theorem : MayBeDeclared gs → OneReadingOneCanonicalLine options
   declared-theorem declared = main-theorem (each-map is-named _ (valid-groups gs declared))
 
   names-resolve : MayBeDeclared gs → NamesResolve options
@@ -53,39 +52,31 @@ module _ (options : Declared) where
       (empty-resolves-not ns (each-map is-named ns valid))
     where valid = valid-groups gs declared
 
-  -- For matches with the groups of these options.
-  held-names-resolve : ∀ (matches : Matched) → MayBeDeclared gs
-    → AreGroupsOf options (matches .$groups) → HeldNamesResolve matches
-  held-names-resolve matches declared same = mk (subst MainNameResolves is (facts .$main-name))
-      (subst OneByteIsShort is (facts .$one-byte)) (subst EmptyResolvesNot is (facts .$empty))
-    where
-      facts = names-resolve declared
-      is = sym (held-are options matches same)
-
   -- A part of `declared`: an added group with valid names, and a short one in UTF-8, keeps it.
   declared-with : ∀ group → MayBeDeclared gs → IsValid (group .$signature .$names)
     → MayBeDeclared (with-group options group .$groups)
   declared-with group (mk named shorts) (valid , utf8) =
     mk (each-++ gs named (valid , tt)) (each-++ gs shorts (utf8 , tt))
 
-equal-answers : EqualAnswers
-equal-answers = mk 09-Computed.one-parse-answer 09-Computed.one-canonical-answer
-
-results-are-computed : ResultsAreComputed
-results-are-computed = mk λ options words declared →
-  declared-theorem options declared .$results words
-
-laws-of-declared : LawsOfDeclared
-laws-of-declared = λ where
-  .$reading-laws options declared → declared-theorem options declared .$reading-laws
-  .$line-laws options declared → declared-theorem options declared .$line-laws
-  .$holds-same options declared → declared-theorem options declared .$holds-same
-  .$one-reading options declared → declared-theorem options declared .$one-reading
-  .$accepted options declared → declared-theorem options declared .$accepted
-  .$refused options declared → declared-theorem options declared .$refused
-  .$one-line-one-content options declared →
-    declared-theorem options declared .$one-line-one-content
-
-usage-texts : UsageTexts
-usage-texts = mk usage-text-is usage-rows description fewest-rows
+laws : Laws
+laws = λ where
+    .$one-reading-one-canonical-line → declared-theorem
+    .$declared-options-keep-laws → λ where
+      .$reading-laws options declared → declared-theorem options declared .$reading-laws
+      .$line-laws options declared → declared-theorem options declared .$line-laws
+      .$holds-same options declared → declared-theorem options declared .$holds-same
+      .$one-reading options declared → declared-theorem options declared .$one-reading
+      .$accepted options declared → declared-theorem options declared .$accepted
+      .$refused options declared → declared-theorem options declared .$refused
+      .$one-line-one-content options declared →
+        declared-theorem options declared .$one-line-one-content
+    .$names-resolve → names-resolve
+    .$held-names-resolve options matches declared same →
+      let is = sym (held-are (matches .$groups) same) ; facts = names-resolve options declared in
+      mk (subst MainNameResolves is (facts .$main-name))
+        (subst OneByteIsShort is (facts .$one-byte)) (subst EmptyResolvesNot is (facts .$empty))
+    .$equal-input-equal-answers → mk 09-Computed.one-parse-answer 09-Computed.one-canonical-answer
+    .$results-are-computed → mk λ options words declared →
+      declared-theorem options declared .$results words
+    .$usage-texts-are-computed → mk usage-text-is usage-rows description fewest-rows
   where open 10-Rows str-width

@@ -1,4 +1,5 @@
--- Written by hand: what antt has built in, or by other means than clauses.
+-- Written by hand, with antt's precedences: what antt has built in, or defines by other means than
+-- clauses.
 module Base where
 
 open import Agda.Builtin.Equality public using (_≡_; refl)
@@ -59,7 +60,7 @@ m / suc n = div zero n m n
 m % zero = m
 m % suc n = mod zero n m n
 
--- a literal of ASCII characters
+-- the characters of a literal
 codes : String → List ℕ
 codes text = numbers (primStringToList text)
   where

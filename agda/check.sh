@@ -1,5 +1,5 @@
 #!/usr/bin/env bash
-# Proves the lemmas of crates/getopts/src/laws.rt about the definitions once more, in Agda.
+# Proves all lemmas of crates/getopts/src/laws.rt once more, in Agda.
 # usage: check.sh [--wrong]
 #
 # translate.py writes the definitions and the clauses in Agda's syntax. --wrong also tries wrong

@@ -17,22 +17,22 @@ LEFT_OUT = {
     "borrowed words and values": "Names.texts Accessors.borrowed_occurrence "
     "Accessors.borrowed_given Accessors.pair_view",
     "the type Fail of Rust": "Fail.fault_of Fail.fail_text Fail.IsOutOfMemoryOr "
-    "Returns.ReturnsConverted Returns.ReturnsResult Same.same_fail",
+    "Returns.ReturnsConverted Returns.ReturnsResult",
+    "what `==` computes, which no lemma is about": "Same.*",
     "an invariant of the type Options of Rust, and a premise here": "names_resolve.declared",
 }
-# The lemmas of laws.rt, each with the record of its clauses.
-LEMMAS = {
-    "one_reading_one_canonical_line": "MainTheorem (options : Declared)",
-    "declared_options_keep_laws": "LawsOfDeclared",
-    "names_resolve": "NamesResolve (options : Declared)",
-    "held_names_resolve": "HeldNamesResolve (matches : Matched)",
-    "equal_input_equal_answers": "EqualAnswers",
-    "results_are_computed": "ResultsAreComputed",
-    "usage_texts_are_computed": "UsageTexts",
+# The parameters of the lemmas of laws.rt: here, and with what a proof assumes of them.
+PARAMETERS = {
+    "()": ("", ""),
+    "(options: &Options)":
+    ("(options : Declared)", "(options : Declared) → MayBeDeclared options.groups → "),
+    "(matches: &Matches)":
+    ("(matches : Matched)", "(options : Declared) (matches : Matched) → "
+     "MayBeDeclared options.groups → AreGroupsOf options matches.groups → "),
 }
 # The definitions of std that are used, by file. What they are made of is in Base.agda.
 OF_STD = {
-    "antt/port/mathlib/src/Core/Bool.antt": "cond not ◌&&◌ ◌||◌ beq",
+    "antt/port/mathlib/src/Core/Bool.antt": "cond not ◌&&◌ ◌||◌",
     "antt/port/mathlib/src/Core/Logic.antt": "◌≢◌ ◌↔◌",
     "antt/port/mathlib/src/Core/List/Defs.antt": "◌++◌ map",
     "logic/Lib/ListN.antt": "length get_or take drop",
@@ -40,13 +40,12 @@ OF_STD = {
     "logic/Lib/Utf8.antt": "scalar scalars next encode encodes",
     "core/specs/Bool.antt": "if◌then◌else◌ ◌==◌",
     "core/specs/Option.antt": "is_some unwrap_or option_or option_map option_and_then "
-    "option_map_or option_and option_eq MatchOption IfSome IsSome IsSomeAnd",
+    "option_map_or option_and MatchOption IfSome IsSome IsSomeAnd",
     "core/specs/Result.antt": "MatchResult result_map_both result_transpose",
     "core/specs/List.antt": "slice_get filter list_any list_all find cons_option filter_map zip "
     "last_or AllByRecursion prefix_len position_or_len Any position Contains All AllZip fold "
     "sum_by flat_map repeat join_by join_with_byte onto_first slice_split",
     "core/specs/List/Sorted.antt": "IsNonDecreasingBy",
-    "core/specs/Ordering.antt": "on eq_of_both",
     "core/specs/Str.antt": "IsUtf8 bytes_eq continuation_len lead_bits chars_after chars",
     "core/specs/Char.antt": "IsScalar is_whitespace",
 }
@@ -55,9 +54,9 @@ ALIASES = {"nat_eq": "eqb", "nat_lt": "ltb", "nat_le": "leb", "slice_index_or": 
            "encode_utf8": "encode", "encode_utf8_all": "encodes"}
 # Imported everywhere: antt has these built in.
 SYNTAX = "Σ-syntax _×_ _,_ proj₁ proj₂ ⊤ ⊥ ¬_".split()
-TOKEN = re.compile(r'--.*|"[^"]*"|\s+|[(){};,]|\.(?=\s|$)|\.?[^\s(){};,."]+')
+TOKEN = re.compile(r'--.*|"(?:\\.|[^"\\])*"|\s+|[(){};,]|\.(?=\s|$)|\.?[^\s(){};,."]+')
 HEAD = re.compile(r"( *)(?:pub record|pub data|abbrev pub|unfoldable pub|pub|abbrev) (\S+)")
-OUTSIDE = re.compile(r"(pub |ghost |unfoldable )*use |(pub )?mod |module | *infix|--|$")
+OUTSIDE = re.compile(r"(pub |ghost |unfoldable )*use |(pub )?mod |module |--|$")
 USE = re.compile(r"(?:pub |ghost |unfoldable )*use Rattle\.(\S+?)(?:\.\{(.*)\}| as (\w+));?$")
 
 
@@ -84,7 +83,7 @@ def term(text, path, line, own=()):
     """A definition in Agda, in which these are fields of the record around it."""
     text = re.sub(r" \{ℓ[^:}]*\}|(?<=Unit) \{0\}", "", re.sub(r"Type \(.*?\)", "Type 0", text))
     tokens = TOKEN.findall(text)
-    odd = [it for it in tokens if it in ("|", "↦", "elim") or it[0] in "[]«@" and it != "[]"]
+    odd = [it for it in tokens if re.match(r"(\||↦|elim)$|[][«@_]", it) and it not in ("[]", "_")]
     if "".join(tokens) != text or odd:
         stop(path, line, f"can't read {odd[0] if odd else text}")
     words = [it for it in tokens if it.strip()][1:] + [""]
@@ -134,7 +133,8 @@ def blocks(path, strict=True):
     its own. In a strict file, each other line must be of a known kind."""
     name, start, block, indent, binders = "", 0, [], "", ""
     for line, text in enumerate(path.read_text(encoding="utf-8").split("\n") + [""], 1):
-        head, outside = (not strict or text[:1] != " ") and HEAD.match(text), OUTSIDE.match(text)
+        head = (not strict or text[:1] != " ") and HEAD.match(text)
+        outside = OUTSIDE.match(text) or not strict and re.match(" *infix", text)
         if block and (head or outside):
             yield name, start, "\n".join(block)
             block = []
@@ -189,7 +189,7 @@ def enum(file, name):
 def module(name, path, kept, *more):
     """Writes a module of these definitions, after those that its file, or another line, imports."""
     words = set(re.findall(r"[^\s(){};,.]+", "\n".join(text for _, _, text in kept)))
-    std, imported, fields, wide, prefixes, passed = {*SYNTAX}, {}, {}, False, set(), []
+    std, imported, fields, wide, enums, passed = {*SYNTAX}, {}, {}, False, set(), []
     for line, text in enumerate([*path.read_text(encoding="utf-8").split("\n"), *more], 1):
         if not re.match(r"(pub |ghost |unfoldable )*use Rattle", text):
             continue
@@ -208,7 +208,9 @@ def module(name, path, kept, *more):
             wide = True
         elif there[1] == "declared":
             ENUMS.add((there[2], there[3]))
-            prefixes |= {found[3]} - {None}
+            variant = rf"\b{found[3]}\.([A-Z]\w*)"
+            enums |= {*names, *re.findall(variant, "\n".join(it[2] for it in kept))} - {found[3]}
+            kept = [(*it[:2], re.sub(variant, r"\1", it[2])) for it in kept]
         else:
             dep = ".".join(there[1:])
             spec(dep)
@@ -216,14 +218,14 @@ def module(name, path, kept, *more):
             imported.setdefault(dep, []).extend(names)
             passed += [f"open {dep} using ({'; '.join(names)}) public"] * public
             wide, fields = wide or DONE[dep][0], fields | DONE[dep][1]
-    lines = [f"open import Std using ({'; '.join(sorted(std))})", "open import Enums"]
+    lines = [f"open import {it} using ({'; '.join(sorted(names))})"
+             for it, names in (("Std", std), ("Enums", enums))]
     for dep in sorted(imported.keys() | fields.keys()):
         names = "; ".join([*imported.get(dep, []), *fields.get(dep, [])])
         how = f"import {dep}\nopen {dep} str-width" if DONE[dep][0] else f"open import {dep}"
         lines.append(f"{how} using ({names})")
     lines += passed
     for _, line, text in kept:
-        text = re.sub(rf"\b({'|'.join(prefixes)})\.(?=[A-Z])", "", text) if prefixes else text
         lines.append(f"\n-- {path}:{line}\n{definition(text, path, line)}")
     write(name, lines, wide)
     COUNTS.append(len(kept))
@@ -247,21 +249,25 @@ def left_out(name):
 
 
 def statement():
-    """The clauses of the lemmas of laws.rt, as records."""
-    path, kept, count = CRATE / "src/laws.rt", [], 0
+    """The clauses of each lemma of laws.rt as a record, and one record of all lemmas."""
+    path, kept, laws, count = CRATE / "src/laws.rt", [], [], 0
     text = path.read_text(encoding="utf-8")
-    for found in re.finditer(r"^[^\n/]*\bfn (\w+)\(.*?^\{", text, re.M | re.S):
-        line, body = text[:found.start()].count("\n") + 1, re.sub(r"\n *//.*", "", found[0])
+    for found in re.finditer(r"^[^\n/]*\bfn (\w+)(.*)\n((?s:.*?)^\{)?", text, re.M):
+        line, body = text[:found.start()].count("\n") + 1, re.sub(r" *//.*\n", "", found[3] or "")
         clauses = re.findall(r"ensures (\w+) \{(.*?)\}$", body, re.S | re.M)
-        if found[1] not in LEMMAS or len(clauses) != body.count("ensures"):
-            stop(path, line, f"can't read {found[1]}, or translate.py doesn't list it")
+        if found[2] not in PARAMETERS or len(clauses) != body.count("ensures"):
+            stop(path, line, f"can't read {found[1]}")
         here = [it for it in clauses if not left_out(f"{found[1]}.{it[0]}")]
         fields = [f"  pub {clause} : {' '.join(says.split())}" for clause, says in here]
-        record = "\n".join([f"pub record {LEMMAS[found[1]]} : Type 0 where", *fields])
-        kept.append((found[1], line, re.sub(r"\b(options|matches)\.now", r"\1", record)))
+        name, (own, given) = found[1].title().replace("_", ""), PARAMETERS[found[2]]
+        record = "\n".join([f"pub record {name} {own} : Type 0 where", *fields])
+        kept.append((found[1], line, re.sub(r"\b(\w+)\.now", r"\1", record)))
+        laws.append(f"  pub {found[1]} : {given}{name} {own[1:].partition(' ')[0]}")
         count += len(here)
-    module("Statement", path, kept, "use Rattle.getopts.specs.Matches.{Matched}")
-    return f"{count} clauses of {len(kept)} lemmas"
+    kept.append(("", 1, "\n".join(["pub record Laws : Type 0 where", *laws])))
+    module("Statement", path, kept, "use Rattle.getopts.specs.Matches.{Matched}",
+           "use Rattle.getopts.specs.Holds.{AreGroupsOf}")
+    return f"{count} clauses of {len(laws)} lemmas"
 
 
 OUT.mkdir(exist_ok=True)
