@@ -14,7 +14,7 @@ import pytest
 import test_rows
 from conftest import LINES, ROOT, ROWS, VECTORS, answer, need_rustfmt, run
 from targets import (REGISTRY, TARGETS, UNWINDS, cargo, cargo_for, commit_repository, copy_folders, need_cargo, offline,
-                     passed, runner, rust_minor, shared_folder)
+                     passed, runner, shared_folder)
 
 RUST = ROOT / "bindings/rust"
 REFERENCE = ROOT / "tests/differential/reference"
@@ -64,16 +64,16 @@ def test_source_that_ends_in_a_clause(tmp_path):
 
 @pytest.fixture
 def erase(tmp_path):
-    """erase(TEXT, FLAG.., file=.., status=..) runs a copy of the eraser on a crate with this module: its errors."""
+    """erase(TEXT, file=.., status=..) runs a copy of the eraser on a crate with this module: its errors."""
     source, eraser = tmp_path / "crates/getopts/src", tmp_path / "bindings/rust/erase.py"
     for folder in (source, eraser.parent):
         folder.mkdir(parents=True)
     shutil.copy(RUST / "erase.py", eraser)
 
-    def erased(text, *flags, file="names", status=0):
+    def erased(text, file="names", status=0):
         (source / "lib.rt").write_text(f"mod {file};\n")
         (source / f"{file}.rt").write_text(text)
-        return run(sys.executable, eraser, *flags, status=status)[1]
+        return run(sys.executable, eraser, status=status)[1]
 
     return erased
 
@@ -119,21 +119,9 @@ def test_rustc_rejects_sources(erase, tmp_path):
 def test_eraser_rejects_sources(name, text, error, erase):
     """Source that could mean something else after its contracts are erased."""
     file = "laws" if name.endswith("laws") else "names"
-    said = erase(text, file=file, status=1)
-    assert re.search(rf"erase.py: crates/getopts/src/{file}.rt:\d+: {re.escape(error)}\n", said)
-
-
-@pytest.mark.parametrize("text, error", [
-    ("fn one(", "'(': unclosed bracket"), ("fn one() { (1 }", "'}': unmatched bracket"),
-    ("impl Drop for One { fn drop(self) { let _ = self; } }", "'Drop': its impl does more than destructure a value"),
-    ("use std::fmt", "'': missing ';' before it"), ("use ::std::fmt;", "':': expected a name"),
-    ("use core::mem;", "'core': core::mem isn't among the known imports"),
-    ("mod std;", "'std': Rust has a type of this name"),
-    ("impl One { ghost use A.{B} }", "'}': missing ';' before it"), ("fn { 1 }", "'{': expected a name"),
-    ("fn ghost() {}", "'ghost': expected a name"), ("fn one<T where>() {}", "'where': it isn't allowed in generics"),
-    ("fn one() ensures one 1 { 2 }", "'1': expected '{'")])
-def test_eraser_rejects_other_grammar(text, error, erase):
-    assert erase(text, "--check", status=1) == f"bindings/rust/erase.py: crates/getopts/src/names.rt:1: {error}\n"
+    said = erase(text[:-1], file=file, status=1)
+    line, = re.findall(rf"erase.py: crates/getopts/src/{file}.rt:(\d+): {re.escape(error)}\n", said)
+    assert 1 <= int(line) <= text.count("\n")
 
 
 # ---- the crate
@@ -226,42 +214,17 @@ def test_package(folder, tmp_path):
     assert {"LICENSE-MIT", "LICENSE-APACHE", "NOTICE", "src/lib.rs"} <= set(names)
 
 
-def test_versions_of_rust(folder, tmp_path):
-    """From a registry with unicode-width 0.1.10 and 0.2, cargo takes 0.2, which Rust 1.63 can't compile; with 0.1.10 in
-    Cargo.lock, it builds. Here, 0.2 is a stand-in that calls the function that Rust 1.63 lacks and the real one calls."""
+def test_newest_unicode_width(folder, tmp_path):
+    """From a registry with unicode-width 0.1.10 and 0.2 (stand-ins), cargo takes 0.2."""
     need_cargo(RUST)
-    real = REGISTRY / "unicode-width-0.1.10"
-    if not real.exists():
-        pytest.skip(f"{real} not found: apt-get install librust-unicode-width-dev, of Debian 12")
-    for registry in ("old", "both"):
-        (tmp_path / registry).mkdir()
-        (tmp_path / registry / real.name).symlink_to(real)
-    newer = tmp_path / "both/unicode-width-0.2.0"
-    (newer / "src").mkdir(parents=True)
-    (newer / ".cargo-checksum.json").write_text('{"files": {}}')
-    (newer / "Cargo.toml").write_text('package = { name = "unicode-width", version = "0.2.0", edition = "2021" }\n')
-    (newer / "src/lib.rs").write_text("pub trait UnicodeWidthStr { fn width(&self) -> usize; }\nimpl UnicodeWidthStr for str {"
-                                      " fn width(&self) -> usize { self.len().wrapping_add_signed(0) } }\n")
-    program = tmp_path / "program"
-    (program / "src").mkdir(parents=True)
-    (program / "src/main.rs").write_text("fn main() { getopts::Options::new(); }\n")
-    (program / "Cargo.toml").write_text('package = { name = "program", version = "0.0.0", edition = "2021" }\n'
-                                        f'dependencies.proved-getopts = {{ path = "{folder}" }}\n')
-
-    def build(registry, rust="", status=0):
-        env = {"RUSTC": f"{rust}rustc", "CARGO_TARGET_DIR": str(tmp_path / "target")}
-        done = run(f"{rust}cargo", "build", *offline(tmp_path / registry), cwd=program, env=env, status=status)
-        return done[1], re.search(r'"unicode-width"\nversion = "(.*)"', (program / "Cargo.lock").read_text())[1]
-
-    if rust_minor() >= 66:
-        assert build("both")[1] == "0.2.0"
-    if not Path("/usr/bin/cargo").exists() or " 1.63." not in run("/usr/bin/rustc", "--version")[0]:
-        pytest.skip("/usr/bin/rustc isn't Rust 1.63: apt-get install cargo rustc, of Debian 12")
-    (program / "Cargo.lock").unlink(missing_ok=True)
-    said, version = build("both", "/usr/bin/", 101)
-    assert version == "0.2.0" and re.search(r"^error\[E0658\]:.*\n *--> .*/unicode-width-0.2.0/src/lib.rs", said, re.M)
-    (program / "Cargo.lock").unlink()
-    assert build("old", "/usr/bin/")[1] == build("both", "/usr/bin/")[1] == "0.1.10"
+    for version in ("0.1.10", "0.2.0"):
+        (tmp_path / version / "src").mkdir(parents=True)
+        (tmp_path / version / "src/lib.rs").write_text("")
+        (tmp_path / version / ".cargo-checksum.json").write_text('{"files": {}}')
+        (tmp_path / version / "Cargo.toml").write_text(f'package = {{ name = "unicode-width", version = "{version}" }}\n')
+    flags = ["--config", 'source.crates-io.replace-with="debian"', "--config", f'source.debian.directory="{tmp_path}"']
+    said, _ = run("cargo", "tree", "--offline", *flags, cwd=copy_folders(tmp_path / "copy", "bindings/rust") / "bindings/rust")
+    assert "unicode-width v0.2.0" in said
 
 
 def test_git_dependency(tmp_path):
@@ -301,26 +264,22 @@ def test_example_matches_getopts_show(line, example, show):
 
 # ---- compared with the crate getopts 0.2.24
 
-def reference_over(room, over, edit=None):
-    """A copy of tests/differential's program that uses a copy of a crate (ours: through its package `getopts`)."""
-    ignored, place = shutil.ignore_patterns("target", "Cargo.lock"), "../crate/getopts" if over == RUST else "../crate"
-    for source, to in ((REFERENCE, "reference"), (over, "crate")):
-        shutil.copytree(source, room / to, ignore=ignored)
-    if edit:
-        edited(room / "crate/src" / edit[0], *edit[1:])
-    with open(room / "reference/Cargo.toml", "a") as file:
-        file.write(f'\n[patch.crates-io]\ngetopts = {{ path = "{place}" }}\n')
-    return room / "reference"
-
-
 @pytest.fixture(scope="module")
 def reference(tmp_path_factory):
-    """reference(CRATE, FLAG..): the program of tests/differential, built with the crate in a folder."""
+    """reference(CRATE, FLAG..): the program of tests/differential, built with the crate in a folder (ours: with its package
+    `getopts`). build.sh, which also builds the benchmarks' peers, reads nothing that other users put above its folder OUT."""
     @functools.cache
     def reference(over, *flags, edit=None):
-        folder = reference_over(tmp_path_factory.mktemp("reference"), over, edit)
-        cargo(folder, "build", "--release", *flags)
-        return folder / "target/release/reference"
+        need_cargo(RUST)
+        room = tmp_path_factory.mktemp("reference") / "shared room"
+        ran = shared_folder(room)
+        if edit:
+            over = shutil.copytree(over, room.with_name("crate"))
+            edited(over / "src" / edit[0], *edit[1:])
+        crate = over / "getopts" if (over / "getopts").exists() else over
+        run(ROOT / "tests/differential/build.sh", REFERENCE, room / "out", crate, env={"CARGO_FLAGS": " ".join(flags)})
+        assert not ran.exists()
+        return room / "out/target/release/reference"
 
     return reference
 
@@ -350,15 +309,6 @@ def test_laws(reference, cases, tmp_path):
     """Laws of what rows can't ask, on random cases."""
     (tmp_path / "rows").write_bytes(random_cases(7, cases(10_000)))
     run(reference(RUST, *PROVED), "laws", tmp_path / "rows")
-
-
-def test_build_in_shared_folder(tmp_path):
-    """build.sh, which also builds the benchmarks' peers, reads nothing that other users put above its folder OUT."""
-    need_cargo(RUST)
-    ran = shared_folder(tmp_path / "shared room")
-    out = tmp_path / "shared room/out"
-    run(ROOT / "tests/differential/build.sh", REFERENCE, out, RUST / "getopts")
-    assert (out / "target/release/reference").exists() and not ran.exists()
 
 
 def test_recorded_answers(reference, crate):
@@ -400,7 +350,10 @@ def test_difference_is_found(reference, crate, tmp_path):
 @pytest.mark.parametrize("target", TARGETS)
 def test_crate_on_target(target, tmp_path, request, ours, example):
     """With Debian's rustc 1.63: getopts' public tests, the rows, the example, arguments of any bytes, and no `std`."""
-    reference, tests = reference_over(tmp_path, RUST), [tmp_path / "crate/tests/os.rs"]
+    copy_folders(tmp_path, "bindings/rust", "tests/differential/reference")
+    reference, tests = tmp_path / "tests/differential/reference", [tmp_path / "bindings/rust/tests/os.rs"]
+    with open(reference / "Cargo.toml", "a") as file:
+        file.write(f'\n[patch.crates-io]\ngetopts = {{ path = "{tmp_path}/bindings/rust/getopts" }}\n')
     for folder in ("src/bin", "tests"):
         (reference / folder).mkdir()
     shutil.copy(RUST / "examples/show.rs", reference / "src/bin")
@@ -415,7 +368,7 @@ def test_crate_on_target(target, tmp_path, request, ours, example):
         names = re.findall(r"#\[test\]\n(?:#.*\n)*fn (\w+)", file.read_text())
         assert passed(said) == [len([name for name in names if not any(skip in name for skip in panics)])]
     cargo_for(target, reference, "build", "--release", "--features", "canonical")
-    cargo_for(target, tmp_path / "crate", "build", "--no-default-features", "--features", "proved")
+    cargo_for(target, tmp_path / "bindings/rust", "build", "--no-default-features", "--features", "proved")
     by, built = runner(target, tmp_path), reference / "target" / target / "release"
     program = {path.stem: path for path in built.iterdir() if path.suffix in ("", ".exe", ".wasm") and path.is_file()}
     for rows in ROWS:

@@ -52,6 +52,7 @@ import shutil
 import subprocess
 import sys
 from pathlib import Path
+from types import SimpleNamespace
 
 TOP = Path(__file__).resolve().parents[2]
 LAYOUT = "style_edition=2024,reorder_imports=false,use_small_heuristics=Default"
@@ -132,23 +133,16 @@ RUST_TYPES = CASTS | {"String", "Vec", "str", "std", "core", "alloc"}
 SORTING = ".sort_by(|entry, other| entry.order(signatures, other))"
 
 
-class NotRust(Exception):
-    """A token that can't be erased."""
-
-
-class Token:
-    """A token, with the white space and comments before it."""
-
-    def __init__(self, text, lead, line):
-        self.text, self.lead, self.line = text, lead, line
+def stop(why):
+    sys.exit(f"bindings/rust/erase.py: {why}")
 
 
 def tokens_of(source):
-    """The tokens of a source, with an empty one at the end."""
+    """The tokens of a source, each with the white space and comments before it, and an empty one at the end."""
     tokens, line = [], 1
     for match in TOKEN.finditer(source):
         line += match["lead"].count("\n")
-        tokens.append(Token(match["token"], match["lead"], line))
+        tokens.append(SimpleNamespace(text=match["token"], lead=match["lead"], line=line))
         line += match["token"].count("\n")
     return tokens
 
@@ -167,7 +161,7 @@ class Eraser:
 
     def stop(self, at, why):
         token = self.tokens[min(at, len(self.tokens) - 1)]
-        raise NotRust(f"{self.file}:{token.line}: '{token.text}': {why}")
+        stop(f"{self.file}:{token.line}: '{token.text}': {why}")
 
     def text(self, at):
         return self.tokens[at].text if at < len(self.tokens) else ""
@@ -532,7 +526,7 @@ def rust_of(path, eraser, module, names):
     imports = f"use crate::{module}::*;\n\n" if called else ""
     laid_out = subprocess.run(RUSTFMT, input=head + docs + "\n" + imports + rest, capture_output=True, text=True)
     if laid_out.returncode:
-        raise NotRust(f"{path.relative_to(TOP)}: {laid_out.stderr}")
+        stop(f"{path.relative_to(TOP)}: {laid_out.stderr}")
     return laid_out.stdout
 
 
@@ -559,7 +553,7 @@ def main(arguments):
         print("usage: bindings/rust/erase.py [--check]", file=sys.stderr)
         return 2
     if not shutil.which("rustfmt"):
-        raise NotRust("rustfmt not found: install Rust 1.85 or later with it")
+        stop("rustfmt not found: install Rust 1.85 or later with it")
     status, crates = 0, sources()
     for name, (folder, module, names) in CRATES.items():
         folder = TOP / folder
@@ -585,7 +579,4 @@ def main(arguments):
 
 
 if __name__ == "__main__":
-    try:
-        sys.exit(main(sys.argv[1:]))
-    except NotRust as why:
-        sys.exit(f"bindings/rust/erase.py: {why}")
+    sys.exit(main(sys.argv[1:]))
