@@ -17,7 +17,7 @@ from pathlib import Path
 
 import pytest
 from conftest import MACHINE, MARGIN, ROOT, answer, check_page, need, need_compiler, other_version, rows_in, run, script
-from shell import lines, tables
+from shell import lines
 from targets import cargo, cargo_for, commit_repository, copy_folders, need_cargo, offline, passed, runner, rust_minor
 
 SHELL = ROOT / "bindings/shell"
@@ -175,16 +175,6 @@ def test_random_code_matches_other_program(program, in_shells, cases, way):
 def test_arguments_on_windows(by_wine, for_windows):
     """The tests in host.rs, one of them of arguments that aren't Unicode."""
     assert passed(for_windows[1]("test")) == [2]
-
-
-@HERE
-def test_tables_with_one_byte_changed(program, cases):
-    tables.changed_tables(program, cases(2_000))
-
-
-@HERE
-def test_operand_tables(program):
-    tables.operand_tables(program)
 
 
 @HERE
