@@ -398,7 +398,7 @@ def test_install(install, checked_in, tmp_path):
     """--uninstall leaves only files of others."""
     to = tmp_path / "a prefix"
     said = f"installed {to}/bin/getopts_shell, its manual page and examples\n"
-    assert install("a prefix", CDPATH=f"/:{SHELL}") == (said, "") and files_in(to) == files_of(checked_in)
+    assert install("a prefix") == (said, "") and files_in(to) == files_of(checked_in)
     assert all(path.stat().st_mode & 0o555 == 0o555 for path in to.rglob("**"))
     (to / "share/doc/getopts_shell/examples/own").write_text("others'")
     for said in said.replace("installed", "removed"), f"nothing to remove in {to}\n":
@@ -422,13 +422,6 @@ def test_install_of_own_program(install, tmp_path):
         (tmp_path / "to" / name).symlink_to(page)
     install("to", PROGRAM="built")
     assert files_in(tmp_path / "to") == files_of(program, LICENCES[1:]) and page.read_text() == "others'"
-
-
-def test_install_with_cdpath(checked_in, tmp_path):
-    """If another folder of CDPATH has a folder of the script's name, cd would prefer it."""
-    (tmp_path / "others/shell").mkdir(parents=True)
-    run("sh", "shell/install.sh", tmp_path / "to", cwd=SHELL.parent, env={"CDPATH": str(tmp_path / "others")})
-    assert files_in(tmp_path / "to") == files_of(checked_in)
 
 
 def test_failed_installations(install, checked_in, tmp_path):

@@ -155,7 +155,7 @@ def run_in_shell(shell, room, cases, codes, env):
         (room / f"code.{number}").write_bytes(os.fsencode(code))
     # yash can't handle bytes that aren't text in its locale.
     taken = [case for case in cases if shell != ["yash"] or not re.search("[\ud800-\udfff]", "".join(case[1]))]
-    (room / "cases").write_text("\n".join(["set -eu"] + [script for script, _ in taken]) + "\n")
+    (room / "cases").write_text("\n".join(["set -efu", "IFS=-_o2"] + [script for script, _ in taken]) + "\n")
     wrote, place = run(*shell, room / "cases", cwd=room, env=env)[0].split("\0"), 0
     for script, wanted in taken:
         got = wrote[place:place + len(wanted)]
