@@ -22,6 +22,7 @@ heading=$(grep -m1 '^## ' CHANGELOG.md)
     stop "CHANGELOG.md begins with '$heading', not '## $version, DATE'"
 bash test.sh --quick --no-install -k versions -q
 bindings/build.py --check
+bindings/rust/erase.py --check
 if [ -z "${TESTED:-}" ]; then
     bash test.sh ${crate:+"$crate"}
     bindings/build.py --rebuild

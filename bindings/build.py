@@ -1,7 +1,7 @@
 #!/usr/bin/env python3
-"""Rebuilds what is checked in but generated from the proved source: the shell binaries and the erased Rust.
+"""Rebuilds the shell binaries, which are checked in, from the proved source.
 
-usage: bindings/build.py [--check] [shell | rust]..
+usage: bindings/build.py [--check]
        bindings/build.py --rebuild [x86_64 | aarch64]..
 
 The program is proved with the libraries that `rt ci` left, or that `rt lib` makes now, and built for every processor from
@@ -135,17 +135,14 @@ def shell(check):
 
 
 def main(words):
-    if words[:1] in (["--help"], ["-h"]):
-        return print(__doc__.strip())
-    if words[:1] == ["--rebuild"] and set(words[1:]) <= set(PROCESSORS):
-        return rebuild(words[1:] or PROCESSORS)
-    check = "--check" in words
-    for what in [word for word in words if word != "--check"] or ["shell", "rust"]:
-        if what == "rust":
-            subprocess.run([ROOT / "bindings/rust/erase.py", *(["--check"] if check else [])], check=True)
-        elif what == "shell":
-            shell(check)
-        else:
+    match words:
+        case ["--help" | "-h"]:
+            print(__doc__.strip())
+        case ["--rebuild", *processors] if set(processors) <= set(PROCESSORS):
+            rebuild(processors or PROCESSORS)
+        case [] | ["--check"]:
+            shell(words == ["--check"])
+        case _:
             sys.exit(__doc__)
 
 

@@ -38,9 +38,9 @@ def test_binaries_match_checksums():
 def test_binaries_match_source():
     """A release has binaries of its own source. Until then they may be older, if they give the same answers."""
     unreleased = other_version() or "\n## Unreleased\n" in (ROOT / "CHANGELOG.md").read_text()
-    if unreleased and answer(ROOT / BUILD, "--check", "shell")[1]:
+    if unreleased and answer(ROOT / BUILD, "--check")[1]:
         pytest.skip("the shell binaries were built from older source: bindings/build.py builds them before a release")
-    assert run(ROOT / BUILD, "--check", "shell") == UP_TO_DATE
+    assert run(ROOT / BUILD, "--check") == UP_TO_DATE
 
 
 @pytest.mark.rt
@@ -57,7 +57,7 @@ def test_rebuilt_binaries(build, monkeypatch, capsys):
     check_sums(build.FOLDER)
     capsys.readouterr()
     build.shell(False)
-    assert (capsys.readouterr().out, "") == run(build.__file__, "--check", "shell") == UP_TO_DATE
+    assert (capsys.readouterr().out, "") == run(build.__file__, "--check") == UP_TO_DATE
 
 
 @pytest.mark.rt
@@ -82,7 +82,7 @@ def test_changed_binary_is_found(build, monkeypatch, capsys):
     with open(build.FOLDER / "aarch64/getopts_shell", "ab") as changed:
         changed.write(b"\n")
     (build.FOLDER / "proved.sha256").write_text("\n".join(build.sums()) + "\n")
-    assert run(build.__file__, "--check", "shell") == UP_TO_DATE
+    assert run(build.__file__, "--check") == UP_TO_DATE
     with pytest.raises(SystemExit, match="^build.py: bindings/shell/aarch64/getopts_shell isn't what its source gives$"):
         build.main(["--rebuild"])
     assert capsys.readouterr().out == same.format("x86_64")
@@ -100,12 +100,12 @@ def test_change_is_found(build, file, text, found):
     (build.ROOT / file).write_bytes(text.encode() + (build.ROOT / file).read_bytes())
     changed = f"{version[2:]}, getopts_shell 9" if file.endswith("Cargo.toml") else file
     out_of_date = f"build.py: bindings/shell is out of date: run bindings/build.py (changed: {changed})\n"
-    assert run(build.__file__, "--check", "shell", status=int(found)) == (("", out_of_date) if found else UP_TO_DATE)
+    assert run(build.__file__, "--check", status=int(found)) == (("", out_of_date) if found else UP_TO_DATE)
 
 
 def test_erased_rust_matches_source():
     need_rustfmt()
-    assert run(ROOT / BUILD, "--check", "rust") == ("the erased Rust is up to date\n", "")
+    assert run(ROOT / "bindings/rust/erase.py", "--check") == ("the erased Rust is up to date\n", "")
 
 
 def test_stale_rust_is_found(tmp_path):
@@ -117,10 +117,9 @@ def test_stale_rust_is_found(tmp_path):
     (folder / "more.rs").write_text("")
     (folder / "wrap.rs").unlink()
     before = {path: path.read_bytes() for path in folder.iterdir()}
-    for command in (["bindings/build.py", "--check", "rust"], ["bindings/rust/erase.py", "--check"]):
-        said, _ = run(tmp_path / "copy" / command[0], *command[1:], status=1)
-        reported = [f"{folder / file} is out of date: run bindings/rust/erase.py\n" for file in ("more.rs", "scan.rs", "wrap.rs")]
-        assert said == "".join(reported)
+    said, _ = run(tmp_path / "copy/bindings/rust/erase.py", "--check", status=1)
+    reported = [f"{folder / file} is out of date: run bindings/rust/erase.py\n" for file in ("more.rs", "scan.rs", "wrap.rs")]
+    assert said == "".join(reported)
     assert run(tmp_path / "copy/bindings/rust/erase.py", "--chek", status=2)[1] == "usage: bindings/rust/erase.py [--check]\n"
     assert {path: path.read_bytes() for path in folder.iterdir()} == before
 

@@ -166,13 +166,13 @@ cp usr/bin/rustc usr/bin/agda && chmod 755 usr/bin/* && tar -c ./usr"""})
 
 @pytest.fixture(scope="module")
 def clone(tmp_path_factory):
-    """A clean clone in which test.sh, tests/fresh.sh and build.py only log how they are called."""
+    """A clean clone in which these scripts only log how they are called."""
     need("git", "cargo", "gzip")
     if answer("cargo", "package", "--exclude-lockfile", "--help")[1]:
         pytest.skip("cargo is older than 1.84: install a newer one from https://rustup.rs")
     room = tmp_path_factory.mktemp("release")
     clone = copy_tree(room / "clone")
-    for name in ("test.sh", "tests/fresh.sh", "bindings/build.py"):
+    for name in ("test.sh", "tests/fresh.sh", "bindings/build.py", "bindings/rust/erase.py"):
         script(clone / name, LOGS.format(name=name.split("/")[-1], log=room / "log"))
     page = (clone / "CHANGELOG.md").read_text()
     (clone / "CHANGELOG.md").write_text(re.sub("^## .*", f"## {VERSION}, 2026-11-28", page, count=1, flags=re.M))
@@ -187,7 +187,7 @@ def unpacked(archive, folder):
                 for it in files if it.isfile()}
 
 
-CHECKS = ["test.sh --quick --no-install -k versions -q", "build.py --check"]
+CHECKS = ["test.sh --quick --no-install -k versions -q", "build.py --check", "erase.py --check"]
 
 
 def release(clone, *words, status=0, **env):
