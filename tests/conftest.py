@@ -231,9 +231,11 @@ def tracked():
     return [name for name in names if (ROOT / name).is_file()]
 
 
-def copy_tree(to):
-    """Copies the repository's files to a folder."""
+def copy_tree(to, *folders):
+    """Copies the repository's files, or those of these folders, to a folder."""
     for name in tracked():
+        if folders and not name.startswith(tuple(f"{folder}/" for folder in folders)):
+            continue
         (to / name).parent.mkdir(parents=True, exist_ok=True)
         shutil.copy2(ROOT / name, to / name)
     return to

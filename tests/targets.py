@@ -5,11 +5,10 @@ Debian can't install libstd-rust-dev and libstd-rust-1.63 for arm64 and i386 nex
 
 import os
 import re
-import shutil
 from pathlib import Path
 
 import pytest
-from conftest import ROOT, need, need_compiler, run, script, succeeds
+from conftest import need, need_compiler, run, script, succeeds
 
 # Cargo has to build in the folders of the tests.
 os.environ.pop("CARGO_TARGET_DIR", None)
@@ -137,11 +136,3 @@ def passed(said):
     assert results and all((word, failed) == ("ok.", "0") for word, _, failed in results), said
     assert len(results) == len(re.findall(r"^running \d+ tests?$", said, re.M)), said
     return [int(count) for _, count, _ in results]
-
-
-def copy_folders(to, *names):
-    """Copies folders without cargo's files, so that cargo doesn't write to the originals."""
-    for name in names:
-        ignored = shutil.ignore_patterns("target", "Cargo.lock")
-        shutil.copytree(ROOT / name, to / name, ignore=ignored, dirs_exist_ok=True)
-    return to

@@ -3,8 +3,8 @@
 from pathlib import Path
 
 import pytest
-from conftest import ROOT, need, run
-from targets import copy_folders, need_cargo
+from conftest import ROOT, copy_tree, need, run
+from targets import need_cargo
 
 
 @pytest.mark.full
@@ -15,7 +15,7 @@ def test_fuzzer(target, runs, tmp_path):
     libraries = Path(run("rustc", "--print", "target-libdir")[0].strip())
     if not list(libraries.glob("librustc*_rt.asan.a")):
         pytest.skip("rustc has no AddressSanitizer: install Rust from https://rustup.rs")
-    fuzz = copy_folders(tmp_path, "bindings/c", "bindings/rust", "bindings/shell", "tests/fuzz") / "tests/fuzz"
+    fuzz = copy_tree(tmp_path, "bindings/c", "bindings/rust", "bindings/shell", "tests/fuzz") / "tests/fuzz"
     (tmp_path / "inputs").mkdir()
     run(ROOT / "tests/fuzz/seeds.py", target, tmp_path / "inputs")
     run(fuzz / "build.sh", target, tmp_path)

@@ -12,8 +12,8 @@ from pathlib import Path
 import generate
 import pytest
 import test_rows
-from conftest import LINES, ROOT, ROWS, VECTORS, answer, need_rustfmt, run
-from targets import (REGISTRY, TARGETS, UNWINDS, cargo, cargo_for, commit_repository, copy_folders, need_cargo, offline,
+from conftest import LINES, ROOT, ROWS, VECTORS, answer, copy_tree, need_rustfmt, run
+from targets import (REGISTRY, TARGETS, UNWINDS, cargo, cargo_for, commit_repository, need_cargo, offline,
                      passed, runner, shared_folder)
 
 RUST = ROOT / "bindings/rust"
@@ -129,7 +129,7 @@ def test_eraser_rejects_sources(name, text, error, erase):
 @pytest.fixture(scope="module")
 def folder(tmp_path_factory):
     """A copy of the crate."""
-    return copy_folders(tmp_path_factory.mktemp("rust"), "bindings/rust") / "bindings/rust"
+    return copy_tree(tmp_path_factory.mktemp("rust"), "bindings/rust") / "bindings/rust"
 
 
 @pytest.mark.parametrize("features, tests, programs", [
@@ -223,7 +223,7 @@ def test_newest_unicode_width(folder, tmp_path):
         (tmp_path / version / ".cargo-checksum.json").write_text('{"files": {}}')
         (tmp_path / version / "Cargo.toml").write_text(f'package = {{ name = "unicode-width", version = "{version}" }}\n')
     flags = ["--config", 'source.crates-io.replace-with="debian"', "--config", f'source.debian.directory="{tmp_path}"']
-    said, _ = run("cargo", "tree", "--offline", *flags, cwd=copy_folders(tmp_path / "copy", "bindings/rust") / "bindings/rust")
+    said, _ = run("cargo", "tree", "--offline", *flags, cwd=copy_tree(tmp_path / "copy", "bindings/rust") / "bindings/rust")
     assert "unicode-width v0.2.0" in said
 
 
@@ -231,7 +231,7 @@ def test_git_dependency(tmp_path):
     """From a git URL, with the README's lines and flags: `proved-getopts` as a dependency, as an optional one, `getopts`
     as a patch of the crate getopts, with the feature that Rust's own library asks for, and both. Documentation too."""
     need_cargo(RUST)
-    clone = copy_folders(tmp_path / "clone", "bindings") / "bindings"
+    clone = copy_tree(tmp_path / "clone", "bindings") / "bindings"
     url, page = commit_repository(clone), (RUST / "README.md").read_text()
     page = page.replace("URL", url).replace("COMMIT", run("git", "rev-parse", "HEAD", cwd=clone)[0].strip())
     manifest, flags = (re.search(rf"^```{kind}\n(.*?)^```", page, re.M | re.S)[1] for kind in ("toml", "sh"))
@@ -347,7 +347,7 @@ def test_difference_is_found(ours, tmp_path):
 @pytest.mark.parametrize("target", TARGETS)
 def test_crate_on_target(target, tmp_path, request, ours, example):
     """With Debian's rustc 1.63: getopts' public tests, the rows, the example, arguments of any bytes, and no `std`."""
-    copy_folders(tmp_path, "bindings/rust", "tests/differential/reference")
+    copy_tree(tmp_path, "bindings/rust", "tests/differential/reference")
     reference, tests = tmp_path / "tests/differential/reference", [tmp_path / "bindings/rust/tests/os.rs"]
     with open(reference / "Cargo.toml", "a") as file:
         file.write(f'\n[patch.crates-io]\ngetopts = {{ path = "{tmp_path}/bindings/rust/getopts" }}\n')

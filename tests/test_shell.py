@@ -16,9 +16,9 @@ import textwrap
 from pathlib import Path
 
 import pytest
-from conftest import MACHINE, MARGIN, ROOT, answer, check_page, need, need_compiler, other_version, rows_in, run, script
+from conftest import MACHINE, MARGIN, ROOT, answer, check_page, copy_tree, need, need_compiler, other_version, rows_in, run, script
 from shell import lines
-from targets import cargo, cargo_for, commit_repository, copy_folders, need_cargo, offline, passed, runner, rust_minor
+from targets import cargo, cargo_for, commit_repository, need_cargo, offline, passed, runner, rust_minor
 
 SHELL = ROOT / "bindings/shell"
 SHELLS = ["dash", "bash", "bash --posix", "zsh", "ksh93", "mksh", "yash", "busybox sh"]
@@ -73,7 +73,7 @@ def by_cargo(tmp_path_factory):
     """The program as cargo installs it from a clone."""
     need_cargo(SHELL)
     room = tmp_path_factory.mktemp("cargo")
-    clone = commit_repository(copy_folders(room, "bindings/rust", "bindings/shell") / "bindings")
+    clone = commit_repository(copy_tree(room, "bindings/rust", "bindings/shell") / "bindings")
     words = ["install", *offline()[1:], "--quiet", "--git", clone, "--root", room / "root", "getopts_shell"]
     run("cargo", *words, env={"CARGO_HOME": str(room / "home")})
     return room / "root/bin/getopts_shell"
@@ -85,7 +85,7 @@ WINDOWS = "x86_64-pc-windows-gnu"
 @pytest.fixture(scope="session")
 def for_windows(tmp_path_factory):
     """A copy of the crate's folder, and a function that runs Debian's cargo there, for Windows."""
-    folder = copy_folders(tmp_path_factory.mktemp("wine"), "bindings/rust", "bindings/shell") / "bindings/shell"
+    folder = copy_tree(tmp_path_factory.mktemp("wine"), "bindings/rust", "bindings/shell") / "bindings/shell"
     # This old cargo can't read today's lock files, and its rustc needs a flag for newer features in the source.
     return folder, lambda word: cargo_for(WINDOWS, folder, word, "--release", "--ignore-rust-version",
                                           env={"RUSTFLAGS": "-Zcrate-attr=feature(let_else)"})[0]
@@ -445,7 +445,7 @@ def test_failed_installations(install, checked_in, tmp_path):
 
 
 def test_damaged_binary(checked_in, tmp_path):
-    folder = copy_folders(tmp_path, "bindings/shell") / "bindings/shell"
+    folder = copy_tree(tmp_path, "bindings/shell") / "bindings/shell"
     with open(folder / MACHINE / "getopts_shell", "ab") as binary:
         binary.write(b"x")
     errors = run("sh", folder / "install.sh", tmp_path / "to", status=1)[1]
@@ -494,7 +494,7 @@ def test_manual_page(tmp_path):
 def test_same_bytes_in_any_folder(tmp_path):
     if rust_minor() < 95:
         pytest.skip("before Rust 1.95, the path of the sources is in the program")
-    rooms = [copy_folders(tmp_path / name, "bindings") / "bindings" for name in ("one", "another place")]
+    rooms = [copy_tree(tmp_path / name, "bindings") / "bindings" for name in ("one", "another place")]
     for room in rooms:
         cargo(room / "shell", "build", "--release")
     one, other = ((room / "target/release/getopts_shell").read_bytes() for room in rooms)
@@ -502,5 +502,5 @@ def test_same_bytes_in_any_folder(tmp_path):
 
 
 def test_cargo_without_warnings(tmp_path):
-    folder = copy_folders(tmp_path, "bindings/rust", "bindings/shell") / "bindings/shell"
+    folder = copy_tree(tmp_path, "bindings/rust", "bindings/shell") / "bindings/shell"
     cargo(folder, "check", env={"RUSTFLAGS": "-D warnings"})
