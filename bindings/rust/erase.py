@@ -101,7 +101,7 @@ IMPORTS = tuple("""std::alloc:: std::cmp::Ordering:: std::convert::AsStr:: std::
 # Functions, methods and macros of Rust, or their replacements.
 KNOWN_CALLS = set("""all alloc allocator and any arg as_bytes as_slice as_str binary_search_by binary_search_by_key
     chars clone cmp contains count dedup_by encode_utf8 ends_with enumerate
-    extend_from_slice first flush format get into_iter is_ascii is_ascii_alphanumeric is_ascii_digit is_empty is_eq
+    extend_from_slice first flush format get into_iter is_ascii is_ascii_alphanumeric is_ascii_digit is_empty is_eq is_lt
     is_some iter iter_mut kind len len_utf8 map_or matches max min next parse position push push_reserved
     push_str reserve resize rsplit_once saturating_add saturating_mul saturating_sub shrink_to_fit size_hint
     sort_by split split_at split_at_mut split_off split_once split_whitespace starts_with stderr strip_prefix strip_suffix
