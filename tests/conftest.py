@@ -241,6 +241,16 @@ def copy_tree(to, *folders):
     return to
 
 
+def read_only(folder):
+    """Makes a folder read-only. Returns what has to precede a command that can't write there, even root's."""
+    for path in [folder, *folder.rglob("*")]:
+        path.chmod(path.stat().st_mode & ~0o222)
+    if os.getuid() != 0:
+        return []
+    need("setpriv")
+    return ["setpriv", "--bounding-set", "-dac_override"]
+
+
 def preload_library(source, room):
     """A library for LD_PRELOAD."""
     need_compiler("cc")

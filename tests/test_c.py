@@ -15,7 +15,7 @@ import generate
 import model
 import pytest
 import texts
-from conftest import MARGIN, ROOT, answer, check_page, copy_tree, need, need_compiler, run, script
+from conftest import MARGIN, ROOT, answer, check_page, copy_tree, need, need_compiler, read_only, run, script
 from targets import OLD, TARGETS, cargo, cargo_for, need_cargo, need_target, runner, rust_minor, shared_folder
 
 C = ROOT / "bindings/c"
@@ -531,11 +531,13 @@ def test_manual_page(prefix):
 
 
 def test_installed_documents(prefix):
-    """The documents are installed, and getopts.h names no file that isn't."""
-    named = set(re.findall(r"[\w.-]+\.(?:c|md|sh)\b", HEADER))
+    """The documents are installed. getopts.h names no file that isn't, and the page, otherwise as it is here, links to none."""
+    named, papers = set(re.findall(r"[\w.-]+\.(?:c|md|sh)\b", HEADER)), prefix / "share/doc/getopts"
     assert {"head.c", "order.c"} <= named <= {path.name for path in prefix.rglob("*")}
-    for name in ("README.md", "head.c", "order.c", "../../LICENSE-MIT", "../../LICENSE-APACHE", "../../NOTICE"):
-        assert (prefix / "share/doc/getopts" / os.path.basename(name)).read_bytes() == (C / name).read_bytes()
+    for name in ("head.c", "order.c", "../../LICENSE-MIT", "../../LICENSE-APACHE", "../../NOTICE"):
+        assert (papers / os.path.basename(name)).read_bytes() == (C / name).read_bytes()
+    link, page = re.compile(r"\[([^]]*)\]\(([^)#]*)[^)]*\)"), (papers / "README.md").read_text()
+    assert link.sub(r"\1", page) == link.sub(r"\1", PAGE) and {it[2] for it in link.finditer(page)} == {"", "head.c", "order.c"}
 
 
 def test_program_size(prefix, tmp_path):
@@ -552,14 +554,17 @@ def test_program_size(prefix, tmp_path):
         assert abs(grown[0] - about) < 8 and least < grown[1] < most, (source, grown)
 
 
-@pytest.mark.parametrize("compiler", ["clang", pytest.param("musl-gcc", marks=pytest.mark.full)])
-def test_install_with_compiler(compiler, prefix, tmp_path):
-    """With another compiler, and with DEBUG_INFO=1, which keeps debug information without the name of the temporary folder."""
+@pytest.mark.parametrize("compiler, env", [("clang", {"RUSTFLAGS": " -Cdebuginfo=2 --cap-lints  warn "}),
+                                           pytest.param("musl-gcc", {}, marks=pytest.mark.full),
+                                           pytest.param("gcc", {"RUSTFLAGS": ""}, marks=pytest.mark.full)])
+def test_install_with_compiler(compiler, env, prefix, tmp_path):
+    """With another compiler, and with DEBUG_INFO=1, which keeps debug information without the name of the temporary folder,
+    whatever flags the environment sets."""
     need_install(compiler)
     need("readelf")
     to, room = tmp_path / "to", tmp_path / 'a"b\\'
     room.mkdir()
-    run("sh", C / "install.sh", to, env={"CC": compiler, "DEBUG_INFO": "1", "TMPDIR": str(room)})
+    run("sh", C / "install.sh", to, env={"CC": compiler, "DEBUG_INFO": "1", "TMPDIR": str(room), **env})
     for link in (["-static", to / "lib/libgetopts.a"], [f"-L{to}/lib", f"-Wl,-rpath,{to}/lib", "-lgetopts"]):
         run(compiler, "-isystem", to / "include", C / "order.c", *link, "-o", tmp_path / "linked")
         assert run(tmp_path / "linked", "-qv")[0] == "verbose\n"
@@ -685,6 +690,82 @@ def copies(library, tmp_path):
     return {"CARGO": str(script(tmp_path / "cargo", text))}
 
 
+def test_read_only_sources(copies, tmp_path):
+    """From sources in which the user can't write. CARGO and CARGO_HOME may be relative, and CARGO have arguments."""
+    need_install()
+    room, home = tmp_path / "room", tmp_path / "home"
+    room.mkdir()
+    home.mkdir()
+    script(tmp_path / "own", f'#!/bin/sh\n: >"$CARGO_HOME/ran$A"\nexec "{copies["CARGO"]}" "$@"\n')
+    (tmp_path / "a b").symlink_to(tmp_path)
+    sources = copy_tree(tmp_path / "sources")
+    words = [*read_only(sources), "sh", sources / "bindings/c/install.sh", "to"]
+    for cargo in ("a b/own", f"env A=1 {tmp_path}/own"):
+        run(*words, cwd=tmp_path, env={"CARGO": cargo, "CARGO_HOME": "home", "TMPDIR": str(room)})
+    assert {path.name for path in home.iterdir()} == {"ran", "ran1"} and not [*room.iterdir()]
+
+
+# What a packager may begin with.
+SPEC = r"""Name: getopts
+Version: VERSION
+Release: 1
+Summary: Formally verified parser of command-line options
+License: MIT OR Apache-2.0
+Source: %{name}-%{version}.tar.gz
+# In debug information, sources are named getopts/c/.., where rpmbuild doesn't find them.
+%global _debugsource_template %{nil}
+
+%description
+A library for C and C++.
+
+%package devel
+Summary: What programs need to be built with getopts
+Requires: %{name}%{?_isa} = %{version}-%{release}
+%description devel
+The header, the static library and documentation.
+
+%prep
+%autosetup
+
+%install
+DESTDIR=%{buildroot} LIBDIR=%{_lib} DEBUG_INFO=1 bindings/c/install.sh %{_prefix}
+
+%check
+cc bindings/c/order.c -I%{buildroot}%{_includedir} -L%{buildroot}%{_libdir} -lgetopts -o order
+[ "$(LD_LIBRARY_PATH=%{buildroot}%{_libdir} ./order -qv)" = verbose ]
+
+%files
+%{_libdir}/libgetopts.so.*
+
+%files devel
+%{_includedir}/getopts.h
+%{_libdir}/libgetopts.so
+%{_libdir}/libgetopts*.a
+%{_libdir}/pkgconfig/*
+%{_libdir}/cmake/getopts
+%{_mandir}/man3/*
+%{_datadir}/doc/getopts
+"""
+
+
+def test_rpm(tmp_path):
+    """rpmbuild, set up as on Fedora, packs all files, also the debug information."""
+    need_install()
+    need("rpmbuild", "eu-strip")
+    name = f"getopts-{VERSION}"
+    copy_tree(tmp_path / "sources" / name)
+    shutil.make_archive(tmp_path / f"SOURCES/{name}", "gztar", tmp_path / "sources", name)
+    (tmp_path / "getopts.spec").write_text(SPEC.replace("VERSION", VERSION))
+    defined = [*(f"_{it} {tmp_path}" for it in ("topdir", "tmppath", "dbpath")), "_debugsource_packages 1",
+               "_missing_build_ids_terminate_build 1", "install %{debug_package}\\\n%%install\\\n%{nil}"]
+    words = ["rpmbuild", "-bb", *(word for it in defined for word in ("-D", it)), tmp_path / "getopts.spec"]
+    said = run(*words, env={"RUSTFLAGS": "-Cdebuginfo=2", "CARGO_HOME": ".cargo"})[0]
+    for part in f"libgetopts.so.{MAJOR}(GETOPTS_{MAJOR})(", "pkgconfig(getopts-static)", f"libgetopts.so.{VERSION}-{VERSION}-1.":
+        assert re.search(rf"^Provides: .*{re.escape(part)}", said, re.M), part
+    kinds = sorted(path.name.removeprefix("getopts-").partition(VERSION)[0] for path in tmp_path.glob("RPMS/*/*.rpm"))
+    assert kinds == ["", "debuginfo-", "devel-"]
+
+
 def test_libdir(copies, tmp_path):
     """LIBDIR replaces lib. All users may read the folders, whatever the umask."""
     need_install()
@@ -770,7 +851,7 @@ def test_rejected_arguments(shell, tmp_path):
         assert "usage: bindings/c/install.sh [--uninstall] PREFIX" in said(*words), words
     for prefix in ("C:/getopts", "c:\\getopts", "D:"):
         assert "write PREFIX as in Git Bash and MSYS2: /c/getopts for C:/getopts" in said(prefix), prefix
-    for name in [*'"$#\\:;()|,', "a\nb", "b\n", "b ", "b\t//", "b\r//"]:
+    for name in [*'"$#\\:;()|,', "a\nb", "a\tb", "b\n", "b ", "b\t//", "b\r//"]:
         assert "PREFIX must not" in said(f"{tmp_path}/a{name}"), name
     for name in ("/elsewhere", "../lib", "./lib", "lib 64", "lib;64", str(tmp_path)):
         assert "LIBDIR must be" in said(tmp_path, LIBDIR=name), name

@@ -17,9 +17,12 @@
 # busybox has its own ar, as Debian's does, set AR=/usr/bin/ar. If Debian's librust-unicode-width-dev is installed, it
 # provides the crate unicode-width; otherwise cargo downloads it. To cross-compile, name the target and its compiler:
 # CARGO_BUILD_TARGET=aarch64-unknown-linux-gnu CC=aarch64-linux-gnu-gcc. The variables CARGO, CARGO_FLAGS, CC, AR,
-# CFLAGS and LDFLAGS are used. Files are written below DESTDIR. LIBDIR, such as lib64, replaces lib. DEBUG_INFO=1 keeps
-# debug information. With Rust 1.95 or later, the same tools build the same bytes in any folder. Cargo reads
+# CFLAGS and LDFLAGS are used; CARGO and CC may be commands with arguments. Files are written below DESTDIR. LIBDIR,
+# such as lib64, replaces lib. With Rust 1.95 or later, the same tools build the same bytes in any folder. Cargo reads
 # CARGO_HOME/config.toml, which may name vendored crates, but no .cargo/config.toml of the repository.
+#
+# DEBUG_INFO=1 keeps debug information. It names sources getopts/c/.., unless cargo's configuration has rustflags for a
+# target. As rpmbuild doesn't find them, a .spec needs `%global _debugsource_template %{nil}`, as in tests/test_c.py.
 set -eu
 # In zsh, some of the variables below are special.
 [ "${ZSH_VERSION:+$(emulate)}" != zsh ] || exec sh "$0" "$@"
@@ -46,15 +49,13 @@ fi
 # absolute PATH: sets path to the absolute path, without slashes at its end. $(..) would remove line breaks there.
 absolute() {
     path=$1
-    case $path in /*) ;; *) path=$PWD/$path ;; esac
+    case $path in /* | [A-Za-z]:*) ;; *) path=$PWD/$path ;; esac
     while [ "$path" != "${path%/}" ]; do path=${path%/}; done
 }
 absolute "$1"
 prefix=$path
-line_end='
-'
 case $1$prefix in
-*"$line_end"*) fail "PREFIX must not contain a line break (pkg-config misreads it)" ;;
+*[[:cntrl:]]*) fail "PREFIX must not contain a control character, such as a tab (pkg-config or CMake misreads it)" ;;
 *[[:space:]]) fail "PREFIX must not end with a blank (pkg-config misreads it)" ;;
 [A-Za-z]:*) fail "write PREFIX as in Git Bash and MSYS2: /c/getopts for C:/getopts" ;;
 *[\"\$\#\\:\;\(\)\|,]*)
@@ -121,15 +122,22 @@ if [ -n "$uninstall" ]; then
     exit
 fi
 
-command -v "$cargo" >/dev/null ||
-    fail "$cargo not found: install Rust 1.68 or later (rustup.rs, or Debian's cargo; on Debian 12, cargo-web and rustc-web)"
+# CARGO is a path, which may contain blanks, or a command with arguments.
+# shellcheck disable=SC2086
+if command -v "$cargo" >/dev/null; then set -- "$cargo"; else set -- $cargo; fi
+command -v "$1" >/dev/null ||
+    fail "$1 not found: install Rust 1.68 or later (rustup.rs, or Debian's cargo; on Debian 12, cargo-web and rustc-web)"
+# Cargo runs in another folder.
+case $1 in */*) absolute "$1"; shift; set -- "$path" "$@" ;; esac
+[ -z "${CARGO_HOME:-}" ] || { absolute "$CARGO_HOME"; export CARGO_HOME="$path"; }
 command -v "${cc%% *}" >/dev/null ||
     fail "${cc%% *} not found: install a C compiler (Debian's package gcc), or set CC to yours"
 [ -z "$target" ] || [ -n "${CC:-}" ] || fail "set CC to the C compiler for $target"
 room=$(mktemp -d)
 absolute "$room"
 room=$path
-trap 'rm -rf "$room"' EXIT
+# Copies of read-only folders, such as those in Nix's store, are read-only.
+trap 'chmod -R u+w "$room"; rm -rf "$room"' EXIT
 trap 'exit 1' HUP INT TERM
 
 # Build a copy, so that nothing is written to the source folder. Other users could put a workspace, a configuration of
@@ -150,13 +158,17 @@ for crate in /usr/share/cargo/registry/unicode-width-*; do
 done
 strip=--strip-debug
 if [ -n "${DEBUG_INFO:-}" ]; then
-    strip=''
+    strip='' remap=--remap-path-prefix=$room=getopts
     # In these quotes, TMPDIR may have others.
-    printf "[profile.release]\ndebug = true\n[build]\nrustflags = ['''--remap-path-prefix=%s=getopts''']\n" "$room" \
-        >>"$room/config.toml"
+    printf "[profile.release]\ndebug = true\n[build]\nrustflags = ['''%s''']\n" "$remap" >>"$room/config.toml"
+    # If one of these is set, even to nothing, cargo ignores rustflags in files. The first separates flags by U+001F.
+    if [ -n "${CARGO_ENCODED_RUSTFLAGS+set}${RUSTFLAGS+set}" ]; then
+        flags=${CARGO_ENCODED_RUSTFLAGS-$(printf '%s\n' "$RUSTFLAGS" | awk -v OFS='\037' '{ $1 = $1 } 1')}
+        export CARGO_ENCODED_RUSTFLAGS="${flags:+$flags$(printf '\037')}$remap"
+    fi
 fi
 # shellcheck disable=SC2086
-(cd / && CARGO_TARGET_DIR=$room/target CARGO_PROFILE_RELEASE_PANIC=abort "$cargo" build --release --quiet \
+(cd / && CARGO_TARGET_DIR=$room/target CARGO_PROFILE_RELEASE_PANIC=abort "$@" build --release --quiet \
     --manifest-path "$room/c/Cargo.toml" --config "$room/config.toml" ${CARGO_FLAGS:-}) ||
     fail "cargo failed. The build needs Rust 1.68 or later (on Debian 12, cargo-web and rustc-web) with the target's standard
 library, and the crate unicode-width (without a network, from Debian's package librust-unicode-width-dev). RUSTFLAGS
@@ -294,6 +306,8 @@ for function in $functions; do
     echo '.so man3/getopts.3' | put "share/man/man3/$function.3"
 done
 for file in $documents; do
-    put "share/doc/getopts/${file##*/}" <"$here/$file"
+    # Links to files that aren't installed become plain text.
+    sed 's,\[\([^]]*\)](\.\.[^)]*),\1,g' "$here/$file" >"$room/document"
+    put "share/doc/getopts/${file##*/}" <"$room/document"
 done
 echo "installed in $to"
