@@ -16,7 +16,8 @@ import textwrap
 from pathlib import Path
 
 import pytest
-from conftest import MACHINE, MARGIN, ROOT, answer, check_page, copy_tree, need, need_compiler, other_version, rows_in, run, script
+from conftest import (MACHINE, MARGIN, ROOT, answer, check_page, copy_tree, need, need_compiler, other_version, read_only,
+                      rows_in, run, script)
 from shell import lines
 from targets import cargo, cargo_for, commit_repository, need_cargo, offline, passed, runner, rust_minor
 
@@ -242,8 +243,11 @@ def test_random_lines(program, one_shell, tmp_path, cases, way):
 
 @IN_SHELLS
 def test_scripts_on_page(program, one_shell, tmp_path, monkeypatch):
-    """The README's first script and its help, two loops over options, one with output added, and the examples."""
+    """The README's first script and its help, two loops over options, one with output added, and the examples. Each exits
+    if the code fails, as some shells do after a readonly variable."""
     page = (SHELL / "README.md").read_text()
+    scripts = [page, *(path.read_text() for path in (SHELL / "examples").iterdir())]
+    assert {line for text in scripts for line in re.findall('^ *(eval "\\$code".*)', text, re.M)} == {'eval "$code" || exit'}
     (first, loop), values = re.findall(r"```sh\n(.*?)```", page, re.S)[:2], re.search(r"^    show_folders.*\n.*\n", page, re.M)[0]
     begin = run(program, "--variables", "opt_", "backup", first.split("'")[1], "-vv", "x", "-i", "a b")[0].splitlines(True)
     assert textwrap.indent("".join(begin[:5]), "    ") in page and f"`{begin[-1].strip()}`" in page
@@ -349,7 +353,8 @@ def test_root_with_only_busybox(words, status, checked_in, tmp_path):
     for file in (busybox, checked_in, SHELL / "examples/backup"):
         shutil.copy2(file, folder / file.name)
     (folder / "sh").hardlink_to(folder / "busybox")
-    inside = answer("chroot", tmp_path / "root", "/bin/busybox", "env", "-i", "PATH=/bin", "sh", "/bin/backup", *words.split())
+    run_there = ["busybox", "chroot", tmp_path / "root", "/bin/busybox", "env", "-i", "PATH=/bin", "sh"]
+    inside = answer(*run_there, "/bin/backup", *words.split())
     here = answer("busybox", "sh", SHELL / "examples/backup", *words.split(), env={"PATH": f"{folder}:{os.environ['PATH']}"})
     assert inside == here and here[1] == status and here[0]
 
@@ -492,13 +497,13 @@ def test_manual_page(tmp_path):
 
 
 def test_same_bytes_in_any_folder(tmp_path):
-    if rust_minor() < 95:
-        pytest.skip("before Rust 1.95, the path of the sources is in the program")
-    rooms = [copy_tree(tmp_path / name, "bindings") / "bindings" for name in ("one", "another place")]
-    for room in rooms:
-        cargo(room / "shell", "build", "--release")
-    one, other = ((room / "target/release/getopts_shell").read_bytes() for room in rooms)
-    assert one == other
+    """By `cargo build`, and by `cargo install` in a read-only folder. Before Rust 1.95, the folder is in the program."""
+    one, other = (copy_tree(tmp_path / name, "bindings") / "bindings" for name in ("one", "another place"))
+    cargo(one / "shell", "build", "--release")
+    words = ["install", *offline(), "--quiet", "--path", other / "shell", "--root", tmp_path]
+    run(*read_only(other), "cargo", *words, env={"CARGO_TARGET_DIR": str(tmp_path / "target")})
+    built, installed = (path.read_bytes() for path in (one / "target/release/getopts_shell", tmp_path / "bin/getopts_shell"))
+    assert built == installed or rust_minor() < 95
 
 
 def test_cargo_without_warnings(tmp_path):
