@@ -298,7 +298,8 @@ def test_example_lines():
     examples = "crates/getopts/proofs/OnLiterals.antt", "agda/12-Examples.agda"
     groups = [Group(b"o", b"output", "yes", "optional"), Group(b"v", b"verbose", "no", "multi"),
               Group(b"c", b"color", "maybe", "optional")]
-    rows = re.findall(r"^\| `(.*)` \| (.*?) \|(?: (.*))? \|$", pages["docs/GRAMMAR.md"].partition("\n## ")[0], re.M)
+    top = pages["docs/GRAMMAR.md"].partition("\n## ")[0]
+    rows = re.findall(r"^\| `(.*)` \| (.*?) \|(?: (.*))? \|$", top, re.M)
     assert len(rows) == 10
     for line, *reading in rows:
         found = Options(groups).parse(line.encode().split())
@@ -311,6 +312,8 @@ def test_example_lines():
         texts = " ∷ ".join(f'codes "{word}"' for word in line.split())
         for file in examples:
             assert f"({texts} ∷ [])" in read(file), f"{file} doesn't state {line}"
+    (number, name), = re.findall(r"^A negative number, such as `(.*)`, is the short option `(.)`\.$", top, re.M)
+    assert Options(groups).parse([number.encode()]) == ("UnrecognizedOption", name.encode())
 
 
 # ---- code

@@ -75,6 +75,33 @@ arguments matters, use [`parse_in_order`](Options::parse_in_order).
 //! assert_eq!(run(&["-v", "add", "--force", "a.txt"]).unwrap(), "add [\"a.txt\"], force: true");
 //! ```
 //!
+//! # Negative numbers
+//!
+//! `-5` is read as the short option `5`, so users write `--` before it. A program can insert `--`
+//! before the first negative number that is no option, and no option's argument:
+//!
+#![cfg_attr(feature = "std", doc = "```")]
+#![cfg_attr(not(feature = "std"), doc = "```ignore")]
+//! use getopts::{Fail, Options};
+//!
+//! fn parse(options: &Options, mut words: Vec<&str>) -> getopts::Result {
+//!     let is_negative = |word: &str| word.starts_with('-') && word.parse::<f64>().is_ok();
+//!     let is_unknown = |line: &[&str]| {
+//!         matches!(options.parse_ignoring_counts(line), Err(Fail::UnrecognizedOption(_)))
+//!     };
+//!     let mut places = 0..words.len();
+//!     if let Some(at) = places.find(|&at| is_negative(words[at]) && is_unknown(&words[..=at])) {
+//!         words.insert(at, "--");
+//!     }
+//!     options.parse(words)
+//! }
+//! let mut options = Options::new();
+//! options.optopt("s", "separator", "print this between the numbers", "TEXT");
+//! let matches = parse(&options, vec!["-s", "-1", "-5", "5"]).unwrap();
+//! assert_eq!(matches.value("s"), Some("-1"));
+//! assert_eq!(matches.free, ["-5", "5"]);
+//! ```
+//!
 //! # The proved source
 //!
 //! The feature `proved` makes the proved source public: the modules `proved`, `alloc` and

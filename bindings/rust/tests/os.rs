@@ -284,17 +284,20 @@ fn parse_takes_all_items_and_asks_for_no_more() {
     });
 }
 
+/// Until then, all items are kept, or few if the iterator promises many.
 #[test]
 fn panics_of_an_iterator_drop_each_item_once() {
     for_each_promise(|count, promised| {
-        let word = Rc::<OsStr>::from(OsStr::new("-v"));
+        let (word, kept) = (Rc::<OsStr>::from(OsStr::new("-v")), Cell::new(0));
         let words = (0..).map(|nth| {
+            kept.set(Rc::strong_count(&word) - 1);
             assert!(nth < count, "the iterator's own panic");
             Rc::clone(&word)
         });
         let parse = AssertUnwindSafe(|| options().parse(Promised(words, promised)));
         assert!(catch_unwind(parse).is_err());
         assert_eq!(Rc::strong_count(&word), 1);
+        assert_eq!(kept.get(), if promised > 1_024 { count.min(16) } else { count });
     });
 }
 
