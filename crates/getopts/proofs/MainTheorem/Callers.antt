@@ -1,5 +1,5 @@
--- Lemmas for callers: matches that hold the same, and canonical lines.
-use Rattle.std.proofs.Common.{◌≡◌, ℕ, zero, suc, Bool, true, false, List, [], ◌∷◌, length, nat_lt, Option, Some, Ok}
+-- Lemmas for callers: matches that hold the same, positions, and canonical lines.
+use Rattle.std.proofs.Common.{◌≡◌, ◌<◌, ℕ, zero, suc, Bool, true, false, List, [], ◌∷◌, length, nat_lt, Option, Some, Ok}
 use Rattle.std.proofs.Common.{None, refl, ap, sym, ◌∙◌, not, rules, arith}
 use Rattle.std.specs.List.{filter_map, cons_option, AllByRecursion, list_all}
 use Rattle.std.proofs.lemmas.List.{length-map}
@@ -12,7 +12,10 @@ use Rattle.getopts.specs.Options.{Declared, MayBeDeclared, Group}
 use Rattle.getopts.specs.Reading.{Reading, Mention, holds_equals}
 use Rattle.getopts.specs.Canon.{content_of, canonical_reading, with_setting, main_at}
 use Rattle.getopts.specs.CanonAnswers.{IsWritten, KeepsLineLaws, IsUnwritable}
-use Rattle.getopts.specs.Matches.{GroupOccurrence, Matched, matches_of}
+use Rattle.getopts.specs.Matches.{GroupOccurrence, Matched, MatchedGroup, matches_of}
+use Rattle.getopts.specs.ReadingLaws.{HavePositionsInOrder, HavePositionsBelow}
+use Rattle.std.specs.List.Sorted.{IsNonDecreasingBy}
+use Rattle.getopts.proofs.Lists.{AllByRecursion-at}
 use Rattle.getopts.specs.Accessors.{occurrences_of_name, each_value, first_value, is_present, values_of}
 use Rattle.getopts.specs.Parse.{HasReading}
 use Rattle.getopts.specs.Theorem.{HaveSameValues}
@@ -58,6 +61,19 @@ module _ (matches other : Matched) (same : HaveSameValues matches other) where
   -- In matches that hold the same, an option was given in both or in neither.
   pub same_present : (name : Text) → is_present other.groups name ≡ is_present matches.groups name
   same_present name = ap (λ (count : ℕ). nat_lt 0 count) (same_count name)
+
+-- ---- positions
+
+module _ (groups : List MatchedGroup) (name : Text) where
+  -- The positions of an option never decrease.
+  pub positions_rise : HavePositionsInOrder groups
+      → IsNonDecreasingBy (λ found. found.position) (occurrences_of_name groups name)
+  positions_rise in_order = search (rules, AllByRecursion-at)
+
+  -- The positions of an option are below the number of words.
+  pub positions_below : (count : ℕ) → HavePositionsBelow count groups
+      → AllByRecursion (λ found. found.position < count) (occurrences_of_name groups name)
+  positions_below count below = search (rules, AllByRecursion-at)
 
 -- ---- canonical lines
 
