@@ -1,8 +1,8 @@
+{-# OPTIONS --safe --without-K #-}
 -- Equality, numbers and lists: what the other files use of them.
 module 01-Basics where
 
 open import Std public renaming (AllByRecursion to Each)
-open import Only using (IsTheOnly; AtMostOne)
 
 -- Equality ----------------------------------------------------------------------------------------
 
@@ -19,8 +19,8 @@ module _ {A : Set} where
   absurd ()
 
   -- A value with a property that at most one value has is the only one.
-  only-by : {P : A → Set} {v : A} → P v → AtMostOne P → IsTheOnly P v
-  only-by p unique other = (λ q → unique other _ q p) , λ { refl → p }
+  only-by : {P : A → Set} {v : A} → P v → (∀ x y → P x → P y → x ≡ y) → ∀ x → P x ↔ (x ≡ v)
+  only-by p unique x = (λ q → unique x _ q p) , λ { refl → p }
 
 cong : {A B : Set} (f : A → B) {x y : A} → x ≡ y → f x ≡ f y
 cong f refl = refl

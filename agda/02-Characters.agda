@@ -1,7 +1,7 @@
+{-# OPTIONS --safe --without-K #-}
 -- UTF-8: the bytes of a character, and that decoding them gives the character back.
 module 02-Characters where
 
-open import Names using (Text)
 open import 01-Basics
 
 -- Division ----------------------------------------------------------------------------------------
@@ -75,7 +75,7 @@ IsHigh b = ltb b 128 ≡ false
 
 -- A character from 128 up has several bytes, all of them from 128 up.
 Wide : ℕ → Set
-Wide c = Σ[ first ∈ ℕ ] Σ[ second ∈ ℕ ] Σ[ others ∈ Text ]
+Wide c = Σ[ first ∈ ℕ ] Σ[ second ∈ ℕ ] Σ[ others ∈ List ℕ ]
   (encode c ≡ first ∷ second ∷ others) × Each IsHigh (encode c)
 
 wide : ∀ c → IsHigh c → Wide c
@@ -107,7 +107,7 @@ decoded c more with ltb c 128 in e₁
 
 -- A UTF-8 text begins with an ASCII byte, after which it is UTF-8, or with the bytes of another
 -- character.
-data Begins (b : ℕ) (t : Text) : Set where
+data Begins (b : ℕ) (t : List ℕ) : Set where
   ascii : ltb b 128 ≡ true → IsUtf8 t → Begins b t
   beyond : ∀ c more → IsHigh b → IsScalar c → 1 < length (encode c) → b ∷ t ≡ encode c ++ more
     → Begins b t

@@ -1,3 +1,4 @@
+{-# OPTIONS --safe --without-K #-}
 -- `read`, a function of the definitions, finds each reading and each scan error that the relations
 -- allow. So there is at most one of these.
 --
@@ -6,13 +7,7 @@
 -- tail, r a reading, f an error, m a mention, s a style and l whether long-only.
 module 03-Reads where
 
-open import Enums
-open import Names using (Text)
-open import Options
-open import Fail
-open import Reading
-open import Step
-open import Results
+open import Definitions
 open import 01-Basics
 open import 02-Characters
 
@@ -43,7 +38,7 @@ taken g i (separate x) more = refl
 cut-whole : ∀ n a → holds-equals n ≡ false → cut-at-equals (n ++ with-equals a) ≡ (n , a)
 cut-whole [] None e = refl
 cut-whole [] (Some a) e = refl
-cut-whole (c ∷ n) a e with or-false {eqb c 61} e
+cut-whole (c ∷ n) a e with or-false {eqb c equals-sign} e
 ... | c-is , n-is rewrite c-is | cut-whole n a n-is = refl
 
 may-precede : ∀ lo d n a → MayPrecede lo d n → MayPrecede lo d (n ++ with-equals a)
@@ -70,7 +65,7 @@ module _ (g : Grammar) where
   -- Words in short form ---------------------------------------------------------------------------
 
   short-form : ∀ t ws → g .$long-only ≡ false → begins-with-dash t ≡ false → t ≢ []
-    → step g (45 ∷ t) ws ≡ cluster-step g [] t ws
+    → step g (dash ∷ t) ws ≡ cluster-step g [] t ws
   short-form [] ws mode no-dash filled = absurd (filled refl)
   short-form (c ∷ t) ws mode no-dash filled rewrite no-dash | mode = refl
 
@@ -82,7 +77,7 @@ module _ (g : Grammar) where
 
   -- If a text begins with flags, the step takes them, and goes on after them.
   after-flags : ∀ bs t ws → g .$long-only ≡ false → begins-with-dash (bs ++ t) ≡ false
-    → bs ++ t ≢ [] → Each (IsFlag g) bs → step g (45 ∷ bs ++ t) ws ≡ cluster-step g bs t ws
+    → bs ++ t ≢ [] → Each (IsFlag g) bs → step g (dash ∷ bs ++ t) ws ≡ cluster-step g bs t ws
   after-flags bs t ws mode no-dash filled all =
     short-form (bs ++ t) ws mode no-dash filled ∙ flags-read [] bs t ws all
 

@@ -1,13 +1,8 @@
+{-# OPTIONS --safe --without-K #-}
 -- UTF-8 words have a reading or a scan error, and `read` finds it.
 module 04-Decided where
 
-open import Enums
-open import Names using (Text; AreTexts)
-open import Options
-open import Fail
-open import Reading
-open import Step using (with-equals; cut-at-equals)
-open import Results using (read; with-items)
+open import Definitions
 open import 01-Basics
 open import 02-Characters
 open import 03-Reads
@@ -16,8 +11,8 @@ open import 03-Reads
 cut-parts : ∀ t → (t ≡ cut-at-equals t .proj₁ ++ with-equals (cut-at-equals t .proj₂))
   × (holds-equals (cut-at-equals t .proj₁) ≡ false)
 cut-parts [] = refl , refl
-cut-parts (c ∷ t) with eqb c 61 in e
-... | true = cong (_∷ t) (eqb→≡ c 61 e) , refl
+cut-parts (c ∷ t) with eqb c equals-sign in e
+... | true = cong (_∷ t) (eqb→≡ c equals-sign e) , refl
 ... | false rewrite e = cong (c ∷_) (cut-parts t .proj₁) , cut-parts t .proj₂
 
 precedes-name : ∀ lo d n x → MayPrecede lo d (n ++ x) → MayPrecede lo d n
@@ -72,7 +67,7 @@ module _ (g : Grammar) (sane : Sane g) where
 
   -- In short form, each byte is a flag, or the option that ends the cluster, or an error.
   short-view : ∀ bs t ws → g .$long-only ≡ false → Each (IsFlag g) bs
-    → begins-with-dash (bs ++ t) ≡ false → bs ++ t ≢ [] → IsUtf8 t → View (45 ∷ (bs ++ t)) ws
+    → begins-with-dash (bs ++ t) ≡ false → bs ++ t ≢ [] → IsUtf8 t → View (dash ∷ (bs ++ t)) ws
   short-view bs [] ws mode all plain filled u = one-word (cluster bs flags) refl
     (mk mode plain all λ { refl → filled refl }) λ ()
   short-view bs (b ∷ t) ws mode all plain filled u = go ((g .$kind) (b ∷ [])) refl t plain u ws
@@ -82,21 +77,21 @@ module _ (g : Grammar) (sane : Sane g) where
         → IsLawfulCluster g bs (ends-in b a)
       item a k r fits plain = mk mode plain all (k , r , fits)
       maybe : ∀ w ws → (g .$kind) (b ∷ []) ≡ Some Maybe → begins-with-dash (bs ++ b ∷ []) ≡ false
-        → View (45 ∷ (bs ++ b ∷ [])) (w ∷ ws)
+        → View (dash ∷ (bs ++ b ∷ [])) (w ∷ ws)
       maybe w ws r plain with is-dashed w in dashed
       ... | true =
         one-word (cluster bs (ends-in b none)) refl (item _ Maybe r refl plain) λ _ → dashed
       ... | false = two-words (cluster bs (ends-in b (separate w))) w ws refl refl
         (item _ Maybe r ((λ ()) , λ _ → dashed) plain) λ ()
       go : ∀ k → (g .$kind) (b ∷ []) ≡ k → ∀ t → begins-with-dash (bs ++ b ∷ t) ≡ false
-        → IsUtf8 (b ∷ t) → ∀ ws → View (45 ∷ (bs ++ b ∷ t)) ws
+        → IsUtf8 (b ∷ t) → ∀ ws → View (dash ∷ (bs ++ b ∷ t)) ws
       go None r t plain u ws with begins b t u
       ... | ascii low _ = fails (unknown-byte b t (ltb→< b 128 low) (mk bs mode refl plain all) r)
       ... | beyond c more _ scalar several e = fails (wide-character c more scalar several
-        (subst (HasAfterFlags g (45 ∷ (bs ++ b ∷ t))) e (mk bs mode refl plain all)))
+        (subst (HasAfterFlags g (dash ∷ (bs ++ b ∷ t))) e (mk bs mode refl plain all)))
       go (Some No) r t plain u ws with begins b t u
       ... | beyond _ _ high _ _ _ = absurd (None≢Some (sane .no-high b high) r)
-      ... | ascii _ v = subst (λ x → View (45 ∷ x) ws) (++-assoc bs (b ∷ []) t)
+      ... | ascii _ v = subst (λ x → View (dash ∷ x) ws) (++-assoc bs (b ∷ []) t)
         (short-view (bs ++ b ∷ []) t ws mode (each-++ bs all (r , tt))
           (subst (λ x → begins-with-dash x ≡ false) (sym (++-assoc bs (b ∷ []) t)) plain)
           (filled-left (bs ++ b ∷ []) (++-filled bs)) v)
@@ -114,14 +109,15 @@ module _ (g : Grammar) (sane : Sane g) where
   view : ∀ w ws → IsUtf8 w → View w ws
   view [] ws u = free-view [] ws refl
   view (c ∷ []) ws u = free-view (c ∷ []) ws refl
-  view (c ∷ d ∷ t) ws u with eqb c 45 in e
+  view (c ∷ d ∷ t) ws u with eqb c dash in e
   ... | false = free-view (c ∷ d ∷ t) ws e
-  ... | true rewrite eqb→≡ c 45 e with eqb d 45 in e₂ | g .$long-only in mode | begins 45 (d ∷ t) u
+  ... | true rewrite eqb→≡ c dash e
+    with eqb d dash in e₂ | g .$long-only in mode | begins dash (d ∷ t) u
   ...   | false | true | _ = long-view one (d ∷ t) ws (mode , e₂) λ ()
   ...   | false | false | ascii _ v = short-view [] (d ∷ t) ws mode tt e₂ (λ ()) v
-  ...   | true | _ | _ rewrite eqb→≡ d 45 e₂ = stop-or-long t
+  ...   | true | _ | _ rewrite eqb→≡ d dash e₂ = stop-or-long t
     where
-      stop-or-long : ∀ t → View (45 ∷ 45 ∷ t) ws
+      stop-or-long : ∀ t → View (dash ∷ dash ∷ t) ws
       stop-or-long [] = ends (stop ws) refl tt
       stop-or-long (x ∷ t) = long-view two (x ∷ t) ws tt λ ()
 

@@ -1,10 +1,8 @@
+{-# OPTIONS --safe --without-K #-}
 -- How names resolve, and that options that may be declared have a sane grammar.
 module 05-Resolved where
 
-open import Names
-open import Options
-open import Matches using ($signature)
-open import Accessors using (held-names)
+open import Definitions
 open import 01-Basics
 open import 02-Characters
 open import 03-Reads

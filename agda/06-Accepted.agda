@@ -1,15 +1,8 @@
+{-# OPTIONS --safe --without-K #-}
 -- There is at most one reading, and it decides what is accepted and what is rejected.
 module 06-Accepted where
 
-open import Only
-open import Names using (Text)
-open import Options
-open import Reading
-open import Matches
-open import Parse
-open import Canon using (IsCountKeeping; mk)
-open import Theorem
-open import Results using (read; first-count-fault; broken-count)
+open import Definitions
 open import 01-Basics
 open import 03-Reads
 open import 05-Resolved

@@ -1,17 +1,8 @@
+{-# OPTIONS --safe --without-K #-}
 -- Canonical lines: each reads back in every style and mode, and equal lines have equal contents.
 module 07-Canonical where
 
-open import Enums
-open import Names
-open import Options
-open import Reading
-open import Matches
-open import Parse
-open import Accessors
-open import Canon
-open import CanonAnswers using (KeepsLineLaws; mk)
-open import Theorem
-open import Step using (cut-at-equals)
+open import Definitions
 open import 01-Basics
 open import 03-Reads
 open import 05-Resolved
@@ -39,30 +30,23 @@ mentions-are g before (i ∷ items) =
     here [] = refl
     here (m ∷ ms) = cong (m ∷_) (here ms)
 
--- The options of an order are what the items mention, and its free words those of the items.
-options-of-items : ∀ g items more
-  → options-in (order-of-items g items ++ more) ≡ mentions-in g items ++ options-in more
-options-of-items g [] more = refl
-options-of-items g (free w ∷ items) more = options-of-items g items more
-options-of-items g (long d n a ∷ items) more = cong (_ ∷_) (options-of-items g items more)
-options-of-items g (cluster bs end ∷ items) more = go (mentions g (cluster bs end))
+-- The options in an order are what the items mention, and its free words those of the items.
+order-parts : ∀ g items more → let order = order-of-items g items ++ more in
+  (options-in order ≡ mentions-in g items ++ options-in more)
+  × (frees-in order ≡ free-items items ++ frees-in more)
+order-parts g [] more = refl , refl
+order-parts g (free w ∷ items) more with order-parts g items more
+... | os , fs = os , cong (w ∷_) fs
+order-parts g (long d n a ∷ items) more with order-parts g items more
+... | os , fs = cong (_ ∷_) os , fs
+order-parts g (cluster bs end ∷ items) more = go (mentions g (cluster bs end))
   where
-    go : ∀ ms → options-in ((map given-option ms ++ order-of-items g items) ++ more)
-      ≡ (ms ++ mentions-in g items) ++ options-in more
-    go [] = options-of-items g items more
-    go (m ∷ ms) = cong (m ∷_) (go ms)
-
-frees-of-items : ∀ g items more
-  → frees-in (order-of-items g items ++ more) ≡ free-items items ++ frees-in more
-frees-of-items g [] more = refl
-frees-of-items g (free w ∷ items) more = cong (w ∷_) (frees-of-items g items more)
-frees-of-items g (long d n a ∷ items) more = frees-of-items g items more
-frees-of-items g (cluster bs end ∷ items) more = go (mentions g (cluster bs end))
-  where
-    go : ∀ ms → frees-in ((map given-option ms ++ order-of-items g items) ++ more)
-      ≡ free-items items ++ frees-in more
-    go [] = frees-of-items g items more
-    go (m ∷ ms) = go ms
+    go : ∀ ms → let order = (map given-option ms ++ order-of-items g items) ++ more in
+      (options-in order ≡ (ms ++ mentions-in g items) ++ options-in more)
+      × (frees-in order ≡ free-items items ++ frees-in more)
+    go [] = order-parts g items more
+    go (m ∷ ms) with go ms
+    ... | os , fs = cong (m ∷_) os , fs
 
 only-words : ∀ ws → (options-in (map free-word ws) ≡ []) × (frees-in (map free-word ws) ≡ ws)
 only-words [] = refl , refl

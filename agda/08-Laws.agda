@@ -1,16 +1,12 @@
+{-# OPTIONS --safe --without-K #-}
 -- The laws of readings: other spellings of an item, joined lines, free words, and positions.
 module 08-Laws where
 
-open import Enums
-open import Names using (Text)
-open import Options
-open import Reading
-open import ReadingLaws
-open import Parse using (KeepsReadingLaws; mk)
+open import Definitions
 open import 01-Basics
 open import 03-Reads
 open import 06-Accepted using (one-reading-of)
-open import 07-Canonical using (mentions-in; mentions-are; options-of-items; frees-of-items)
+open import 07-Canonical using (mentions-in; mentions-are; order-parts)
 
 -- Lists of items in parts -------------------------------------------------------------------------
 
@@ -337,8 +333,8 @@ positions-law g = mk λ { (mk items t) _ o (mk refl _ _ _) c → go t [] items o
       (cong (_++ map free-word (tail-frees t)) (order-app front (i ∷ items))
         ∙ ++-assoc (order-of-items g front) _ _ ∙ cong (order-of-items g front ++_)
           (++-assoc (given-by g i) _ _ ∙ cong (_++ _) is))
-      (cong options-in (sym nil) ∙ options-of-items g front [] ∙ ++-nil _)
-      (cong frees-in (sym nil) ∙ frees-of-items g front [] ∙ ++-nil _)
+      (cong options-in (sym nil) ∙ order-parts g front [] .proj₁ ∙ ++-nil _)
+      (cong frees-in (sym nil) ∙ order-parts g front [] .proj₂ ∙ ++-nil _)
       where nil = ++-nil (order-of-items g front)
     of-item : ∀ i {o b} → Contains (map (at-position b) (mentions g i)) o
       → given-by g i ≡ map given-option (mentions g i)

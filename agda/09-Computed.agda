@@ -1,22 +1,9 @@
+{-# OPTIONS --safe --without-K #-}
 -- The functions of the definitions, such as `parse_result`, compute the only value that their
 -- relations allow.
 module 09-Computed where
 
-open import Enums
-open import Only
-open import Names
-open import Options
-open import Fail
-open import Reading
-open import Matches
-open import Parse
-open import Accessors
-open import Canon
-open import CanonAnswers
-open import Unless
-open import Returns
-open import Step using (with-equals; cut-at-equals)
-open import Results
+open import Definitions
 open import 01-Basics
 open import 03-Reads
 open import 04-Decided
@@ -57,13 +44,13 @@ only-same same only a =
 -- A text that contains `=` is cut before its end.
 cut-before : ∀ xs ys → holds-equals xs ≡ true
   → Σ[ more ∈ Text ] cut-at-equals (xs ++ ys) .proj₂ ≡ Some (more ++ ys)
-cut-before (c ∷ xs) ys e with eqb c 61
+cut-before (c ∷ xs) ys e with eqb c equals-sign
 ... | true = xs , refl
 ... | false = cut-before xs ys e
 
-longer : ∀ (x : Text) more → x ≢ more ++ 61 ∷ x
+longer : ∀ (x : Text) more → x ≢ more ++ equals-sign ∷ x
 longer x more e = not-less (subst (length x <_)
-  (sym (cong length e ∙ length-++ more (61 ∷ x))) (≤-after (length more) ≤-refl))
+  (sym (cong length e ∙ length-++ more (equals-sign ∷ x))) (≤-after (length more) ≤-refl))
 
 -- A main name with `=` would be cut at it, so no valid item spells it.
 no-item : ∀ options m → holds-equals (main-at (options .$groups) (m .$group)) ≡ true
@@ -290,10 +277,11 @@ module _ (options : Declared) (named : Each IsNamed (names-of (options .$groups)
   order-is : IsOrderAnswer options words (parse-in-order-result options words)
   order-is = made-of-line _ (order-of-reading g) λ { r@(mk items t) kept →
     mk (content-of options r) (accepted-with r kept) refl
-      (options-of-items g items _
+      (order-parts g items _ .proj₁
         ∙ cong (mentions-in g items ++_) (only-words (tail-frees t) .proj₁) ∙ ++-nil _
         ∙ sym (mentions-are g 0 items))
-      (frees-of-items g items _ ∙ cong (free-items items ++_) (only-words (tail-frees t) .proj₂)) }
+      (order-parts g items _ .proj₂
+        ∙ cong (free-items items ++_) (only-words (tail-frees t) .proj₂)) }
 
   present : Reading → Text → Bool
   present r name = is-present (matches-of options r .$groups) name

@@ -1,18 +1,12 @@
+{-# OPTIONS --safe --without-K #-}
 -- Rows of descriptions and usage texts, for any function in the place of the widths of
 -- `unicode_width`: a line has exactly one tight breaking, and no fitting breaking has fewer runs.
 import Base
 module 10-Rows (str-width : Base.Bool → Base.List Base.ℕ → Base.ℕ) where
 
-open import Only
-open import Names using (Text)
-open import Options
+open import Definitions
 open import 01-Basics
-import Wrap
-import Usage
-import UsageResults
-open Wrap str-width
-open Usage str-width
-open UsageResults str-width
+open import Columns str-width
 
 -- Lists of lists ----------------------------------------------------------------------------------
 
@@ -72,7 +66,7 @@ fits-inside : ∀ limit front word run back → FitsIn limit (front ++ ((word �
   → FitsIn limit (word ∷ run)
 fits-inside limit front word run back (inr few) =
   inr (≤-trans (columns-inside front (word ∷ run) back) few)
-fits-inside limit [] word [] back (inl one) = inl refl
+fits-inside limit [] word [] back (inl _) = inl refl
 fits-inside limit (x ∷ []) word run back (inl ())
 fits-inside limit (x ∷ y ∷ front) word run back (inl ())
 
@@ -112,13 +106,13 @@ no-fewer limit front [] others _ _ _ _ = z≤n
 no-fewer limit front ((w ∷ run) ∷ runs) [] _ _ _ e = absurd (++-filled front (sym e))
 no-fewer limit front (run ∷ runs) (other ∷ others) tight (p , filled) (f , fits) e
   with cuts (front ++ run) (words-in runs) other (words-in others) (++-assoc front run _ ∙ sym e)
-... | inl ([] , _ , rest) =
-  s≤s (no-fewer limit [] runs others (later runs tight) filled fits (sym rest))
-... | inl (word ∷ back , is , rest) =
-  absurd (takes-no-more limit front run runs word back tight (p , filled) rest
+... | inl ([] , _ , is′) =
+  s≤s (no-fewer limit [] runs others (later runs tight) filled fits (sym is′))
+... | inl (word ∷ back , is , is′) =
+  absurd (takes-no-more limit front run runs word back tight (p , filled) is′
     (subst (FitsIn limit) (is ∙ ++-assoc front run (word ∷ back)) f))
-... | inr (word , back , _ , rest) =
-  s≤s (no-fewer limit (word ∷ back) runs others (later runs tight) filled fits rest)
+... | inr (word , back , _ , is′) =
+  s≤s (no-fewer limit (word ∷ back) runs others (later runs tight) filled fits is′)
 
 fewest : ∀ limit words runs → IsTightBreaking limit words runs → IsFewestBreaking limit words runs
 fewest limit words runs p@(mk fitting tight) = mk p λ others other →
@@ -134,12 +128,12 @@ one-tight limit [] ([] ∷ others) _ _ _ ((() , _) , _) _
 one-tight limit ([] ∷ runs) [] _ ((() , _) , _) _ _ _
 one-tight limit (run ∷ runs) (other ∷ others) t ((p , ps) , (f , fs)) u ((q , qs) , (g , gs)) e
   with cuts run (words-in runs) other (words-in others) e
-... | inl (word ∷ back , refl , rest) =
-  absurd (takes-no-more limit [] run runs word back t (p , ps) rest g)
-... | inr (word , back , refl , rest) =
-  absurd (takes-no-more limit [] other others word back u (q , qs) rest f)
-... | inl ([] , is , rest) rewrite is | ++-nil run = cong (run ∷_)
-  (one-tight limit runs others (later runs t) (ps , fs) (later others u) (qs , gs) rest)
+... | inl (word ∷ back , refl , is′) =
+  absurd (takes-no-more limit [] run runs word back t (p , ps) is′ g)
+... | inr (word , back , refl , is′) =
+  absurd (takes-no-more limit [] other others word back u (q , qs) is′ f)
+... | inl ([] , is , is′) rewrite is | ++-nil run = cong (run ∷_)
+  (one-tight limit runs others (later runs t) (ps , fs) (later others u) (qs , gs) is′)
 
 one-tight-breaking : ∀ limit words → AtMostOne (IsTightBreaking limit words)
 one-tight-breaking limit words runs others (mk p t) (mk q u) = one-tight limit runs others
@@ -179,7 +173,7 @@ filled-up limit w run (word ∷ words) fits with has-room limit (w ∷ run) word
     several [] ()
     several (x ∷ run) ()
     no-room : ¬ (FitsIn limit ((w ∷ run) ++ word ∷ []))
-    no-room (inl one) = several run one
+    no-room (inl e) = several run e
     no-room (inr few) = true≢false (<→ltb (s≤s few)) room
 
 runs-tight : ∀ limit words → IsTightBreaking limit words (runs-of limit words)

@@ -1,14 +1,8 @@
+{-# OPTIONS --safe --without-K #-}
 -- Premises that the main theorem needs: without each, it is false.
 module 11-Needed where
 
-open import Enums
-open import Names
-open import Options
-open import Fail
-open import Reading
-open import Parse using (mk)
-open import Returns using (HasResults; $reading)
-open import Theorem
+open import Definitions
 open import 01-Basics
 
 declared-with : List Group → Declared
@@ -40,7 +34,7 @@ TwoErrors named = IsScanFault g words (unrecognized-option (195 ∷ 169 ∷ []))
   × IsScanFault g words (unrecognized-option (120 ∷ []))
   where
     g = grammar-of (halves named)
-    words = (45 ∷ 195 ∷ 169 ∷ 120 ∷ []) ∷ []
+    words = (dash ∷ 195 ∷ 169 ∷ 120 ∷ []) ∷ []
 
 two-errors : ∀ named → Each (IsFlag (grammar-of (halves named))) (195 ∷ 169 ∷ [])
   → kind-of (halves named .$groups) (120 ∷ []) ≡ None → TwoErrors named
@@ -57,13 +51,13 @@ without-long-fits = two-errors (λ name → flag [] name) (refl , refl , tt) ref
 
 -- Without `AreTexts` in `HaveResults`: `-` and a byte that begins no character. `read` gives an
 -- error with an empty name, which no scan error has.
-no-result : ¬ (HasResults (declared-with []) ((45 ∷ 200 ∷ []) ∷ []))
+no-result : ¬ (HasResults (declared-with []) ((dash ∷ 200 ∷ []) ∷ []))
 no-result results with results .$reading (Err (unrecognized-option [])) .proj₂ refl
 ... | mk only _ with only (unrecognized-option []) .proj₂ refl
 ...   | mk (x ∷ xs) _ _ _ e _ _ = ++-filled xs (sym (cons-tail e))
 ...   | mk [] _ _ _ refl _ fault = named fault refl
   where
-    named : ∀ {ws f} → IsFaultAt (grammar-of (declared-with [])) (45 ∷ 200 ∷ []) ws f
+    named : ∀ {ws f} → IsFaultAt (grammar-of (declared-with [])) (dash ∷ 200 ∷ []) ws f
       → f ≢ unrecognized-option []
     named (unknown-name _ _ (mk one (() , _) _ _ _) _) is
     named (unknown-name [] None (mk two _ _ () _) _) refl

@@ -1,19 +1,12 @@
+{-# OPTIONS --safe --without-K #-}
 -- Computed by the functions of the definitions: the command lines at the head of docs/GRAMMAR.md,
 -- and the rows and the usage text in the documentation of `each_split_within` and `usage`, if each
 -- character takes one column.
 module 12-Examples where
 
-open import Names
-open import Options
-open import Declaring
-open import Fail
-open import Reading
-open import ReadingLaws using (mentions-of)
-open import Canon
-open import Results using (accepted-reading)
+open import Definitions
 open import 01-Basics
-import UsageResults
-open UsageResults (λ _ characters → length characters) using (description-rows; usage-result)
+open import Columns (λ _ characters → length characters)
 
 options : Declared
 options = options-of (optopt (codes "o") (codes "output") [] []

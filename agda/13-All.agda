@@ -1,23 +1,19 @@
+{-# OPTIONS --safe --without-K #-}
 -- All lemmas of src/laws.rt. In gen/Statement.agda, translate.py writes a record of the clauses of
 -- each lemma, and `Laws`, the record of all lemmas. Clauses about columns hold for any function in
 -- the place of the widths of `unicode_width`.
 import Base
 module 13-All (str-width : Base.Bool → Base.List Base.ℕ → Base.ℕ) where
 
-open import Names using (MainNameResolves; OneByteIsShort; EmptyResolvesNot)
-open import Options
-open import Matches using ($groups)
+open import Definitions
 open import 01-Basics
 open import 05-Resolved
-import Statement
+open import Statement str-width
 import 06-Accepted
 import 07-Canonical
 import 08-Laws
 import 09-Computed
 import 10-Rows
-import 11-Needed
-import 12-Examples
-open Statement str-width
 
 module _ (options : Declared) where
   private
@@ -49,10 +45,10 @@ module _ (options : Declared) where
 
   names-resolve : MayBeDeclared gs → NamesResolve options
   names-resolve declared = mk (main-name-resolves ns) (one-byte-is-short ns valid)
-      (empty-resolves-not ns (each-map is-named ns valid))
+      (empty-resolves-not ns (each-map is-named ns valid)) declared
     where valid = valid-groups gs declared
 
-  -- A part of `declared`: an added group with valid names, and a short one in UTF-8, keeps it.
+  -- An added group with valid names, and a short one in UTF-8, keeps this premise.
   declared-with : ∀ group → MayBeDeclared gs → IsValid (group .$signature .$names)
     → MayBeDeclared (with-group options group .$groups)
   declared-with group (mk named shorts) (valid , utf8) =

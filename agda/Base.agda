@@ -1,3 +1,4 @@
+{-# OPTIONS --safe --without-K #-}
 -- Written by hand, with antt's precedences: what antt has built in, or defines by other means than
 -- clauses.
 module Base where

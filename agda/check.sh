@@ -2,9 +2,10 @@
 # Proves all lemmas of crates/getopts/src/laws.rt once more, in Agda.
 # usage: check.sh [--wrong]
 #
-# translate.py writes the definitions and the clauses in Agda's syntax. --wrong also tries wrong
-# definitions (wrong.py), which Agda must reject at the lemma that they are for. It needs rt, Python
-# and Agda, as `agda` or as test.sh unpacks it (2.6.2.2; tried with 2.6.4.3 and 2.8.0 as well).
+# translate.py writes the definitions and the clauses in Agda's syntax, to the folder gen. --wrong
+# also tries wrong definitions (wrong.py), which Agda must reject at the lemma that they are for. It
+# needs rt, Python and Agda, as `agda` or as test.sh unpacks it (2.6.2.2; earlier proofs also passed
+# with 2.6.4.3 and 2.8.0).
 set -euo pipefail
 unset CDPATH
 stop() { echo "check.sh: $1" >&2; exit 2; }
@@ -25,17 +26,16 @@ if ! command -v agda >/dev/null; then
     export PATH=$own/usr/bin:$PATH Agda_datadir=$own/usr/share/libghc-agda-dev
 fi
 export LC_ALL=C.UTF-8 PYTHONDONTWRITEBYTECODE=1
-room=$(mktemp -d)
-trap 'rm -rf "$room"' EXIT
-cp "$here"/*.agda "$room"
-what=$(cd "$here/.." && python3 agda/translate.py crates/getopts "$std" "$room/gen")
-cd "$room"
-if ! agda --safe --without-K --no-libraries -i gen -i . 13-All.agda >said 2>&1; then
-    grep -v '^ *Checking' said >&2
-    at=$(sed -n 's,^.*/gen/\(.*\.agda\):\([0-9]*\)[,:].*,\2 gen/\1,p' said | head -1)
-    [ "$at" ] || stop "Agda rejects a proof"
+cd "$here/.."
+rm -rf agda/gen
+what=$(python3 agda/translate.py crates/getopts "$std" agda/gen)
+cd agda
+if ! said=$(agda gen/Proved.agda 2>&1); then
+    grep -v '^ *Checking' <<<"$said" >&2
+    at=$(sed -n 's,^.*/gen/\(.*\.agda\):\([0-9]*\)[,:].*,\2 gen/\1,p' <<<"$said" | head -1)
     # shellcheck disable=SC2086
-    stop "Agda rejects the definition at $(head -n $at | sed -n 's/^-- //p' | tail -1)"
+    at=${at:+$(head -n $at | sed -n 's/^-- /the definition at /p' | tail -1)}
+    stop "Agda rejects ${at:-a proof}"
 fi
 echo "check.sh: $(agda --version | head -1) proves $what"
-[ -z "${1:-}" ] || python3 "$here/wrong.py" "$here/../crates/getopts" "$std"
+[ -z "${1:-}" ] || python3 wrong.py "$std"

@@ -1,26 +1,18 @@
-"""Translates the definitions of crates/getopts, and the clauses of its laws.rt, to Agda:
+"""Translates the clauses of the lemmas in laws.rt of crates/getopts, and the definitions that these
+and the proofs need, to Agda:
 translate.py CRATE STD OUT, with the folders of the crate, of Rattle's libraries, and of the output.
 
 Only syntax and names change, token by token: `_` in a name becomes `-`, since Agda reads `_` as a
 place for an argument. Of each record, the constructor is `mk`, and projections begin with `$`.
+Of Rust's types, only enums are translated; this stops if a lemma needs another one.
 """
 import re
 import sys
+from collections import namedtuple
 from pathlib import Path
 
 CRATE, STD, OUT = (Path(argument) for argument in sys.argv[1:4])
 
-# What isn't translated, by reason: definitions, whole modules, and clauses.
-LEFT_OUT = {
-    "what structures of Rust store": "Stored.*",
-    "a mutable reference of Rust": "Borrows.UnchangedIfErr",
-    "borrowed words and values": "Names.texts Accessors.borrowed_occurrence "
-    "Accessors.borrowed_given Accessors.pair_view",
-    "the type Fail of Rust": "Fail.fault_of Fail.fail_text Fail.IsOutOfMemoryOr "
-    "Returns.ReturnsConverted Returns.ReturnsResult",
-    "what `==` computes, which no lemma is about": "Same.*",
-    "an invariant of the type Options of Rust, and a premise here": "names_resolve.declared",
-}
 # The parameters of the lemmas of laws.rt: here, and with what a proof assumes of them.
 PARAMETERS = {
     "()": ("", ""),
@@ -52,12 +44,12 @@ OF_STD = {
 # Other names for these in std's files, by `use .. as`.
 ALIASES = {"nat_eq": "eqb", "nat_lt": "ltb", "nat_le": "leb", "slice_index_or": "get_or",
            "encode_utf8": "encode", "encode_utf8_all": "encodes"}
-# Imported everywhere: antt has these built in.
-SYNTAX = "Σ-syntax _×_ _,_ proj₁ proj₂ ⊤ ⊥ ¬_".split()
 TOKEN = re.compile(r'--.*|"(?:\\.|[^"\\])*"|\s+|[(){};,]|\.(?=\s|$)|\.?[^\s(){};,."]+')
 HEAD = re.compile(r"( *)(?:pub record|pub data|abbrev pub|unfoldable pub|pub|abbrev) (\S+)")
 OUTSIDE = re.compile(r"(pub |ghost |unfoldable )*use |(pub )?mod |module |--|$")
-USE = re.compile(r"(?:pub |ghost |unfoldable )*use Rattle\.(\S+?)(?:\.\{(.*)\}| as (\w+));?$")
+USE = re.compile(r"(?:pub |ghost |unfoldable )*use (\S+?)(?:\.\{(.*)\}| as (\w+));?$")
+Definition = namedtuple("Definition", "module path line text cites lacks")
+CLAUSE = re.compile(r"ensures (\w+) \{(.*?)\}$", re.S | re.M)
 
 
 def stop(path, line, why):
@@ -153,7 +145,8 @@ def blocks(path, strict=True):
 
 def write(module, lines, wide=False):
     width = " (str-width : Base.Bool → Base.List Base.ℕ → Base.ℕ)" if wide else ""
-    lines = [*["import Base"] * wide, f"module {module}{width} where", *lines, ""]
+    lines = ["{-# OPTIONS --safe --without-K #-}", *["import Base"] * wide,
+             f"module {module}{width} where", *lines, ""]
     (OUT / f"{module}.agda").write_text("\n".join(lines), encoding="utf-8")
 
 
@@ -173,114 +166,149 @@ def write_std():
     write("Std", lines)
 
 
-def enum(file, name):
-    """An enum of Rust."""
-    path = CRATE / f"src/{file}.rt"
-    found = re.search(rf"pub enum {name}(?:<(\w+)>)? \{{\n(.*?)\n\}}", path.read_text(), re.S)
-    lines = re.findall(r"^    (?!//)(.*)", found[2], re.M) if found else [""]
-    variants = [re.match(r"(\w+)(?:\((\w+)\))?,$", line) for line in lines]
-    if not all(variants):
-        stop(path, 1, f"can't read the enum {name}")
-    parameter, whole = f"({found[1]} : Set) " if found[1] else "", f"{name} {found[1] or ''}"
-    return "\n".join([f"data {name} {parameter}: Set where", *(
-        f"  {it[1]} : {f'{it[2]} → ' if it[2] else ''}{whole}" for it in variants)])
+def enums():
+    """The enums of Rust, by name, if no variant contains more than the enum's parameter."""
+    found, enum = {}, re.compile(r"^pub enum (\w+)(?:<(\w+)>)? \{\n(.*?)\n\}", re.M | re.S)
+    for path in sorted((CRATE / "src").rglob("*.rt")):
+        for name, of, body in enum.findall(path.read_text(encoding="utf-8")):
+            variants = re.findall(rf"^    (\w+)(\({of}\))?,$", body, re.M)
+            if len(variants) == len(re.findall("^ +(?!//| )", body, re.M)):
+                found[name] = "\n".join([f"data {name} {f'({of} : Set) ' * bool(of)}: Set where", *(
+                    f"  {it} : {f'{of} → ' * bool(holds)}{name} {of}" for it, holds in variants)])
+    return found
 
 
-def module(name, path, kept, *more):
-    """Writes a module of these definitions, after those that its file, or another line, imports."""
-    words = set(re.findall(r"[^\s(){};,.]+", "\n".join(text for _, _, text in kept)))
-    std, imported, fields, wide, enums, passed = {*SYNTAX}, {}, {}, False, set(), []
-    for line, text in enumerate([*path.read_text(encoding="utf-8").split("\n"), *more], 1):
-        if not re.match(r"(pub |ghost |unfoldable )*use Rattle", text):
+def words(text):
+    return {*re.findall(r"[^\s(){};,.]+", text)}
+
+
+def define(path, blocks):
+    """Notes to which of these definitions each name belongs, as variants of data do."""
+    for name, line, text in blocks:
+        for it in (name, *re.findall(r"^  (\S+) :", text, re.M) * text.startswith("pub data")):
+            if it in HOME:
+                stop(path, line, f"{it} is defined twice")
+            HOME[it] = name
+
+
+def read(module, path, blocks, *more):
+    """Notes definitions of a module, which cite what the file imports, and these other names."""
+    own = {name for name, _, _ in blocks}
+    scope, unknown = {*more, *(it for it, name in HOME.items() if name in own)}, set()
+    for line, text in enumerate(path.read_text(encoding="utf-8").split("\n"), 1):
+        if not re.match(r"(pub |ghost |unfoldable )*use (?!crate)", text):
             continue
         found = USE.match(text) or stop(path, line, f"can't read {text}")
-        library, *there = found[1].split(".")
-        public = text.startswith("pub")
-        names = [it for it in re.split(", ?", found[2] or found[3])
-                 if public or it in words or {*it.split("◌")} - {""} <= words]
-        if not names:
-            continue
-        if library == "std":
-            unknown = {*names} - KNOWN
-            unknown and stop(path, line, f"translate.py doesn't list {min(unknown)} of std")
-            std |= {*map(renamed, names)}
-        elif library == "unicode_width":
-            wide = True
-        elif there[1] == "declared":
-            ENUMS.add((there[2], there[3]))
+        _, library, _, *there = found[1].split(".")
+        imported = {*re.split(", ?", found[2] or found[3])}
+        if library == "getopts" and there[0] == "declared" and ENUMS.keys() & {*there}:
             variant = rf"\b{found[3]}\.([A-Z]\w*)"
-            enums |= {*names, *re.findall(variant, "\n".join(it[2] for it in kept))} - {found[3]}
-            kept = [(*it[:2], re.sub(variant, r"\1", it[2])) for it in kept]
-        else:
-            dep = ".".join(there[1:])
-            spec(dep)
-            names = [*map(renamed, names)]
-            imported.setdefault(dep, []).extend(names)
-            passed += [f"open {dep} using ({'; '.join(names)}) public"] * public
-            wide, fields = wide or DONE[dep][0], fields | DONE[dep][1]
-    lines = [f"open import {it} using ({'; '.join(sorted(names))})"
-             for it, names in (("Std", std), ("Enums", enums))]
-    for dep in sorted(imported.keys() | fields.keys()):
-        names = "; ".join([*imported.get(dep, []), *fields.get(dep, [])])
-        how = f"import {dep}\nopen {dep} str-width" if DONE[dep][0] else f"open import {dep}"
-        lines.append(f"{how} using ({names})")
-    lines += passed
-    for _, line, text in kept:
-        lines.append(f"\n-- {path}:{line}\n{definition(text, path, line)}")
+            blocks = [(*it[:2], re.sub(variant, r"\1", it[2])) for it in blocks]
+            continue
+        known = KNOWN if library in ("std", "unicode_width") else set()
+        if "-".join(there) in FILES and library == "getopts":
+            known = imported & HOME.keys()
+            scope |= known
+        unknown |= imported - known
+    for name, line, text in blocks:
+        DEFINITIONS[name] = Definition(module, path, line, text, words(text) & scope,
+                                       words(text) & unknown)
+
+
+def needed(*names):
+    """These definitions, and those on which they depend."""
+    found, new = set(), {*names}
+    while new:
+        found |= new
+        new = {HOME[word] for it in new for word in DEFINITIONS[it].cites} - found
+    return found
+
+
+def opened(module, how):
+    return f"open import {module} {'str-width ' * DONE[module][0]}{how}"
+
+
+def module(name):
+    """Writes the needed definitions of a module, once, after the modules that it imports."""
+    if name in DONE:
+        return
+    kept = [it for key, it in DEFINITIONS.items() if it.module == name and key in NEEDED]
+    imported, fields, wide = {}, {}, any("str_width" in words(it.text) for it in kept)
+    for word in sorted(set().union(*(it.cites for it in kept))):
+        imported.setdefault(DEFINITIONS[HOME[word]].module, []).append(renamed(word))
+    for it in sorted(imported.keys() - {name}):
+        module(it)
+        wide, fields = wide or DONE[it][0], fields | DONE[it][1]
+    lines = ["open import Std", "open import Enums"]
+    for it in sorted(fields):
+        lines.append(opened(it, f"using ({'; '.join(imported.get(it, []) + fields[it])})"))
+    for it in kept:
+        lines.append(f"\n-- {it.path}:{it.line}\n{definition(it.text, it.path, it.line)}")
     write(name, lines, wide)
-    COUNTS.append(len(kept))
-    records = "\n".join(text for _, _, text in kept if text.startswith("pub record"))
+    records = "\n".join(it.text for it in kept if it.text.startswith("pub record"))
     own = re.findall(r"^  pub (\S+) :", records, re.M)
     DONE[name] = wide, {**fields, name: [f"${renamed(it)}" for it in dict.fromkeys(own)]}
 
 
-def spec(name):
-    if name not in DONE:
-        path = CRATE / f"specs/{name.replace('.', '/')}.antt"
-        kept = [it for it in blocks(path) if not left_out(f"{name}.{it[0]}")]
-        module(name, path, kept) if kept else DONE.update({name: (False, {})})
-
-
-def left_out(name):
-    """Whether a definition or clause isn't translated."""
-    found = [it for it in NOT_HERE if name == it or it[-1] == "*" and name.startswith(it[:-1])]
-    SEEN.update(found)
-    return found
-
-
 def statement():
-    """The clauses of each lemma of laws.rt as a record, and one record of all lemmas."""
+    """Notes the clauses of each lemma of laws.rt as a record, and one record of all lemmas."""
     path, kept, laws, count = CRATE / "src/laws.rt", [], [], 0
-    text = path.read_text(encoding="utf-8")
-    for found in re.finditer(r"^[^\n/]*\bfn (\w+)(.*)\n((?s:.*?)^\{)?", text, re.M):
-        line, body = text[:found.start()].count("\n") + 1, re.sub(r" *//.*\n", "", found[3] or "")
-        clauses = re.findall(r"ensures (\w+) \{(.*?)\}$", body, re.S | re.M)
-        if found[2] not in PARAMETERS or len(clauses) != body.count("ensures"):
-            stop(path, line, f"can't read {found[1]}")
-        here = [it for it in clauses if not left_out(f"{found[1]}.{it[0]}")]
-        fields = [f"  pub {clause} : {' '.join(says.split())}" for clause, says in here]
+    text = re.sub("//.*", "", path.read_text(encoding="utf-8"))
+    lemmas = [*re.finditer(r"\bfn (\w+)(.*)\n((?s:.*?))^\{", text, re.M)]
+    if len(lemmas) != len(re.findall(r"\bfn\b", text)):
+        stop(path, 1, "can't read each lemma")
+    for found in lemmas:
+        line, clauses = text[:found.start()].count("\n") + 1, CLAUSE.findall(found[3])
+        if found[2] not in PARAMETERS or CLAUSE.sub("", found[3]).strip():
+            stop(path, line, f"can't read {found[1]}: only parameters of PARAMETERS and `ensures`")
+        fields = [f"  pub {clause} : {' '.join(says.split())}" for clause, says in clauses]
         name, (own, given) = found[1].title().replace("_", ""), PARAMETERS[found[2]]
         record = "\n".join([f"pub record {name} {own} : Type 0 where", *fields])
-        kept.append((found[1], line, re.sub(r"\b(\w+)\.now", r"\1", record)))
+        kept.append((name, line, re.sub(r"\b(\w+)\.now", r"\1", record)))
         laws.append(f"  pub {found[1]} : {given}{name} {own[1:].partition(' ')[0]}")
-        count += len(here)
-    kept.append(("", 1, "\n".join(["pub record Laws : Type 0 where", *laws])))
-    module("Statement", path, kept, "use Rattle.getopts.specs.Matches.{Matched}",
-           "use Rattle.getopts.specs.Holds.{AreGroupsOf}")
-    return f"{count} clauses of {len(laws)} lemmas"
+        count += len(clauses)
+    kept.append(("Laws", 1, "\n".join(["pub record Laws : Type 0 where", *laws])))
+    define(path, kept)
+    read("Statement", path, kept, *words(str(PARAMETERS)) & HOME.keys())
+    for it in map(DEFINITIONS.get, sorted(needed("Laws"))):
+        if it.lacks:
+            stop(it.path, it.line, f"a lemma needs this, but {min(it.lacks)} isn't translated")
+    return (f"{count} clauses of {len(laws)} lemmas, which depend on "
+            f"{len(needed('Laws')) - len(kept)} of {len(DEFINITIONS) - len(kept)} definitions")
 
 
 OUT.mkdir(exist_ok=True)
-DONE, ENUMS, SEEN, COUNTS = {}, set(), set(), []
-NOT_HERE = " ".join(LEFT_OUT.values()).split()
-BASE = (Path(__file__).parent / "Base.agda").read_text(encoding="utf-8")
-KNOWN = {*" ".join(OF_STD.values()).split(), *re.findall(r"[^\s(){};]+", BASE.replace("_", "◌"))}
-KNOWN |= {*ALIASES}
-write_std()
+HERE, ENUMS = Path(__file__).parent, enums()
+BASE = (HERE / "Base.agda").read_text(encoding="utf-8")
+KNOWN = {*" ".join(OF_STD.values()).split(), *re.findall(r"[^\s(){};]+", BASE.replace("_", "◌")),
+         *ALIASES, "str_width"}
+# The definitions in each file, and the one that a name belongs to.
+FILES, HOME = {}, {}
 for path in sorted((CRATE / "specs").rglob("*.antt")):
-    spec(".".join(path.relative_to(CRATE / "specs").with_suffix("").parts))
+    found = [*blocks(path)]
+    FILES["-".join(path.relative_to(CRATE / "specs").with_suffix("").parts)] = path, found
+    define(path, found)
+# Definitions by name. For each module that was written: whether it has the parameter `str-width`,
+# and the projections in it and in those that it imports.
+DEFINITIONS, DONE = {}, {}
+write_std()
+for name, (path, found) in FILES.items():
+    read(name, path, found)
 what = statement()
-write("Enums", ["open import Base", *(enum(*it) for it in sorted(ENUMS))])
-if unseen := {*NOT_HERE} - SEEN:
-    stop(__file__, 1, f"LEFT_OUT lists {min(unseen)}, which doesn't exist")
-print(f"{what}, about {sum(COUNTS[:-1])} definitions")
+# What the lemmas need, and the other definitions that proofs mention, unless the name is their own.
+NEEDED, proofs = needed("Laws"), sorted(HERE.glob("[0-9]*.agda"))
+text = "".join(it.read_text(encoding="utf-8") for it in proofs)
+mentioned = words(text) - {*re.findall(r"^ *(\S+) : ", text, re.M)}
+for it in HOME:
+    if renamed(it) in mentioned and not any(DEFINITIONS[own].lacks for own in needed(HOME[it])):
+        NEEDED |= needed(HOME[it])
+for it in sorted(NEEDED):
+    module(DEFINITIONS[it].module)
+write("Enums", ["open import Base", *ENUMS.values()])
+parts = [it for it in DONE if it != "Statement"]
+write("Definitions", ["open import Std public", "open import Enums public",
+                      *(opened(it, "public") for it in parts if not DONE[it][0])])
+write("Columns", [opened(it, "public") for it in parts if DONE[it][0]], True)
+write("Proved", [*(f"import {it}" for it in ("Statement", *(it.stem for it in proofs))),
+                 "proved : Statement.Laws str-width", "proved = 13-All.laws str-width"], True)
+print(what)

@@ -1,44 +1,45 @@
 """Wrong definitions, which Agda must reject at the lemma that they are for. `check.sh --wrong` runs
-this in a folder in which all is checked: wrong.py CRATE STD."""
+this after it has checked all: wrong.py STD, with the folder of Rattle's libraries."""
 import re
 import shutil
 import subprocess
 import sys
+import tempfile
 import time
 from concurrent.futures import ThreadPoolExecutor
 from pathlib import Path
 
-CRATE, STD = map(Path, sys.argv[1:])
-# The clause that becomes false, what the definitions say instead, file, old text, new text, lemma.
+AGDA = Path(__file__).resolve().parent
+# The clause that becomes false, what the definitions say instead, old text, new text, lemma.
 WRONG = [
-    ("one_reading", "in long form, an optional argument may be the next word", "Reading",
+    ("one_reading", "in long form, an optional argument may be the next word",
      "FitsLong Maybe (separate word) = ⊥", "FitsLong Maybe (separate word) = ⊤",
      "03-Reads.long-chosen"),
-    ("accepted", "matches are accepted whatever their counts", "Parse",
+    ("accepted", "matches are accepted whatever their counts",
      "pub counts : KeepsCounts matches.groups", "pub counts : matches ≡ matches",
      "06-Accepted.accepted-or-refused"),
-    ("refused", "in short form, an unknown byte needn't be ASCII", "Reading",
+    ("refused", "in short form, an unknown byte needn't be ASCII",
      "→ byte < 128 → HasAfterFlags", "→ byte < 256 → HasAfterFlags", "03-Reads.fault-step"),
-    ("results", "if help and the version are requested, the version is the result", "Unless",
+    ("results", "if help and the version are requested, the version is the result",
      'if is_present read.groups (codes "help") then Ok Help',
      'if is_present read.groups (codes "version") then Ok Help', "09-Computed.only-request"),
-    ("holds_same", "equal contents have equal trailing starts", "Theorem",
+    ("holds_same", "equal contents have equal trailing starts",
      "pub free : other.free ≡ matches.free",
      "pub free : other.trailing_start ≡ matches.trailing_start", "07-Canonical.same-values"),
-    ("one_line_one_content", "the other content needn't be plain", "Theorem",
+    ("one_line_one_content", "the other content needn't be plain",
      "→ Says options others other → IsPlain options.groups other",
      "→ Says options others other → IsPlain options.groups content",
      "07-Canonical.one-line-one-content"),
-    ("canonical_lines", "a canonical line ends its options without `--`", "Canon",
+    ("canonical_lines", "a canonical line ends its options without `--`",
      "content.mentions ++ stop_word ∷ content.free", "content.mentions ++ content.free",
      "07-Canonical.canonical-reads"),
-    ("reading_laws", "lines may be joined after a bare cluster", "ReadingLaws",
+    ("reading_laws", "lines may be joined after a bare cluster",
      "→ is_last_bare first.items ≡ false",
      "→ is_last_bare first.items ≡ is_last_bare first.items", "08-Laws.lines-law"),
-    ("empty", "an empty short name is an alias", "Names",
+    ("empty", "an empty short name is an alias",
      "not (is_empty names.long) && not (is_empty names.short)",
      "not (is_empty names.long) && not (is_empty names.long)", "05-Resolved.alias"),
-    ("fewest", "a row has no room for all of the next row", "Wrap",
+    ("fewest", "a row has no room for all of the next row",
      "¬ FitsIn limit (run ++ take 1 next)", "¬ FitsIn limit (run ++ next)",
      "10-Rows.takes-no-more"),
 ]
@@ -55,23 +56,23 @@ def rejected_at(said, folder):
 
 def failure(wrong):
     """What is wrong with Agda's answer, if anything. What hasn't changed isn't checked again."""
-    clause, what, file, old, new, lemma = wrong
-    folder = Path("wrong") / clause
-    shutil.copytree(".", folder, ignore=shutil.ignore_patterns("wrong"))
-    for part in ("specs", "src"):
-        shutil.copytree(CRATE / part, folder / "crates/getopts" / part)
-    path = folder / f"crates/getopts/specs/{file}.antt"
-    text = path.read_text(encoding="utf-8")
-    if text.count(old) != 1:
-        return f"{clause}: found {text.count(old)} times in {file}.antt, not once: {old}"
-    path.write_text(text.replace(old, new), encoding="utf-8")
-    subprocess.run([sys.executable, Path(__file__).parent / "translate.py", "crates/getopts", STD,
-                    "gen"], cwd=folder, check=True, stdout=subprocess.DEVNULL)
-    agda = "agda --safe --without-K --no-libraries -i gen -i .".split()
-    run = subprocess.run([*agda, f"{lemma.split('.')[0]}.agda"], cwd=folder, capture_output=True,
-                         text=True)
-    said = "\n".join(line for line in run.stdout.split("\n") if "Checking" not in line)
-    at = rejected_at(said, folder) if run.returncode else "nowhere"
+    clause, what, old, new, lemma = wrong
+    with tempfile.TemporaryDirectory() as room:
+        folder, crate = Path(room) / "agda", Path(room) / "crate"
+        shutil.copytree(AGDA, folder)
+        for part in ("specs", "src"):
+            shutil.copytree(AGDA.parent / "crates/getopts" / part, crate / part)
+        texts = {path: path.read_text(encoding="utf-8") for path in crate.rglob("specs/**/*.antt")}
+        found = [path for path, text in texts.items() for _ in range(text.count(old))]
+        if len(found) != 1:
+            return f"{clause}: found {len(found)} times, not once: {old}"
+        found[0].write_text(texts[found[0]].replace(old, new), encoding="utf-8")
+        subprocess.run([sys.executable, "translate.py", crate, sys.argv[1], "gen"], cwd=folder,
+                       check=True, stdout=subprocess.DEVNULL)
+        run = subprocess.run(["agda", f"{lemma.split('.')[0]}.agda"], cwd=folder, text=True,
+                             capture_output=True)
+        said = "\n".join(line for line in run.stdout.split("\n") if "Checking" not in line)
+        at = rejected_at(said, folder) if run.returncode else "nowhere"
     return at != lemma and f"{clause}, if {what}: expected an error at {lemma}, not at {at}\n{said}"
 
 
