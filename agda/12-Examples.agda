@@ -1,7 +1,7 @@
 {-# OPTIONS --safe --without-K #-}
--- Computed by the functions of the definitions: the command lines at the head of docs/GRAMMAR.md,
--- and the rows and the usage text in the documentation of `each_split_within` and `usage`, if each
--- character takes one column.
+-- Examples, computed by the functions of the definitions: the command lines and the usage texts of
+-- docs/GRAMMAR.md, and others for definitions that no lemma is about. Each character takes one
+-- column.
 module 12-Examples where
 
 open import Definitions
@@ -44,17 +44,53 @@ lines : Each (λ (words , is) → given words ≡ is)
   ∷ [])
 lines = refl , refl , refl , refl , refl , refl , refl , refl , refl , refl , tt
 
-rows : description-rows 15 (codes "\nMary had a little lamb\nLittle lamb\n")
+-- What accessors return for a name: positions, values and the first value.
+accessed : Matched → Text → List ℕ × (List Text × Option Text)
+accessed m name = positions-of os , values-of os , first-value os
+  where os = occurrences-of-name (m .$groups) name
+
+matches : result-map-both
+    (λ m → accessed m (codes "v") , accessed m (codes "L")
+      , free-before-trailing m , trailing-words m) (λ f → f)
+    (parse-result (options-of (optmulti (codes "L") [] [] []
+        ∷ optflagmulti (codes "v") (codes "verbose") [] ∷ []))
+      (words-of (codes "-v -L a -vvLb x -- -v")))
+  ≡ Ok ((0 ∷ 3 ∷ 3 ∷ [] , [] , None)
+    , (1 ∷ 3 ∷ [] , codes "a" ∷ codes "b" ∷ [] , Some (codes "a"))
+    , codes "x" ∷ [] , codes "-v" ∷ [])
+matches = refl
+
+out-of-order : ∀ s v v′ → ¬ (HavePositionsInOrder (mk s (mk 3 v ∷ mk 0 v′ ∷ []) ∷ []))
+out-of-order s v v′ (rising , _) with rising 0 1 (mk 0 v) z≤n (s≤s (s≤s z≤n))
+... | ()
+
+outside : ∀ s v → ¬ (HavePositionsBelow 3 (mk s (mk 3 v ∷ []) ∷ []))
+outside s v ((s≤s (s≤s (s≤s ())) , _) , _)
+
+-- `verbose` takes no argument.
+undeclared : ¬ (IsDeclared (options .$groups) (option 1 (Some [])))
+undeclared (_ , ())
+
+rows : description-rows 15 (codes "\nMary had\ta little lamb\nLittle lamb\n")
   ≡ codes "Mary had a" ∷ codes "little lamb" ∷ codes "Little lamb" ∷ []
 rows = refl
 
-line-ends : description-rows 15 (codes "a\nb") ≡ codes "a" ∷ codes "b" ∷ []
-line-ends = refl
+described : Declared
+described = options-of (reqopt (codes "i") (codes "input") (codes "read this file") (codes "FILE")
+  ∷ optflagopt [] (codes "color") (codes "colour the output: always, never or, which is usual, "
+    ++ codes "only on a terminal") (codes "WHEN")
+  ∷ optflagmulti (codes "v") [] (codes "say more")
+  ∷ optflag [] (codes "stay-in-the-first-folder") (codes "ignore the others") ∷ [])
 
-usage : usage-result (options-of
-      (optopt (codes "o") (codes "output") (codes "set output file name") (codes "NAME")
-      ∷ optflag (codes "h") (codes "help") (codes "print this") ∷ []))
-    (codes "Usage: copy [options] FILE")
-  ≡ codes "Usage: copy [options] FILE\n\nOptions:\n    -o, --output NAME   set output file name\n"
-  ++ codes "    -h, --help          print this\n"
+short-usage : short-usage-text described (codes "x")
+  ≡ codes "Usage: x -i FILE [--color [WHEN]] [-v].. [--stay-in-the-first-folder]"
+short-usage = refl
+
+usage : usage-result described (codes "Usage: x FILE..") ≡ codes "Usage: x FILE..\n\nOptions:\n"
+  ++ codes "    -i, --input FILE    read this file\n"
+  ++ codes "        --color [WHEN]  colour the output: always, never or, which is usual,\n"
+  ++ codes "                        only on a terminal\n"
+  ++ codes "    -v                  say more\n"
+  ++ codes "        --stay-in-the-first-folder \n"
+  ++ codes "                        ignore the others\n"
 usage = refl
