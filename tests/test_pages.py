@@ -17,7 +17,6 @@ from conftest import ROOT, answer, kit, need, need_rustfmt, run
 from conftest import tracked as all_tracked
 from model import TEXTS, Group, Options
 from test_mutants import MUTANTS, body_of, functions_in
-from test_readings import conditions
 
 
 def read(name):
@@ -211,7 +210,7 @@ def cited_clauses():
 
 # What --fix writes between `<!-- generated: NAME -->` and `<!-- end -->`.
 GENERATED = {make.__name__: make for make in (usage_example, speed, speed_here, speed_in_c, behind, memory, times,
-                                              first_output, compared, sizes, conditions, calls, variants, cited_clauses)}
+                                              first_output, compared, sizes, calls, variants, cited_clauses)}
 
 
 @pytest.mark.parametrize("page", pages)
