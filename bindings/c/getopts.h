@@ -254,7 +254,7 @@ char *getopts_short_usage(const struct getopts *options, const char *program);
  * main name contains `=`. */
 int getopts_canonical(const struct getopts *options, int count, char *const *words, char ***line);
 
-/* The version of the library that the program runs with, such as "1.0.0". */
+/* The version of the library that the program runs with, in the form of GETOPTS_VERSION. */
 const char *getopts_version(void);
 
 #ifdef __cplusplus
