@@ -1,4 +1,4 @@
-"""test.sh and release.sh, with stand-ins for programs that take long."""
+"""test.sh and bindings/release.sh, with stand-ins for programs that take long."""
 
 import contextlib
 import json
@@ -194,7 +194,7 @@ def release(clone, *words, status=0, **env):
     """Runs release.sh: its errors, and the calls that it logs."""
     (clone.parent / "log").write_text("")
     env = {"TESTED": "1", "FAIL": "nothing", **env}
-    return run(clone / "release.sh", *words, status=status, env=env)[1], (clone.parent / "log").read_text().splitlines()
+    return run(clone / "bindings/release.sh", *words, status=status, env=env)[1], (clone.parent / "log").read_text().splitlines()
 
 
 def test_files_of_a_release(clone):
@@ -210,7 +210,7 @@ def test_files_of_a_release(clone):
     for file, machine in binaries.items():
         assert (out / file).read_bytes() == (ROOT / f"bindings/shell/{machine}/getopts_shell").read_bytes()
     source = unpacked(out / f"{name}.tar.gz", name)
-    assert sorted(source) == sorted(tracked()) and source["release.sh"][0] == 0o775
+    assert sorted(source) == sorted(tracked()) and source["bindings/release.sh"][0] == 0o775
     uses, kit = ROOT / "crates/getopts_uses", unpacked(out / f"{name}-kit.tar.gz", "getopts")
     taken = [it for it in tracked() if re.match(r"crates/getopts(_uses)?/(\w+\.md|LICENSE|NOTICE|src|specs|proofs)", it)]
     made = {"uses/BUILD.bazel", "uses/src/lib.rt", "uses/src/tests.rt"}
@@ -246,7 +246,7 @@ def test_wrong_releases(clone):
         return release(clone, version, status=1)[0]
 
     assert error("9.9.9") == f"release.sh: CHANGELOG.md begins with '## {VERSION}, 2026-11-28', not '## 9.9.9, DATE'\n"
-    assert error("--tested") == error("") == "release.sh: usage: release.sh VERSION [CRATE]\n"
+    assert error("--tested") == error("") == "release.sh: usage: bindings/release.sh VERSION [CRATE]\n"
     (clone / "more").write_text("")
     assert error() == "release.sh: there are uncommitted changes: release a clean clone\n"
     (clone / "more").unlink()

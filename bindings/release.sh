@@ -1,6 +1,6 @@
 #!/usr/bin/env bash
 # Checks this repository, and writes the files of a release to tests/out/release. It publishes nothing.
-# usage: release.sh VERSION [CRATE]
+# usage: bindings/release.sh VERSION [CRATE]
 #
 # CHANGELOG.md must begin with "## VERSION, DATE". CRATE is a folder with the Rust crate getopts 0.2.24, to compare with.
 # TESTED=1 leaves out the tests, which take hours. It needs rt, cargo 1.84 or later, and root on Debian 12.
@@ -9,10 +9,10 @@ unset CDPATH
 stop() { echo "release.sh: $1" >&2; exit 1; }
 case ${1:-} in
 --help | -h) sed -n '2,/^[^#]/s/^# \{0,1\}//p' "$0"; exit ;;
-'' | -*) stop "usage: release.sh VERSION [CRATE]" ;;
+'' | -*) stop "usage: bindings/release.sh VERSION [CRATE]" ;;
 esac
 version=$1 crate=${2:+$(cd -- "$2" && pwd)}
-cd "$(dirname "$0")"
+cd "$(dirname "$0")/.."
 out=$PWD/tests/out/release name=getopts-$version
 unchanged() { [ -z "$(git status --porcelain)" ] || stop "there are uncommitted changes: release a clean clone"; }
 unchanged
