@@ -15,7 +15,7 @@ import texts
 CALLS = [(call, *kinds) for call, kinds in model.CALLS.items()]
 
 
-class Group:
+class Option:
     """An option, and the call that declares it."""
 
     def __init__(self, short, long, call, kind, occur):
@@ -62,7 +62,7 @@ def group(rng):
     """A random option without a description."""
     short, long = rng.choice([(True, False), (False, True), (True, True), (True, True)])
     kinds = ("opt", rng.choice(model.KINDS), rng.choice(model.OCCURS)) if one_in(rng, 3) else rng.choice(CALLS)
-    made = Group(texts.short_name(rng) if short else "", texts.long_name(rng) if long else "", *kinds)
+    made = Option(texts.short_name(rng) if short else "", texts.long_name(rng) if long else "", *kinds)
     made.hint = rng.choice(texts.HINTS) if made.takes_hint and one_in(rng, 8) else ""
     return made
 
@@ -233,7 +233,7 @@ def changed_words(rng, case, line):
 
 def values(rng):
     """Values as they are, and converted to numbers and booleans."""
-    one = Group("n", rng.choice(["number", ""]), "opt", rng.choice(["yes", "yes", "maybe", "no"]), "multi")
+    one = Option("n", rng.choice(["number", ""]), "opt", rng.choice(["yes", "yes", "maybe", "no"]), "multi")
     case, line = Case([one]).declare(), []
     for _ in range(rng.randrange(6)):
         text = texts.parsed(rng) if one_in(rng, 2) else texts.value(rng)
