@@ -507,7 +507,7 @@ scripts = [name for name in tracked if (ROOT / name).read_bytes().startswith(b"#
 def test_scripts_are_executable():
     """Scripts, and files that a page runs, with or without their folder."""
     runs = re.findall(r"(?:^ {4}|[`(]|\w=\S+ )(?:\./)?(?!test_)([\w./-]+\.(?:sh|py))(?= [^`|])", "\n".join(pages.values()), re.M)
-    assert {"bindings/rust/erase.py", "tests/differential/real.py", "bindings/c/install.sh"} <= set(runs)
+    assert {"bindings/rust/erase.py", "bindings/c/install.sh"} <= set(runs)
     files = scripts + [name for name in tracked for path in runs if f"/{name}".endswith(f"/{path}")]
     assert_none(f"{name} isn't executable" for name in files if not os.access(ROOT / name, os.X_OK))
 
