@@ -36,44 +36,17 @@ git -c core.autocrlf=false -c tar.umask=0002 -c tar.tar.gz.command='gzip -9n' \
     archive --format=tar.gz --prefix="$name/" -o "$out/$name.tar.gz" HEAD
 cargo package --quiet --no-verify --exclude-lockfile --manifest-path bindings/rust/Cargo.toml --target-dir "$out/target"
 mv "$out"/target/package/*.crate "$out" && rm -rf "$out/target"
-# For a kit of Rattle's toolchain: the crate getopts, and in its folder `uses` the crate getopts_uses, as a library whose
-# test runs the cases of `args`.
-git -c core.autocrlf=false archive HEAD:crates getopts getopts_uses | tar -xC "$out"
-rm -r "$out"/getopts/must-fail "$out"/getopts*/mutants
-mv "$out/getopts_uses" "$out/getopts/uses"
-(
-    cd "$out/getopts/uses"
-    sed '/^\/\/!$/,/^#/{/^#/!d}; /^use std/,$d; s/^mod /pub mod /' src/main.rt >src/lib.rt
-    printf '#[cfg(test)]\nmod tests;\n' >>src/lib.rt
-    cat >src/tests.rt <<END
-use crate::cases::push_case;
-use std::test::Fail;
-
-#[test]
-fn cases(rt: HostRuntime) -> Result<(), Fail> {
-    for (case, line) in [
-$(paste -d '\n' args stdout | sed 'N; s/[\\"]/\\&/g; s/\(.*\)\n\(.*\)/        ("\1", "\2\\n"),/')
-    ] {
-        let mut text = String::new(rt.alloc());
-        push_case(rt.alloc(), &mut text, case)?;
-        assert_eq!(rt; text.as_str(), line);
-    }
-    Ok(())
-}
-END
-    cat >BUILD.bazel <<END
-load("@rattle//bazel/rattle:crate.bzl", "rattle_crate")
-
-rattle_crate(
-    name = "getopts_uses",
-    deps = ["@rattle//getopts"],
-)
-END
-    rm src/main.rt args stdout
-)
-tar --sort=name --owner=0 --group=0 --numeric-owner --mode=u=rwX,go=rX --mtime="@$(git log -1 --format=%ct)" -cC "$out" getopts |
-    gzip -9n >"$out/$name-kit.tar.gz"
-rm -r "$out/getopts"
+# For a kit of Rattle's toolchain: the crate getopts with, in its folder `uses`, the program getopts_uses. `rt` checks both,
+# outside this repository, since it accepts crates.txt only at the top.
+kit=$(mktemp -d)
+trap 'rm -rf "$kit"' EXIT
+git -c core.autocrlf=false archive HEAD crates/getopts crates/getopts_uses | tar -xC "$kit"
+rm -r "$kit"/crates/getopts/must-fail "$kit"/crates/*/mutants
+grep -E '^getopts(_uses)?:' crates.txt >"$kit/crates.txt"
+(cd "$kit" && rt ci)
+rm -rf "$kit"/crates/*/out && mv "$kit/crates/getopts_uses" "$kit/crates/getopts/uses"
+tar --sort=name --owner=0 --group=0 --numeric-owner --mode=u=rwX,go=rX --mtime="@$(git log -1 --format=%ct)" -cC "$kit/crates" \
+    getopts | gzip -9n >"$out/$name-kit.tar.gz"
 for machine in x86_64 aarch64; do cp "bindings/shell/$machine/getopts_shell" "$out/getopts_shell-$version-$machine"; done
 (cd "$out" && sha256sum -- * >SHA256SUMS && cat SHA256SUMS)
 echo "release.sh: all is checked. Now run: git tag -s $version && gpg --armor --detach-sign '$out/SHA256SUMS'"

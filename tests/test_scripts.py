@@ -1,7 +1,7 @@
 """test.sh and bindings/release.sh, with stand-ins for programs that take long."""
 
 import contextlib
-import json
+import os
 import re
 import shutil
 import tarfile
@@ -166,7 +166,7 @@ cp usr/bin/rustc usr/bin/agda && chmod 755 usr/bin/* && tar -c ./usr"""})
 
 @pytest.fixture(scope="module")
 def clone(tmp_path_factory):
-    """A clean clone in which these scripts only log how they are called."""
+    """A clean clone in which these scripts only log how they are called, and `rt` on which crates."""
     need("git", "cargo", "gzip")
     if answer("cargo", "package", "--exclude-lockfile", "--help")[1]:
         pytest.skip("cargo is older than 1.84: install a newer one from https://rustup.rs")
@@ -174,6 +174,8 @@ def clone(tmp_path_factory):
     clone = copy_tree(room / "clone")
     for name in ("test.sh", "tests/fresh.sh", "bindings/build.py", "bindings/rust/erase.py"):
         script(clone / name, LOGS.format(name=name.split("/")[-1], log=room / "log"))
+    (room / "bin").mkdir()
+    script(room / "bin/rt", LOGS.format(name="$(sed 's/:.*//' crates.txt | xargs): rt", log=room / "log"))
     page = (clone / "CHANGELOG.md").read_text()
     (clone / "CHANGELOG.md").write_text(re.sub("^## .*", f"## {VERSION}, 2026-11-28", page, count=1, flags=re.M))
     commit_repository(clone)
@@ -188,19 +190,20 @@ def unpacked(archive, folder):
 
 
 CHECKS = ["test.sh --quick --no-install -k versions -q", "build.py --check", "erase.py --check"]
+OF_KIT = "getopts getopts_uses: rt ci"
 
 
 def release(clone, *words, status=0, **env):
     """Runs release.sh: its errors, and the calls that it logs."""
     (clone.parent / "log").write_text("")
-    env = {"TESTED": "1", "FAIL": "nothing", **env}
+    env = {"TESTED": "1", "FAIL": "nothing", "PATH": f"{clone.parent}/bin:{os.environ['PATH']}", **env}
     return run(clone / "bindings/release.sh", *words, status=status, env=env)[1], (clone.parent / "log").read_text().splitlines()
 
 
 def test_files_of_a_release(clone):
     (clone / "tests/out/release").mkdir(parents=True)
     (clone / "tests/out/release/old").write_text("")
-    assert release(clone, VERSION) == ("", CHECKS)
+    assert release(clone, VERSION) == ("", [*CHECKS, OF_KIT])
     out, name = clone / "tests/out/release", f"getopts-{VERSION}"
     binaries = {f"getopts_shell-{VERSION}-{machine}": machine for machine in ("x86_64", "aarch64")}
     files = {f"{name}.tar.gz", f"{name}-kit.tar.gz", f"proved-getopts-{VERSION}.crate", *binaries}
@@ -211,17 +214,9 @@ def test_files_of_a_release(clone):
         assert (out / file).read_bytes() == (ROOT / f"bindings/shell/{machine}/getopts_shell").read_bytes()
     source = unpacked(out / f"{name}.tar.gz", name)
     assert sorted(source) == sorted(tracked()) and source["bindings/release.sh"][0] == 0o775
-    uses, kit = ROOT / "crates/getopts_uses", unpacked(out / f"{name}-kit.tar.gz", "getopts")
-    taken = [it for it in tracked() if re.match(r"crates/getopts(_uses)?/(\w+\.md|LICENSE|NOTICE|src|specs|proofs)", it)]
-    made = {"uses/BUILD.bazel", "uses/src/lib.rt", "uses/src/tests.rt"}
-    assert set(kit) == made | {re.sub(r"crates/getopts(_uses)?/", lambda it: "uses/" if it[1] else "", it)
-                               for it in taken if not it.endswith("/main.rt")}
-    modules = re.findall(r"^mod \w+;", (uses / "src/main.rt").read_text(), re.M)
-    library, tests = (kit[f"uses/src/{it}.rt"][1].decode() for it in ("lib", "tests"))
-    assert re.findall(r"^pub (mod \w+;)", library, re.M) == modules
-    cases = [json.loads(f"[{it}]") for it in re.findall(r"^ {8}\((.*)\),$", tests, re.M)]
-    assert "".join(f"{case}\n" for case, _ in cases) == (uses / "args").read_text()
-    assert "".join(line for _, line in cases) == (uses / "stdout").read_text()
+    taken = [it for it in tracked() if re.match(r"crates/getopts(_uses)?/(?!must-fail|mutants)", it)]
+    assert {file: text for file, (_, text) in unpacked(out / f"{name}-kit.tar.gz", "getopts").items()} == {
+        re.sub(r"crates/getopts(_uses)?/", lambda of: "uses/" if of[1] else "", it): (ROOT / it).read_bytes() for it in taken}
     packed = unpacked(out / f"proved-getopts-{VERSION}.crate", f"proved-getopts-{VERSION}")
     assert {"LICENSE-MIT", "LICENSE-APACHE", "NOTICE", "src/proved/mod.rs", "Cargo.toml"} <= packed.keys()
     assert "Cargo.lock" not in packed
@@ -234,7 +229,7 @@ def test_files_of_a_release(clone):
 
 def test_release_runs_all_tests(clone, tmp_path):
     whole = [*CHECKS, f"test.sh {tmp_path}", "build.py --rebuild",
-             "test.sh -k rejected or theorem --release -n 3", "fresh.sh "]
+             "test.sh -k rejected or theorem --release -n 3", "fresh.sh ", OF_KIT]
     assert release(clone, VERSION, tmp_path, TESTED="")[1] == whole
     for at, call in enumerate(whole):
         calls = release(clone, VERSION, tmp_path, status=1, TESTED="", FAIL=call)[1]
