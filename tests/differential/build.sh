@@ -10,29 +10,21 @@
 set -euo pipefail
 unset CDPATH
 case ${1:-} in --help | -h) sed -n '2,/^[^#]/s/^# \{0,1\}//p' "$0"; exit ;; esac
-if [ $# -lt 2 ] || [ $# -gt 3 ]; then
-    echo 'usage: tests/differential/build.sh PACKAGE OUT [GETOPTS]' >&2
-    exit 2
-fi
-command -v cargo >/dev/null || { echo 'tests/differential/build.sh: cargo not found' >&2; exit 2; }
+stop() { echo "$1" >&2; exit 2; }
+[ $# = 2 ] || [ $# = 3 ] || stop 'usage: tests/differential/build.sh PACKAGE OUT [GETOPTS]'
+command -v cargo >/dev/null || stop 'tests/differential/build.sh: cargo not found'
 mkdir -p "$2"
 cp -r "$1/." "$2"
 out=$(cd "$2" && pwd)
 read -r -a flags <<<"${CARGO_FLAGS:-}"
-config=''
 if [ -n "${3:-}" ]; then
     printf '\n[patch.crates-io]\ngetopts = { path = "%s" }\n' "$(cd "$3" && pwd)" >>"$out/Cargo.toml"
-    registry=/usr/share/cargo/registry
-    lacking=''
+    registry=/usr/share/cargo/registry lacking=''
     for name in unicode-width $(sed -n '1,/^\[dependencies\]/d; s/^\([a-z-]*\) = .*/\1/p' "$1/Cargo.toml"); do
         [ "$name" = getopts ] || compgen -G "$registry/$name-[0-9]*" >/dev/null || lacking=$name
     done
-    if [ -z "$lacking" ]; then
-        config="source = { crates-io = { replace-with = \"folder\" }, folder = { directory = \"$registry\" } }"
-        flags+=(--offline)
-    fi
+    [ "$lacking" ] || flags+=(--offline --config 'source.crates-io.replace-with="debian"' --config "source.debian.directory='$registry'")
 fi
-echo "$config" >"$out/config.toml"
 # Cargo looks for configurations above the current folder, and other users may put some into /tmp.
 cd /
-cargo build --release --quiet --jobs 2 --manifest-path "$out/Cargo.toml" --config "$out/config.toml" "${flags[@]}"
+cargo build --release --quiet --jobs 2 --manifest-path "$out/Cargo.toml" "${flags[@]}"

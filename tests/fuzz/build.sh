@@ -7,10 +7,7 @@
 set -euo pipefail
 unset CDPATH
 case ${1:-} in --help | -h) sed -n '2,/^[^#]/s/^# \{0,1\}//p' "$0"; exit ;; esac
-if [ $# != 2 ] || [[ ! $1 =~ ^(shell|c)$ ]]; then
-    echo 'usage: tests/fuzz/build.sh shell|c OUT' >&2
-    exit 2
-fi
+[[ $# = 2 && $1 =~ ^(shell|c)$ ]] || { echo 'usage: tests/fuzz/build.sh shell|c OUT' >&2; exit 2; }
 mkdir -p "$2"
 target=$1 out=$(cd "$2" && pwd) here=$(cd "$(dirname "$0")" && pwd)
 read -r -a flags <<<"${CARGO_FLAGS:-}"
