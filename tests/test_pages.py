@@ -120,20 +120,6 @@ def memory():
         for job, words in jobs.items()))
 
 
-def times():
-    """README: the shortest and longest times of the commands in tests/times.txt, in minutes."""
-    rows = [line.rsplit(maxsplit=2) for line in read("tests/times.txt").split("\n") if line and line[0] != "#"]
-
-    def span(command, kind):
-        of = [round(int(row[kind]) / 60) for row in rows if row[0] == command]
-        return f"{min(of)} to {max(of)} minutes" if min(of) < max(of) else f"{min(of)} minutes"
-
-    commands = {"rt lib": ("`(cd crates/getopts && rt lib)`", "proves the library"),
-                "bash test.sh": ("`bash test.sh`", "proves everything, and runs the tests")}
-    return table(["command", "what it does", "processor time", "time on four processors"],
-                 *([*shown, span(command, 1), span(command, 2)] for command, shown in commands.items()))
-
-
 def first_output():
     """README: what its first command prints."""
     return f"```text\n{read('crates/getopts_show/stdout')}```"
@@ -209,8 +195,8 @@ def cited_clauses():
 
 
 # What --fix writes between `<!-- generated: NAME -->` and `<!-- end -->`.
-GENERATED = {make.__name__: make for make in (usage_example, speed, speed_here, speed_in_c, behind, memory, times,
-                                              first_output, compared, sizes, calls, variants, cited_clauses)}
+GENERATED = {make.__name__: make for make in (usage_example, speed, speed_here, speed_in_c, behind, memory, first_output,
+                                              compared, sizes, calls, variants, cited_clauses)}
 
 
 @pytest.mark.parametrize("page", pages)
