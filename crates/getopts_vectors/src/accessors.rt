@@ -17,7 +17,7 @@ pub fn has(word: &str) -> bool {
     word.starts_with("opt_")
         || matches!(
             word,
-            "any" | "occurrences_at" | "option" | "positions" | "number" | "truth"
+            "any" | "occurrences_at" | "option" | "positions" | "number" | "truth" | "unreadable"
         )
 }
 
@@ -94,6 +94,7 @@ fn ask_of_option(
         ("option", [default]) => option(alloc, matches, name, default, answer)?,
         ("number", [default]) => converted::<i32>(alloc, matches, name, default, answer)?,
         ("truth", [default]) => converted::<bool>(alloc, matches, name, default, answer)?,
+        ("unreadable", []) => as_unreadable(matches, name, answer),
         _ => return Err(UNKNOWN_LINE),
     }
     Ok(())
@@ -149,6 +150,33 @@ where
         Err(_error) => answer.field("error"),
     }
     Ok(())
+}
+
+/// A type that no text can be parsed as, and the error of trying to.
+#[derive(Clone, Copy)]
+struct Unreadable;
+
+impl FromStr for Unreadable {
+    type Err = Unreadable;
+
+    fn from_str(_text: &str) -> Result<Unreadable, Unreadable> {
+        Err(Unreadable)
+    }
+}
+
+/// Answers the value of an option as an `Unreadable`, without and with a default.
+fn as_unreadable(matches: &Matches, name: &str, answer: &mut Answer)
+    requires { IsDefined matches.now.groups name.now }
+{
+    answer.field(match matches.opt_get::<Unreadable>(name) {
+        Ok(Some(_)) => "=",
+        Ok(None) => "-",
+        Err(Unreadable) => "error",
+    });
+    answer.field(match matches.opt_get_default(name, Unreadable) {
+        Ok(_) => "default",
+        Err(Unreadable) => "error",
+    });
 }
 
 /// Answers the number of occurrences of the option at a place, and one of them.

@@ -64,18 +64,32 @@ fn formatted_rows(alloc: Global, options: &Options, answer: &mut Answer) -> Resu
     Ok(())
 }
 
-/// Answers the result of a closure that takes only the first usage row, and the number of its
-/// calls, which its own contract limits to one; then whether the error of a closure is returned.
-/// Neither closure is called if an allocation for the rows fails.
+/// Answers the results of closures of `usage_with_format`: of one that counts its rows and of one
+/// that takes none, each with the number of its calls, which its own contract limits to one; of one
+/// that takes the first row; then whether the error of a closure is returned. No closure is called
+/// if an allocation for the rows fails.
 fn closures(alloc: Global, options: &Options, answer: &mut Answer) -> Result<(), Stop> {
     let mut calls = 0usize;
     let made = options.usage_with_format(
         alloc,
-        |mut rows|
+        |rows|
             requires { calls ≡ 0 }
         {
             calls += 1;
-            Ok(rows.next().unwrap_or(String::new(alloc)))
+            let count = rows.count();
+            format!(in alloc; "{count} rows")
+        },
+    )?;
+    made.put(answer);
+    calls.put(answer);
+    let mut calls = 0usize;
+    let made = options.usage_with_format(
+        alloc,
+        |_rows|
+            requires { calls ≡ 0 }
+        {
+            calls += 1;
+            Ok(String::new(alloc))
         },
     );
     if made.is_err() && calls > 0 {
@@ -83,6 +97,10 @@ fn closures(alloc: Global, options: &Options, answer: &mut Answer) -> Result<(),
     }
     made?.put(answer);
     calls.put(answer);
+    let made = options.usage_with_format(alloc, |mut rows| {
+        Ok(rows.next().unwrap_or(String::new(alloc)))
+    });
+    made?.put(answer);
     let mut fails = false;
     let made = options.usage_with_format(alloc, |_rows| {
         fails = true;

@@ -5,7 +5,7 @@
 //! written by hand, from the rules of the Rust crate and from its tests. Those of
 //! `data/recorded.rows` were written by the Rust crate itself (`tests/differential`).
 //! `data/allocations.rows` is for runs in which allocations fail, and `data/calls.rows` for what
-//! depends on the caller: its iterators, closures and types, and errors that no words cause.
+//! depends on the caller: its chains of calls, iterators and types, and errors that no words cause.
 //!
 //! # Rows
 //!
@@ -26,6 +26,7 @@
 //!   `HasArg` and `Occur` in small letters, such as `yes` and `multi`
 //! - the other calls that add an option, such as `optflag SHORT LONG DESC` and `optopt SHORT LONG
 //!   DESC HINT`, with the call's arguments
+//! - `chained`: sets style and mode, and adds seven groups, in one chain of calls
 //! - `keep`: keeps a copy of the options and of the result of the last `words`
 //! - `anew`: returns to the state after `case`, except for what is kept
 //!
@@ -49,6 +50,8 @@
 //!   text of each pair of `opt_strs_pos`
 //! - `number NAME DEFAULT` and `truth NAME DEFAULT`: the result of `opt_get` for `i32` or `bool`,
 //!   an OPTIONAL or `error`, and of `opt_get_default`, the value or `error`
+//! - `unreadable NAME`: the same for a type that no text can be parsed as: `-` or `error`, and
+//!   `default` or `error`
 //! - `any NAME..`: `any PRESENT PRESENT STR STR`, from `opts_present`, `opts_present_any`,
 //!   `opts_str` and `opts_str_first`, or `any PRESENT undefined` if one of the names is undefined
 //! - `lawful SHORT LONG`: `lawful true` or `lawful false`
@@ -58,8 +61,9 @@
 //! - `usage_in COLUMNS BRIEF`: the usage text within this many columns
 //! - `rows`: the result of the closure of `usage_with_format`, which counts its rows, then the rows
 //! - `usage_rows`: the rows
-//! - `closures`: the result and the number of calls of a closure of `usage_with_format` that takes
-//!   only the first row, and whether the error of a closure is returned
+//! - `closures`: the results of closures of `usage_with_format`: of one that counts its rows and of
+//!   one that takes none, each with the number of its calls; of one that takes only the first row;
+//!   and whether the error of a closure is returned
 //! - `wrap LIMIT DESC`: the rows of `each_split_within`
 //! - `canonical WORD..`: `canonical line WORD..`, `canonical none`, or `canonical refused FAULT
 //!   NAME`; also `canonical_words` and `canonical_promised`

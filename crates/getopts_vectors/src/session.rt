@@ -102,6 +102,7 @@ impl Session {
             ("anew", []) => self.side = Side::new(alloc),
             ("style", [style]) => self.set_style(style)?,
             ("mode", [mode]) => self.set_mode(mode)?,
+            ("chained", []) => chained(&mut self.side.options)?,
             ("clear", []) => self.clear(answer)?,
             ("take_trailing", []) => self.take_trailing(answer)?,
             ("parse_request", words) => self.request(alloc, words, answer),
@@ -273,6 +274,25 @@ fn declares(word: &str) -> bool {
             | "optopt"
             | "reqopt"
     )
+}
+
+/// Sets style and mode, and adds a group with each call, in one chain.
+fn chained(options: &mut Options) -> Result<(), AllocError> {
+    options
+        .parsing_style(ParsingStyle::StopAtFirstFree)
+        .long_only(true)
+        .optflag("a", "apple", "take an apple")?
+        .optopt("o", "output", "write to this file", "NAME")?
+        .parsing_style(ParsingStyle::FloatingFrees)
+        .optflagmulti("v", "verbose", "say more")?
+        .long_only(false)
+        .optmulti("L", "", "add a folder", "DIR")?
+        .optflagopt("c", "color", "colour the output", "WHEN")?
+        .reqopt("i", "input", "read this file", "NAME")?
+        .opt("t", "tag", "add a tag", "TAG", HasArg::Maybe, Occur::Multi)?
+        .long_only(true)
+        .parsing_style(ParsingStyle::StopAtFirstFree);
+    Ok(())
 }
 
 /// Adds a group with the call of this name.
