@@ -138,7 +138,8 @@ impl LineOccurrences {
         })
     }
 
-    /// Gives back memory of long lists, which `push` may have grown to twice what they need.
+    /// Gives back memory of long lists, which `push` may have grown to twice what they need. If an
+    /// allocation for this fails, they keep their memory, which isn't an error.
     #[inline]
     pub(crate) fn shrink(&mut self)
         ensures { self.new ≡ self.old }
