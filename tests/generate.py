@@ -1,12 +1,14 @@
-"""Random cases of getopts_vectors: options, words and questions, as rows without answers.
+"""Cases of getopts_vectors: options, words and questions, as rows without answers.
 
-Most cases add a few options, with odd and colliding names, parse a command line, and query the result. Others test long
-command lines, help texts, numbers and comparisons. Names, words and texts have characters of each class in characters.txt,
-and many differ from another in one place. The recorded cases are the shortest for each kind of word, error, name, text and
-answer, and for each pair of kinds of words, and for each kind of error with each style, mode and form of name. Those at the
-end, with longer names, were written by hand for what random ones seldom have, and answered by the Rust crate."""
+The first cases have all lines of at most two of some words, for options with odd names. All others are random. Most of
+these add a few options, with odd and colliding names, parse a command line, and query the result. Others test long command
+lines, help texts, numbers and comparisons. Names, words and texts have characters of each class in characters.txt, and many
+differ from another in one place. The recorded cases are the shortest for each kind of word, error, name, text and answer,
+and for each pair of kinds of words, and for each kind of error with each style, mode and form of name. Those at the end,
+with longer names, were written by hand for what random ones seldom have, and answered by the Rust crate."""
 
 import copy
+import itertools
 import random
 
 import model
@@ -140,7 +142,32 @@ def read(rng, case, line, most):
     return case
 
 
-# ---- the kinds of cases
+# ---- all short lines
+
+# Tables with odd, shadowed and repeated names, and words for each.
+ODD_OPTIONS = [
+    ([("-", "", "no", "multi"), ("=", "", "maybe", "multi"), ("", "--", "yes", "multi"), ("", "--x", "no", "multi")],
+     ["", "-", "--", "---", "----", "----=", "----=x", "----x", "---=", "-=", "-=-", "-==x", "--=", "--x", "-x", "x"]),
+    ([(" ", "", "yes", "multi"), ("", "é", "maybe", "optional"), ("p", "a=b", "yes", "multi")],
+     ["", "--", " ", "- ", "-  x", "--  ", "-- =x", "-é", "--é", "--é=", "-p", "-px", "--p=x", "--a=b", "-a=b"]),
+    ([("a", "apple", "no", "optional"), ("a", "", "yes", "multi"), ("b", "apple", "maybe", "multi"),
+      ("", "ab", "no", "multi"), ("b", "ab", "yes", "multi"), ("c", "", "no", "optional")],
+     ["", "--", "x", "-a", "-b", "-c", "-cb", "-ba", "-ax", "-ab", "--a", "--b", "--apple", "--apple=x", "-apple"]),
+]
+
+
+def all_short_lines():
+    """All lines of at most two words for each table, in both styles and modes."""
+    for (groups, given), stop, long_only in itertools.product(ODD_OPTIONS, [False, True], [False, True]):
+        case = Case([Option(short, long, "opt", *kinds) for short, long, *kinds in groups], stop, long_only).declare()
+        names = sorted({name for one in case.groups for name in (one.short, one.long) if name})
+        for line in [(), *itertools.product(given), *itertools.product(given, given)]:
+            case.rows += [("words", *line), ("error",), *(("option", own, "def") for own in names)]
+            case.rows += [("positions", own) for own in names * case.counts_words(line)]
+        yield from [("case", "short-lines"), *case.rows]
+
+
+# ---- the kinds of random cases
 
 def short_line(rng):
     """A line of words for a few options, one of which may request something."""
@@ -249,7 +276,8 @@ KINDS = {short_line: 64, help_text: 14, names: 3, comparison: 10, values: 6, lon
 
 
 def rows(seed, count):
-    """The rows of the first cases of a seed."""
+    """The rows of all short lines, and of the first random cases of a seed."""
+    yield from all_short_lines()
     rng = random.Random(seed)
     for number in range(count):
         make, = rng.choices([*KINDS], KINDS.values())

@@ -51,7 +51,7 @@ def all_rows():
 
 @functools.cache
 def random_rows(count):
-    """Random cases, and more rows about their words, with the answers of model.py."""
+    """All short lines, random cases, and more rows about their words, with the answers of model.py."""
     return written(answer_rows(rows_of(generate.written(7, count)), stored=False)[0])
 
 

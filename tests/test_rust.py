@@ -317,7 +317,7 @@ random_cases = functools.cache(generate.written)
 
 
 def random_rows(program, room, seed, count):
-    """A file of random cases, with the answers of a program."""
+    """A file of all short lines and random cases, with the answers of a program."""
     rows = room / f"{seed}.rows"
     with open(rows, "wb") as file:
         subprocess.run([program, "answer"], input=random_cases(seed, count), stdout=file, check=True)
