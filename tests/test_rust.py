@@ -329,10 +329,11 @@ def test_proved_library_matches_rust_crate(vectors, reference, crate, cases, tmp
     assert run(vectors, random_rows(reference(crate), tmp_path, 1, cases(20_000)))[0].endswith(" 0 differ\n")
 
 
-@pytest.mark.parametrize("flags", [CANONICAL, ("--no-default-features",), PROVED], ids=["package", "bytes", "modules"])
-def test_random_cases_match_rust_crate(reference, crate, cases, flags, tmp_path):
+@pytest.mark.parametrize("flags, seeds", [(CANONICAL, (1, 2)), (("--no-default-features",), (2, 3)), (PROVED, (3, 4))],
+                         ids=["package", "bytes", "modules"])
+def test_random_cases_match_rust_crate(reference, crate, cases, flags, seeds, tmp_path):
     ours, theirs = reference(RUST, *flags), reference(crate, *(flags if "--no-default-features" in flags else ()))
-    for seed in (1, 2):
+    for seed in seeds:
         assert ", 0 differ" in run(ours, "check", random_rows(theirs, tmp_path, seed, cases(20_000)))[0]
 
 

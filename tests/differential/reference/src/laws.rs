@@ -83,6 +83,7 @@ fn of_line(declared: &Declared, words: &[String]) {
     law!(order.map_err(|it| it.to_string()) == same.map_err(|it| it.to_string()), declared, words);
     #[cfg(unix)]
     any_bytes(&package, words);
+    without_dashes(&options, words);
     let matches = match options.parse(words) {
         Ok(matches) => matches,
         Err(_) => return,
@@ -94,6 +95,18 @@ fn of_line(declared: &Declared, words: &[String]) {
     }
     accessors(declared, &matches, &package.parse(words).unwrap());
     trailing(&matches, words);
+}
+
+/// Words are free if another sign is in place of their dashes.
+fn without_dashes(options: &Options, words: &[String]) {
+    for sign in ["+", "/", "\u{2013}"] {
+        let with = |word: &String| format!("{sign}{}", word.trim_start_matches('-'));
+        let words: Vec<_> = words.iter().map(with).collect();
+        let read = options.parse_ignoring_counts(&words).unwrap();
+        let mut places = 0..options.0.declared().count();
+        law!(read.free == words, words);
+        law!(places.all(|place| read.occurrences_at(place).is_empty()), words);
+    }
 }
 
 /// The names of an option and its value, or a free word.
@@ -167,13 +180,15 @@ fn marks(bytes: &[u8]) -> String {
     bytes.iter().map(|byte| char::from_u32(0x10ff00 + u32::from(*byte)).unwrap()).collect()
 }
 
-/// `occurrences_at` gives what the accessors give for the names of its option, and so do those of
-/// the package. Conversions get the first value.
+/// A name is defined if a group has it. `occurrences_at` gives what the accessors give for the
+/// names of its option, and so do those of the package. Conversions get the first value.
 fn accessors(declared: &Declared, matches: &Matches, package: &getopts::Matches) {
     let names = declared.groups.iter().flat_map(|group| [&group.short[..], &group.long]);
-    for name in names.chain(["help", "version", "nope"]) {
+    let undashed = names.clone().map(|name| name.trim_start_matches('-'));
+    for name in names.clone().chain(undashed).chain(["help", "version", "nope"]) {
         let place = matches.opt_place(name);
-        law!(matches.opt_defined(name) == place.is_some(), name, declared);
+        let has = !name.is_empty() && names.clone().any(|other| other == name);
+        law!([matches.opt_defined(name), place.is_some()] == [has; 2], name, declared);
         let found: Vec<_> =
             place.map(|at| matches.occurrences_at(at)).into_iter().flatten().collect();
         law!(matches.opt_positions(name).iter().eq(found.iter().map(|(at, _)| at)), name, found);
