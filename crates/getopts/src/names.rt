@@ -1,11 +1,8 @@
 //! Names of options: which pairs are valid, and the keys that names are looked up by.
 
-ghost use Rattle.std.specs.Prelude.{◌≡◌, ◌↔◌, IsTrue, drop};
+ghost use Rattle.std.specs.Prelude.{◌≡◌, ◌↔◌, IsTrue, drop, slice_get};
 ghost use Rattle.getopts.specs.Names.{AreLawful};
-ghost use Rattle.getopts.specs.Stored.Names.{key_of, short_code};
-
-/// Stands for a short name's byte if there is no short name.
-pub(crate) const NO_BYTE: u16 = 256;
+ghost use Rattle.getopts.specs.Stored.Names.{key_of};
 
 /// Whether an option group may have these two names.
 ///
@@ -60,12 +57,12 @@ pub(crate) fn rest_key(name: &[u8]) -> u64
     }
 }
 
-/// The byte of a short name, or `NO_BYTE` if it is empty.
-pub(crate) fn short_byte(short: &str) -> u16
-    ensures { result ≡ short_code short.now }
+/// The byte of a short name, unless it is empty.
+pub(crate) fn short_byte(short: &str) -> Option<u8>
+    ensures { result ≡ slice_get short.now 0 }
 {
     match short.as_bytes() {
-        [] => NO_BYTE,
-        [byte, ..] => *byte as u16,
+        [] => None,
+        [byte, ..] => Some(*byte),
     }
 }

@@ -12,7 +12,7 @@ ghost use Rattle.getopts.specs.Stored.Signatures.{HasKeys, ends_of};
 ghost use Rattle.getopts.specs.Stored.Names.{names_at};
 
 use crate::kinds::{HasArg, Kinds, Occur};
-use crate::names::{NO_BYTE, NamesView, key_of, short_byte};
+use crate::names::{NamesView, key_of, short_byte};
 use crate::pairs::{FIRST_TEXT, PairEnds, first_at, push_pair, second_at};
 use std::alloc::{AllocError, Global};
 use std::marker::Model;
@@ -50,8 +50,8 @@ pub(crate) struct SignatureRecord {
     pub end: usize,
     /// The key of the main name.
     pub key: u64,
-    /// The byte of the short name, or `NO_BYTE`.
-    pub short: u16,
+    /// The byte of the short name, if there is one.
+    pub short: Option<u8>,
     pub has_long: bool,
     pub kinds: Kinds,
 }
@@ -80,10 +80,9 @@ impl SignatureRecord {
     fn ends(&self) -> PairEnds
         ensures { result ≡ ends_of self.now }
     {
-        let start = if self.short == NO_BYTE {
-            self.long
-        } else {
-            self.long.saturating_sub(1)
+        let start = match self.short {
+            Some(_) => self.long.saturating_sub(1),
+            None => self.long,
         };
         PairEnds {
             start,

@@ -4,7 +4,7 @@
 use crate::fallible::*;
 
 use super::kinds::{HasArg, Kinds, Occur};
-use super::names::{NO_BYTE, NamesView, key_of, short_byte};
+use super::names::{NamesView, key_of, short_byte};
 use super::pairs::{FIRST_TEXT, PairEnds, first_at, push_pair, second_at};
 use crate::alloc::{AllocError, Global};
 
@@ -35,8 +35,8 @@ pub(crate) struct SignatureRecord {
     pub end: usize,
     /// The key of the main name.
     pub key: u64,
-    /// The byte of the short name, or `NO_BYTE`.
-    pub short: u16,
+    /// The byte of the short name, if there is one.
+    pub short: Option<u8>,
     pub has_long: bool,
     pub kinds: Kinds,
 }
@@ -57,10 +57,9 @@ impl SignatureRecord {
     /// Where its names start and end: a short name has one byte.
     #[inline(always)]
     fn ends(&self) -> PairEnds {
-        let start = if self.short == NO_BYTE {
-            self.long
-        } else {
-            self.long.saturating_sub(1)
+        let start = match self.short {
+            Some(_) => self.long.saturating_sub(1),
+            None => self.long,
         };
         PairEnds {
             start,

@@ -10,7 +10,7 @@ use Rattle.getopts.specs.Options.{Declared, signatures_of, grammar_of}
 use Rattle.getopts.specs.Fail.{Fault}
 use Rattle.getopts.specs.Reading.{Reading, holds_equals, Occurrence, occurrences_of}
 use Rattle.getopts.specs.Matches.{matched, matches_of}
-use Rattle.getopts.specs.Canon.{Content, content_of, main_at, canonical_line}
+use Rattle.getopts.specs.Canon.{content_of, main_at, canonical_line}
 use Rattle.getopts.specs.Results.{made_of, accepted_reading, reading_or_error, with_counts_kept, unless_fault, written_line}
 use Rattle.getopts.specs.Returns.{HasResults}
 use Rattle.getopts.specs.Stored.Index.{Held, count_in, first_wrong, indices_in, index_of}
@@ -39,11 +39,6 @@ module _ (options : Declared) {outcome : Result Reading Fault} {line : Line}
     trailing_start = line.trailing_start;
   })
   made_of-matches = rw (is.outcome_is, is.occurrences, is.free, is.trailing) refl
-
-  -- what is made of its content
-  pub made_of-content : {X : Type 0} (make : Content → X)
-      → made_of (λ reading. make (content_of options reading)) outcome ≡ Ok (make (line_content line))
-  made_of-content make = rw (is.outcome_is, is.occurrences, is.free) refl
 
   -- its canonical line, if no main name in it contains `=`
   pub made_of-written : (plain : Bool)

@@ -1,13 +1,14 @@
 -- The names and kinds of groups, as they are stored or borrowed.
-use Rattle.std.specs.Prelude.{◌≡◌, ◌==◌, ◌-◌, Bool, not, cond, List, [], map}
+use Rattle.std.specs.Prelude.{◌≡◌, ◌==◌, ◌-◌, Bool, not, List, [], map, slice_get}
 use Rattle.std.specs.List.{AllByRecursion}
+use Rattle.std.specs.Option.{option_eq, option_map_or}
 use Rattle.std.specs.Ordering.{on, eq_of_both}
 use Rattle.std.specs.Str.{IsUtf8}
 use Rattle.std.specs.String.{string_bytes}
 use Rattle.getopts.specs.Names.{Text, Names, IsLawfullyNamed, is_empty, main_name}
 use Rattle.getopts.specs.Options.{Signature}
 use Rattle.getopts.specs.Same.{same_signature}
-use Rattle.getopts.specs.Stored.Names.{key_of, short_code}
+use Rattle.getopts.specs.Stored.Names.{key_of}
 use Rattle.getopts.specs.Stored.Pairs.{pair_at, AreEndsOf}
 use Rattle.getopts.specs.declared.names.NamesView.{NamesView}
 use Rattle.getopts.specs.declared.kinds.Kinds.{Kinds}
@@ -43,7 +44,7 @@ same_kinds = on (λ kinds. signature_with kinds [] []) same_signature
 -- where the names of a record are: a short name has one byte
 abbrev pub ends_of : SignatureRecord → PairEnds
 ends_of group = record {
-  start = cond (group.short == 256) group.long (group.long - 1);
+  start = option_map_or (λ _. group.long - 1) group.short group.long;
   middle = group.long;
   end = group.end;
 }
@@ -52,7 +53,7 @@ ends_of group = record {
 abbrev pub same_record : SignatureRecord → SignatureRecord → Bool
 same_record = eq_of_both (on (λ group. group.long) ◌==◌)
     (eq_of_both (on (λ group. group.end) ◌==◌)
-    (eq_of_both (on (λ group. group.short) ◌==◌) (on (λ group. group.kinds) same_kinds)))
+    (eq_of_both (on (λ group. group.short) (option_eq ◌==◌)) (on (λ group. group.kinds) same_kinds)))
 
 -- the signature of a record, by the text of all names
 abbrev pub signature_in : Text → SignatureRecord → Signature
@@ -76,7 +77,7 @@ AreLawfulSignatures signatures = AllByRecursion IsLawfulSignature signatures
 -- The record has the main name's key, the short name's byte, and whether there is a long name.
 pub record HasKeys (group : SignatureRecord) (names : Names) : Type 0 where
   pub key : group.key ≡ key_of (main_name names)
-  pub short : group.short ≡ short_code names.short
+  pub short : group.short ≡ slice_get names.short 0
   pub has_long : group.has_long ≡ not (is_empty names.long)
 
 -- The names of the record are in the text of all names, and valid, and it has their keys.
