@@ -77,18 +77,20 @@ def usage_example():
 
 
 def speed():
-    """README: the instructions of some jobs, and the time of one."""
+    """README: the instructions of some jobs."""
     versions = dict(re.findall(r"([\w-]+) ([\d.]+)", read("bench/last_run.txt").split("\n")[0]))
-    peers = ["lexopt", "pico-args", "clap"]
-    columns = ["this library", "Rust crate", "bindings/rust"]
+    heads = ["job", "Rattle", "Rust crate", "`proved-getopts`", f"lexopt {versions['lexopt']}", f"clap {versions['clap']}"]
+    columns = "this library", "Rust crate", "bindings/rust", "lexopt", "clap"
+    return instructions(heads, "Instructions per iteration", ["small", "typical", "files"], *columns)
 
-    def row(title, name, job):
-        return [name, *measured(title, job, *columns), *measured(title, f"copied-{job}", "bindings/rust"),
-                *measured(title, job, *peers)]
 
-    return table(["job", "Rattle", "Rust crate", "`proved-getopts`", "copying", *(f"{it} {versions[it]}" for it in peers)],
-                 *(row("Instructions per iteration", described(job), job) for job in ("small", "typical", "long", "files")),
-                 row("Microseconds per iteration", "`typical`, in microseconds", "typical"))
+def moving():
+    """README: what a program gains and pays that moves from the Rust crate: instructions through the crate's methods, and size."""
+    both = [measured("Instructions per iteration", f"copied-{job}", "bindings/rust", "Rust crate") for job in ("small", "typical", "long")]
+    shares = [round(100 * int(ours.replace(",", "")) / int(theirs.replace(",", ""))) for ours, theirs in both]
+    ours, theirs = re.search(r"^\| adds to .*? \| (\d+) KB \| (\d+) KB", pages["bindings/rust/README.md"], re.M).groups()
+    return (f"Programs that move from `getopts` to `proved-getopts` take {min(shares)}% to {max(shares)}% of the instructions\n"
+            f"[on three jobs](bench/last_run.txt), and grow by [{int(ours) - int(theirs)} KB](bindings/rust/README.md).")
 
 
 def speed_in_c():
@@ -125,12 +127,6 @@ def first_output():
     return f"```text\n{read('crates/getopts_show/stdout')}```"
 
 
-def speed_here():
-    """The library's page: some jobs' instructions, beside the Rust crate's."""
-    heads, jobs = ["instructions (valgrind)", "here", "Rust crate"], ["small", "typical", "long", "files"]
-    return instructions(heads, "Instructions per iteration", jobs, "this library", "Rust crate")
-
-
 def compared():
     """The library's page: the recorded cases, in which the Rust crate answered."""
     cases = len(re.findall(r"^case\t", read("crates/getopts_vectors/data/recorded.rows"), re.M))
@@ -153,6 +149,28 @@ def sizes():
                 lines_in(("bindings/shell/start", "bindings/shell/src/host"))]
     return table(["definitions", "source", "proofs", "mutants", "unproved: `erase.py`", "for Rust", "for C", "for shell"],
                  [*library, str(len(MUTANTS)), *unproved])
+
+
+def to_read():
+    """README: the lines to read for each way of using the library, counted as in `sizes`."""
+    library = "crates/getopts/specs/", "Results", "Step", "Stored", "UsageResults"
+    bytes_too, rust = "crates/getopts_bytes/", "bindings/rust/src/"
+    # The C library is built without these modules of the Rust package.
+    for_rust_alone = re.findall(r'^#\[cfg\(feature = "std"\)\]\n(?:pub )?mod (\w+);', read(f"{rust}lib.rs"), re.M)
+    assert {"options", "os"} <= set(for_rust_alone)
+
+    def total(*parts):
+        return f"{sum(int(it.replace(',', '')) for it in parts):,}"
+
+    specs, source = lines_in(*library), lines_in("crates/getopts/src/")
+    more = [lines_in(f"{bytes_too}specs/"), lines_in("crates/getopts_shell/specs/")]
+    sources = [lines_in(f"{bytes_too}src/"), lines_in("crates/getopts_shell/src/")]
+    eraser = lines_in("bindings/rust/erase.py")
+    return table(["lines", "Rattle", "shell binary", "Rust", "C"],
+                 ["definitions", specs, total(specs, *more), total(specs, more[0]), total(specs, more[0])],
+                 ["unproved code", "0", lines_in("bindings/shell/start"), total(eraser, lines_in(rust, "proved", "bytes")),
+                  total(eraser, lines_in(rust, "proved", "bytes", *for_rust_alone), lines_in("bindings/c/src/"))],
+                 ["proved source", source, total(source, *sources), total(source, sources[0]), total(source, sources[0])])
 
 
 def calls():
@@ -195,8 +213,8 @@ def cited_clauses():
 
 
 # What --fix writes between `<!-- generated: NAME -->` and `<!-- end -->`.
-GENERATED = {make.__name__: make for make in (usage_example, speed, speed_here, speed_in_c, behind, memory, first_output,
-                                              compared, sizes, calls, variants, cited_clauses)}
+GENERATED = {make.__name__: make for make in (usage_example, moving, speed, speed_in_c, behind, memory, first_output,
+                                              compared, sizes, to_read, calls, variants, cited_clauses)}
 
 
 @pytest.mark.parametrize("page", pages)
@@ -230,8 +248,8 @@ def test_oldest_rust(folder):
     """The pages name the oldest Rust that builds this folder. If it is older than what unicode-width 0.2 needs, also that."""
     oldest = re.search(r'rust-version = "(.*)"', read(f"bindings/{folder}/Cargo.toml"))[1]
     row = re.search(rf"^\| \[.*\]\(bindings/{folder}/README.md\).*", pages["README.md"], re.M)[0]
-    both = f"Rust 1.66, or {oldest} with `unicode-width` 0.1.10"
-    in_row, on_page = (f"Rust {oldest}", f"Rust {oldest} or later") if folder == "c" else (both, both)
+    both = f"Rust 1.66, or {oldest}"
+    in_row, on_page = (f"Rust {oldest}", f"Rust {oldest} or later") if folder == "c" else (both, f"{both} with `unicode-width` 0.1.10")
     assert in_row in row and on_page in " ".join(pages[f"bindings/{folder}/README.md"].split())
 
 
@@ -374,10 +392,10 @@ def test_promised_clauses_exist():
         for function in re.split(r"\bfn (?=\w)", text)[1:]:
             here = clauses.setdefault(re.match(r"\w+", function)[0], set())
             here |= set(re.findall(r"ensures\*? (\w+) \{", function))
-    clauses["there"] = clauses["one_reading_one_canonical_line"]
+    clauses["main"] = clauses["one_reading_one_canonical_line"]
     for row in re.findall(r"^\|.*\|$", pages["docs/PROOFS.md"], re.M):
         for part in re.split(r"[;|]", re.sub(r"\([^)]*\)", "", row)):
-            if it := re.match(r"\s*((?:`\w+`(?:, )?)+|there): ((?:`\w+`(?:, )?)+)", part):
+            if it := re.match(r"\s*((?:`\w+`(?:, )?)+|main): ((?:`\w+`(?:, )?)+)", part):
                 for function in re.findall(r"\w+", it[1]) if "`" in it[1] else [it[1]]:
                     missing += [f"{function} has no clause {clause}" for clause in re.findall(r"\w+", it[2])
                                 if clause not in clauses.get(function, ())]
