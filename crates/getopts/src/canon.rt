@@ -1,22 +1,23 @@
 //! Canonical lines, which are accepted command lines rewritten with main names only.
 
-ghost use Rattle.std.specs.Prelude.{◌≡◌, ◌<◌, ℕ, length, map, not, false, IfOk, IfErr};
+ghost use Rattle.std.specs.Prelude.{◌≡◌, ℕ, All, map, not, false, IfOk, IfErr};
 ghost use Rattle.std.specs.Prelude.{IfSome, IfNone, OnOk};
-ghost use Rattle.std.specs.List.{AllByRecursion, list_all};
+ghost use Rattle.std.specs.List.{list_all};
 ghost use Rattle.std.specs.Option.{option_copied, option_map};
 ghost use Rattle.std.specs.String.{string_bytes};
-ghost use Rattle.getopts.specs.Reading.{holds_equals, long_word, two};
-ghost use Rattle.getopts.specs.Canon.{canonical_line, canonical_word, main_at};
+ghost use Rattle.getopts.specs.Accessors.{borrowed_given};
+ghost use Rattle.getopts.specs.Holds.{IsDeclared};
+ghost use Rattle.getopts.specs.Reading.{holds_equals, long_word, options_in, two};
+ghost use Rattle.getopts.specs.Canon.{canonical_line, main_at};
 ghost use Rattle.getopts.specs.Fail.{IsOutOfMemoryOr};
 ghost use Rattle.getopts.specs.Names.{texts};
-ghost use Rattle.getopts.specs.Stored.Scan.{line_content};
+ghost use Rattle.getopts.specs.Stored.Scan.{order_content};
 
 use crate::fail::Fail;
 use crate::groups::Groups;
-use crate::occurrences::LineOccurrences;
 use crate::options::Options;
 use crate::parse::words_from;
-use crate::scan::Line;
+use crate::scan::{Given, are_texts};
 use std::alloc::{AllocError, Global};
 use std::convert::AsStr;
 
@@ -39,25 +40,27 @@ fn declare_equals(groups: &Groups) -> bool
     false
 }
 
-/// Whether no main name of an option in the command line contains `=`. Tests the declared names
-/// first if they are fewer than the occurrences.
-fn are_plain(groups: &Groups, found: &LineOccurrences) -> bool
-    requires { AllByRecursion (λ o. o.mention.group < length groups.now) found.now }
-    ensures { result
-        ≡ list_all (λ o. not (holds_equals (main_at groups.now o.mention.group))) found.now }
+/// Whether no main name of an option in the order contains `=`. Tests the declared names first if
+/// they are fewer.
+fn are_plain(groups: &Groups, order: &[Given]) -> bool
+    requires { All (λ given. IsDeclared groups.now (borrowed_given given)) order.now }
+    ensures { result ≡ list_all (λ m. not (holds_equals (main_at groups.now m.group)))
+        (options_in (map borrowed_given order.now)) }
 {
-    if groups.len() < found.len() && !declare_equals(groups) {
+    if groups.len() < order.len() && !declare_equals(groups) {
         return true;
     }
-    for index in 0..found.len() {
-        if holds_equals(groups.main(found.at(index).place)) {
-            return false;
+    for given in order {
+        if let Given::Option { place, .. } = given {
+            if holds_equals(groups.main(*place)) {
+                return false;
+            }
         }
     }
     true
 }
 
-/// The word for an occurrence: `--main`, or `--main=value` if it has a value.
+/// The word for an option: `--main`, or `--main=value` if it has a value.
 fn canonical_word(alloc: Global, main: &str, value: Option<&str>) -> Result<String, AllocError>
     ensures { IfOk result (λ word.
         string_bytes word ≡ long_word two main.now (option_copied value.entry)) }
@@ -73,37 +76,27 @@ fn canonical_word(alloc: Global, main: &str, value: Option<&str>) -> Result<Stri
     Ok(word)
 }
 
-/// The words for the occurrences, with room for `more` words after them.
-fn option_words(
+/// The words for the options, then `--`, then the free words.
+fn canonical_line(
     alloc: Global,
     groups: &Groups,
-    found: &LineOccurrences,
-    more: usize,
+    order: &[Given],
 ) -> Result<Vec<String>, AllocError>
-    requires { AllByRecursion (λ o. o.mention.group < length groups.now) found.now }
+    requires { All (λ given. IsDeclared groups.now (borrowed_given given)) order.now }
     ensures { IfOk result (λ words. map string_bytes words.items
-        ≡ map (canonical_word groups.now) (map (λ o. o.mention) found.now)) }
+        ≡ canonical_line groups.now (order_content (map borrowed_given order.now))) }
 {
-    let mut words = Vec::with_capacity(alloc, found.len().saturating_add(more))?;
-    for index in 0..found.len() {
-        let occurrence = found.at(index);
-        let value = occurrence.value;
-        words.push(canonical_word(alloc, groups.main(occurrence.place), value)?)?;
+    let mut words = Vec::with_capacity(alloc, order.len().saturating_add(1))?;
+    for given in order {
+        if let Given::Option { place, value } = given {
+            words.push(canonical_word(alloc, groups.main(*place), *value)?)?;
+        }
     }
-    Ok(words)
-}
-
-/// The words for the occurrences, then `--`, then the free words.
-fn canonical_line(alloc: Global, groups: &Groups, line: Line) -> Result<Vec<String>, AllocError>
-    requires { AllByRecursion (λ o. o.mention.group < length groups.now) line.found }
-    ensures { IfOk result (λ words. map string_bytes words.items
-        ≡ canonical_line groups.now (line_content line)) }
-{
-    let Line { found, free, .. } = line;
-    let mut words = option_words(alloc, groups, &found, free.len().saturating_add(1))?;
     words.push(String::from_str(alloc, "--")?)?;
-    for word in free {
-        words.push(word)?;
+    for given in order {
+        if let Given::Free(word) = given {
+            words.push(String::from_str(alloc, word)?)?;
+        }
     }
     Ok(words)
 }
@@ -178,10 +171,11 @@ impl Options {
         ensures laws { OnOk result (KeepsLineLaws self.now) }
         ensures read_again { OnOk result (LinesReadAgain self.now) }
     {
-        let accepted = self.accepted_line(alloc, words)?;
+        are_texts(words);
+        let order = self.parse_in_order(alloc, words)?;
         let groups = self.groups();
-        if are_plain(groups, &accepted.found) {
-            Ok(Some(canonical_line(alloc, groups, accepted)?))
+        if are_plain(groups, &order) {
+            Ok(Some(canonical_line(alloc, groups, &order)?))
         } else {
             Ok(None)
         }

@@ -309,8 +309,11 @@ impl Options {
 
     /// The groups.
     pub(crate) fn groups(&self) -> &Groups
-        ensures { result.now ≡ self.now.groups }
+        ensures groups { result.now ≡ self.now.groups }
+        ensures declared { MayBeDeclared self.now.groups }
     {
+        // Called only for its clause `declared`.
+        self.signatures();
         &self.groups
     }
 

@@ -24,7 +24,7 @@ impl Options {
     ghost use Rattle.getopts.specs.Results.{parse_in_order_result};
     ghost use Rattle.getopts.specs.CanonAnswers.{IsOrder};
     ghost use Rattle.getopts.specs.Matches.{matches_of};
-    ghost use Rattle.getopts.specs.Results.{accepted_reading, made_of};
+    ghost use Rattle.getopts.specs.Results.{made_of};
     ghost use Rattle.getopts.specs.Holds.{FitOptionsAndCounts, FitOptions, Accepts, EndsInTrailing};
     ghost use Rattle.getopts.specs.Holds.{IsDeclared};
     ghost use Rattle.getopts.specs.Stored.Index.{index_of, indices_in};
@@ -191,22 +191,6 @@ impl Options {
         let mut line = line;
         let index = self.read_line(alloc, &table, &mut line, before, words, counted)?;
         Ok(Matches::of_line(self.signatures().clone()?, table, line, index))
-    }
-
-    /// Reads an accepted command line.
-    pub(crate) fn accepted_line<S: AsStr>(&self, alloc: Global, words: &[S]) -> Result<Line, Fail>
-        ensures ok { IfOk result (GivesLine (grammar_of self.now)
-            (accepted_reading self.now (map S.text words.now))) }
-        ensures err { IfErr result (λ fail. IsOutOfMemoryOr fail
-            (λ fault. accepted_reading self.now (map S.text words.now) ≡ Err fault)) }
-        ensures declared { MayBeDeclared self.now.groups }
-        ensures texts { AreTexts (map S.text words.now) }
-    {
-        are_texts(words);
-        let table = Table::of(alloc, self.signatures())?;
-        let mut line = Line::for_words(alloc, words, self.style())?;
-        self.read_line(alloc, &table, &mut line, 0, words, true)?;
-        Ok(line)
     }
 
     /// Reads the last words of a command line into `line`, and returns the index of all its

@@ -5,10 +5,9 @@ use crate::fallible::*;
 
 use super::fail::Fail;
 use super::groups::Groups;
-use super::occurrences::LineOccurrences;
 use super::options::Options;
 use super::parse::words_from;
-use super::scan::Line;
+use super::scan::{Given, are_texts};
 use crate::alloc::{AllocError, Global};
 use crate::convert::AsStr;
 
@@ -27,21 +26,23 @@ fn declare_equals(groups: &Groups) -> bool {
     false
 }
 
-/// Whether no main name of an option in the command line contains `=`. Tests the declared names
-/// first if they are fewer than the occurrences.
-fn are_plain(groups: &Groups, found: &LineOccurrences) -> bool {
-    if groups.len() < found.len() && !declare_equals(groups) {
+/// Whether no main name of an option in the order contains `=`. Tests the declared names first if
+/// they are fewer.
+fn are_plain(groups: &Groups, order: &[Given]) -> bool {
+    if groups.len() < order.len() && !declare_equals(groups) {
         return true;
     }
-    for index in 0..found.len() {
-        if holds_equals(groups.main(found.at(index).place)) {
-            return false;
+    for given in order {
+        if let Given::Option { place, .. } = given {
+            if holds_equals(groups.main(*place)) {
+                return false;
+            }
         }
     }
     true
 }
 
-/// The word for an occurrence: `--main`, or `--main=value` if it has a value.
+/// The word for an option: `--main`, or `--main=value` if it has a value.
 fn canonical_word(alloc: Global, main: &str, value: Option<&str>) -> Result<String, AllocError> {
     let room = main.len() + value.unwrap_or("").len();
     let mut word = String::of_capacity(alloc, room.saturating_add(3))?;
@@ -54,29 +55,23 @@ fn canonical_word(alloc: Global, main: &str, value: Option<&str>) -> Result<Stri
     Ok(word)
 }
 
-/// The words for the occurrences, with room for `more` words after them.
-fn option_words(
+/// The words for the options, then `--`, then the free words.
+fn canonical_line(
     alloc: Global,
     groups: &Groups,
-    found: &LineOccurrences,
-    more: usize,
+    order: &[Given],
 ) -> Result<Vec<String>, AllocError> {
-    let mut words = Vec::of_capacity(alloc, found.len().saturating_add(more))?;
-    for index in 0..found.len() {
-        let occurrence = found.at(index);
-        let value = occurrence.value;
-        words.try_push(canonical_word(alloc, groups.main(occurrence.place), value)?)?;
+    let mut words = Vec::of_capacity(alloc, order.len().saturating_add(1))?;
+    for given in order {
+        if let Given::Option { place, value } = given {
+            words.try_push(canonical_word(alloc, groups.main(*place), *value)?)?;
+        }
     }
-    Ok(words)
-}
-
-/// The words for the occurrences, then `--`, then the free words.
-fn canonical_line(alloc: Global, groups: &Groups, line: Line) -> Result<Vec<String>, AllocError> {
-    let Line { found, free, .. } = line;
-    let mut words = option_words(alloc, groups, &found, free.len().saturating_add(1))?;
     words.try_push(String::copy_of(alloc, "--")?)?;
-    for word in free {
-        words.try_push(word)?;
+    for given in order {
+        if let Given::Free(word) = given {
+            words.try_push(String::copy_of(alloc, word)?)?;
+        }
     }
     Ok(words)
 }
@@ -117,10 +112,11 @@ impl Options {
         alloc: Global,
         words: &[S],
     ) -> Result<Option<Vec<String>>, Fail> {
-        let accepted = self.accepted_line(alloc, words)?;
+        are_texts(words);
+        let order = self.parse_in_order(alloc, words)?;
         let groups = self.groups();
-        if are_plain(groups, &accepted.found) {
-            Ok(Some(canonical_line(alloc, groups, accepted)?))
+        if are_plain(groups, &order) {
+            Ok(Some(canonical_line(alloc, groups, &order)?))
         } else {
             Ok(None)
         }

@@ -216,6 +216,8 @@ impl Options {
 
     /// The groups.
     pub(crate) fn groups(&self) -> &Groups {
+        // Called only for its clause `declared`.
+        self.signatures();
         &self.groups
     }
 

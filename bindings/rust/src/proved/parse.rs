@@ -117,15 +117,6 @@ impl Options {
         ))
     }
 
-    /// Reads an accepted command line.
-    pub(crate) fn accepted_line<S: AsStr>(&self, alloc: Global, words: &[S]) -> Result<Line, Fail> {
-        are_texts(words);
-        let table = Table::of(alloc, self.signatures())?;
-        let mut line = Line::for_words(alloc, words, self.style())?;
-        self.read_line(alloc, &table, &mut line, 0, words, true)?;
-        Ok(line)
-    }
-
     /// Reads the last words of a command line into `line`, and returns the index of all its
     /// occurrences. Checks the counts if `counted`.
     #[inline]

@@ -1,24 +1,20 @@
 -- What is made of a line that was read.
-use Rattle.std.proofs.Common.{◌≡◌, ◌<◌, ℕ, Bool, true, false, not, List, length, map, Option, Some, None, Result, Ok, Err, refl, sym}
+use Rattle.std.proofs.Common.{◌≡◌, ℕ, Bool, true, false, List, length, map, Option, None, Result, Ok, Err, refl}
 use Rattle.std.proofs.Common.{rules}
-use Rattle.std.specs.List.{AllByRecursion, list_all}
-use Rattle.std.specs.Prelude.{if◌then◌else◌}
 use Rattle.std.specs.String.{string_bytes}
-use Rattle.std.proofs.lemmas.List.Folds.{list_all-map}
 use Rattle.getopts.specs.Names.{Text}
 use Rattle.getopts.specs.Options.{Declared, signatures_of, grammar_of}
 use Rattle.getopts.specs.Fail.{Fault}
-use Rattle.getopts.specs.Reading.{Reading, holds_equals, Occurrence, occurrences_of}
+use Rattle.getopts.specs.Reading.{Given, Reading, Occurrence, occurrences_of}
 use Rattle.getopts.specs.Matches.{matched, matches_of}
-use Rattle.getopts.specs.Canon.{content_of, main_at, canonical_line}
 use Rattle.getopts.specs.Results.{made_of, accepted_reading, reading_or_error, with_counts_kept, unless_fault, written_line}
-use Rattle.getopts.specs.Returns.{HasResults}
+use Rattle.getopts.specs.Results.{canonical_result, parse_in_order_result}
 use Rattle.getopts.specs.Stored.Index.{Held, count_in, first_wrong, indices_in, index_of}
-use Rattle.getopts.specs.Stored.Scan.{GivesLine, line_content, reading_if}
+use Rattle.getopts.specs.Stored.Scan.{GivesLine, order_content, reading_if}
 use Rattle.getopts.specs.declared.scan.Line.{Line}
-use Rattle.getopts.proofs.canon.Lines.{FitsGroup-within, IsFitting-reading}
 use Rattle.getopts.proofs.counts.Groups.{first_wrong_matched}
-use Rattle.getopts.proofs.Lists.{AllByRecursion-follows, AllByRecursion-unmap}
+use Rattle.getopts.proofs.Reading.Positions.{frees_in-order, options_in-order}
+use Rattle.getopts.proofs.Reading.Readings.{made_of-ok}
 
 -- the outcome with its counts checked, by an index of its occurrences
 pub with_counts_kept-index : (options : Declared) {outcome : Result Reading Fault}
@@ -39,13 +35,6 @@ module _ (options : Declared) {outcome : Result Reading Fault} {line : Line}
     trailing_start = line.trailing_start;
   })
   made_of-matches = rw (is.outcome_is, is.occurrences, is.free, is.trailing) refl
-
-  -- its canonical line, if no main name in it contains `=`
-  pub made_of-written : (plain : Bool)
-      → list_all (λ o. not (holds_equals (main_at options.groups o.mention.group))) line.found ≡ plain
-      → made_of (λ reading. written_line options.groups (content_of options reading)) outcome
-      ≡ Ok (if plain then Some (canonical_line options.groups (line_content line)) else None)
-  made_of-written plain tests = search (rules, list_all-map)
 
   -- the outcome with its counts checked, by the index of the line
   module _ (index : Held) (index_is : indices_in index ≡ index_of (length (signatures_of options.groups)) line.found)
@@ -73,12 +62,8 @@ unfolding accepted_reading reading_or_error
 reading_if-fault true options words fault is = search rules
 reading_if-fault false options words fault is = is
 
--- the occurrences of accepted words are of the groups
-pub groups_within : {options : Declared} {words : List Text} {line : Line}
-    → HasResults options words → GivesLine (grammar_of options) (accepted_reading options words) line
-    → AllByRecursion (λ o. o.mention.group < length options.groups) line.found
-groups_within {options} {words} results is =
-    let reading = is.reading in
-    let reads = ((results.line (Ok reading)).1 (sym is.outcome_is)).reads in
-    rw is.occurrences
-    (search (rules, AllByRecursion-follows, FitsGroup-within, AllByRecursion-unmap, IsFitting-reading))
+-- the order of accepted words gives their canonical line, if no main name in it contains `=`
+pub canonical_result-order : (options : Declared) (words : List Text) (order : List Given)
+    → parse_in_order_result options words ≡ Ok order
+    → canonical_result options words ≡ Ok (written_line options.groups (order_content order))
+canonical_result-order options words order is = search (rules, made_of-ok, options_in-order, frees_in-order)

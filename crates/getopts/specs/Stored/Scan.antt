@@ -11,7 +11,7 @@ use Rattle.getopts.specs.Fail.{Fault}
 use Rattle.getopts.specs.Reading.{Dashes, is_dashed, stop_word, Reading}
 use Rattle.getopts.specs.Reading.{occurrences_of, free_words, trailing_start, order_of_reading}
 use Rattle.getopts.specs.Reading.{Occurrence, occurrences_after, free_items, Tail, line_end, stop, rest}
-use Rattle.getopts.specs.Reading.{tail_frees, trailing_after}
+use Rattle.getopts.specs.Reading.{tail_frees, trailing_after, Given, options_in, frees_in}
 use Rattle.getopts.specs.Results.{made_of, read, reading_or_error, accepted_reading}
 use Rattle.getopts.specs.Step.{IsInLongForm, IsShortForm}
 use Rattle.getopts.specs.declared.kinds.HasArg.{HasArg}
@@ -111,9 +111,6 @@ pub record GivesOrder (grammar : Grammar) (outcome : Result Reading Fault) (line
   pub occurrences : line.found ≡ occurrences_of grammar reading
   pub order : map borrowed_given line.order.items ≡ order_of_reading grammar reading
 
--- the content of a line
-abbrev pub line_content : Line → Content
-line_content line = record {
-  mentions = map (λ o. o.mention) line.found;
-  free = map string_bytes line.free.items;
-}
+-- the content of an order
+abbrev pub order_content : List Given → Content
+order_content order = record { mentions = options_in order; free = frees_in order }

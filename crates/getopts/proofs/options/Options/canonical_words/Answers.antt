@@ -1,60 +1,53 @@
--- The line's content is the one with which the words are accepted.
-use Rattle.std.proofs.Common.{◌∙◌, sym, Ok, Some, None, true, false, rules}
+-- The order of the accepted words gives their canonical line.
+use Rattle.std.proofs.Common.{◌∙◌, sym, refl, Ok, Some, None}
 use Rattle.getopts.proofs.MainTheorem.SameContent.{LinesReadAgain_lem}
-use Rattle.getopts.proofs.MainTheorem.Results.{HasResults-declared, is_refused}
+use Rattle.getopts.proofs.MainTheorem.Results.{HasResults-declared}
 use Rattle.getopts.proofs.canon.Answered.{KeepsLineLaws-lawful}
-use Rattle.getopts.proofs.parse.Made.{made_of-written, groups_within}
+use Rattle.getopts.proofs.parse.Made.{canonical_result-order}
 use Rattle.getopts.proofs.options.Options.canonical_words.Goals as goal
 
-pub are_plain-requires : goal.are_plain-requires
-are_plain-requires g c =
-    let before = c.in_ok-accepted.ensures in
-    rw c.groups-groups.ensures
-    (groups_within (HasResults-declared _ before.declared _ before.texts) before.ok)
+pub returns-then-are_plain-clause-result : goal.returns-then-are_plain-clause-result
+returns-then-are_plain-clause-result g c =
+    canonical_result-order _ _ _ c.in_ok-order.ensures.result
+    ∙ rw (
+      c.in_ok-canonical_line.ensures,
+      c.deref-then-are_plain.ensures.value,
+      ← c.deref.ensures.value,
+      ← c.groups-groups.ensures.groups,
+      ← c.are_plain.ensures,
+      c.if-are_plain.true,
+    ) refl
 
-pub canonical_line-requires : goal.canonical_line-requires
-canonical_line-requires g c =
-    let before = c.in_ok-accepted.ensures in
-    rw c.groups-groups.ensures
-    (groups_within (HasResults-declared _ before.declared _ before.texts) before.ok)
+pub returns-clause-result : goal.returns-clause-result
+returns-clause-result g c =
+    canonical_result-order _ _ _ c.in_ok-order.ensures.result
+    ∙ rw (
+      ← c.deref.ensures.value,
+      ← c.groups-groups.ensures.groups,
+      ← c.are_plain.ensures,
+      c.if-are_plain.false,
+    ) refl
 
-pub returns-in_ok-canonical_line-clause-result : goal.returns-in_ok-canonical_line-clause-result
-returns-in_ok-canonical_line-clause-result g c =
-    rw (rw c.groups-groups.ensures at c.in_ok-canonical_line.ensures)
-    (made_of-written c.args.self.now c.in_ok-accepted.ensures.ok true
-    (sym (rw c.groups-groups.ensures at c.are_plain.ensures) ∙ c.if-are_plain.true))
+pub returns-then-are_plain-clause-written : goal.returns-then-are_plain-clause-written
+returns-then-are_plain-clause-written g c =
+    ((HasResults-declared _ c.groups-groups.ensures.declared _ c.are_texts.ensures.texts).canonical (Ok (Some _))).1
+    (sym (returns-then-are_plain-clause-result g c))
 
-pub returns-else-are_plain-clause-result : goal.returns-else-are_plain-clause-result
-returns-else-are_plain-clause-result g c =
-    made_of-written c.args.self.now c.in_ok-accepted.ensures.ok false
-    (sym (rw c.groups-groups.ensures at c.are_plain.ensures) ∙ c.if-are_plain.false)
+pub returns-clause-unwritable : goal.returns-clause-unwritable
+returns-clause-unwritable g c =
+    ((HasResults-declared _ c.groups-groups.ensures.declared _ c.are_texts.ensures.texts).canonical (Ok None)).1
+    (sym (returns-clause-result g c))
 
-pub returns-in_ok-canonical_line-clause-written : goal.returns-in_ok-canonical_line-clause-written
-returns-in_ok-canonical_line-clause-written g c =
-    let before = c.in_ok-accepted.ensures in
-    ((HasResults-declared _ before.declared _ before.texts).canonical (Ok (Some _))).1
-    (sym (returns-in_ok-canonical_line-clause-result g c))
+pub returns-then-are_plain-clause-laws : goal.returns-then-are_plain-clause-laws
+returns-then-are_plain-clause-laws g c = KeepsLineLaws-lawful _ c.groups-groups.ensures.declared
 
-pub returns-else-are_plain-clause-unwritable : goal.returns-else-are_plain-clause-unwritable
-returns-else-are_plain-clause-unwritable g c =
-    let before = c.in_ok-accepted.ensures in
-    ((HasResults-declared _ before.declared _ before.texts).canonical (Ok None)).1
-    (sym (returns-else-are_plain-clause-result g c))
+pub returns-clause-laws : goal.returns-clause-laws
+returns-clause-laws g c = KeepsLineLaws-lawful _ c.groups-groups.ensures.declared
 
-pub returns-in_err-accepted-clause-refused : goal.returns-in_err-accepted-clause-refused
-returns-in_err-accepted-clause-refused g c = search (rules, is_refused)
+pub returns-then-are_plain-clause-read_again : goal.returns-then-are_plain-clause-read_again
+returns-then-are_plain-clause-read_again g c =
+    LinesReadAgain_lem _ c.groups-groups.ensures.declared (returns-then-are_plain-clause-laws g c)
 
-pub returns-in_ok-canonical_line-clause-laws : goal.returns-in_ok-canonical_line-clause-laws
-returns-in_ok-canonical_line-clause-laws g c =
-    KeepsLineLaws-lawful _ c.in_ok-accepted.ensures.declared
-
-pub returns-else-are_plain-clause-laws : goal.returns-else-are_plain-clause-laws
-returns-else-are_plain-clause-laws g c = KeepsLineLaws-lawful _ c.in_ok-accepted.ensures.declared
-
-pub returns-in_ok-canonical_line-clause-read_again : goal.returns-in_ok-canonical_line-clause-read_again
-returns-in_ok-canonical_line-clause-read_again g c =
-    search (rules, LinesReadAgain_lem, returns-in_ok-canonical_line-clause-laws)
-
-pub returns-else-are_plain-clause-read_again : goal.returns-else-are_plain-clause-read_again
-returns-else-are_plain-clause-read_again g c =
-    LinesReadAgain_lem _ c.in_ok-accepted.ensures.declared (returns-else-are_plain-clause-laws g c)
+pub returns-clause-read_again : goal.returns-clause-read_again
+returns-clause-read_again g c =
+    LinesReadAgain_lem _ c.groups-groups.ensures.declared (returns-clause-laws g c)

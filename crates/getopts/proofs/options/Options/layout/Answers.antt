@@ -19,4 +19,4 @@ pub returns-clause-any_short : goal.returns-clause-any_short
 returns-clause-any_short c =
     c.loop-place.invariant
     ∙ ap any_short (take_all c.loop-place.place c.groups-groups.result.now (omega arith)
-    ∙ c.groups-groups.ensures)
+    ∙ c.groups-groups.ensures.groups)

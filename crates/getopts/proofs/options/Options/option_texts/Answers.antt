@@ -13,7 +13,7 @@ loop-place-preserved c =
       c.in_ok-push.ensures.items,
       map-append string_bytes c.loop-place.texts.items (c.push_option.new.text ∷ []),
       map-take_more option_text c.args.self.now.groups c.loop-place.place (group_view c.get.result)
-          (sym (rw c.groups-groups.ensures at c.get.ensures)),
+          (sym (rw c.groups-groups.ensures.groups at c.get.ensures)),
       c.in_ok-push_option.ensures,
       c.new-text.ensures.bytes,
       c.loop-place.invariant,
@@ -24,4 +24,4 @@ pub returns : goal.returns
 returns c =
     c.loop-place.invariant
     ∙ ap (map option_text) (take_all c.loop-place.place c.args.self.now.groups
-    (omega (arith, ap (λ (groups : List Group). length groups) c.groups-groups.ensures)))
+    (omega (arith, ap (λ (groups : List Group). length groups) c.groups-groups.ensures.groups)))

@@ -19,7 +19,7 @@ loop-place-preserved c =
       map-append string_bytes c.loop-place.rows.items (c.in_ok-row_of.field-0 ∷ []),
       map-take_more (usage_row_in c.args.columns options.long_only (any_short options.groups))
           options.groups c.loop-place.place (group_view c.get.result)
-          (sym (rw c.groups-groups.ensures at c.get.ensures)),
+          (sym (rw c.groups-groups.ensures.groups at c.get.ensures)),
       c.in_ok-row_of.ensures,
       c.layout-layout.ensures.columns,
       c.layout-layout.ensures.long_only,
@@ -35,7 +35,7 @@ returns c =
     c.loop-place.invariant
     ∙ ap (map (usage_row_in c.args.columns options.long_only (any_short options.groups)))
     (take_all c.loop-place.place options.groups
-    (omega (arith, ap (λ (groups : List Group). length groups) c.groups-groups.ensures))) in
+    (omega (arith, ap (λ (groups : List Group). length groups) c.groups-groups.ensures.groups))) in
     record {
       rows = subst (IsTheOnly (AreUsageRowsIn c.args.columns options)) (sym made)
           (usage_rows_in_computed c.args.columns options);
