@@ -171,7 +171,7 @@ fn reports_failures<T>(options: &Options, read: impl Fn(&Options) -> Result<T, F
         assert!(of_memory(&result));
         result
     });
-    assert!(failures > 5);
+    assert!(failures > 3);
 }
 
 #[test]

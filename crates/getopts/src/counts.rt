@@ -1,13 +1,16 @@
 //! Whether options occur as often as they may.
 
-ghost use Rattle.std.specs.Prelude.{◌≡◌, Some, None, IfErr, OnOk};
+ghost use Rattle.std.specs.Prelude.{◌≡◌, ◌<◌, ◌+◌, ℕ, length, get_or, map, drop};
+ghost use Rattle.std.specs.Prelude.{replicate, Some, None, IfErr, OnOk};
+ghost use Rattle.getopts.specs.Accessors.{borrowed_given};
 ghost use Rattle.getopts.specs.Fail.{IsOutOfMemoryOr};
 ghost use Rattle.getopts.specs.Matches.{count_fault, fits_count};
-ghost use Rattle.getopts.specs.Stored.Index.{count_in, first_wrong, indices_in};
+ghost use Rattle.getopts.specs.Stored.Index.{count_given, count_in, first_wrong, indices_in};
 
 use crate::fail::Fail;
 use crate::index::Index;
 use crate::kinds::Occur;
+use crate::scan::Given;
 use crate::signatures::Signatures;
 use std::alloc::Global;
 
@@ -24,12 +27,67 @@ pub(crate) fn check_counts(
         (λ fault. first_wrong 0 signatures.now (count_in (indices_in index.now)) ≡ Some fault)) }
 {
     for place in 0..signatures.len() {
-        let count = index.count(place);
-        if !fits_count(signatures.record(place).kinds.occur, count) {
-            return Err(count_fault(alloc, signatures.main(place), count));
-        }
+        check_count(alloc, signatures, place, index.count(place))?;
     }
     Ok(())
+}
+
+/// Checks how often each option occurs in an order, in order of declaration.
+pub(crate) fn check_order(
+    alloc: Global,
+    signatures: &Signatures,
+    order: &[Given],
+) -> Result<(), Fail>
+    ensures ok { OnOk result
+        (first_wrong 0 signatures.now (count_given (map borrowed_given order.now)) ≡ None) }
+    ensures err { IfErr result (λ fail. IsOutOfMemoryOr fail (λ fault.
+        first_wrong 0 signatures.now (count_given (map borrowed_given order.now)) ≡ Some fault)) }
+{
+    let room = signatures.len();
+    let mut counts = vec![in alloc; 0; room]?;
+    count_options(&mut counts, order);
+    for place in 0..room {
+        check_count(alloc, signatures, place, counts[place])?;
+    }
+    Ok(())
+}
+
+/// Counts the options at each place.
+fn count_options(counts: &mut [usize], order: &[Given])
+    requires { counts.old ≡ replicate (length counts.old) 0 }
+    ensures size { length counts.new ≡ length counts.old }
+    ensures counts { (place : ℕ) → place < length counts.old
+        → get_or counts.new place 0 ≡ count_given (map borrowed_given order.now) place }
+{
+    for given in order {
+        if let Given::Option { place, .. } = given {
+            if *place < counts.len() {
+                counts[*place] += 1;
+            }
+        }
+    }
+}
+
+/// Checks how often one option occurs.
+fn check_count(
+    alloc: Global,
+    signatures: &Signatures,
+    place: usize,
+    count: usize,
+) -> Result<(), Fail>
+    requires { place < length signatures.now }
+    ensures ok { OnOk result ((counts : ℕ → ℕ) → count ≡ counts place
+        → first_wrong place (drop place signatures.now) counts
+        ≡ first_wrong (place + 1) (drop (place + 1) signatures.now) counts) }
+    ensures err { IfErr result (λ fail. IsOutOfMemoryOr fail
+        (λ fault. (counts : ℕ → ℕ) → count ≡ counts place
+        → first_wrong place (drop place signatures.now) counts ≡ Some fault)) }
+{
+    if fits_count(signatures.record(place).kinds.occur, count) {
+        Ok(())
+    } else {
+        Err(count_fault(alloc, signatures.main(place), count))
+    }
 }
 
 /// Whether an option may occur this often.

@@ -6,7 +6,7 @@ ghost use Rattle.std.specs.Iterator.Runs.{WholeRun};
 ghost use Rattle.getopts.specs.Fail.{IsOutOfMemoryOr};
 ghost use Rattle.getopts.specs.Names.{AreTexts, Text, texts};
 
-use crate::counts::check_counts;
+use crate::counts::{check_counts, check_order};
 use crate::fail::Fail;
 use crate::index::Index;
 use crate::matches::Matches;
@@ -145,8 +145,7 @@ impl Options {
             table: &table,
         };
         let line = scanner.scan_in_order(alloc, words)?;
-        let index = Index::of(alloc, signatures.len(), &line.found)?;
-        check_counts(alloc, signatures, &index)?;
+        check_order(alloc, signatures, &line.order)?;
         Ok(line.order)
     }
 

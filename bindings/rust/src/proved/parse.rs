@@ -3,7 +3,7 @@
 
 use crate::fallible::*;
 
-use super::counts::check_counts;
+use super::counts::{check_counts, check_order};
 use super::fail::Fail;
 use super::index::Index;
 use super::matches::Matches;
@@ -76,8 +76,7 @@ impl Options {
             table: &table,
         };
         let line = scanner.scan_in_order(alloc, words)?;
-        let index = Index::of(alloc, signatures.len(), &line.found)?;
-        check_counts(alloc, signatures, &index)?;
+        check_order(alloc, signatures, &line.order)?;
         Ok(line.order)
     }
 

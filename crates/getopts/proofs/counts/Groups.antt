@@ -54,15 +54,19 @@ first_wrong-at (signature ∷ signatures) zero place kinds count there = search 
 first_wrong-at (signature ∷ signatures) (suc i) place kinds count there =
     search (rules, first_wrong-at signatures i place kinds count there)
 
--- by the index of occurrences, it is the error of the matched groups
+-- by the number of each group's occurrences, it is the error of the matched groups
+pub first_wrong-counts : (place : ℕ) (signatures : List Signature) (occurrences : List Occurrence)
+    (bound : ℕ) (count : ℕ → ℕ) → ((i : ℕ) → i < bound → count i ≡ length (occurrences_mentioning i occurrences))
+    → place + length signatures ≡ bound
+    → first_wrong place signatures count ≡ first_count_fault (matched place signatures occurrences)
+first_wrong-counts place [] occurrences bound count each all = refl
+first_wrong-counts place (signature ∷ signatures) occurrences bound count each all =
+    search (rules, each place (omega arith), first_wrong-counts (place + 1) signatures occurrences bound count each (omega arith))
+
+-- by the index of occurrences
 pub first_wrong_matched : (place : ℕ) (signatures : List Signature) (occurrences : List Occurrence)
     (count : ℕ) → place + length signatures ≡ count
     → first_wrong place signatures (count_in (index_of count occurrences))
     ≡ first_count_fault (matched place signatures occurrences)
-first_wrong_matched place [] occurrences count all = refl
-first_wrong_matched place (signature ∷ signatures) occurrences count all =
-    search (
-      rules,
-      length-occurrences_mentioning,
-      first_wrong_matched (place + 1) signatures occurrences count (omega arith),
-    )
+first_wrong_matched place signatures occurrences count all =
+    first_wrong-counts place signatures occurrences count _ (length-occurrences_mentioning count occurrences) all

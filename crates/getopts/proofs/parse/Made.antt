@@ -2,17 +2,19 @@
 use Rattle.std.proofs.Common.{◌≡◌, ℕ, Bool, true, false, List, length, map, Option, None, Result, Ok, Err, refl}
 use Rattle.std.proofs.Common.{rules}
 use Rattle.std.specs.String.{string_bytes}
+use Rattle.std.proofs.lemmas.List.{length-map}
 use Rattle.getopts.specs.Names.{Text}
-use Rattle.getopts.specs.Options.{Declared, signatures_of, grammar_of}
+use Rattle.getopts.specs.Options.{Declared, Grammar, signatures_of, grammar_of}
 use Rattle.getopts.specs.Fail.{Fault}
-use Rattle.getopts.specs.Reading.{Given, Reading, Occurrence, occurrences_of}
-use Rattle.getopts.specs.Matches.{matched, matches_of}
+use Rattle.getopts.specs.Reading.{Given, Reading, Occurrence, occurrences_of, order_of_reading}
+use Rattle.getopts.specs.Matches.{matched, matches_of, occurrences_mentioning}
 use Rattle.getopts.specs.Results.{made_of, accepted_reading, reading_or_error, with_counts_kept, unless_fault, written_line}
 use Rattle.getopts.specs.Results.{canonical_result, parse_in_order_result}
-use Rattle.getopts.specs.Stored.Index.{Held, count_in, first_wrong, indices_in, index_of}
+use Rattle.getopts.specs.Stored.Index.{Held, count_given, count_in, first_wrong, indices_in, index_of}
 use Rattle.getopts.specs.Stored.Scan.{GivesLine, order_content, reading_if}
 use Rattle.getopts.specs.declared.scan.Line.{Line}
-use Rattle.getopts.proofs.counts.Groups.{first_wrong_matched}
+use Rattle.getopts.proofs.counts.Groups.{first_wrong-counts, first_wrong_matched}
+use Rattle.getopts.proofs.Lists.{filter-map}
 use Rattle.getopts.proofs.Reading.Positions.{frees_in-order, options_in-order}
 use Rattle.getopts.proofs.Reading.Readings.{made_of-ok}
 
@@ -25,6 +27,21 @@ pub with_counts_kept-index : (options : Declared) {outcome : Result Reading Faul
     → with_counts_kept options outcome ≡ unless_fault reading fault
 with_counts_kept-index options reading found index fault outcome_is found_are index_is first =
     search (rules, first_wrong_matched)
+
+-- the number of a group's occurrences, from the order
+pub count_given-order : (grammar : Grammar) (reading : Reading) (i : ℕ)
+    → count_given (order_of_reading grammar reading) i
+    ≡ length (occurrences_mentioning i (occurrences_of grammar reading))
+count_given-order grammar reading i = search (rules, options_in-order, filter-map, length-map)
+
+-- the outcome with its counts checked, by its order
+pub with_counts_kept-order : (options : Declared) {outcome : Result Reading Fault}
+    (reading : Reading) (order : List Given) (fault : Option Fault) → outcome ≡ Ok reading
+    → order ≡ order_of_reading (grammar_of options) reading
+    → first_wrong 0 (signatures_of options.groups) (count_given order) ≡ fault
+    → with_counts_kept options outcome ≡ unless_fault reading fault
+with_counts_kept-order options reading order fault outcome_is order_is first =
+    search (rules, first_wrong-counts, count_given-order)
 
 module _ (options : Declared) {outcome : Result Reading Fault} {line : Line}
     (is : GivesLine (grammar_of options) outcome line) where

@@ -16,7 +16,7 @@ use Rattle.getopts.proofs.MainTheorem.Results.{HasResults-declared, is_refused}
 use Rattle.getopts.proofs.Stored.Signatures.{names-signatures_of}
 use Rattle.getopts.proofs.Weaker.{IsOutOfMemoryOr-exit, IsOutOfMemoryOr-weaker}
 use Rattle.getopts.proofs.parse.Holds.{IsDeclared-order}
-use Rattle.getopts.proofs.parse.Made.{with_counts_kept-index}
+use Rattle.getopts.proofs.parse.Made.{with_counts_kept-order}
 use Rattle.getopts.proofs.options.Options.parse_in_order.Goals as goal
 
 -- the error of `parse` rejects the words
@@ -50,34 +50,32 @@ returns-in_err-line-clause-refused g c =
     refused _ _ _ c.signatures-signatures.ensures.declared c.are_texts.ensures.texts
     (returns-in_err-line-clause-same_error g c)
 
-pub returns-in_err-check_counts-clause-same_error : goal.returns-in_err-check_counts-clause-same_error
+pub returns-in_err-check_order-clause-same_error : goal.returns-in_err-check_order-clause-same_error
 unfolding accepted_reading
-returns-in_err-check_counts-clause-same_error g c =
+returns-in_err-check_order-clause-same_error g c =
     let gives = c.in_ok-line.ensures.ok in
-    IsOutOfMemoryOr-exit _ c.in_err-check_counts.field-0.0 _ _
-    c.from_residual-in_err-check_counts.ensures.1
-    (rw c.signatures-signatures.ensures.signatures at c.in_err-check_counts.ensures.err)
-    (λ fault first. rw (with_counts_kept-index c.args.self.now gives.reading _ _ (Some fault) gives.outcome_is
-    gives.occurrences (rw (c.len.ensures.len, c.signatures-signatures.ensures.signatures) at c.in_ok-index.ensures)
+    IsOutOfMemoryOr-exit _ c.in_err-check_order.field-0.0 _ _
+    c.from_residual-in_err-check_order.ensures.1
+    (rw (c.signatures-signatures.ensures.signatures, c.deref.ensures.value) at c.in_err-check_order.ensures.err)
+    (λ fault first. rw (with_counts_kept-order c.args.self.now gives.reading _ (Some fault) gives.outcome_is gives.order
     first) refl)
 
-pub returns-in_err-check_counts-clause-result : goal.returns-in_err-check_counts-clause-result
+pub returns-in_err-check_order-clause-result : goal.returns-in_err-check_order-clause-result
 unfolding accepted_reading
-returns-in_err-check_counts-clause-result g c = search (rules, returns-in_err-check_counts-clause-same_error g c)
+returns-in_err-check_order-clause-result g c = search (rules, returns-in_err-check_order-clause-same_error g c)
 
-pub returns-in_err-check_counts-clause-refused : goal.returns-in_err-check_counts-clause-refused
-returns-in_err-check_counts-clause-refused g c =
+pub returns-in_err-check_order-clause-refused : goal.returns-in_err-check_order-clause-refused
+returns-in_err-check_order-clause-refused g c =
     refused _ _ _ c.signatures-signatures.ensures.declared c.are_texts.ensures.texts
-    (returns-in_err-check_counts-clause-same_error g c)
+    (returns-in_err-check_order-clause-same_error g c)
 
 pub returns-clause-result : goal.returns-clause-result
 unfolding accepted_reading
 returns-clause-result g c =
     let gives = c.in_ok-line.ensures.ok in
     rw (
-      with_counts_kept-index c.args.self.now gives.reading _ _ None gives.outcome_is gives.occurrences
-          (rw (c.len.ensures.len, c.signatures-signatures.ensures.signatures) at c.in_ok-index.ensures)
-          (rw c.signatures-signatures.ensures.signatures at c.in_ok-check_counts.ensures.ok),
+      with_counts_kept-order c.args.self.now gives.reading _ None gives.outcome_is gives.order
+          (rw (c.signatures-signatures.ensures.signatures, c.deref.ensures.value) at c.in_ok-check_order.ensures.ok),
       gives.order,
     ) refl
 
