@@ -293,7 +293,7 @@ def test_theorem_is_quoted():
 
 def test_example_lines():
     """The command lines at the top of GRAMMAR are read as model.py reads them, and are examples for both provers."""
-    examples = "crates/getopts/proofs/OnLiterals.antt", "agda/12-Examples.agda"
+    examples = "crates/getopts/proofs/Examples.antt", "agda/12-Examples.agda"
     groups = [Group(b"o", b"output", "yes", "optional"), Group(b"v", b"verbose", "no", "multi"),
               Group(b"c", b"color", "maybe", "optional")]
     top = pages["docs/GRAMMAR.md"].partition("\n## ")[0]

@@ -15,4 +15,5 @@ pub mod Reading
 pub mod Stored
 pub mod MainTheorem
 pub mod OnLiterals
+pub mod Examples
 pub mod Chained

@@ -1,6 +1,6 @@
--- Computing with literal options, command lines and help texts, and ten command lines as examples.
-use Rattle.std.proofs.Common.{◌≡◌, ℕ, Bool, true, false, nat_lt, List, [], ◌∷◌, Option, Some, None, Result, Ok, Err}
-use Rattle.std.proofs.Common.{codes, refl, subst, arith, ◌==◌, ◌≤◌, ◌+◌, ◌&&◌, not, length, rules}
+-- Computing with literal options, command lines and help texts.
+use Rattle.std.proofs.Common.{◌≡◌, Bool, true, false, nat_lt, List, [], ◌∷◌, arith, rules}
+use Rattle.std.proofs.Common.{◌==◌, ◌≤◌, ◌+◌, ◌&&◌, not, length}
 use Rattle.std.specs.Prelude.{⊤}
 use Rattle.std.specs.Char.{encode_utf8}
 use Rattle.std.specs.List.{list_all}
@@ -10,21 +10,11 @@ use Rattle.std.proofs.lemmas.Str.{IsUtf8-from_ascii}
 use Rattle.std.proofs.lemmas.Str.Ascii.{IsAscii-cons}
 use Rattle.std.proofs.lemmas.Grind.{common_steps}
 use Rattle.getopts.specs.Names.{Text, Names, IsLawfullyNamed, AreTexts}
-use Rattle.getopts.specs.Options.{Group, MayBeDeclared, Declared, group_of}
-use Rattle.getopts.specs.Only.{IsTheOnly}
-use Rattle.getopts.specs.Fail.{Fault, unrecognized_option, option_duplicated}
-use Rattle.getopts.specs.Reading.{Reading, Item, free, long, cluster, two, flags, ends_in, none, attached, separate}
-use Rattle.getopts.specs.Reading.{Tail, line_end, stop, Mention}
-use Rattle.getopts.specs.Canon.{content_of}
+use Rattle.getopts.specs.Options.{Group, MayBeDeclared, Declared}
 use Rattle.getopts.specs.Results.{step, read_both, read, reading_or_error, accepted_reading}
-use Rattle.getopts.specs.Returns.{IsLineOf}
 use Rattle.getopts.specs.Step.{cluster_step}
 use Rattle.getopts.specs.Wrap.{width_of}
-use Rattle.getopts.specs.declared.kinds.HasArg.TheVariants.{Yes, No, Maybe}
-use Rattle.getopts.specs.declared.kinds.Occur.TheVariants.{Optional, Multi}
-use Rattle.getopts.specs.declared.kinds.ParsingStyle.TheVariants.{FloatingFrees}
 use Rattle.unicode_width.proofs.Computing.{unicode_width}
-use Rattle.getopts.proofs.MainTheorem.Results.{HasResults-declared}
 
 -- ---- what to unfold
 
@@ -87,122 +77,3 @@ AreTexts-plain [] plain = tt
 AreTexts-plain (word ∷ words) plain =
     let parts = and_parts (is_plain_text word) (list_all is_plain_text words) plain in
     (IsUtf8-from_ascii word (text_ascii word parts.0), AreTexts-plain words parts.1)
-
--- ---- ten command lines
-
--- options: `output` takes a value, `verbose` may occur often, and `color` takes a value or none
-abbrev pub sample : Declared
-sample = record {
-  groups = group_of (codes "o") (codes "output") [] [] Yes Optional
-      ∷ group_of (codes "v") (codes "verbose") [] [] No Multi
-      ∷ group_of (codes "c") (codes "color") [] [] Maybe Optional
-      ∷ [];
-  style = FloatingFrees;
-  long_only = false;
-}
-
--- the letter `o`
-abbrev pub letter_o : ℕ
-letter_o = 111
-
--- the letter `c`
-abbrev pub letter_c : ℕ
-letter_c = 99
-
--- a mention of `output` with this value
-abbrev pub output : Text → Mention
-output value = record { group = 0; value = Some value }
-
--- a mention of `verbose`
-abbrev pub verbose : Mention
-verbose = record { group = 1; value = None }
-
--- a mention of `color`, with this value or none
-abbrev pub color : Option Text → Mention
-color value = record { group = 2; value = value }
-
--- The reading keeps the counts, mentions these options and has these free words.
--- The words have one reading only, with these items and this tail.
-pub record IsReadAs (words : List Text) (items : List Item) (tail : Tail) (mentioned : List Mention)
-    (frees : List Text) : Type 0 where
-  pub only : IsTheOnly (IsLineOf sample words) (Ok (record { items = items; tail = tail }))
-  pub content : content_of sample (record { items = items; tail = tail })
-      ≡ record { mentions = mentioned; free = frees }
-
--- The words are rejected with this error, and with no other.
-abbrev pub IsRejectedWith : List Text → Fault → Type 0
-IsRejectedWith words fault = IsTheOnly (IsLineOf sample words) (Err fault)
-
-computed : (words : List Text) (answer : Result Reading Fault) → list_all is_plain_text words ≡ true
-    → accepted_reading sample words ≡ answer → IsTheOnly (IsLineOf sample words) answer
-computed words answer plain gives =
-    let declared = MayBeDeclared-plain sample refl in
-    subst (IsTheOnly (IsLineOf sample words)) gives
-    (HasResults-declared sample declared words (AreTexts-plain words plain)).line
-
--- `-vofile in`: `v` and `o` share a dash, and the rest of the word is the value of `o`
-pub value_in_the_same_word : IsReadAs (codes "-vofile" ∷ codes "in" ∷ [])
-    (cluster (codes "v") (ends_in letter_o (attached (codes "file"))) ∷ free (codes "in") ∷ [])
-    line_end
-    (verbose ∷ output (codes "file") ∷ []) (codes "in" ∷ [])
-unfolding getopts_on_literals
-value_in_the_same_word = record { only = computed _ _ refl refl; content = refl }
-
--- `in -o -v`: the value of `o` is the next word, even if that begins with `-`
-pub value_in_the_next_word : IsReadAs (codes "in" ∷ codes "-o" ∷ codes "-v" ∷ [])
-    (free (codes "in") ∷ cluster [] (ends_in letter_o (separate (codes "-v"))) ∷ []) line_end
-    (output (codes "-v") ∷ []) (codes "in" ∷ [])
-unfolding getopts_on_literals
-value_in_the_next_word = record { only = computed _ _ refl refl; content = refl }
-
--- `--output=file`: the value of a long name follows `=`
-pub value_after_equals : IsReadAs (codes "--output=file" ∷ [])
-    (long two (codes "output") (attached (codes "file")) ∷ []) line_end
-    (output (codes "file") ∷ []) []
-unfolding getopts_on_literals
-value_after_equals = record { only = computed _ _ refl refl; content = refl }
-
--- `-o=file`: after a short name, `=` is part of the value
-pub value_with_equals : IsReadAs (codes "-o=file" ∷ [])
-    (cluster [] (ends_in letter_o (attached (codes "=file"))) ∷ []) line_end
-    (output (codes "=file") ∷ []) []
-unfolding getopts_on_literals
-value_with_equals = record { only = computed _ _ refl refl; content = refl }
-
--- `-c red`: an optional value of a short name may be the next word
-pub optional_value : IsReadAs (codes "-c" ∷ codes "red" ∷ [])
-    (cluster [] (ends_in letter_c (separate (codes "red"))) ∷ []) line_end
-    (color (Some (codes "red")) ∷ []) []
-unfolding getopts_on_literals
-optional_value = record { only = computed _ _ refl refl; content = refl }
-
--- `--color red`: an optional value of a long name is never the next word
-pub optional_value_of_a_long_name : IsReadAs (codes "--color" ∷ codes "red" ∷ [])
-    (long two (codes "color") none ∷ free (codes "red") ∷ []) line_end
-    (color None ∷ []) (codes "red" ∷ [])
-unfolding getopts_on_literals
-optional_value_of_a_long_name = record { only = computed _ _ refl refl; content = refl }
-
--- `-c -v`: an optional value is never a dashed word
-pub optional_value_before_an_option : IsReadAs (codes "-c" ∷ codes "-v" ∷ [])
-    (cluster [] (ends_in letter_c none) ∷ cluster (codes "v") flags ∷ []) line_end
-    (color None ∷ verbose ∷ []) []
-unfolding getopts_on_literals
-optional_value_before_an_option = record { only = computed _ _ refl refl; content = refl }
-
--- `- -v -- -v`: a single dash is a free word, and so is each word after `--`
-pub words_after_the_stop : IsReadAs (codes "-" ∷ codes "-v" ∷ codes "--" ∷ codes "-v" ∷ [])
-    (free (codes "-") ∷ cluster (codes "v") flags ∷ []) (stop (codes "-v" ∷ []))
-    (verbose ∷ []) (codes "-" ∷ codes "-v" ∷ [])
-unfolding getopts_on_literals
-words_after_the_stop = record { only = computed _ _ refl refl; content = refl }
-
--- `-vx`: no option is called `x`
-pub unknown_option : IsRejectedWith (codes "-vx" ∷ []) (unrecognized_option (codes "x"))
-unfolding getopts_on_literals
-unknown_option = computed _ _ refl refl
-
--- `-oa -ob`: `output` may occur once
-pub option_given_twice : IsRejectedWith (codes "-oa" ∷ codes "-ob" ∷ []) (option_duplicated (codes "output"))
-unfolding getopts_on_literals
-option_given_twice = computed _ _ refl refl

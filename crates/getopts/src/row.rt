@@ -2,22 +2,18 @@
 
 ghost use Rattle.std.specs.Prelude.{◌≡◌, ◌++◌, string_bytes, IfOk, OnOk};
 ghost use Rattle.getopts.specs.Wrap.{width_of};
-ghost use Rattle.getopts.specs.Usage.{argument_part, has_columns, head, long_part, padding};
-ghost use Rattle.getopts.specs.Usage.{short_part};
+ghost use Rattle.getopts.specs.Usage.{has_columns, head, long_part, padding, short_part};
 ghost use Rattle.getopts.specs.UsageResults.{usage_row_in};
 ghost use Rattle.getopts.specs.Stored.Signatures.{names_view};
 ghost use Rattle.getopts.specs.Stored.Groups.{group_view};
 
 use crate::groups::GroupView;
-use crate::kinds::HasArg;
 use crate::names::NamesView;
 use crate::signatures::SignatureView;
-use crate::wrap::{each_split_within, push_joined};
+use crate::texts::{MARGIN, push_argument, push_joined};
+use crate::wrap::each_split_within;
 use std::alloc::{AllocError, Global};
 use unicode_width::UnicodeWidthStr;
-
-/// The number of columns before a description.
-pub(crate) const MARGIN: usize = 24;
 
 /// A line end, and a space for each column before a description.
 const NEXT_ROW: &str = "\n                        ";
@@ -98,22 +94,6 @@ fn push_long(text: &mut String, layout: Layout, long: &str, wide: bool) -> Resul
     text.push_str(if layout.long_only { "-" } else { "--" })?;
     text.push_str(long)?;
     text.push(' ')
-}
-
-/// Appends the hint, in brackets if the argument is optional.
-pub(crate) fn push_argument(text: &mut String, kind: HasArg, hint: &str) -> Result<(), AllocError>
-    ensures { OnOk result (string_bytes text.new ≡ string_bytes text.old
-        ++ argument_part kind hint.now) }
-{
-    match kind {
-        HasArg::Yes => text.push_str(hint),
-        HasArg::No => Ok(()),
-        HasArg::Maybe => {
-            text.push('[')?;
-            text.push_str(hint)?;
-            text.push(']')
-        }
-    }
 }
 
 /// What separates a head from its description.

@@ -2,7 +2,7 @@
 
 ghost use Rattle.std.specs.Prelude.{◌≡◌, ◌++◌, [], map, string_bytes, IfOk, IsOk, OnOk};
 ghost use Rattle.getopts.specs.Wrap.{BreaksInto, IsDescriptionRows, IsFewestBreaking};
-ghost use Rattle.getopts.specs.Wrap.{joined, parting, text_of, words_of};
+ghost use Rattle.getopts.specs.Wrap.{text_of, words_of};
 ghost use Rattle.getopts.specs.UsageResults.{description_rows, runs_of};
 ghost use Rattle.getopts.specs.Only.{IsTheOnly};
 
@@ -85,30 +85,4 @@ fn push_line(
     }
     rows.push(row)?;
     Ok(())
-}
-
-/// Appends texts, with the separator between them.
-pub(crate) fn push_joined(
-    text: &mut String,
-    texts: &[String],
-    separator: &str,
-) -> Result<(), AllocError>
-    ensures { OnOk result (string_bytes text.new ≡ string_bytes text.old
-        ++ joined separator.now (map string_bytes texts.now)) }
-{
-    let mut begun = false;
-    for part in texts {
-        push_parting(text, begun, separator)?;
-        text.push_str(part.as_str())?;
-        begun = true;
-    }
-    Ok(())
-}
-
-/// Appends the separator if `begun` says that something precedes it.
-fn push_parting(text: &mut String, begun: bool, separator: &str) -> Result<(), AllocError>
-    ensures { OnOk result (string_bytes text.new ≡ string_bytes text.old
-        ++ parting begun separator.now) }
-{
-    text.push_str(if begun { separator } else { "" })
 }

@@ -43,6 +43,7 @@ mod request;
 
 // Help texts.
 mod row;
+mod texts;
 mod usage;
 pub mod wrap;
 

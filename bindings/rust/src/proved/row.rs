@@ -4,15 +4,12 @@
 use crate::fallible::*;
 
 use super::groups::GroupView;
-use super::kinds::HasArg;
 use super::names::NamesView;
 use super::signatures::SignatureView;
-use super::wrap::{each_split_within, push_joined};
+use super::texts::{MARGIN, push_argument, push_joined};
+use super::wrap::each_split_within;
 use crate::alloc::{AllocError, Global};
 use crate::width::UnicodeWidthStr;
-
-/// The number of columns before a description.
-pub(crate) const MARGIN: usize = 24;
 
 /// A line end, and a space for each column before a description.
 const NEXT_ROW: &str = "\n                        ";
@@ -79,19 +76,6 @@ fn push_long(text: &mut String, layout: Layout, long: &str, wide: bool) -> Resul
     text.try_push_str(if layout.long_only { "-" } else { "--" })?;
     text.try_push_str(long)?;
     text.try_push(' ')
-}
-
-/// Appends the hint, in brackets if the argument is optional.
-pub(crate) fn push_argument(text: &mut String, kind: HasArg, hint: &str) -> Result<(), AllocError> {
-    match kind {
-        HasArg::Yes => text.try_push_str(hint),
-        HasArg::No => Ok(()),
-        HasArg::Maybe => {
-            text.try_push('[')?;
-            text.try_push_str(hint)?;
-            text.try_push(']')
-        }
-    }
 }
 
 /// What separates a head from its description.

@@ -7,9 +7,9 @@ use super::groups::GroupView;
 use super::kinds::{HasArg, Occur};
 use super::names::NamesView;
 use super::options::Options;
-use super::row::{Layout, MARGIN, push_argument, row_of};
+use super::row::{Layout, row_of};
 use super::signatures::SignatureView;
-use super::wrap::push_joined;
+use super::texts::{MARGIN, push_argument, push_joined};
 use crate::alloc::{AllocError, Global};
 use crate::heap::vec;
 

@@ -65,23 +65,3 @@ fn push_line(
     rows.try_push(row)?;
     Ok(())
 }
-
-/// Appends texts, with the separator between them.
-pub(crate) fn push_joined(
-    text: &mut String,
-    texts: &[String],
-    separator: &str,
-) -> Result<(), AllocError> {
-    let mut begun = false;
-    for part in texts {
-        push_parting(text, begun, separator)?;
-        text.try_push_str(part.as_str())?;
-        begun = true;
-    }
-    Ok(())
-}
-
-/// Appends the separator if `begun` says that something precedes it.
-fn push_parting(text: &mut String, begun: bool, separator: &str) -> Result<(), AllocError> {
-    text.try_push_str(if begun { separator } else { "" })
-}
