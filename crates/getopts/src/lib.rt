@@ -52,17 +52,21 @@ mod laws;
 
 pub use fail::Fail;
 pub use kinds::{HasArg, Occur, ParsingStyle};
-pub use laws::{
-    declared_options_keep_laws, equal_input_equal_answers, held_names_resolve, names_resolve,
-    one_reading_one_canonical_line, results_are_computed, usage_texts_are_computed,
-};
 pub use matches::Matches;
 pub use names::names_lawful;
 pub use occurrences::{Occurrences, OccurrencesIter};
 pub use options::Options;
 pub use request::Request;
-pub use scan::{Given, are_texts};
+pub use scan::Given;
 pub use usage::UsageRows;
 
 /// What `parse` returns: the matches of an accepted command line, or why it was rejected.
 pub type Result = std::result::Result<Matches, Fail>;
+
+// Lemmas for proofs. A function calls one if its own proof needs the facts in the lemma's contract.
+// Other callers don't need them.
+pub use laws::{
+    declared_options_keep_laws, equal_input_equal_answers, held_names_resolve, names_resolve,
+    one_reading_one_canonical_line, results_are_computed, usage_texts_are_computed,
+};
+pub use scan::are_texts;

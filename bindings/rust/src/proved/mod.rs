@@ -54,8 +54,10 @@ pub use names::names_lawful;
 pub use occurrences::{Occurrences, OccurrencesIter};
 pub use options::Options;
 pub use request::Request;
-pub use scan::{Given, are_texts};
+pub use scan::Given;
 pub use usage::UsageRows;
 
 /// What `parse` returns: the matches of an accepted command line, or why it was rejected.
 pub type Result = core::result::Result<Matches, Fail>;
+
+pub use scan::are_texts;
