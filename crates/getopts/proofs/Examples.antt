@@ -10,7 +10,7 @@ use Rattle.getopts.specs.Reading.{Reading, Item, free, long, cluster, two, flags
 use Rattle.getopts.specs.Reading.{Tail, line_end, stop, Mention}
 use Rattle.getopts.specs.Canon.{content_of}
 use Rattle.getopts.specs.Results.{accepted_reading}
-use Rattle.getopts.specs.Returns.{IsLineOf}
+use Rattle.getopts.specs.Parse.{IsLineOf}
 use Rattle.getopts.specs.declared.kinds.HasArg.TheVariants.{Yes, No, Maybe}
 use Rattle.getopts.specs.declared.kinds.Occur.TheVariants.{Optional, Multi}
 use Rattle.getopts.specs.declared.kinds.ParsingStyle.TheVariants.{FloatingFrees}

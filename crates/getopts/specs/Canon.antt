@@ -4,7 +4,6 @@ use Rattle.std.specs.Prelude.{◌≡◌, ◌≢◌, ◌↔◌, ℕ, Bool, false,
 use Rattle.std.specs.Prelude.{Some, None, slice_get}
 use Rattle.std.specs.List.{AllByRecursion, Contains}
 use Rattle.std.specs.Option.{option_map_or}
-use Rattle.getopts.specs.Only.{IsTheOnly}
 use Rattle.getopts.specs.Names.{Text, main_name, resolution}
 use Rattle.getopts.specs.Options.{Group, Declared, names_of, grammar_of}
 use Rattle.getopts.specs.Reading.{holds_equals, stop_word, Argument, none, attached, two, Item, long}
@@ -12,7 +11,6 @@ use Rattle.getopts.specs.Reading.{long_word, item_words, IsLawfulItem, stop, Rea
 use Rattle.getopts.specs.Reading.{Mention, mentions, free_words}
 use Rattle.getopts.specs.ReadingLaws.{mentions_of}
 use Rattle.getopts.specs.Matches.{matches_of, KeepsCounts}
-use Rattle.getopts.specs.Parse.{Reads}
 use Rattle.getopts.specs.declared.kinds.ParsingStyle.{ParsingStyle}
 
 -- what a command line may say: mentions in order, and free words
@@ -77,15 +75,6 @@ pub record IsCountKeeping (options : Declared) (reading : Reading) (words : List
     : Type 0 where
   pub reads : IsReading (grammar_of options) reading words
   pub keeps : KeepsCounts (matches_of options reading).groups
-
--- The words have exactly one reading, which keeps the counts and has this content.
--- The words are accepted with this content.
-pub record IsAcceptedWith (options : Declared) (words : List Text) (content : Content)
-    : Type 0 where
-  pub reading : Reading
-  pub only : IsTheOnly (Reads options words) reading
-  pub counts : KeepsCounts (matches_of options reading).groups
-  pub content_is : content ≡ content_of options reading
 
 -- In some style and mode the words have a reading with this content that keeps the counts.
 -- The words say this content.

@@ -12,15 +12,11 @@ pub mod Borrows
 pub mod Fail
 pub mod Reading
 pub mod Matches
-pub mod Parse
 pub mod ReadingLaws
 pub mod Accessors
 pub mod Canon
-pub mod CanonAnswers
+pub mod Parse
 pub mod Results
-pub mod Unless
-pub mod Holds
-pub mod Returns
 pub mod Theorem
 pub mod Same
 pub mod Wrap

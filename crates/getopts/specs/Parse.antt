@@ -1,15 +1,36 @@
--- The results of `parse`: if options may be declared and words are UTF-8, exactly one of three
--- cases applies.
-use Rattle.std.specs.Prelude.{◌≡◌, ◌⊎◌, List}
+-- The results of the calls that read a command line, as relations, which state the promise. If
+-- options may be declared and words are UTF-8, the words are accepted, break a count or have no
+-- reading: exactly one of the three. `Results` defines the same results as functions.
+use Rattle.std.specs.Prelude.{◌≡◌, ◌⊎◌, List, Option, MatchOption, Result, MatchResult, ⊤, codes}
+use Rattle.std.specs.Prelude.{Some, None, Ok, Err, ◌<◌, ℕ, [], ◌∷◌, ◌++◌, drop, length, map, IfSome}
+use Rattle.std.specs.Prelude.{IsSome, slice_get}
+use Rattle.std.specs.List.{Any, AllByRecursion}
+use Rattle.std.specs.Option.{option_map}
 use Rattle.getopts.specs.Only.{IsTheOnly}
-use Rattle.getopts.specs.Names.{Text}
-use Rattle.getopts.specs.Options.{Declared, Grammar, grammar_of}
-use Rattle.getopts.specs.Fail.{Fault}
-use Rattle.getopts.specs.Reading.{Reading, IsReading, IsScanFault}
-use Rattle.getopts.specs.ReadingLaws.{LongAttachedOrSeparate, ShortAttachedOrSeparate, ClusterSplits}
-use Rattle.getopts.specs.ReadingLaws.{OneDashOrTwo, LinesCompose, TrailingStartIsAfterStop}
-use Rattle.getopts.specs.ReadingLaws.{FreeWordsAreSubsequence, PositionsAreWords}
-use Rattle.getopts.specs.Matches.{Matched, matches_of, KeepsCounts, IsCountFault}
+use Rattle.getopts.specs.Names.{Text, resolution}
+use Rattle.getopts.specs.Options.{Declared, grammar_of, names_of, Declares, Group, signatures_of}
+use Rattle.getopts.specs.Options.{kind_of, occur_of}
+use Rattle.getopts.specs.Fail.{Fault, IsOutOfMemoryOr}
+use Rattle.getopts.specs.Reading.{Reading, IsReading, IsScanFault, Given, order_of_reading}
+use Rattle.getopts.specs.Reading.{options_in, frees_in, occurrences_of, FitsKind, stop_word, option}
+use Rattle.getopts.specs.Reading.{free_word}
+use Rattle.getopts.specs.ReadingLaws.{HavePositionsInOrder, HavePositionsBelow}
+use Rattle.getopts.specs.Matches.{Matched, matches_of, KeepsCounts, IsCountFault, MatchedGroup}
+use Rattle.getopts.specs.Accessors.{IsDefined, occurrences_of_name, first_value}
+use Rattle.getopts.specs.Canon.{Content, IsPlain, IsSound, canonical_line, HasCanonicalLine}
+use Rattle.getopts.specs.Canon.{HasUnwritable, IsCountKeeping, content_of}
+use Rattle.getopts.specs.Results.{parse_ignoring_counts_result, parse_result, reading_or_error}
+use Rattle.getopts.specs.Results.{accepted_reading, canonical_result, parse_in_order_result}
+use Rattle.getopts.specs.Results.{parse_unless_result, parse_request_result}
+use Rattle.getopts.specs.declared.request.Request.{Request}
+use Rattle.getopts.specs.declared.request.Request.TheVariants.{Help, Version, Parsed}
+use Rattle.getopts.specs.declared.fail.Fail.{Fail}
+use Rattle.getopts.specs.declared.kinds.HasArg.{HasArg}
+use Rattle.getopts.specs.declared.kinds.HasArg.TheVariants.{Yes}
+use Rattle.getopts.specs.declared.kinds.Occur.TheVariants.{Req}
+use Rattle.getopts.specs.declared.kinds.ParsingStyle.TheVariants.{StopAtFirstFree}
+
+-- ---- accepted and rejected words
 
 -- This is a reading of the words by these options.
 abbrev pub Reads : Declared → List Text → Reading → Type 0
@@ -43,15 +64,215 @@ pub record HasNoReading (options : Declared) (words : List Text) (fault : Fault)
 abbrev pub IsRefused : Declared → List Text → Fault → Type 0
 IsRefused options words fault = HasNoReading options words fault ⊎ BreaksCounts options words fault
 
--- The laws are about other spellings of a command line, joined command lines, free words and
--- positions.
--- This grammar obeys the laws of readings.
-pub record KeepsReadingLaws (grammar : Grammar) : Type 0 where
-  pub long_argument : LongAttachedOrSeparate grammar
-  pub short_argument : ShortAttachedOrSeparate grammar
-  pub cluster : ClusterSplits grammar
-  pub dashes : OneDashOrTwo grammar
-  pub lines : LinesCompose grammar
-  pub trailing : TrailingStartIsAfterStop grammar
-  pub frees : FreeWordsAreSubsequence grammar
-  pub positions : PositionsAreWords grammar
+-- ---- contents, canonical lines and orders
+
+-- The words have exactly one reading, which keeps the counts and has this content.
+-- The words are accepted with this content.
+pub record IsAcceptedWith (options : Declared) (words : List Text) (content : Content)
+    : Type 0 where
+  pub reading : Reading
+  pub only : IsTheOnly (Reads options words) reading
+  pub counts : KeepsCounts (matches_of options reading).groups
+  pub content_is : content ≡ content_of options reading
+
+-- The words are accepted with a plain content, and this is its canonical line.
+pub record IsWritten (options : Declared) (words line : List Text) : Type 0 where
+  pub content : Content
+  pub accepted : IsAcceptedWith options words content
+  pub plain : IsPlain options.groups content
+  pub line_is : line ≡ canonical_line options.groups content
+
+-- Some mention of the content can't be written.
+-- The words are accepted with a content that is sound but not plain.
+pub record IsUnwritable (options : Declared) (words : List Text) : Type 0 where
+  pub content : Content
+  pub accepted : IsAcceptedWith options words content
+  pub sound : IsSound options.groups content
+  pub not_plain : ¬ (IsPlain options.groups content)
+  pub unwritable : HasUnwritable options content
+
+-- Each line that `canonical` returns obeys the laws of its content's canonical line.
+abbrev pub KeepsLineLaws : Declared → Type 0
+KeepsLineLaws options = (words line : List Text) → (written : IsWritten options words line)
+    → HasCanonicalLine options written.content
+
+-- The words are accepted, and this is the order of their reading. It has all mentions and all free
+-- words of their content.
+-- This is the order of the options and free words in the words.
+pub record IsOrder (options : Declared) (words : List Text) (order : List Given) : Type 0 where
+  pub content : Content
+  pub accepted : IsAcceptedWith options words content
+  pub order_is : order ≡ order_of_reading (grammar_of options) accepted.reading
+  pub options_are : options_in order ≡ content.mentions
+  pub frees_are : frees_in order ≡ content.free
+
+-- ---- help and version
+
+-- The name resolves to the group of some occurrence of the reading. Words that can't be read, and
+-- names that don't resolve, give nothing.
+-- The words give this name's option: they have a reading in which it occurs.
+pub record Gives (options : Declared) (words : List Text) (name : Text) : Type 0 where
+  pub reading : Reading
+  pub reads : Reads options words reading
+  pub occurs : Any (λ o. resolution (names_of options.groups) name ≡ Some o.mention.group)
+      (occurrences_of (grammar_of options) reading)
+
+-- The words give neither `help` nor `version`.
+abbrev pub RequestsNeither : Declared → List Text → Type 0
+RequestsNeither options words =
+    ¬ (Gives options words (codes "help")) × ¬ (Gives options words (codes "version"))
+
+-- If neither help nor the version is requested, what was parsed has this property.
+abbrev pub IfParsed : {T : Type 0} → Request T → (T → Type 0) → Type 0
+IfParsed (Parsed it) P = P it
+IfParsed request P = ⊤
+
+-- ---- the result of each call
+
+-- This is the reading of the words, or why there is none.
+abbrev pub IsReadingOf : Declared → List Text → Result Reading Fault → Type 0
+IsReadingOf options words answer =
+    MatchResult answer (Reads options words) (HasNoReading options words)
+
+-- This is the reading of the words that keeps the counts, or their first error.
+abbrev pub IsLineOf : Declared → List Text → Result Reading Fault → Type 0
+IsLineOf options words answer =
+    MatchResult answer (λ reading. IsCountKeeping options reading words) (IsRefused options words)
+
+-- This is the result of `parse` for these words, unless it is out of memory.
+abbrev pub IsParseAnswer : Declared → List Text → Result Matched Fault → Type 0
+IsParseAnswer options words answer =
+    MatchResult answer (IsAccepted options words) (IsRefused options words)
+
+-- This is the result of `parse_ignoring_counts` for these words, unless it is out of memory.
+abbrev pub IsReadAnswer : Declared → List Text → Result Matched Fault → Type 0
+IsReadAnswer options words answer =
+    MatchResult answer (HasReading options words) (HasNoReading options words)
+
+-- This is the result of `canonical` for these words, unless it is out of memory.
+abbrev pub IsCanonicalAnswer : Declared → List Text → Result (Option (List Text)) Fault → Type 0
+IsCanonicalAnswer options words answer =
+    MatchResult answer
+    (λ written. MatchOption written (IsUnwritable options words) (IsWritten options words))
+    (IsRefused options words)
+
+-- This is the result of `parse_in_order` for these words, unless it is out of memory.
+abbrev pub IsOrderAnswer : Declared → List Text → Result (List Given) Fault → Type 0
+IsOrderAnswer options words answer =
+    MatchResult answer (IsOrder options words) (IsRefused options words)
+
+-- If the words give the flag, there are no matches, whatever the counts. Otherwise the words are
+-- accepted or rejected as by `parse`.
+-- This is the result of `parse_unless` for this flag and these words, unless it is out of memory.
+abbrev pub IsUnlessAnswer : Declared → Text → List Text → Result (Option Matched) Fault → Type 0
+IsUnlessAnswer options flag words (Ok None) = Gives options words flag
+IsUnlessAnswer options flag words (Ok (Some matches)) =
+    ¬ (Gives options words flag) × IsAccepted options words matches
+IsUnlessAnswer options flag words (Err fault) =
+    ¬ (Gives options words flag) × IsRefused options words fault
+
+-- If the words give `help`, help is requested, whatever the counts. If they give `version` but not
+-- `help`, the version is. Otherwise the words are accepted or rejected as by `parse`.
+-- This is the result of `parse_request` for these words, unless it is out of memory.
+abbrev pub IsRequestAnswer : Declared → List Text → Result (Request Matched) Fault → Type 0
+IsRequestAnswer options words (Ok Help) = Gives options words (codes "help")
+IsRequestAnswer options words (Ok Version) =
+    ¬ (Gives options words (codes "help")) × Gives options words (codes "version")
+IsRequestAnswer options words (Ok (Parsed matches)) =
+    RequestsNeither options words × IsAccepted options words matches
+IsRequestAnswer options words (Err fault) =
+    RequestsNeither options words × IsRefused options words fault
+
+-- Each function computes the only result that its relation allows.
+pub record HasResults (options : Declared) (words : List Text) : Type 0 where
+  pub reading : IsTheOnly (IsReadingOf options words) (reading_or_error options words)
+  pub line : IsTheOnly (IsLineOf options words) (accepted_reading options words)
+  pub parse : IsTheOnly (IsParseAnswer options words) (parse_result options words)
+  pub read : IsTheOnly (IsReadAnswer options words) (parse_ignoring_counts_result options words)
+  pub canonical : IsTheOnly (IsCanonicalAnswer options words) (canonical_result options words)
+  pub order : IsTheOnly (IsOrderAnswer options words) (parse_in_order_result options words)
+  pub unless : (flag : Text)
+      → IsTheOnly (IsUnlessAnswer options flag words) (parse_unless_result options flag words)
+  pub request : IsTheOnly (IsRequestAnswer options words) (parse_request_result options words)
+
+-- The call's answer is out of memory or, with its value converted, has the property `Is`.
+abbrev pub ReturnsConverted : {A X : Type 0} → (A → X) → Result A Fail → (Result X Fault → Type 0)
+    → Type 0
+ReturnsConverted convert answer Is =
+    MatchResult answer (λ value. Is (Ok (convert value))) (λ fail. IsOutOfMemoryOr fail (λ fault. Is (Err fault)))
+
+-- The call's answer is out of memory, or this result.
+abbrev pub ReturnsResult : {X : Type 0} → Result X Fail → Result X Fault → Type 0
+ReturnsResult answer result = ReturnsConverted (λ value. value) answer (λ it. result ≡ it)
+
+-- ---- what accepted words and their matches obey
+
+-- The groups in the matches have the names and kinds of the options' groups, in the same order.
+abbrev pub AreGroupsOf : Declared → List MatchedGroup → Type 0
+AreGroupsOf options groups = map (λ group. group.signature) groups ≡ signatures_of options.groups
+
+-- The occurrences of each group have values that fit its kind.
+abbrev pub HaveValuesByKind : List MatchedGroup → Type 0
+HaveValuesByKind groups =
+    AllByRecursion (λ group. AllByRecursion (λ found. FitsKind group.signature.kind found.value)
+    group.found) groups
+
+-- The groups are those of the options, with positions in order and values that fit their kinds. An
+-- option that needs an argument and was given has a value.
+-- The matches fit the options: each declared name is defined.
+pub record FitOptions (options : Declared) (groups : List MatchedGroup) : Type 0 where
+  pub same_groups : AreGroupsOf options groups
+  pub positions_in_order : HavePositionsInOrder groups
+  pub values_fit : HaveValuesByKind groups
+  pub defined : (name : Text) → Declares options name → IsDefined groups name
+  pub needed : (name : Text) → kind_of options.groups name ≡ Some Yes
+      → 0 < length (occurrences_of_name groups name)
+      → IsSome (first_value (occurrences_of_name groups name))
+
+-- Accepted matches also keep the counts, so each required option was given exactly once.
+pub record FitOptionsAndCounts (options : Declared) (groups : List MatchedGroup) : Type 0 where
+  pub given : FitOptions options groups
+  pub counts_kept : KeepsCounts groups
+  pub required : (name : Text) → occur_of options.groups name ≡ Some Req
+      → length (occurrences_of_name groups name) ≡ 1
+
+-- the kind of argument of the group at this place
+abbrev pub kind_at : List Group → ℕ → Option HasArg
+kind_at groups place = option_map (λ (group : Group). group.signature.kind) (slice_get groups place)
+
+-- An option's place is below the number of groups, and its value fits its group's kind.
+-- The groups declare what is given.
+abbrev pub IsDeclared : List Group → Given → Type 0
+IsDeclared groups (option place value) =
+    (place < length groups) × IfSome (kind_at groups place) (λ kind. FitsKind kind value)
+IsDeclared groups (free_word word) = ⊤
+
+-- The words before the free words give the same options by themselves, and no free words.
+-- The words end in the free words.
+pub record EndsInFreeWords (options : Declared) (words : List Text) (matches : Matched)
+    : Type 0 where
+  pub before : List Text
+  pub words_are : words ≡ before ++ matches.free
+  pub alone : parse_result options before
+      ≡ Ok (record matches { free = []; trailing_start = None })
+
+-- Under `StopAtFirstFree`, options precede the free words, which are the last words of the line.
+abbrev pub HaveLastWordsFree : Declared → List Text → Matched → Type 0
+HaveLastWordsFree options words matches =
+    options.style ≡ StopAtFirstFree → EndsInFreeWords options words matches
+
+-- There is at least one free word from the trailing start on.
+-- The words are some words, `--`, and the free words from the trailing start on.
+pub record EndsInTrailing (words : List Text) (matches : Matched) (start : ℕ) : Type 0 where
+  pub below : start < length matches.free
+  pub before : List Text
+  pub words_are : words ≡ before ++ stop_word ∷ drop start matches.free
+
+-- Positions are indices of words. Under `StopAtFirstFree` the words end in the free words. If there
+-- is a trailing start, they end in `--` and the free words from there on.
+-- The options accept the words with these matches.
+pub record Accepts (options : Declared) (words : List Text) (matches : Matched) : Type 0 where
+  pub accepted : IsAccepted options words matches
+  pub positions_below : HavePositionsBelow (length words) matches.groups
+  pub free_last : HaveLastWordsFree options words matches
+  pub trailing : IfSome matches.trailing_start (EndsInTrailing words matches)

@@ -200,3 +200,16 @@ pub record PositionsAreWords (grammar : Grammar) : Type 0 where
 abbrev pub HavePositionsBelow : ℕ → List MatchedGroup → Type 0
 HavePositionsBelow count groups =
     AllByRecursion (λ group. AllByRecursion (λ found. found.position < count) group.found) groups
+
+-- The laws are about other spellings of a command line, joined command lines, free words and
+-- positions.
+-- This grammar obeys the laws of readings.
+pub record KeepsReadingLaws (grammar : Grammar) : Type 0 where
+  pub long_argument : LongAttachedOrSeparate grammar
+  pub short_argument : ShortAttachedOrSeparate grammar
+  pub cluster : ClusterSplits grammar
+  pub dashes : OneDashOrTwo grammar
+  pub lines : LinesCompose grammar
+  pub trailing : TrailingStartIsAfterStop grammar
+  pub frees : FreeWordsAreSubsequence grammar
+  pub positions : PositionsAreWords grammar

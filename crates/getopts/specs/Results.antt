@@ -1,19 +1,23 @@
--- The results as functions. Nobody has to trust these definitions: `HasResults` says that each
--- function gives what a relation of `Returns` or `CanonAnswers` describes. An *outcome* is a
--- reading or an error.
-use Rattle.std.specs.Prelude.{◌==◌, if◌then◌else◌, not, List, [], ◌∷◌, ◌++◌}
-use Rattle.std.specs.Prelude.{length, Option, Some, None, Result, Ok, Err}
+-- The results of the calls that read a command line, as functions. Nobody has to trust these
+-- definitions: `HasResults` says that each function gives what a relation of `Parse` describes. An
+-- *outcome* is a reading or an error.
+use Rattle.std.specs.Prelude.{◌==◌, if◌then◌else◌, not, List, [], ◌∷◌, ◌++◌, length, Option, Some}
+use Rattle.std.specs.Prelude.{None, Result, Ok, Err, codes}
 use Rattle.std.specs.List.{list_all}
+use Rattle.std.specs.Result.{result_map_both}
 use Rattle.getopts.specs.Names.{Text, main_name}
 use Rattle.getopts.specs.Options.{Group, Grammar, Declared, grammar_of}
 use Rattle.getopts.specs.Fail.{Fault}
-use Rattle.getopts.specs.Reading.{dash, none, separate, one, two, Item, free, line_end}
-use Rattle.getopts.specs.Reading.{stop, rest, Reading, holds_equals, Given, order_of_reading}
+use Rattle.getopts.specs.Reading.{dash, none, separate, one, two, Item, free, line_end, stop, rest}
+use Rattle.getopts.specs.Reading.{Reading, holds_equals, Given, order_of_reading}
 use Rattle.getopts.specs.Matches.{MatchedGroup, Matched, matches_of, fits_count, count_fault}
+use Rattle.getopts.specs.Accessors.{is_present}
 use Rattle.getopts.specs.Canon.{Content, content_of, main_at, canonical_line}
 use Rattle.getopts.specs.Step.{Step, ends, takes, faults, long_step, cluster_step}
 use Rattle.getopts.specs.declared.kinds.ParsingStyle.{ParsingStyle}
 use Rattle.getopts.specs.declared.kinds.ParsingStyle.TheVariants.{FloatingFrees, StopAtFirstFree}
+use Rattle.getopts.specs.declared.request.Request.{Request}
+use Rattle.getopts.specs.declared.request.Request.TheVariants.{Help, Version, Parsed}
 
 -- the step of a word that isn't dashed
 abbrev pub free_step : ParsingStyle → Text → List Text → Step
@@ -127,3 +131,30 @@ canonical_result options words =
 abbrev pub parse_in_order_result : Declared → List Text → Result (List Given) Fault
 parse_in_order_result options words =
     made_of (order_of_reading (grammar_of options)) (accepted_reading options words)
+
+-- The two results are those without and with counts checked: if the flag is given, an option may be
+-- missing or be given too often.
+-- a command line's error; or its matches, or none if it gives the flag
+abbrev pub unless_given : Text → Result Matched Fault → Result Matched Fault
+    → Result (Option Matched) Fault
+unless_given flag (Err fault) line = Err fault
+unless_given flag (Ok read) line = if is_present read.groups flag then Ok None
+    else result_map_both Some (λ fault. fault) line
+
+-- the result of `parse_unless`
+abbrev pub parse_unless_result : Declared → Text → List Text → Result (Option Matched) Fault
+parse_unless_result options flag words =
+    unless_given flag (parse_ignoring_counts_result options words) (parse_result options words)
+
+-- The two results are those without and with counts checked. Help takes precedence.
+-- a command line's error; or its request: help, the version, or its matches
+abbrev pub request_of : Result Matched Fault → Result Matched Fault → Result (Request Matched) Fault
+request_of (Err fault) line = Err fault
+request_of (Ok read) line = if is_present read.groups (codes "help") then Ok Help
+    else (if is_present read.groups (codes "version") then Ok Version
+    else result_map_both Parsed (λ fault. fault) line)
+
+-- the result of `parse_request`
+abbrev pub parse_request_result : Declared → List Text → Result (Request Matched) Fault
+parse_request_result options words =
+    request_of (parse_ignoring_counts_result options words) (parse_result options words)

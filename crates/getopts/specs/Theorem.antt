@@ -7,12 +7,10 @@ use Rattle.getopts.specs.Options.{Declared, grammar_of}
 use Rattle.getopts.specs.Fail.{Fault}
 use Rattle.getopts.specs.Reading.{Reading, IsScanFault}
 use Rattle.getopts.specs.Matches.{Matched, matches_of, IsCountFault}
-use Rattle.getopts.specs.Parse.{Reads, HasReading, IsAccepted, IsRefused}
+use Rattle.getopts.specs.Parse.{Reads, HasReading, IsAccepted, IsRefused, IsWritten, HasResults}
 use Rattle.getopts.specs.Canon.{Content, content_of, IsPlain, canonical_line, IsCountKeeping, Says}
 use Rattle.getopts.specs.Canon.{with_setting}
 use Rattle.getopts.specs.declared.kinds.ParsingStyle.{ParsingStyle}
-use Rattle.getopts.specs.CanonAnswers.{IsWritten}
-use Rattle.getopts.specs.Returns.{HasResults}
 
 -- Any words have at most one reading.
 abbrev pub OneReading : Declared → Type 0

@@ -6,7 +6,7 @@ ghost use Rattle.std.specs.List.{list_all};
 ghost use Rattle.std.specs.Option.{option_copied, option_map};
 ghost use Rattle.std.specs.String.{string_bytes};
 ghost use Rattle.getopts.specs.Accessors.{borrowed_given};
-ghost use Rattle.getopts.specs.Holds.{IsDeclared};
+ghost use Rattle.getopts.specs.Parse.{IsDeclared};
 ghost use Rattle.getopts.specs.Reading.{holds_equals, long_word, options_in, two};
 ghost use Rattle.getopts.specs.Canon.{canonical_line, main_at};
 ghost use Rattle.getopts.specs.Fail.{IsOutOfMemoryOr};
@@ -104,10 +104,9 @@ fn canonical_line(
 impl Options {
     ghost use Rattle.std.specs.Iterator.{IsFinite};
     ghost use Rattle.std.specs.Iterator.Runs.{WholeRun};
-    ghost use Rattle.getopts.specs.Parse.{IsRefused};
-    ghost use Rattle.getopts.specs.Returns.{ReturnsConverted};
+    ghost use Rattle.getopts.specs.Parse.{IsRefused, ReturnsConverted, IsWritten, IsUnwritable};
+    ghost use Rattle.getopts.specs.Parse.{KeepsLineLaws};
     ghost use Rattle.getopts.specs.Results.{canonical_result};
-    ghost use Rattle.getopts.specs.CanonAnswers.{IsWritten, IsUnwritable, KeepsLineLaws};
     ghost use Rattle.getopts.specs.Theorem.{LinesReadAgain};
 
     /// Rewrites an accepted command line with main names only, for programs that log, compare or

@@ -5,13 +5,12 @@ ghost use Rattle.getopts.specs.Canon.{Content, Says, IsSound, IsPlain, HasCanoni
 ghost use Rattle.getopts.specs.declared.kinds.ParsingStyle.{ParsingStyle};
 ghost use Rattle.std.specs.Prelude.{ℕ, List, Bool};
 ghost use Rattle.getopts.specs.Accessors.{held_names};
-ghost use Rattle.getopts.specs.CanonAnswers.{IsParseAnswer, IsCanonicalAnswer, KeepsLineLaws};
-ghost use Rattle.getopts.specs.Returns.{HasResults};
+ghost use Rattle.getopts.specs.Parse.{IsParseAnswer, IsCanonicalAnswer, KeepsLineLaws, HasResults};
 ghost use Rattle.getopts.specs.Names.{Text, AreTexts, MainNameResolves, OneByteIsShort};
 ghost use Rattle.getopts.specs.Names.{EmptyResolvesNot};
 ghost use Rattle.getopts.specs.Only.{AtMostOne, IsTheOnly};
 ghost use Rattle.getopts.specs.Options.{Declared, MayBeDeclared, names_of, grammar_of};
-ghost use Rattle.getopts.specs.Parse.{KeepsReadingLaws};
+ghost use Rattle.getopts.specs.ReadingLaws.{KeepsReadingLaws};
 ghost use Rattle.getopts.specs.Theorem.{OneReading, AcceptedExactlyWhen, RefusedExactlyWhen};
 ghost use Rattle.getopts.specs.Theorem.{HaveResults, OneContentHoldsSame, LinesReadAgain};
 ghost use Rattle.getopts.specs.Theorem.{OneLineOneContent};

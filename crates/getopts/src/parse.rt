@@ -18,15 +18,14 @@ use std::convert::AsStr;
 
 impl Options {
     ghost use Rattle.getopts.specs.Options.{MayBeDeclared, grammar_of, names_of, signatures_of};
-    ghost use Rattle.getopts.specs.Parse.{IsRefused, HasReading, HasNoReading, KeepsReadingLaws};
-    ghost use Rattle.getopts.specs.Returns.{ReturnsConverted, ReturnsResult};
+    ghost use Rattle.getopts.specs.Parse.{IsRefused, HasReading, HasNoReading, ReturnsConverted};
+    ghost use Rattle.getopts.specs.Parse.{ReturnsResult, IsOrder, FitOptionsAndCounts, FitOptions};
+    ghost use Rattle.getopts.specs.Parse.{Accepts, EndsInTrailing, IsDeclared};
+    ghost use Rattle.getopts.specs.ReadingLaws.{KeepsReadingLaws};
     ghost use Rattle.getopts.specs.Results.{parse_result, parse_ignoring_counts_result};
     ghost use Rattle.getopts.specs.Results.{parse_in_order_result};
-    ghost use Rattle.getopts.specs.CanonAnswers.{IsOrder};
     ghost use Rattle.getopts.specs.Matches.{matches_of};
     ghost use Rattle.getopts.specs.Results.{made_of};
-    ghost use Rattle.getopts.specs.Holds.{FitOptionsAndCounts, FitOptions, Accepts, EndsInTrailing};
-    ghost use Rattle.getopts.specs.Holds.{IsDeclared};
     ghost use Rattle.getopts.specs.Stored.Index.{index_of, indices_in};
     ghost use Rattle.getopts.specs.Stored.Scan.{GivesLine, IsLeft, reading_if};
     ghost use Rattle.getopts.specs.Stored.Table.{IsTableOf};

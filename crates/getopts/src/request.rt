@@ -3,11 +3,10 @@
 ghost use Rattle.std.specs.Prelude.{◌≡◌, map, Ok, IfOk, IfErr, IfSome, OnOk};
 ghost use Rattle.getopts.specs.Fail.{IsOutOfMemoryOr};
 ghost use Rattle.getopts.specs.Options.{grammar_of};
-ghost use Rattle.getopts.specs.Parse.{IsRefused, KeepsReadingLaws};
-ghost use Rattle.getopts.specs.Results.{parse_result};
-ghost use Rattle.getopts.specs.Returns.{ReturnsResult};
-ghost use Rattle.getopts.specs.Holds.{Accepts, FitOptionsAndCounts};
-ghost use Rattle.getopts.specs.Unless.{parse_unless_result, parse_request_result, IfParsed};
+ghost use Rattle.getopts.specs.Parse.{IsRefused, ReturnsResult, Accepts, FitOptionsAndCounts};
+ghost use Rattle.getopts.specs.Parse.{IfParsed};
+ghost use Rattle.getopts.specs.ReadingLaws.{KeepsReadingLaws};
+ghost use Rattle.getopts.specs.Results.{parse_result, parse_unless_result, parse_request_result};
 
 use crate::fail::Fail;
 use crate::matches::Matches;

@@ -6,11 +6,10 @@ use Rattle.std.proofs.Math.Seq.{take-append_seam}
 use Rattle.std.specs.Prelude.{if◌then◌else◌, MatchResult}
 use Rattle.std.specs.Str.{IsUtf8}
 use Rattle.getopts.specs.Fail.{Fault}
-use Rattle.getopts.specs.Returns.{IsReadingOf}
+use Rattle.getopts.specs.Parse.{IsReadingOf, Reads}
 use Rattle.getopts.specs.Matches.{Matched, MatchedGroup, matches_of}
 use Rattle.getopts.specs.Names.{AreTexts, Text, texts}
 use Rattle.getopts.specs.Options.{Declared, Grammar, MayBeDeclared, grammar_of}
-use Rattle.getopts.specs.Parse.{Reads}
 use Rattle.getopts.specs.Reading.{AreWellFollowed, EndsOrIsDashed, IsReading, Item, Reading, Tail, free_items}
 use Rattle.getopts.specs.Reading.{line_end, rest, spelled_all, stop, stop_word}
 use Rattle.getopts.specs.Results.{made_of, parse_ignoring_counts_result, reading_or_error}

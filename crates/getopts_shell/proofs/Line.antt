@@ -3,7 +3,7 @@ use Rattle.std.proofs.Common.{◌≡◌, ◌≢◌, ℕ, zero, suc, false, List,
 use Rattle.std.specs.List.{AllByRecursion}
 use Rattle.std.specs.Option.{option_map_or}
 use Rattle.getopts.specs.Canon.{canonical_word, main_at}
-use Rattle.getopts.specs.CanonAnswers.{IsUnwritable, IsWritten, KeepsLineLaws}
+use Rattle.getopts.specs.Parse.{IsUnwritable, IsWritten, KeepsLineLaws}
 use Rattle.getopts.specs.Names.{AreTexts, Text, resolution, EmptyResolvesNot}
 use Rattle.getopts.specs.Options.{Declared, Group, names_of}
 use Rattle.getopts.specs.Reading.{Mention, holds_equals, stop_word}

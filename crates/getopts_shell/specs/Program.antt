@@ -9,7 +9,7 @@ use Rattle.std.specs.Option.{option_map_or, unwrap_or}
 use Rattle.std.specs.Str.{bytes_eq}
 use Rattle.getopts.specs.Accessors.{first_value, is_present, occurrences_of_name}
 use Rattle.getopts.specs.Canon.{HasCanonicalLine, canonical_word}
-use Rattle.getopts.specs.CanonAnswers.{IsWritten}
+use Rattle.getopts.specs.Parse.{IsWritten}
 use Rattle.getopts.specs.Fail.{Fault, fault_text}
 use Rattle.getopts.specs.Matches.{Matched}
 use Rattle.getopts.specs.Names.{AreTexts, Text, main_name}

@@ -3,7 +3,7 @@ use Rattle.std.proofs.Common.{◌≡◌, List, Option, Some, None, IfNone, Resul
 use Rattle.std.specs.Borrow.{Bor}
 use Rattle.std.specs.Iterator.Runs.{EachRunFrom, IsCopiedRun, SomeRun, WholeRun, YieldsRefsInOrder}
 use Rattle.getopts.specs.Fail.{Fault}
-use Rattle.getopts.specs.Returns.{ReturnsConverted}
+use Rattle.getopts.specs.Parse.{ReturnsConverted}
 use Rattle.getopts.specs.declared.fail.Fail.{Fail}
 
 module _ {S T A : Type 0} {steps : S → Option (Bor A) → S → Type 0}

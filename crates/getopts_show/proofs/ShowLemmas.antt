@@ -10,7 +10,7 @@ use Rattle.getopts.specs.Names.{Text, main_name, texts}
 use Rattle.getopts.specs.Options.{Group}
 use Rattle.getopts.specs.Reading.{Reading}
 use Rattle.getopts.specs.Only.{IsTheOnly}
-use Rattle.getopts.specs.Returns.{IsLineOf}
+use Rattle.getopts.specs.Parse.{IsLineOf}
 use Rattle.getopts_show.specs.Program.{HasProgramGroups, IsProgramText, IsReadingText, IsResultText, asks_help}
 use Rattle.getopts_show.specs.Program.{group_lines, named_lines, program_groups, program_options}
 

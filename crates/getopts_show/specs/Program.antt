@@ -10,7 +10,7 @@ use Rattle.getopts.specs.Matches.{GroupOccurrence, Matched, MatchedGroup, matche
 use Rattle.getopts.specs.Names.{Text, main_name}
 use Rattle.getopts.specs.Options.{Group, Declared, group_of, signatures_of}
 use Rattle.getopts.specs.Reading.{Occurrence, Reading}
-use Rattle.getopts.specs.Returns.{IsLineOf}
+use Rattle.getopts.specs.Parse.{IsLineOf}
 use Rattle.getopts.specs.Only.{IsTheOnly}
 use Rattle.getopts.specs.Usage.{IsUsageText}
 use Rattle.getopts.specs.declared.kinds.HasArg.TheVariants.{Yes, No, Maybe}

@@ -3,8 +3,7 @@
 
 ghost use Rattle.std.specs.Prelude.{◌≡◌, List, Some, map, IfOk, Ok};
 ghost use Rattle.std.specs.String.{string_bytes};
-ghost use Rattle.getopts.specs.CanonAnswers.{IsWritten};
-ghost use Rattle.getopts.specs.Returns.{ReturnsConverted};
+ghost use Rattle.getopts.specs.Parse.{IsWritten, ReturnsConverted};
 ghost use Rattle.getopts.specs.Prelude.{Text};
 ghost use Rattle.getopts.specs.Results.{canonical_result};
 ghost use Rattle.getopts_uses.specs.Logged.{build_options, said_of, said_result};

@@ -3,7 +3,7 @@
 
 ghost use Rattle.std.specs.Prelude.{◌≡◌, codes, map, IfOk, Ok, OnOk};
 ghost use Rattle.std.specs.String.{string_bytes};
-ghost use Rattle.getopts.specs.Holds.{EndsInFreeWords};
+ghost use Rattle.getopts.specs.Parse.{EndsInFreeWords};
 ghost use Rattle.getopts.specs.Prelude.{FitOptions, FitOptionsAndCounts, Matched, parse_result};
 ghost use Rattle.getopts.specs.UsageResults.{usage_in_result, usage_result};
 ghost use Rattle.getopts_uses.specs.Command.{IsAddOf, IsAddOrError, IsCommandOrError, IsLogOf};

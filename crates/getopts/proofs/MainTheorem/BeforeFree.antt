@@ -6,8 +6,7 @@ use Rattle.getopts.specs.Options.{Declared, Grammar, MayBeDeclared, grammar_of}
 use Rattle.getopts.specs.Reading.{Item, free, long, cluster, Tail, line_end, stop, rest, Reading, IsLawfulItem}
 use Rattle.getopts.specs.Reading.{AreWellFollowed, free_items, spelled_all, stop_word, tail_frees, tail_words}
 use Rattle.getopts.specs.Matches.{Matched}
-use Rattle.getopts.specs.Parse.{Reads, HasReading, IsAccepted}
-use Rattle.getopts.specs.Holds.{HaveLastWordsFree, Accepts}
+use Rattle.getopts.specs.Parse.{Reads, HasReading, IsAccepted, HaveLastWordsFree, Accepts}
 use Rattle.getopts.proofs.parse.Holds.{EndsInTrailing-read}
 use Rattle.getopts.specs.declared.kinds.ParsingStyle.TheVariants.{StopAtFirstFree}
 use Rattle.getopts.proofs.MainTheorem.Accepted.{parse_result-accepted}

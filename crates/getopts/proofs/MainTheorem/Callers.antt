@@ -11,13 +11,12 @@ use Rattle.getopts.specs.Names.{Text, main_name}
 use Rattle.getopts.specs.Options.{Declared, MayBeDeclared, Group}
 use Rattle.getopts.specs.Reading.{Reading, Mention, holds_equals}
 use Rattle.getopts.specs.Canon.{content_of, canonical_reading, with_setting, main_at}
-use Rattle.getopts.specs.CanonAnswers.{IsWritten, KeepsLineLaws, IsUnwritable}
+use Rattle.getopts.specs.Parse.{IsWritten, KeepsLineLaws, IsUnwritable, HasReading}
 use Rattle.getopts.specs.Matches.{GroupOccurrence, Matched, MatchedGroup, matches_of}
 use Rattle.getopts.specs.ReadingLaws.{HavePositionsInOrder, HavePositionsBelow}
 use Rattle.std.specs.List.Sorted.{IsNonDecreasingBy}
 use Rattle.getopts.proofs.Lists.{AllByRecursion-at}
 use Rattle.getopts.specs.Accessors.{occurrences_of_name, each_value, first_value, is_present, values_of}
-use Rattle.getopts.specs.Parse.{HasReading}
 use Rattle.getopts.specs.Theorem.{HaveSameValues}
 use Rattle.getopts.specs.Fail.{Fault}
 use Rattle.getopts.specs.Results.{parse_result, canonical_result, written_line}

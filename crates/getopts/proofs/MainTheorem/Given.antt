@@ -14,10 +14,9 @@ use Rattle.getopts.specs.Fail.{Fault}
 use Rattle.getopts.specs.Reading.{Reading, Occurrence, occurrences_of}
 use Rattle.getopts.specs.Matches.{GroupOccurrence, MatchedGroup, Matched, matches_of, occurrences_mentioning}
 use Rattle.getopts.specs.Accessors.{is_present}
-use Rattle.getopts.specs.Parse.{HasReading, HasNoReading}
-use Rattle.getopts.specs.CanonAnswers.{IsParseAnswer}
-use Rattle.getopts.specs.Returns.{IsReadAnswer}
-use Rattle.getopts.specs.Unless.{Gives, IsUnlessAnswer, IsRequestAnswer, unless_given, request_of}
+use Rattle.getopts.specs.Parse.{HasReading, HasNoReading, IsParseAnswer, IsReadAnswer, Gives, IsUnlessAnswer}
+use Rattle.getopts.specs.Parse.{IsRequestAnswer}
+use Rattle.getopts.specs.Results.{unless_given, request_of}
 use Rattle.getopts.specs.declared.request.Request.{Request}
 use Rattle.getopts.specs.declared.request.Request.TheVariants.{Help, Version, Parsed}
 use Rattle.getopts.proofs.canon.Answered.{reads_of}

@@ -8,12 +8,11 @@ use Rattle.getopts.specs.Options.{Declared, MayBeDeclared, grammar_of}
 use Rattle.getopts.specs.Fail.{Fault}
 use Rattle.getopts.specs.Reading.{Reading, IsReading, holds_equals, order_of_reading}
 use Rattle.getopts.specs.Matches.{Matched, matches_of}
-use Rattle.getopts.specs.Parse.{Reads, IsRefused, HasReading, HasNoReading}
-use Rattle.getopts.specs.Holds.{Accepts}
-use Rattle.getopts.specs.Canon.{Content, content_of, main_at, canonical_line, IsAcceptedWith, IsCountKeeping}
-use Rattle.getopts.specs.CanonAnswers.{IsCanonicalAnswer, IsOrder}
+use Rattle.getopts.specs.Parse.{Reads, IsRefused, HasReading, HasNoReading, Accepts, IsAcceptedWith, IsCanonicalAnswer}
+use Rattle.getopts.specs.Parse.{IsOrder}
+use Rattle.getopts.specs.Canon.{Content, content_of, main_at, canonical_line, IsCountKeeping}
 use Rattle.getopts.specs.Results as Spec
-use Rattle.getopts.specs.Returns.{IsLineOf, HasResults}
+use Rattle.getopts.specs.Parse.{IsLineOf, HasResults}
 use Rattle.getopts.proofs.canon.Lines.{is_plain-true, is_plain-from, Says-accepted, IsSound-says}
 use Rattle.getopts.proofs.canon.Lines.{HasUnwritable-content}
 use Rattle.getopts.proofs.canon.Answered as Answered

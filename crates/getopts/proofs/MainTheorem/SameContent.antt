@@ -6,7 +6,7 @@ use Rattle.getopts.specs.Options.{Declared, MayBeDeclared, names_of, signatures_
 use Rattle.getopts.specs.Reading.{Reading, Occurrence, free_words}
 use Rattle.getopts.specs.ReadingLaws.{mentions_of}
 use Rattle.getopts.specs.Canon.{Content, content_of, canonical_reading, with_setting}
-use Rattle.getopts.specs.CanonAnswers.{KeepsLineLaws}
+use Rattle.getopts.specs.Parse.{KeepsLineLaws}
 use Rattle.getopts.specs.Matches.{Matched, matched, matches_of, KeepsCounts}
 use Rattle.getopts.specs.Accessors.{occurrences_of_name, each_value}
 use Rattle.getopts.specs.Theorem.{AcceptedExactlyWhen, HaveSameValues, OneContentHoldsSame, LinesReadAgain}

@@ -9,11 +9,10 @@ use Rattle.getopts.specs.Reading.{equals_sign, holds_equals, Reading, IsScanFaul
 use Rattle.getopts.specs.Reading.{order_of_reading}
 use Rattle.getopts.specs.Matches.{Matched, matches_of, KeepsCounts}
 use Rattle.std.specs.Prelude.{MatchOption, MatchResult}
-use Rattle.getopts.specs.Parse.{Reads, IsAccepted, HasReading, HasNoReading, IsRefused}
-use Rattle.getopts.specs.Returns.{IsReadAnswer}
-use Rattle.getopts.specs.Canon.{Content, IsCountKeeping, IsPlain, IsAcceptedWith}
-use Rattle.getopts.specs.CanonAnswers.{IsWritten, IsUnwritable, IsParseAnswer, IsCanonicalAnswer, IsOrderAnswer}
-use Rattle.getopts.specs.CanonAnswers.{IsOrder, KeepsLineLaws}
+use Rattle.getopts.specs.Parse.{Reads, IsAccepted, HasReading, HasNoReading, IsRefused, IsReadAnswer, IsAcceptedWith}
+use Rattle.getopts.specs.Parse.{IsWritten, IsUnwritable, IsParseAnswer, IsCanonicalAnswer, IsOrderAnswer, IsOrder}
+use Rattle.getopts.specs.Parse.{KeepsLineLaws}
+use Rattle.getopts.specs.Canon.{Content, IsCountKeeping, IsPlain}
 use Rattle.getopts.proofs.canon.Lines.{HasCanonicalLine-says, Says-accepted}
 use Rattle.getopts.proofs.counts.FirstFault.{first_count_fault-kept, first_count_fault-broken}
 use Rattle.getopts.proofs.Only.{meets}

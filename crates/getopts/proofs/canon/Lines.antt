@@ -16,13 +16,13 @@ use Rattle.getopts.specs.Options.{Signature, Group, Declared, AreLawfullyNamed, 
 use Rattle.getopts.specs.Reading.{holds_equals, stop_word, Argument, flags, ends_in, value_of, FitsKind, Item, free}
 use Rattle.getopts.specs.Reading.{long, cluster, FitsLong, FitsEnd, IsFlag, IsLawfulItem, Reading, IsReading, Mention}
 use Rattle.getopts.specs.Reading.{mention_of, mentions, Occurrence, occurrences_of, free_items}
-use Rattle.getopts.specs.Holds.{kind_at}
+use Rattle.getopts.specs.Parse.{kind_at, IsAcceptedWith}
 use Rattle.getopts.specs.Step.{cut_at_equals}
 use Rattle.getopts.specs.ReadingLaws.{mentions_of}
 use Rattle.getopts.specs.Matches.{occurrences_mentioning, matched, KeepsCounts}
 use Rattle.getopts.specs.Canon.{Content, content_of, main_at, IsPlain, IsSound, canonical_word, canonical_line}
-use Rattle.getopts.specs.Canon.{attached_value, canonical_item, canonical_reading, with_setting, IsAcceptedWith, Says}
-use Rattle.getopts.specs.Canon.{ReadsBack, HasCanonicalLine, HasNoItem, HasUnwritable}
+use Rattle.getopts.specs.Canon.{attached_value, canonical_item, canonical_reading, with_setting, Says, ReadsBack}
+use Rattle.getopts.specs.Canon.{HasCanonicalLine, HasNoItem, HasUnwritable}
 use Rattle.getopts.specs.Theorem.{OneLineOneContent}
 use Rattle.getopts.specs.declared.kinds.HasArg.{HasArg}
 use Rattle.getopts.specs.declared.kinds.ParsingStyle.{ParsingStyle}

@@ -11,8 +11,8 @@ use Rattle.getopts.specs.Reading.{Occurrence, spelled_all, occurrences_of, stop,
 use Rattle.getopts.specs.Matches.{GroupOccurrence, Matched, MatchedGroup, occurrences_mentioning, matched, fits_count}
 use Rattle.getopts.specs.Matches.{KeepsCounts}
 use Rattle.getopts.specs.Accessors.{place_of, occurrences_of_name, occurrences_of_group, first_value}
-use Rattle.getopts.specs.Parse.{IsAccepted, HasReading}
-use Rattle.getopts.specs.Holds.{AreGroupsOf, HaveValuesByKind, FitOptions, FitOptionsAndCounts, EndsInTrailing}
+use Rattle.getopts.specs.Parse.{IsAccepted, HasReading, AreGroupsOf, HaveValuesByKind, FitOptions, FitOptionsAndCounts}
+use Rattle.getopts.specs.Parse.{EndsInTrailing, kind_at, IsDeclared}
 use Rattle.getopts.specs.Stored.Signatures.{kinds_of}
 use Rattle.getopts.specs.declared.kinds.HasArg.{HasArg}
 use Rattle.getopts.specs.declared.kinds.HasArg.TheVariants.{Yes}
@@ -20,7 +20,6 @@ use Rattle.getopts.specs.declared.kinds.Occur.{Occur}
 use Rattle.getopts.specs.declared.kinds.Occur.TheVariants.{Req}
 use Rattle.getopts.proofs.Lists.{AllByRecursion-filter, AllByRecursion-map, AllByRecursion-unmap}
 use Rattle.getopts.proofs.counts.Groups.{AllByRecursion-matched}
-use Rattle.getopts.specs.Holds.{kind_at, IsDeclared}
 use Rattle.getopts.specs.Reading.{Given, option, free_word, options_in, order_of_reading, Reading}
 use Rattle.getopts.proofs.Reading.Positions.{options_in-order}
 use Rattle.getopts.proofs.canon.Lines.{FitsGroup, FitsGroup-within, IsFitting-reading}

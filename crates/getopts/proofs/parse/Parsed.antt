@@ -8,7 +8,8 @@ use Rattle.getopts.specs.Fail.{Fault}
 use Rattle.getopts.specs.Reading.{Reading, IsScanFault}
 use Rattle.getopts.specs.Matches.{matches_of}
 use Rattle.getopts.specs.Canon.{IsCountKeeping}
-use Rattle.getopts.specs.Parse.{Reads, HasReading, HasNoReading, IsAccepted, KeepsReadingLaws}
+use Rattle.getopts.specs.Parse.{Reads, HasReading, HasNoReading, IsAccepted}
+use Rattle.getopts.specs.ReadingLaws.{KeepsReadingLaws}
 use Rattle.getopts.proofs.table.Names.{has_text_names}
 use Rattle.getopts.proofs.Only.{IsTheOnly-from}
 use Rattle.getopts.proofs.Reading.Laws as Laws

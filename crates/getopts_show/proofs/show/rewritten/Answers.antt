@@ -1,5 +1,5 @@
 -- The canonical line of the items of the iterator is that of the words.
-use Rattle.getopts.specs.CanonAnswers.{IsUnwritable}
+use Rattle.getopts.specs.Parse.{IsUnwritable}
 use Rattle.getopts.specs.Names.{texts}
 use Rattle.getopts.specs.Results.{canonical_result}
 use Rattle.std.proofs.lemmas.Result.{IfOk-weaker}

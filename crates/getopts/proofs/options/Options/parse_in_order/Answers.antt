@@ -5,10 +5,9 @@ use Rattle.std.proofs.lemmas.List.Elements.{All-from_recursion}
 use Rattle.std.proofs.lemmas.Result.{IfErr-weaker}
 use Rattle.getopts.specs.Accessors.{borrowed_given}
 use Rattle.getopts.specs.Fail.{IsOutOfMemoryOr}
-use Rattle.getopts.specs.Holds.{IsDeclared}
+use Rattle.getopts.specs.Parse.{IsDeclared, IsRefused}
 use Rattle.getopts.specs.Names.{AreTexts, Text}
 use Rattle.getopts.specs.Options.{Declared, MayBeDeclared}
-use Rattle.getopts.specs.Parse.{IsRefused}
 use Rattle.getopts.specs.Results.{accepted_reading, parse_result}
 use Rattle.getopts.specs.declared.fail.Fail.{Fail}
 use Rattle.getopts.proofs.Lists.{AllByRecursion-unmap}
