@@ -44,14 +44,17 @@ def pytest_addoption(parser):
     parser.addoption("--getopts", help="a folder with the Rust crate getopts 0.2.24")
 
 
-# Fixtures for programs built by `rt ci`.
-PROGRAMS = {"show", "shell", "vectors", "bench", "built"}
+# Fixtures for programs built by `rt ci`, which proves the crates of EARLY first.
+EARLY = {"show", "vectors", "bench"}
+PROGRAMS = {*EARLY, "shell", "built"}
 
 
 def pytest_collection_modifyitems(config, items):
     """Marks tests by the programs that they use, and deselects those that this run leaves out."""
     for item in items:
-        if item.get_closest_marker("built") or PROGRAMS & set(item.fixturenames):
+        # In some tests, `shell` is a parameter.
+        parameters = item.callspec.params if hasattr(item, "callspec") else {}
+        if item.get_closest_marker("built") or PROGRAMS & set(item.fixturenames) - set(parameters):
             item.add_marker("built")
             item.add_marker("rt")
         # These wait for proofs, until `rt ci` ends.
@@ -61,7 +64,9 @@ def pytest_collection_modifyitems(config, items):
     absent = {"full": quick, "quick": not quick, "release": not config.getoption("--release"), "rt": not shutil.which("rt")}
     out = {item for item in items if any(absent.get(mark.name) for mark in item.iter_markers())}
     config.hook.pytest_deselected(items=list(out))
-    items[:] = [item for item in items if item not in out]
+    # A test that waits for a crate keeps its worker from all others.
+    items[:] = sorted((item for item in items if item not in out),
+                      key=lambda item: bool(item.get_closest_marker("built")) and not EARLY & set(item.fixturenames))
 
 
 def pytest_terminal_summary(terminalreporter):
