@@ -69,14 +69,13 @@ def job_of(name):
 # - `asked-front`: `key_of` 6; `search` 9.6
 # - `many`, in `proved-getopts`: `search` and `search_key` 2.5
 # - `none`, in `proved-getopts`: `parse_words`, `read_matches`, `read_rest` and `read_line` 8; `Line::for_words`,
-#   `Line::end` and `LineOccurrences::shrink` 2.5; `check_counts` 1.5
+#   `Line::end` and `LineOccurrences::shrink` 2.5; `check_counts` 1.5; `Scanner::scan` 3.5
 # - `long`: `Scanner::shape` 6; `push_text`, `push_value`, `value_from`, `LineOccurrences::at` and
 #   `LineOccurrences::push` 9.5; `Occurrences::into_iter` and `OccurrencesIter::next` 5
 # - `equal`: `Occurrences::get` and `Occurrences::at` 80; `Occurrences::same` 20;
 #   `MatchedGroups::same` (`inline(never)`) 14
 # - `files`, in `proved-getopts`: `push_copy` 3
-# - `long`, in `proved-getopts`: `Table::resolve` 2.3
-# - 480 words, half of them options, in C: `Scanner::read_long` and `Scanner::cluster` 6, because two loops call them
+# - `long`, in `proved-getopts`: `Table::resolve` 2.3; `Scanner::option` 2
 JOBS = {name: job_of(name) for name in """small read-small canonical-small copied-small os-small typical read-typical
     copied-typical long read-long canonical-long copied-long os-long many read-many canonical-many copied-many many11 front
     read-front asked-front none rustc sub60 files equal usage defined-4000 order-small order-typical order-long""".split()}

@@ -2,6 +2,6 @@
 -- place.
 pub mod Words
 pub mod Items
-pub mod Clusters
 pub mod Loop
-pub mod Order
+pub mod Names
+pub mod Placed

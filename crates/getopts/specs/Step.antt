@@ -1,9 +1,9 @@
 -- One step of reading: what the first word of a command line gives, with the words after it.
 -- Clauses of `scan` say that the code takes these steps, and lemmas show that they agree with
 -- `Reading`.
-use Rattle.std.specs.Prelude.{◌≡◌, ◌≢◌, ◌==◌, ℕ, ◌+◌, List, [], ◌∷◌, ◌++◌, length, map, Option}
+use Rattle.std.specs.Prelude.{◌≡◌, ◌≢◌, ◌==◌, ℕ, ◌+◌, List, [], ◌∷◌, ◌++◌, length, Option}
 use Rattle.std.specs.Prelude.{Some, None, Result, Ok, Err, if◌then◌else◌, false, encode_utf8}
-use Rattle.std.specs.Option.{option_and, option_map_or}
+use Rattle.std.specs.Option.{option_map_or}
 use Rattle.std.specs.Str.{chars}
 use Rattle.getopts.specs.Names.{Text}
 use Rattle.getopts.specs.Options.{Grammar, long_kind}
@@ -11,7 +11,7 @@ use Rattle.getopts.specs.Fail.{Fault, argument_missing, unrecognized_option, une
 use Rattle.getopts.specs.Reading.{dash, begins_with_dash, equals_sign, is_dashed, Argument, none}
 use Rattle.getopts.specs.Reading.{attached, separate, Dashes, dash_text, flags, ends_in, Item, long, cluster}
 use Rattle.getopts.specs.Reading.{value_of, argument_words, MayPrecede, free_items, Tail, unknown_long}
-use Rattle.getopts.specs.Reading.{Mention, Occurrence, at_position, mentions, word_count}
+use Rattle.getopts.specs.Reading.{mentions, word_count, IsFlag}
 use Rattle.getopts.specs.declared.kinds.HasArg.{HasArg}
 use Rattle.getopts.specs.declared.kinds.HasArg.TheVariants.{Yes, No, Maybe}
 
@@ -114,19 +114,24 @@ pub record Chooses (chosen : Result Argument Fault) (value : Option Text) (used 
   pub value_is : value ≡ value_of argument
   pub used_is : used ≡ length (argument_words argument)
 
--- a mention, with this value in place of its own
-abbrev pub revalued : Option Text → Mention → Mention
-revalued value m = record m { value = option_and m.value value }
-
--- No mention has another value than this.
--- A dashed word begins an item, which uses this many words after it and adds its occurrences.
-pub record AddsItem (grammar : Grammar) (step : Step) (position : ℕ) (value : Option Text)
-    (used : ℕ) (old new : List Occurrence) : Type 0 where
+-- A dashed word gives one option, which uses this many words after it.
+pub record TakesOne (grammar : Grammar) (step : Step) (place : ℕ) (value : Option Text) (used : ℕ)
+    : Type 0 where
   pub item : Item
   pub argument : Argument
   pub step_is : step ≡ takes item argument
   pub used_is : used ≡ length (argument_words argument)
   pub counted : word_count (item ∷ []) ≡ 1 + used
   pub no_free : free_items (item ∷ []) ≡ []
-  pub valued : map (revalued value) (mentions grammar item) ≡ mentions grammar item
-  pub added : new ≡ old ++ map (at_position position) (mentions grammar item)
+  pub mentioned : mentions grammar item ≡ record { group = place; value = value } ∷ []
+
+-- The first of a cluster's names gives this option, and these names are left.
+pub data TakesName (grammar : Grammar) (names : Text) (after : List Text) (place : ℕ)
+    (value : Option Text) (used : ℕ) (left : Text) : Type 0 where
+  -- it ends the cluster
+  takes_last : left ≡ [] → TakesOne grammar (cluster_step grammar [] names after) place value used
+      → TakesName grammar names after place value used left
+  -- it is a flag
+  takes_flag : (byte : ℕ) → names ≡ byte ∷ left → IsFlag grammar byte
+      → grammar.place (byte ∷ []) ≡ Some place → value ≡ None → used ≡ 0
+      → TakesName grammar names after place value used left

@@ -1,17 +1,17 @@
-//! Reading words as items, from the first to the last.
+//! Reading a command line, one option or free word at a time.
 
 ghost use Rattle.std.specs.Prelude.{◌≡◌, ◌≢◌, ◌<◌, ◌≤◌, ◌+◌, ◌^◌, ◌∷◌, ◌++◌, [], List, MatchOption};
-ghost use Rattle.std.specs.Prelude.{OnOk, IfOk, IfErr, Some, None, Ok, Err, false, length};
+ghost use Rattle.std.specs.Prelude.{OnOk, IfOk, IfErr, IfSome, IfNone, IsSomeAnd, Some, None, Ok, Err, false, length};
 ghost use Rattle.std.specs.Prelude.{map, drop};
 ghost use Rattle.std.specs.String.{string_bytes};
 ghost use Rattle.std.specs.Option.{option_copied};
-ghost use Rattle.getopts.specs.Reading.{Dashes, dash, holds_equals, is_dashed, free_word};
-ghost use Rattle.getopts.specs.Reading.{given_option};
+ghost use Rattle.getopts.specs.Reading.{Dashes, dash, holds_equals, is_dashed, free_word, tail_frees};
+ghost use Rattle.getopts.specs.Stored.Scan.{tail_of};
 ghost use Rattle.getopts.specs.Accessors.{borrowed_given};
 ghost use Rattle.getopts.specs.Fail.{IsOutOfMemoryOr};
 ghost use Rattle.std.specs.Str.{IsUtf8};
 ghost use Rattle.getopts.specs.Names.{AreTexts, Text};
-ghost use Rattle.getopts.specs.Step.{with_equals, first_char, chosen_end, Chooses, revalued};
+ghost use Rattle.getopts.specs.Step.{with_equals, first_char, chosen_end, Chooses, cluster_step, faults};
 
 use crate::fail::Fail;
 use crate::kinds::{HasArg, ParsingStyle};
@@ -28,12 +28,13 @@ pub(crate) const FIRST_ROOM: usize = 32;
 /// How many words are looked at to judge how many of a longer line's words are dashed.
 const SAMPLE: usize = 1024;
 
-/// A lemma for proofs, which compiles to nothing: a `&str` is UTF-8.
+/// A lemma for proofs: a `&str` is UTF-8. Compiles to nothing in an optimized build.
 fn is_text(word: &str)
     ensures { IsUtf8 word.now }
 {}
 
-/// A lemma for proofs, which compiles to nothing: each word is UTF-8, as its type says.
+/// A lemma for proofs: each word is UTF-8, as its type says. Compiles to nothing in an optimized
+/// build.
 pub fn are_texts<S: AsStr>(words: &[S])
     ensures texts { AreTexts (map S.text words.now) }
 {
@@ -52,7 +53,7 @@ pub(crate) struct Line {
 }
 
 impl Line {
-    ghost use Rattle.getopts.specs.Stored.Scan.{parts_of, with_tail, tail_of};
+    ghost use Rattle.getopts.specs.Stored.Scan.{parts_of, with_tail};
     ghost use Rattle.getopts.specs.Reading.{line_end};
 
     /// An empty line, with room for as many options as there are dashed words, and for as many free
@@ -108,13 +109,6 @@ pub enum Given<'w> {
     Free(&'w str),
 }
 
-/// The options in a command line, and their order among its free words.
-#[derive(Drop)]
-pub(crate) struct OrderedLine<'w> {
-    pub found: LineOccurrences,
-    pub order: Vec<Given<'w>>,
-}
-
 /// Reads words by these options, with the table of their names.
 #[derive(Clone, Copy)]
 pub(crate) struct Scanner<'o> {
@@ -135,6 +129,49 @@ pub(crate) struct Resolved {
 struct Argument<'w> {
     value: Option<&'w str>,
     used: usize,
+}
+
+/// An option that was read: its place, its value, how many of the following words it uses, and the
+/// names that are left in its cluster.
+#[derive(Clone, Copy)]
+struct Taken<'w> {
+    place: usize,
+    value: Option<&'w str>,
+    used: usize,
+    names: &'w str,
+}
+
+/// A command line that is read one option or free word at a time.
+#[derive(Drop)]
+pub(crate) struct Steps<'w, S> {
+    pub words: &'w [S],
+    /// Items that begin at this index or later aren't read.
+    pub end: usize,
+    /// How many words were read.
+    pub at: usize,
+    /// The index of the first word of the item that was read last.
+    pub position: usize,
+    /// The names that are left in the cluster that is being read.
+    pub names: &'w str,
+}
+
+impl<'w, S> Steps<'w, S> {
+    /// Before the first of these words, of which items begin before `end`.
+    #[inline(always)]
+    fn of(words: &'w [S], end: usize) -> Steps<'w, S>
+        ensures words { result.words.now ≡ words.now }
+        ensures end { result.end ≡ end }
+        ensures at { result.at ≡ 0 }
+        ensures names { result.names.now ≡ [] }
+    {
+        Steps {
+            words,
+            end,
+            at: 0,
+            position: 0,
+            names: "",
+        }
+    }
 }
 
 /// How a word is read.
@@ -191,27 +228,14 @@ fn push_free_words<'w, S: AsStr>(
     Ok(())
 }
 
-/// Appends the options from this index on. If one has a value, it is `value`.
-fn push_options<'w>(
-    order: &mut Vec<Given<'w>>,
-    found: &LineOccurrences,
-    first: usize,
-    value: Option<&'w str>,
-) -> Result<(), AllocError>
-    requires { first ≤ length found.now }
-    ensures { OnOk result (map borrowed_given order.new.items
-        ≡ map borrowed_given order.old.items
-        ++ map (λ o. given_option (revalued (option_copied value.entry) o.mention))
-        (drop first found.now)) }
+/// The free words of a tail, which consists of the words that aren't read as items.
+fn tail_words<S: AsStr>(left: &[S]) -> &[S]
+    ensures { map S.text result.now ≡ tail_frees (tail_of (map S.text left.now)) }
 {
-    for index in first..found.len() {
-        let option = found.at(index);
-        order.push(Given::Option {
-            place: option.place,
-            value: option.value.and(value),
-        })?;
+    match left.first() {
+        Some(word) if is_dashed(word.as_str()) => &left[1..],
+        _ => left,
     }
-    Ok(())
 }
 
 /// The text after a leading dash, if there is one.
@@ -304,12 +328,15 @@ fn last_argument<'w, S: AsStr>(
 }
 
 impl<'o> Scanner<'o> {
-    ghost use Rattle.getopts.specs.Step.{faults, long_step, cluster_step, AddsItem};
+    ghost use Rattle.getopts.specs.Step.{long_step, TakesOne, TakesName};
     ghost use Rattle.getopts.specs.Stored.Scan.{scanner_grammar, IsLawfulScanner, IsResolvedTo};
-    ghost use Rattle.getopts.specs.Stored.Scan.{HasShape, given_with, tail_of, GivesOrder};
-    ghost use Rattle.getopts.specs.Results.{read};
+    ghost use Rattle.getopts.specs.Stored.Scan.{HasShape, given_with};
+    ghost use Rattle.getopts.specs.Reading.{order_of_reading};
+    ghost use Rattle.getopts.specs.Results.{made_of, read};
+    ghost use Rattle.getopts.specs.Stored.Scan.{AreNext, ReadsOne, read_names};
 
     /// The option that a name resolves to.
+    #[inline(always)]
     fn option(&self, name: &str) -> Option<Resolved>
         requires { IsLawfulScanner self.now }
         ensures { let grammar = scanner_grammar self.now in
@@ -323,23 +350,21 @@ impl<'o> Scanner<'o> {
     }
 
     /// Reads a long item: `text` follows the dashes in its first word, and `after` is the words
-    /// after that. Appends the item's occurrence, and returns its argument.
+    /// after that.
     #[inline(always)]
-    fn read_long<'w, S: AsStr>(
+    fn long<'w, S: AsStr>(
         &self,
         alloc: Global,
         text: &'w str,
         after: &'w [S],
-        position: usize,
-        found: &mut LineOccurrences,
-    ) -> Result<Argument<'w>, Fail>
+    ) -> Result<Taken<'w>, Fail>
         requires lawful { IsLawfulScanner self.now }
         ensures ok { let grammar = scanner_grammar self.now in
-            IfOk result (λ end. (dashes : Dashes)
-            → AddsItem grammar
-            (long_step grammar dashes text.now (map S.text after.now)) position
-            (option_copied end.value) end.used found.old found.new) }
-        ensures within { IfOk result (λ end. end.used ≤ length after.now) }
+            IfOk result (λ taken. (dashes : Dashes)
+            → TakesOne grammar (long_step grammar dashes text.now (map S.text after.now))
+            taken.place (option_copied taken.value) taken.used) }
+        ensures within { IfOk result (λ taken. taken.used ≤ length after.now) }
+        ensures names { IfOk result (λ taken. taken.names.now ≡ []) }
         ensures err { let grammar = scanner_grammar self.now in
             IfErr result (λ fail. (dashes : Dashes) → IsOutOfMemoryOr fail (λ fault.
             long_step grammar dashes text.now (map S.text after.now) ≡ faults fault)) }
@@ -359,57 +384,61 @@ impl<'o> Scanner<'o> {
             (HasArg::Yes, Some(value)) => (Some(value), 0),
             (HasArg::Maybe, argument) => (argument, 0),
         };
-        found.push(option.place, position, value)?;
-        Ok(Argument { value, used })
+        Ok(Taken {
+            place: option.place,
+            value,
+            used,
+            names: "",
+        })
     }
 
-    /// Reads a cluster: `text` follows the dash in its first word, and `after` is the words after
-    /// that. Appends the cluster's occurrences, and returns its argument, which belongs to its last
-    /// option.
+    /// Reads the first of the names that are left in a cluster. `after` is the words after the
+    /// cluster's.
     #[inline(always)]
-    fn cluster<'w, S: AsStr>(
+    fn short<'w, S: AsStr>(
         &self,
         alloc: Global,
-        text: &'w str,
+        names: &'w str,
         after: &'w [S],
-        position: usize,
-        found: &mut LineOccurrences,
-    ) -> Result<Argument<'w>, Fail>
+    ) -> Result<Taken<'w>, Fail>
         requires lawful { IsLawfulScanner self.now }
-        ensures ok { let grammar = scanner_grammar self.now in
-            IfOk result (λ end.
-            AddsItem grammar (cluster_step grammar [] text.now (map S.text after.now)) position
-            (option_copied end.value) end.used found.old found.new) }
-        ensures within { IfOk result (λ end. end.used ≤ length after.now) }
+        requires filled { names.now ≢ [] }
+        ensures ok { IfOk result (λ taken.
+            TakesName (scanner_grammar self.now) names.now (map S.text after.now)
+            taken.place (option_copied taken.value) taken.used taken.names.now) }
+        ensures within { IfOk result (λ taken. taken.used ≤ length after.now) }
         ensures err { let grammar = scanner_grammar self.now in
             IfErr result (λ fail. IsOutOfMemoryOr fail (λ fault.
-            cluster_step grammar [] text.now (map S.text after.now) ≡ faults fault)) }
+            cluster_step grammar [] names.now (map S.text after.now) ≡ faults fault)) }
     {
-        'names: for at in 0..text.len() {
-            if !text.as_bytes()[at].is_ascii() {
-                let name = first_character(&text[at..]);
-                return Err(Fail::unrecognized_option(alloc, name));
-            }
-            let name = &text[at..at + 1];
-            match self.option(name) {
-                None => return Err(Fail::unrecognized_option(alloc, name)),
-                Some(
-                    Resolved {
-                        place,
-                        kind: HasArg::No,
-                    },
-                ) => found.push(place, position, None)?,
-                Some(Resolved { place, kind }) => {
-                    let argument = last_argument(alloc, kind, name, &text[at + 1..], after)?;
-                    found.push(place, position, argument.value)?;
-                    return Ok(argument);
-                }
+        if !names.as_bytes()[0].is_ascii() {
+            let name = first_character(names);
+            return Err(Fail::unrecognized_option(alloc, name));
+        }
+        let name = &names[0..1];
+        match self.option(name) {
+            None => Err(Fail::unrecognized_option(alloc, name)),
+            Some(
+                Resolved {
+                    place,
+                    kind: HasArg::No,
+                },
+            ) => Ok(Taken {
+                place,
+                value: None,
+                used: 0,
+                names: &names[1..],
+            }),
+            Some(Resolved { place, kind }) => {
+                let argument = last_argument(alloc, kind, name, &names[1..], after)?;
+                Ok(Taken {
+                    place,
+                    value: argument.value,
+                    used: argument.used,
+                    names: "",
+                })
             }
         }
-        Ok(Argument {
-            value: None,
-            used: 0,
-        })
     }
 
     /// How a word is read. In long-only mode, a long item may begin with one dash.
@@ -432,9 +461,82 @@ impl<'o> Scanner<'o> {
         }
     }
 
+    /// Reads an option or a free word. Returns `None` at the end, at `--` and, if options stop
+    /// there, at a free word.
+    #[inline(always)]
+    pub(crate) fn next<'w, S: AsStr>(
+        &self,
+        alloc: Global,
+        steps: &mut Steps<'w, S>,
+    ) -> Result<Option<Given<'w>>, Fail>
+        requires lawful { IsLawfulScanner self.now }
+        requires end { steps.old.end ≤ length steps.old.words.now }
+        requires within { steps.old.at ≤ length steps.old.words.now }
+        requires next { AreNext steps.old.names.now steps.old.position steps.old.at steps.old.end }
+        ensures words { steps.new.words ≡ steps.old.words }
+        ensures end { steps.new.end ≡ steps.old.end }
+        ensures some { IfOk result (λ given. IfSome given (λ given.
+            ReadsOne (scanner_grammar self.now) (map S.text steps.old.words.now)
+            steps.old.end steps.old.names.now steps.old.position steps.old.at
+            steps.new.names.now steps.new.position steps.new.at (borrowed_given given))) }
+        ensures none { IfOk result (λ given. IfNone given
+            ((steps.old.names.now ≡ []) × (steps.new.at ≡ steps.old.at))) }
+        ensures tail { IfOk result (λ given. IfNone given
+            ((steps.old.end ≤ steps.old.at → steps.old.end ≡ length steps.old.words.now)
+            → let left = drop steps.old.at (map S.text steps.old.words.now) in
+            read (scanner_grammar self.now) left
+            ≡ Ok (record { items = []; tail = tail_of left }))) }
+        ensures err { let grammar = scanner_grammar self.now in
+            let texts = map S.text steps.old.words.now in
+            IfErr result (λ fail. IsOutOfMemoryOr fail (λ fault. (more : List Text)
+            → (steps.old.end ≡ length steps.old.words.now → more ≡ [])
+            → read_names grammar steps.old.names.now (drop steps.old.at texts ++ more) ≡ Err fault)) }
+    {
+        let words = steps.words;
+        if steps.names.is_empty() {
+            if steps.at >= steps.end {
+                return Ok(None);
+            }
+            let word = words[steps.at].as_str();
+            steps.position = steps.at;
+            match self.shape(word) {
+                Shape::Free => {
+                    if self.options.style() == ParsingStyle::StopAtFirstFree {
+                        return Ok(None);
+                    }
+                    steps.at += 1;
+                    return Ok(Some(Given::Free(word)));
+                }
+                Shape::Stop => return Ok(None),
+                Shape::Long(text) => {
+                    let after = &words[steps.at + 1..];
+                    let taken = self.long(alloc, text, after)?;
+                    steps.at += 1 + taken.used;
+                    return Ok(Some(Given::Option {
+                        place: taken.place,
+                        value: taken.value,
+                    }));
+                }
+                Shape::Cluster(text) => {
+                    steps.at += 1;
+                    steps.names = text;
+                }
+            }
+        }
+        let after = &words[steps.at..];
+        let taken = self.short(alloc, steps.names, after)?;
+        steps.at += taken.used;
+        steps.names = taken.names;
+        Ok(Some(Given::Option {
+            place: taken.place,
+            value: taken.value,
+        }))
+    }
+
     /// Reads the items that begin before `end`, up to `--` or, if options stop there, the first
     /// free word. Adds them to the line, and returns how many words they have. `before` is the
     /// number of words that were read before these.
+    #[inline(always)]
     pub(crate) fn scan<S: AsStr>(
         &self,
         alloc: Global,
@@ -452,7 +554,7 @@ impl<'o> Scanner<'o> {
             → given_with grammar before line.old (texts ++ more)
             ≡ given_with grammar (before + used) line.new (drop used texts ++ more)) }
         ensures within { IfOk result (λ used. used ≤ length words.now) }
-        ensures tail { IfOk result (λ used. end ≡ length words.now
+        ensures tail { IfOk result (λ used. (end ≤ used → end ≡ length words.now)
             → let left = drop used (map S.text words.now) in read (scanner_grammar self.now) left
             ≡ Ok (record { items = []; tail = tail_of left })) }
         ensures err { let grammar = scanner_grammar self.now in
@@ -460,84 +562,39 @@ impl<'o> Scanner<'o> {
             (λ fault. (more : List Text) → (end ≡ length words.now → more ≡ [])
             → given_with grammar before line.old (map S.text words.now ++ more) ≡ Err fault)) }
     {
-        let stops = self.options.style() == ParsingStyle::StopAtFirstFree;
-        let front = &words[..end];
-        let mut at = 0;
-        'items: while at < front.len() {
-            let word = front[at].as_str();
-            let position = before + at;
-            at = match self.shape(word) {
-                Shape::Free => {
-                    if stops {
-                        return Ok(at);
-                    }
-                    push_copy(alloc, &mut line.free, word)?;
-                    at + 1
+        let mut steps = Steps::of(words, end);
+        'items: while let Some(given) = self.next(alloc, &mut steps)? {
+            match given {
+                Given::Option { place, value } => {
+                    let position = before + steps.position;
+                    line.found.push(place, position, value)?
                 }
-                Shape::Stop => return Ok(at),
-                Shape::Long(text) => {
-                    let after = &words[at + 1..];
-                    let argument = self.read_long(alloc, text, after, position, &mut line.found)?;
-                    at + 1 + argument.used
-                }
-                Shape::Cluster(text) => {
-                    let after = &words[at + 1..];
-                    let argument = self.cluster(alloc, text, after, position, &mut line.found)?;
-                    at + 1 + argument.used
-                }
-            };
+                Given::Free(word) => push_copy(alloc, &mut line.free, word)?,
+            }
         }
-        Ok(at)
+        Ok(steps.at)
     }
 
-    /// Reads a command line like `scan`, but returns the order of its options and free words. Has
-    /// its own loop, so that `scan` needn't keep the order.
+    /// Reads a command line, and returns its options and free words in order.
     pub(crate) fn scan_in_order<'w, S: AsStr>(
         &self,
         alloc: Global,
         words: &'w [S],
-    ) -> Result<OrderedLine<'w>, Fail>
+    ) -> Result<Vec<Given<'w>>, Fail>
         requires { IsLawfulScanner self.now }
-        ensures ok { let grammar = scanner_grammar self.now in
-            IfOk result (GivesOrder grammar (read grammar (map S.text words.now))) }
+        ensures ok { let grammar = scanner_grammar self.now in IfOk result (λ order.
+            made_of (order_of_reading grammar) (read grammar (map S.text words.now))
+            ≡ Ok (map borrowed_given order.items)) }
         ensures err { let grammar = scanner_grammar self.now in
             IfErr result (λ fail. IsOutOfMemoryOr fail
             (λ fault. read grammar (map S.text words.now) ≡ Err fault)) }
     {
-        let stops = self.options.style() == ParsingStyle::StopAtFirstFree;
-        let room = words.len().min(FIRST_ROOM);
-        let mut found = LineOccurrences::with_capacity(alloc, room)?;
-        let mut order = Vec::with_capacity(alloc, room)?;
-        let mut at = 0;
-        'items: while at < words.len() {
-            let word = words[at].as_str();
-            let after = &words[at + 1..];
-            let first = found.len();
-            match self.shape(word) {
-                Shape::Free => {
-                    if stops {
-                        push_free_words(&mut order, &words[at..])?;
-                        return Ok(OrderedLine { found, order });
-                    }
-                    order.push(Given::Free(word))?;
-                    at += 1;
-                }
-                Shape::Stop => {
-                    push_free_words(&mut order, after)?;
-                    return Ok(OrderedLine { found, order });
-                }
-                Shape::Long(text) => {
-                    let argument = self.read_long(alloc, text, after, at, &mut found)?;
-                    push_options(&mut order, &found, first, argument.value)?;
-                    at += 1 + argument.used;
-                }
-                Shape::Cluster(text) => {
-                    let argument = self.cluster(alloc, text, after, at, &mut found)?;
-                    push_options(&mut order, &found, first, argument.value)?;
-                    at += 1 + argument.used;
-                }
-            }
+        let mut order = Vec::with_capacity(alloc, words.len().min(FIRST_ROOM))?;
+        let mut steps = Steps::of(words, words.len());
+        'items: while let Some(given) = self.next(alloc, &mut steps)? {
+            order.push(given)?;
         }
-        Ok(OrderedLine { found, order })
+        push_free_words(&mut order, tail_words(&words[steps.at..]))?;
+        Ok(order)
     }
 }

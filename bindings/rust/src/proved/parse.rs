@@ -75,9 +75,9 @@ impl Options {
             options: self,
             table: &table,
         };
-        let line = scanner.scan_in_order(alloc, words)?;
-        check_order(alloc, signatures, &line.order)?;
-        Ok(line.order)
+        let order = scanner.scan_in_order(alloc, words)?;
+        check_order(alloc, signatures, &order)?;
+        Ok(order)
     }
 
     /// The matches of a command line, with its counts checked if `counted`.

@@ -96,7 +96,7 @@ options_in-items grammar [] = refl
 options_in-items grammar (item ∷ items) =
     simp (options_in-append, options_in-given_by, options_in-items grammar items)
 
-frees_in-items : (grammar : Grammar) (items : List Item)
+pub frees_in-items : (grammar : Grammar) (items : List Item)
     → frees_in (order_of_items grammar items) ≡ free_items items
 frees_in-items grammar [] = refl
 frees_in-items grammar (free word ∷ items) =

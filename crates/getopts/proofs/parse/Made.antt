@@ -1,4 +1,5 @@
 -- What is made of a line that was read.
+use Rattle.std.proofs.Common.{ap, sym, ◌∙◌, Some}
 use Rattle.std.proofs.Common.{◌≡◌, ℕ, Bool, true, false, List, length, map, Option, None, Result, Ok, Err, refl}
 use Rattle.std.proofs.Common.{rules}
 use Rattle.std.specs.String.{string_bytes}
@@ -35,13 +36,32 @@ pub count_given-order : (grammar : Grammar) (reading : Reading) (i : ℕ)
 count_given-order grammar reading i = search (rules, options_in-order, filter-map, length-map)
 
 -- the outcome with its counts checked, by its order
-pub with_counts_kept-order : (options : Declared) {outcome : Result Reading Fault}
+with_counts_kept-order : (options : Declared) {outcome : Result Reading Fault}
     (reading : Reading) (order : List Given) (fault : Option Fault) → outcome ≡ Ok reading
     → order ≡ order_of_reading (grammar_of options) reading
     → first_wrong 0 (signatures_of options.groups) (count_given order) ≡ fault
     → with_counts_kept options outcome ≡ unless_fault reading fault
 with_counts_kept-order options reading order fault outcome_is order_is first =
     search (rules, first_wrong-counts, count_given-order)
+
+-- An order was made of the outcome.
+module _ (options : Declared) (outcome : Result Reading Fault) (order : List Given)
+    (made : made_of (order_of_reading (grammar_of options)) outcome ≡ Ok order) where
+  -- it keeps the counts
+  pub order-kept : first_wrong 0 (signatures_of options.groups) (count_given order) ≡ None
+      → made_of (order_of_reading (grammar_of options)) (with_counts_kept options outcome) ≡ Ok order
+  order-kept first =
+      let gives = made_of-ok _ _ _ made in
+      ap (made_of (order_of_reading (grammar_of options)))
+      (with_counts_kept-order options gives.0 order None gives.1 (sym gives.2) first)
+      ∙ ap (λ (order : List Given). Ok order) gives.2
+
+  -- it breaks them
+  pub order-broken : (fault : Fault) → first_wrong 0 (signatures_of options.groups) (count_given order) ≡ Some fault
+      → with_counts_kept options outcome ≡ Err fault
+  order-broken fault first =
+      let gives = made_of-ok _ _ _ made in
+      with_counts_kept-order options gives.0 order (Some fault) gives.1 (sym gives.2) first
 
 module _ (options : Declared) {outcome : Result Reading Fault} {line : Line}
     (is : GivesLine (grammar_of options) outcome line) where

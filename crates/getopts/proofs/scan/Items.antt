@@ -1,12 +1,11 @@
 -- The option that begins with a word in long form, by its name, its kind and its argument.
 use Rattle.std.proofs.Common.{map, ◌≡◌, ◌+◌, ℕ, false, List, [], ◌∷◌, ◌++◌, length, drop, Option, Some, None, Ok}
 use Rattle.std.proofs.Common.{refl, ◌∙◌, slice_get, rules}
-use Rattle.std.specs.Option.{option_and}
 use Rattle.getopts.specs.Names.{Text}
 use Rattle.getopts.specs.Options.{Grammar, long_kind, long_place}
-use Rattle.getopts.specs.Reading.{Argument, Dashes, argument_words, value_of, holds_equals, Occurrence, at_position}
+use Rattle.getopts.specs.Reading.{Argument, Dashes, argument_words, value_of, holds_equals}
 use Rattle.getopts.specs.Fail.{Fault, IsOutOfMemoryOr}
-use Rattle.getopts.specs.Step.{with_equals, faults, chosen_long, long_name_step, long_step, Chooses, AddsItem}
+use Rattle.getopts.specs.Step.{with_equals, faults, chosen_long, long_name_step, long_step, Chooses, TakesOne}
 use Rattle.getopts.specs.declared.fail.Fail.{Fail}
 use Rattle.getopts.specs.declared.kinds.HasArg.{HasArg}
 use Rattle.getopts.specs.declared.kinds.HasArg.TheVariants.{Maybe}
@@ -16,11 +15,6 @@ use Rattle.getopts.proofs.Reading.Steps.{long_step_cut}
 -- a chosen argument, with its value and its number of words
 pub Chooses-ok : (argument : Argument) → Chooses (Ok argument) (value_of argument) (length (argument_words argument))
 Chooses-ok argument = search rules
-
--- a value, if it is there
-pub option_and_same : (value : Option Text) → option_and value value ≡ value
-option_and_same None = refl
-option_and_same (Some text) = refl
 
 -- an item of one word and its argument's has one word more than the argument
 pub length-argument : (word : Text) (argument : Argument)
@@ -48,14 +42,13 @@ module _ (grammar : Grammar) (dashes : Dashes) (text name : Text) (argument : Op
   IsOutOfMemoryOr-long kind kind_is fail fault is told = IsOutOfMemoryOr-one fail fault
       (λ f. long_step grammar dashes text after ≡ faults f) told (long_step-long_name kind kind_is ∙ is)
 
-  -- an item, after its occurrence was added
-  pub AddsItem-long : (kind : HasArg) (group position used : ℕ) (value : Option Text) (old new : List Occurrence)
+  -- its option
+  pub TakesOne-long : (kind : HasArg) (group used : ℕ) (value : Option Text)
       → long_kind grammar name ≡ Some kind → long_place grammar name ≡ Some group
       → Chooses (chosen_long kind name argument after) value used
-      → new ≡ old ++ at_position position (record { group = group; value = value }) ∷ []
-      → AddsItem grammar (long_step grammar dashes text after) position value used old new
-  AddsItem-long kind group position used value old new kind_is place_is chooses added =
-      search (rules, long_step-long_name (Some kind) kind_is, length-argument [] chooses.argument, option_and_same)
+      → TakesOne grammar (long_step grammar dashes text after) group value used
+  TakesOne-long kind group used value kind_is place_is chooses =
+      search (rules, long_step-long_name (Some kind) kind_is, length-argument [] chooses.argument)
 
 -- a nonempty list of borrowed words
 pub texts-first : {X : Type 0} (text : X → Text) (words : List X) (word : X)

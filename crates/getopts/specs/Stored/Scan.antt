@@ -1,22 +1,21 @@
 -- What the functions of `scan` find in the words that they are given.
 use Rattle.std.specs.Prelude.{◌≡◌, Bool, true, false, if◌then◌else◌, Some, List, [], ◌∷◌, ◌++◌, length, map}
-use Rattle.std.specs.Prelude.{Result, Ok, Option, ℕ}
+use Rattle.std.specs.Prelude.{Result, Ok, Option, ℕ, ◌≢◌, ◌≤◌, ◌<◌, ◌+◌, drop}
 use Rattle.std.specs.String.{string_bytes}
 use Rattle.getopts.specs.Names.{Text}
-use Rattle.getopts.specs.Accessors.{borrowed_given}
 use Rattle.getopts.specs.Options.{Declared, Grammar, MayBeDeclared, names_of, grammar_of}
 use Rattle.getopts.specs.Stored.Table.{IsTableOf}
 use Rattle.getopts.specs.Canon.{Content}
 use Rattle.getopts.specs.Fail.{Fault}
 use Rattle.getopts.specs.Reading.{Dashes, is_dashed, stop_word, Reading}
-use Rattle.getopts.specs.Reading.{occurrences_of, free_words, trailing_start, order_of_reading}
+use Rattle.getopts.specs.Reading.{occurrences_of, free_words, trailing_start}
 use Rattle.getopts.specs.Reading.{Occurrence, occurrences_after, free_items, Tail, line_end, stop, rest}
-use Rattle.getopts.specs.Reading.{tail_frees, trailing_after, Given, options_in, frees_in}
-use Rattle.getopts.specs.Results.{made_of, read, reading_or_error, accepted_reading}
-use Rattle.getopts.specs.Step.{IsInLongForm, IsShortForm}
+use Rattle.getopts.specs.Reading.{tail_frees, trailing_after, Item, word_count}
+use Rattle.getopts.specs.Reading.{Given, given_by, options_in, frees_in}
+use Rattle.getopts.specs.Results.{made_of, read, reading_or_error, accepted_reading, after_step}
+use Rattle.getopts.specs.Step.{IsInLongForm, IsShortForm, cluster_step}
 use Rattle.getopts.specs.declared.kinds.HasArg.{HasArg}
 use Rattle.getopts.specs.declared.scan.Line.{Line}
-use Rattle.getopts.specs.declared.scan.OrderedLine.{OrderedLine}
 use Rattle.getopts.specs.declared.scan.Resolved.{Resolved}
 use Rattle.getopts.specs.declared.scan.Scanner.{Scanner}
 use Rattle.getopts.specs.declared.scan.Shape.{Shape}
@@ -103,14 +102,74 @@ IsLeft options count line whole left =
     made_of (with_reading (grammar_of options) 0 [] []) (read (grammar_of options) whole)
     ≡ given_with (grammar_of options) count line left
 
--- The outcome is a reading, and the line has its occurrences and its order.
-pub record GivesOrder (grammar : Grammar) (outcome : Result Reading Fault) (line : OrderedLine)
-    : Type 0 where
-  pub reading : Reading
-  pub outcome_is : outcome ≡ Ok reading
-  pub occurrences : line.found ≡ occurrences_of grammar reading
-  pub order : map borrowed_given line.order.items ≡ order_of_reading grammar reading
-
 -- the content of an order
 abbrev pub order_content : List Given → Content
 order_content order = record { mentions = options_in order; free = frees_in order }
+
+-- an option or a free word, with the position of its item
+pub record Placed : Type 0 where
+  pub position : ℕ
+  pub given : Given
+
+-- what items that follow this many words give, in order
+abbrev pub placed_after : ℕ → Grammar → List Item → List Placed
+placed_after at grammar [] = []
+placed_after at grammar (item ∷ items) =
+    map (λ given. record { position = at; given = given }) (given_by grammar item)
+    ++ placed_after (at + word_count (item ∷ [])) grammar items
+
+-- what is left of a line: what its items give, and its tail
+pub record Left : Type 0 where
+  pub placed : List Placed
+  pub tail : Tail
+
+-- what a reading of the words from this position on gives
+abbrev pub left_of : Grammar → ℕ → Reading → Left
+left_of grammar at reading =
+    record { placed = placed_after at grammar reading.items; tail = reading.tail }
+
+-- what is left, with an option or a free word at this position before it
+abbrev pub preceded : ℕ → Given → Left → Left
+preceded position given left = record {
+  placed = record { position = position; given = given } ∷ left.placed;
+  tail = left.tail;
+}
+
+-- the outcome of the names that are left in a cluster, and the words after it
+abbrev pub read_names : Grammar → Text → List Text → Result Reading Fault
+read_names grammar [] words = read grammar words
+read_names grammar (byte ∷ names) words =
+    after_step (cluster_step grammar [] (byte ∷ names) words) (read grammar words)
+    (read grammar (drop 1 words))
+
+-- where what is left begins: with names at the position of their cluster
+abbrev pub start_of : Text → ℕ → ℕ → ℕ
+start_of [] position at = at
+start_of (byte ∷ names) position at = position
+
+-- Names that are left are in a cluster that began before the end, and the words after it are next.
+abbrev pub AreNext : Text → ℕ → ℕ → ℕ → Type 0
+AreNext names position at end = names ≢ [] → (at ≡ position + 1) × (position < end)
+
+-- the bytes of words, and their number
+abbrev pub words_size : List Text → ℕ
+words_size [] = 0
+words_size (word ∷ words) = 1 + length word + words_size words
+
+-- how much is left of names and words
+abbrev pub size_left : Text → List Text → ℕ
+size_left names words = length names + words_size words
+
+-- Between two places in words, this was read.
+pub record ReadsOne (grammar : Grammar) (words : List Text) (end : ℕ) (names : Text)
+    (position at : ℕ) (names_new : Text) (position_new at_new : ℕ) (given : Given) : Type 0 where
+  pub gives : (before : ℕ) (more : List Text) → (end ≡ length words → more ≡ [])
+      → made_of (left_of grammar (before + start_of names position at))
+      (read_names grammar names (drop at words ++ more))
+      ≡ made_of (λ reading. preceded (before + position_new) given
+      (left_of grammar (before + start_of names_new position_new at_new) reading))
+      (read_names grammar names_new (drop at_new words ++ more))
+  pub less : size_left names_new (drop at_new words) < size_left names (drop at words)
+  pub next : AreNext names_new position_new at_new end
+  pub placed : position_new < end
+  pub within : at_new ≤ length words

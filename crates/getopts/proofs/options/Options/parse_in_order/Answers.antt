@@ -1,5 +1,5 @@
 -- The order is that of the line's reading, if this keeps the counts.
-use Rattle.std.proofs.Common.{◌≡◌, Err, IfErr, List, None, Ok, Result, Some, map, refl, sym, rules}
+use Rattle.std.proofs.Common.{◌≡◌, Err, IfErr, List, Ok, Result, map, refl, sym, rules}
 use Rattle.std.specs.List.{AllByRecursion}
 use Rattle.std.proofs.lemmas.List.Elements.{All-from_recursion}
 use Rattle.std.proofs.lemmas.Result.{IfErr-weaker}
@@ -15,7 +15,7 @@ use Rattle.getopts.proofs.MainTheorem.Results.{HasResults-declared, is_refused}
 use Rattle.getopts.proofs.Stored.Signatures.{names-signatures_of}
 use Rattle.getopts.proofs.Weaker.{IsOutOfMemoryOr-exit, IsOutOfMemoryOr-weaker}
 use Rattle.getopts.proofs.parse.Holds.{IsDeclared-order}
-use Rattle.getopts.proofs.parse.Made.{with_counts_kept-order}
+use Rattle.getopts.proofs.parse.Made.{order-kept, order-broken}
 use Rattle.getopts.proofs.options.Options.parse_in_order.Goals as goal
 
 -- the error of `parse` rejects the words
@@ -36,28 +36,26 @@ scan_in_order-requires g c = record {
   ) at c.in_ok-table.ensures;
 }
 
-pub returns-in_err-line-clause-result : goal.returns-in_err-line-clause-result
+pub returns-in_err-order-clause-result : goal.returns-in_err-order-clause-result
 unfolding accepted_reading
-returns-in_err-line-clause-result g c = search rules
+returns-in_err-order-clause-result g c = search rules
 
-pub returns-in_err-line-clause-same_error : goal.returns-in_err-line-clause-same_error
+pub returns-in_err-order-clause-same_error : goal.returns-in_err-order-clause-same_error
 unfolding accepted_reading
-returns-in_err-line-clause-same_error g c = search rules
+returns-in_err-order-clause-same_error g c = search rules
 
-pub returns-in_err-line-clause-refused : goal.returns-in_err-line-clause-refused
-returns-in_err-line-clause-refused g c =
+pub returns-in_err-order-clause-refused : goal.returns-in_err-order-clause-refused
+returns-in_err-order-clause-refused g c =
     refused _ _ _ c.signatures-signatures.ensures.declared c.are_texts.ensures.texts
-    (returns-in_err-line-clause-same_error g c)
+    (returns-in_err-order-clause-same_error g c)
 
 pub returns-in_err-check_order-clause-same_error : goal.returns-in_err-check_order-clause-same_error
 unfolding accepted_reading
 returns-in_err-check_order-clause-same_error g c =
-    let gives = c.in_ok-line.ensures.ok in
     IsOutOfMemoryOr-exit _ c.in_err-check_order.field-0.0 _ _
     c.from_residual-in_err-check_order.ensures.1
     (rw (c.signatures-signatures.ensures.signatures, c.deref.ensures.value) at c.in_err-check_order.ensures.err)
-    (λ fault first. rw (with_counts_kept-order c.args.self.now gives.reading _ (Some fault) gives.outcome_is gives.order
-    first) refl)
+    (λ fault first. rw (order-broken c.args.self.now _ _ c.in_ok-order.ensures.ok fault first) refl)
 
 pub returns-in_err-check_order-clause-result : goal.returns-in_err-check_order-clause-result
 unfolding accepted_reading
@@ -70,13 +68,8 @@ returns-in_err-check_order-clause-refused g c =
 
 pub returns-clause-result : goal.returns-clause-result
 unfolding accepted_reading
-returns-clause-result g c =
-    let gives = c.in_ok-line.ensures.ok in
-    rw (
-      with_counts_kept-order c.args.self.now gives.reading _ None gives.outcome_is gives.order
-          (rw (c.signatures-signatures.ensures.signatures, c.deref.ensures.value) at c.in_ok-check_order.ensures.ok),
-      gives.order,
-    ) refl
+returns-clause-result g c = order-kept c.args.self.now _ _ c.in_ok-order.ensures.ok
+    (rw (c.signatures-signatures.ensures.signatures, c.deref.ensures.value) at c.in_ok-check_order.ensures.ok)
 
 pub returns-clause-order : goal.returns-clause-order
 returns-clause-order g c =
@@ -87,7 +80,7 @@ pub returns-clause-declared : goal.returns-clause-declared
 returns-clause-declared g c =
     let order = returns-clause-order g c in
     let each : AllByRecursion (IsDeclared c.args.self.now.groups)
-    (map borrowed_given c.in_ok-line.line.order.items) =
+    (map borrowed_given c.in_ok-order.order.items) =
     rw order.order_is (IsDeclared-order c.args.self.now order.accepted.reading _
     ((order.accepted.only order.accepted.reading).1 refl)) in
     All-from_recursion _ _ (AllByRecursion-unmap _ borrowed_given _ each)

@@ -21,7 +21,7 @@ gives : (g : Over) (c : After-of g) (whole : List Text)
     → GivesLine (grammar_of c.args.self.now) (read (grammar_of c.args.self.now) whole) c.end.new.self
 gives g c whole left = GivesLine-ended (grammar_of c.args.self.now) whole
     (map g.S.AsStr.text c.args.words.now) c.args.before c.args.line.now left _ _ c.in_ok-used.used c.end.new.self
-    (c.in_ok-used.ensures.ok [] (λ end. refl)) (c.in_ok-used.ensures.tail refl)
+    (c.in_ok-used.ensures.ok [] (λ end. refl)) (c.in_ok-used.ensures.tail (λ read. refl))
     (rw (
       drop-map g.S.AsStr.text c.in_ok-used.used c.args.words.now,
       ← take_rest c.args.words.now c.in_ok-used.used,

@@ -1,69 +1,70 @@
--- Each iteration reads one more item, and each exit leaves the words after the items.
-use Rattle.std.proofs.Common.{◌≡◌, ◌∙◌, refl, rules}
-use Rattle.std.proofs.lemmas.List.{get_or-take, length-map, drop_all}
-use Rattle.getopts.specs.declared.kinds.ParsingStyle.TheVariants.{FloatingFrees, StopAtFirstFree}
-use Rattle.getopts.proofs.Reading.Readings.{read_nil}
-use Rattle.getopts.proofs.scan.Loop as Loop
+-- Each iteration adds an option or a free word, and each exit leaves the words after the items.
+use Rattle.std.proofs.Common.{◌≡◌, ◌∙◌, rules, arith, None}
+use Rattle.std.proofs.lemmas.List.{length-map}
+use Rattle.getopts.specs.Stored.Scan.{scanner_grammar}
 use Rattle.getopts.proofs.Weaker.{IsOutOfMemoryOr-exit}
+use Rattle.std.proofs.Common.{append_assoc, sym}
+use Rattle.getopts.proofs.scan.Placed as Placed
 use Rattle.getopts.proofs.scan.Scanner.scan.Goals as goal
 
-pub items-preserved-in_ok-push_copy-in-Free : goal.items-preserved-in_ok-push_copy-in-Free
-items-preserved-in_ok-push_copy-in-Free g c =
-    let floating : c.args.self.now.options.now.style ≡ FloatingFrees = search rules in
-    record {
-      read = λ more may. Loop.word-free g.S.AsStr.text c.args.words.now c.args.before (c.items.invariant.read more may)
-          may c.requires.end c.items-test.true c.index-front-at.is c.as_str-word.ensures _ c.in-Free.ensures floating
-          c.in_ok-push_copy-in-Free.ensures;
-      within = search rules;
+pub items-init : goal.items-init
+items-init g c = record {
+  words = search rules;
+  end = search rules;
+  within = search rules;
+  next = λ filled. absurd (filled (search rules));
+  read = λ more may. Placed.SoFar-parts _ _ more _ _ _ _ _ _ (search rules) (search rules);
+}
+
+pub returns-in_err-given-clause-err : goal.returns-in_err-given-clause-err
+returns-in_err-given-clause-err g c =
+    IsOutOfMemoryOr-exit _ c.in_err-given.field-0.0 _ _ c.from_residual.ensures.1
+    (rw (c.items.invariant.words, c.items.invariant.end) at c.in_err-given.ensures.err)
+    (λ fault told. λ more may. Placed.SoFar-fault fault (c.items.invariant.read more may) (told more may))
+
+pub overflow_add-position : goal.overflow_add-position
+overflow_add-position g c =
+    let reads = rw (c.in-Some.is, c.items.invariant.words, c.items.invariant.end)
+    at c.in_ok-given.ensures.some in
+    omega (arith, reads.placed, c.requires.end, c.requires.count)
+
+pub items-preserved-in-Continue-branch-3 : goal.items-preserved-in-Continue-branch-3
+items-preserved-in-Continue-branch-3 g c =
+    let reads = rw (
+      c.in-Some.is,
+      c.in-Option.is,
+      c.items.invariant.words,
+      c.items.invariant.end,
+    ) at c.in_ok-given.ensures.some in record {
+      words = rw c.in_ok-given.ensures.words c.items.invariant.words;
+      end = c.in_ok-given.ensures.end ∙ c.items.invariant.end;
+      within = rw (length-map c.args.words.now g.S.AsStr.text) at reads.within;
+      next = reads.next;
+      read = λ more may. Placed.SoFar-next _ more (λ is. may (is ∙ length-map c.args.words.now g.S.AsStr.text))
+          (c.items.invariant.read more may) reads
+          (λ left. rw c.in_ok-push-in-Option.ensures (simp (append_assoc)));
     }
 
-pub items-preserved-in_ok-argument-in-Long : goal.items-preserved-in_ok-argument-in-Long
-items-preserved-in_ok-argument-in-Long g c = record {
-  read = λ more may. Loop.word-added g.S.AsStr.text c.args.words.now c.args.before (c.items.invariant.read more may) may
-      c.requires.end c.items-test.true c.index-front-at.is c.as_str-word.ensures _
-      (λ enough. Loop.step_long-more _ _ more enough _ _ _ c.in-Long.ensures.1) _ _
-      (c.in_ok-argument-in-Long.ensures.ok c.in-Long.ensures.0) c.in_ok-argument-in-Long.ensures.within;
-  within = search rules;
-}
-
 pub items-preserved : goal.items-preserved
-items-preserved g c = record {
-  read = λ more may. Loop.word-added g.S.AsStr.text c.args.words.now c.args.before (c.items.invariant.read more may) may
-      c.requires.end c.items-test.true c.index-front-at.is c.as_str-word.ensures _
-      (λ enough. Loop.step_short-more _ _ more enough _ _ c.in-Cluster.ensures) _ _
-      c.in_ok-argument-in-Cluster.ensures.ok c.in_ok-argument-in-Cluster.ensures.within;
-  within = search rules;
-}
+items-preserved g c =
+    let reads = rw (
+      c.in-Some.is,
+      c.in-Free.is,
+      c.items.invariant.words,
+      c.items.invariant.end,
+    ) at c.in_ok-given.ensures.some in record {
+      words = rw c.in_ok-given.ensures.words c.items.invariant.words;
+      end = c.in_ok-given.ensures.end ∙ c.items.invariant.end;
+      within = rw (length-map c.args.words.now g.S.AsStr.text) at reads.within;
+      next = reads.next;
+      read = λ more may. Placed.SoFar-next _ more (λ is. may (is ∙ length-map c.args.words.now g.S.AsStr.text))
+          (c.items.invariant.read more may) reads
+          (λ left. rw c.in_ok-push_copy-in-Free.ensures (simp (append_assoc)));
+    }
 
-pub returns-in_err-argument-in-Long-clause-err : goal.returns-in_err-argument-in-Long-clause-err
-returns-in_err-argument-in-Long-clause-err g c =
-    IsOutOfMemoryOr-exit _ c.in_err-argument-in-Long.field-0.0 _ _
-    c.from_residual-in_err-argument-in-Long.ensures.1
-    (c.in_err-argument-in-Long.ensures.err c.in-Long.ensures.0)
-    (λ fault told. λ more may. Loop.word-fault g.S.AsStr.text c.args.words.now c.args.before
-    (c.items.invariant.read more may) may c.requires.end c.items-test.true c.index-front-at.is c.as_str-word.ensures
-    _ (λ enough. Loop.step_long-more _ _ more enough _ _ _ c.in-Long.ensures.1) fault told)
-
-pub returns-in_err-argument-in-Cluster-clause-err : goal.returns-in_err-argument-in-Cluster-clause-err
-returns-in_err-argument-in-Cluster-clause-err g c =
-    IsOutOfMemoryOr-exit _ c.in_err-argument-in-Cluster.field-0.0 _ _
-    c.from_residual-in_err-argument-in-Cluster.ensures.1 c.in_err-argument-in-Cluster.ensures.err
-    (λ fault told. λ more may. Loop.word-fault g.S.AsStr.text c.args.words.now c.args.before
-    (c.items.invariant.read more may) may c.requires.end c.items-test.true c.index-front-at.is c.as_str-word.ensures
-    _ (λ enough. Loop.step_short-more _ _ more enough _ _ c.in-Cluster.ensures) fault told)
-
-pub returns-then-stops-clause-tail : goal.returns-then-stops-clause-tail
-returns-then-stops-clause-tail g c = λ all.
-    let stops : c.args.self.now.options.now.style ≡ StopAtFirstFree = search rules in
-    let here = Loop.texts_from g.S.AsStr.text c.args.words.now c.items.at _ _ (search rules)
-    (c.index-front-at.is ∙ get_or-take c.args.end _ _ _ (search rules)) c.as_str-word.ensures in
-    rw (here, c.in-Free.ensures) (Loop.read-rest _ _ _ _ refl c.in-Free.ensures stops)
-
-pub returns-in-Stop-clause-tail : goal.returns-in-Stop-clause-tail
-returns-in-Stop-clause-tail g c = λ all.
-    let here = Loop.texts_from g.S.AsStr.text c.args.words.now c.items.at _ _ (search rules)
-    (c.index-front-at.is ∙ get_or-take c.args.end _ _ _ (search rules)) c.as_str-word.ensures in
-    rw (here, c.in-Stop.ensures) (Loop.read-stop _ _ _ _ refl refl)
-
-pub returns-clause-tail : goal.returns-clause-tail
-returns-clause-tail g c = search (rules, drop_all, length-map, read_nil)
+pub returns-clause-ok : goal.returns-clause-ok
+returns-clause-ok g c = λ more may.
+    let none : c.in_ok-given.field-0 ≡ None = search rules in
+    let ends = rw none at c.in_ok-given.ensures.none in
+    rw ends.1 ((rw ends.0 at c.items.invariant.read more may).gives
+    ∙ sym (Placed.parts_of_reading (scanner_grammar c.args.self.now) _ c.items.line.found _ _))

@@ -7,7 +7,7 @@ use Rattle.getopts.specs.Step.{chosen_long, Chooses}
 use Rattle.getopts.specs.Stored.Scan.{scanner_grammar}
 use Rattle.getopts.specs.declared.kinds.HasArg.TheVariants.{Yes, No}
 use Rattle.getopts.proofs.scan.Items as Items
-use Rattle.getopts.proofs.scan.Scanner.read_long.Goals as goal
+use Rattle.getopts.proofs.scan.Scanner.long.Goals as goal
 
 pub returns-clause-ok : goal.returns-clause-ok
 returns-clause-ok g c = λ dashes.
@@ -34,10 +34,8 @@ returns-clause-ok g c = λ dashes.
       | goal.in-Maybe-default w ↦ rw (w.used-is, w.in-Maybe-default.is-0)
           (Items.Chooses-maybe name argument after)
     ] in
-    Items.AddsItem-long (scanner_grammar c.args.self.now) dashes c.args.text.now name argument after
-    cut.text cut.name
-    c.in-Some.option.kind c.in-Some.option.place c.args.position _ _ _ _ named.kind named.place chooses
-    c.in_ok-push.ensures
+    Items.TakesOne-long (scanner_grammar c.args.self.now) dashes c.args.text.now name argument after
+    cut.text cut.name c.in-Some.option.kind c.in-Some.option.place _ _ named.kind named.place chooses
 
 pub returns-in-None-clause-err : goal.returns-in-None-clause-err
 returns-in-None-clause-err g c = λ dashes.
