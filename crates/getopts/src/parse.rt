@@ -186,46 +186,19 @@ impl Options {
             → ReturnsResult result
             (made_of (matches_of self.now) (reading_if counted self.now whole)) }
     {
-        let mut line = line;
-        let index = self.read_line(alloc, &table, &mut line, before, words, counted)?;
-        Ok(Matches::of_line(self.signatures().clone()?, table, line, index))
-    }
-
-    /// Reads the last words of a command line into `line`, and returns the index of all its
-    /// occurrences. Checks the counts if `counted`.
-    #[inline]
-    fn read_line<S: AsStr>(
-        &self,
-        alloc: Global,
-        table: &Table,
-        line: &mut Line,
-        before: usize,
-        words: &[S],
-        counted: bool,
-    ) -> Result<Index, Fail>
-        requires table { IsTableOf (names_of self.now.groups) table.now }
-        requires count { before + length words.now < 2 ^ 64 }
-        ensures index { IfOk result (λ index. indices_in index
-            ≡ index_of (length (signatures_of self.now.groups)) line.new.found) }
-        ensures ok { OnOk result ((whole : List Text)
-            → IsLeft self.now before line.old whole (map S.text words.now)
-            → GivesLine (grammar_of self.now) (reading_if counted self.now whole) line.new) }
-        ensures err { IfErr result (λ fail. IsOutOfMemoryOr fail (λ fault. (whole : List Text)
-            → IsLeft self.now before line.old whole (map S.text words.now)
-            → reading_if counted self.now whole ≡ Err fault)) }
-    {
         let signatures = self.signatures();
+        let mut line = line;
         let scanner = Scanner {
             options: self,
-            table,
+            table: &table,
         };
-        let used = scanner.scan(alloc, words, before, words.len(), line)?;
+        let used = scanner.scan(alloc, words, before, words.len(), &mut line)?;
         line.end(alloc, &words[used..])?;
         let index = Index::of(alloc, signatures.len(), &line.found)?;
         if counted {
             check_counts(alloc, signatures, &index)?;
         }
-        Ok(index)
+        Ok(Matches::of_line(signatures.clone()?, table, line, index))
     }
 }
 

@@ -51,6 +51,7 @@ fn count_options(counts: &mut [usize], order: &[Given]) {
 }
 
 /// Checks how often one option occurs.
+#[inline(always)]
 fn check_count(
     alloc: Global,
     signatures: &Signatures,

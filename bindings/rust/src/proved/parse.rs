@@ -106,40 +106,24 @@ impl Options {
         words: &[S],
         counted: bool,
     ) -> super::Result {
-        let mut line = line;
-        let index = self.read_line(alloc, &table, &mut line, before, words, counted)?;
-        Ok(Matches::of_line(
-            self.signatures().try_clone()?,
-            table,
-            line,
-            index,
-        ))
-    }
-
-    /// Reads the last words of a command line into `line`, and returns the index of all its
-    /// occurrences. Checks the counts if `counted`.
-    #[inline]
-    fn read_line<S: AsStr>(
-        &self,
-        alloc: Global,
-        table: &Table,
-        line: &mut Line,
-        before: usize,
-        words: &[S],
-        counted: bool,
-    ) -> Result<Index, Fail> {
         let signatures = self.signatures();
+        let mut line = line;
         let scanner = Scanner {
             options: self,
-            table,
+            table: &table,
         };
-        let used = scanner.scan(alloc, words, before, words.len(), line)?;
+        let used = scanner.scan(alloc, words, before, words.len(), &mut line)?;
         line.end(alloc, &words[used..])?;
         let index = Index::of(alloc, signatures.len(), &line.found)?;
         if counted {
             check_counts(alloc, signatures, &index)?;
         }
-        Ok(index)
+        Ok(Matches::of_line(
+            signatures.try_clone()?,
+            table,
+            line,
+            index,
+        ))
     }
 }
 

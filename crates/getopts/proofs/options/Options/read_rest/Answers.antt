@@ -1,23 +1,72 @@
--- The line gives the matches of its reading.
-use Rattle.std.proofs.Common.{◌≡◌, ◌∙◌, rules}
-use Rattle.getopts.specs.Options.{signatures_of}
-use Rattle.getopts.specs.Results.{reading_or_error}
-use Rattle.getopts.proofs.parse.Made.{made_of-matches}
+-- The line that was read gives the matches of its reading, and its error is the error of the whole line.
+use Rattle.std.proofs.Common.{◌≡◌, ◌∙◌, Err, IfErr, List, Some, [], map, refl, rules}
+use Rattle.std.proofs.lemmas.List.{drop-map, take_rest}
+use Rattle.getopts.specs.Fail.{IsOutOfMemoryOr}
+use Rattle.getopts.specs.Names.{Text}
+use Rattle.getopts.specs.Options.{grammar_of, signatures_of}
+use Rattle.getopts.specs.Results.{accepted_reading, read, reading_or_error}
+use Rattle.getopts.specs.Stored.Scan.{GivesLine, IsLeft, reading_if}
+use Rattle.getopts.proofs.parse.Made.{GivesLine-kept, made_of-matches, with_counts_kept-line, reading_if-fault}
+use Rattle.getopts.proofs.scan.Loop.{GivesLine-ended, read-ended}
 use Rattle.getopts.proofs.Stored.Signatures.{names-signatures_of}
+use Rattle.getopts.proofs.Weaker.{IsOutOfMemoryOr-exit}
 use Rattle.getopts.proofs.options.Options.read_rest.Goals as goal
+use Rattle.getopts.proofs.options.Options.read_rest.Goals.{After-of, then-counted+in_ok-check_counts, else-counted}
+use Rattle.getopts.proofs.options.Options.read_rest.Given.{Over}
+
+-- the line gives its reading
+gives : (g : Over) (c : After-of g) (whole : List Text)
+    → IsLeft c.args.self.now c.args.before c.args.line whole (map g.S.AsStr.text c.args.words.now)
+    → GivesLine (grammar_of c.args.self.now) (read (grammar_of c.args.self.now) whole) c.end.new.self
+gives g c whole left = GivesLine-ended (grammar_of c.args.self.now) whole
+    (map g.S.AsStr.text c.args.words.now) c.args.before c.args.line left _ _ c.in_ok-used.used c.end.new.self
+    (c.in_ok-used.ensures.ok [] (λ end. refl)) (c.in_ok-used.ensures.tail (λ read. refl))
+    (rw (
+      drop-map g.S.AsStr.text c.in_ok-used.used c.args.words.now,
+      ← take_rest c.args.words.now c.in_ok-used.used,
+    ) c.in_ok-end.ensures)
+
+pub returns-in_err-used : goal.returns-in_err-used
+unfolding reading_or_error
+returns-in_err-used g c = λ whole left.
+    let told : IfErr c.from_residual.result (λ fail. IsOutOfMemoryOr fail (λ fault.
+    reading_if c.args.counted c.args.self.now whole ≡ Err fault)) =
+    IsOutOfMemoryOr-exit _ c.in_err-used.field-0.0 _ _ c.from_residual.ensures.1 c.in_err-used.ensures.err
+    (λ fault told. reading_if-fault c.args.counted _ whole fault (read-ended (grammar_of c.args.self.now)
+    whole (map g.S.AsStr.text c.args.words.now) c.args.before c.args.line left fault (told [] (λ end. refl)))) in
+    search rules
+
+pub returns-in_err-check_counts : goal.returns-in_err-check_counts
+unfolding accepted_reading reading_or_error
+returns-in_err-check_counts g c = λ whole left.
+    let told : IfErr c.from_residual-in_err-check_counts.result (λ fail. IsOutOfMemoryOr fail (λ fault.
+    reading_if c.args.counted c.args.self.now whole ≡ Err fault)) =
+    IsOutOfMemoryOr-exit _ c.in_err-check_counts.field-0.0 _ _ c.from_residual-in_err-check_counts.ensures.1
+    (rw c.signatures-signatures.ensures.signatures at c.in_err-check_counts.ensures.err) (λ fault first.
+    rw c.if-counted.true
+    (with_counts_kept-line c.args.self.now (gives g (goal.at.returns-in_err-check_counts g c).After-of whole left) _
+    (rw (c.len.ensures.len, c.signatures-signatures.ensures.signatures) at c.in_ok-index.ensures) (Some fault) first)) in
+    search rules
 
 pub of_line-requires-clause-table : goal.of_line-requires-clause-table
 of_line-requires-clause-table g c =
-    rw (c.in_ok-clone.ensures.cases ∙ c.signatures.ensures.signatures, names-signatures_of c.args.self.now.groups)
-    c.requires.table
+    rw (
+      c.in_ok-clone.ensures.cases ∙ c.signatures-signatures.ensures.signatures,
+      names-signatures_of c.args.self.now.groups,
+    ) c.requires.table
 
 pub returns : goal.returns
-unfolding reading_or_error
+unfolding accepted_reading reading_or_error
 returns g c = λ whole left.
     let signatures : c.in_ok-clone.field-0 ≡ signatures_of c.args.self.now.groups =
-    c.in_ok-clone.ensures.cases ∙ c.signatures.ensures.signatures in
-    rw (c.of_line.ensures, signatures) (made_of-matches c.args.self.now (c.in_ok-index.ensures.ok whole left))
-
-pub returns-in_err-index : goal.returns-in_err-index
-unfolding reading_or_error
-returns-in_err-index g c = λ whole left. search rules
+    c.in_ok-clone.ensures.cases ∙ c.signatures-signatures.ensures.signatures in
+    let line = gives g (goal.at.returns g c).After-of whole left in
+    let kept : GivesLine (grammar_of c.args.self.now) (reading_if c.args.counted c.args.self.now whole)
+    c.end.new.self = elim c.if-counted.branch [
+      | then-counted+in_ok-check_counts w ↦ rw w.if-counted.true
+          (GivesLine-kept c.args.self.now line _
+          (rw (c.len.ensures.len, c.signatures-signatures.ensures.signatures) at c.in_ok-index.ensures)
+          (rw c.signatures-signatures.ensures.signatures at w.in_ok-check_counts.ensures.ok))
+      | else-counted w ↦ rw w.if-counted.false line
+    ] in
+    rw (c.of_line.ensures, signatures) (made_of-matches c.args.self.now kept)
