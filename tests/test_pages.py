@@ -174,15 +174,14 @@ def to_read():
 
 
 def calls():
-    """CALLING: the types of all calls. Those with equal types share a line."""
-    lines = {}
-    for name, text in contracts().items():
-        owner, separator, call = name.rpartition("::")
-        head = re.split(r"\n +(?=(?:requires|ensures)\b)", text)[0].removeprefix(f"fn {name}")
+    """CALLING: the types of all calls, each with the first sentence of its documentation."""
+    rows = []
+    for name, _, before in public_functions():
+        head = re.split(r"\n +(?=(?:requires|ensures)\b)", contracts()[name])[0].removeprefix(f"fn {name}")
         types = re.sub(r"(?<=\() |,? (?=\))|\b(mut )?[a-z]\w*: ", "", " ".join(head.split()))
-        if "->" in types:
-            lines.setdefault((owner, separator, types), []).append(call)
-    return listing(f"{owner}{separator}{', '.join(names)}{types}" for (owner, separator, types), names in lines.items())
+        docs = " ".join(re.findall(r"/// (.*)", re.search(r"(?: *///.*\n)*(?: *#.*\n)*$", before)[0]))
+        rows += [name + types, f"    // {docs.partition('. ')[0].rstrip('.')}"] if "->" in types else []
+    return listing(rows)
 
 
 def variants():
@@ -197,7 +196,10 @@ def variants():
 
 
 # The calls that callers use most, each with the clauses that they cite.
-CITED = {"Options::parse_words": ["result", "declared"], "Options::parse_request": ["result"], "Options::parse_unless": ["result"],
+CITED = {"Options::parse_words": ["result", "accepted", "declared"],
+         "Options::parse_request": ["result", "accepted", "parsed", "refused", "declared", "laws"],
+         "Options::parse_unless": ["result"],
+         "Options::parse_in_order": ["result", "order", "declared", "same_error", "refused"],
          "Matches::opt_present": ["present"], "Matches::opt_count": ["count"], "Matches::opt_str": ["value"],
          "Matches::opt_strs": ["values"], "Matches::opt_get": ["parsed"], "Matches::opt_get_default": ["parsed"],
          "Options::usage": ["result"]}
@@ -357,17 +359,24 @@ def test_code_blocks(page, block):
 
 # ---- contracts
 
+def public_functions():
+    """The library's public functions: the name of each, its text, and the text before it in its file."""
+    root = read("crates/getopts/src/lib.rt")
+    public = set(re.findall(r"\w+", " ".join(re.findall(r"^pub use (.*?);", root, re.M | re.S))))
+    for visible, module in re.findall(r"^(pub )?mod (\w+);", root, re.M):
+        source = read(f"crates/getopts/src/{module}.rt")
+        for it, _, name in functions_in(source):
+            if it[2] and (name.split("::")[0] in public or visible):
+                yield name, it, source[:it.start()]
+
+
 @functools.cache
 def contracts():
     """The library's public functions with their contracts, without comments."""
-    root = read("crates/getopts/src/lib.rt")
-    public = set(re.findall(r"\w+", " ".join(re.findall(r"^pub use (.*?);", root, re.M | re.S))))
     found = {}
-    for visible, module in re.findall(r"^(pub )?mod (\w+);", root, re.M):
-        for it, _, name in functions_in(read(f"crates/getopts/src/{module}.rt")):
-            if it[2] and (name.split("::")[0] in public or visible):
-                text = re.sub(r"\n *//.*|\n(?=\n)", "", textwrap.dedent(it[0][:body_of(it)]).rstrip())
-                found[name] = text.replace(f"pub fn {it[3]}", f"fn {name}", 1)
+    for name, it, _ in public_functions():
+        text = re.sub(r"\n *//.*|\n(?=\n)", "", textwrap.dedent(it[0][:body_of(it)]).rstrip())
+        found[name] = text.replace(f"pub fn {it[3]}", f"fn {name}", 1)
     return found
 
 

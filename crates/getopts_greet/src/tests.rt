@@ -1,6 +1,9 @@
-//! `answer` with writers in memory: what it writes to each stream, and the exit status.
+//! `answer` with writers in memory: what it writes to each stream, and the exit status. Also the
+//! names of options.
 
 use crate::answer::answer;
+use crate::greeting::options;
+use getopts::names_lawful;
 use std::alloc::AllocGlobal;
 use std::process::Abort;
 
@@ -76,5 +79,27 @@ fn accepted_words(rt: HostRuntime) {
 fn rejected_words(rt: HostRuntime) {
     for (words, err) in REJECTED {
         check(&rt, words, "", err, 2);
+    }
+}
+
+/// Finds invalid and undefined names without a proof.
+#[test]
+fn names_of_options(rt: HostRuntime) {
+    let groups = [
+        ("n", "name"),
+        ("t", "times"),
+        ("h", "help"),
+        ("V", "version"),
+    ];
+    for (short, long) in groups {
+        assert!(rt; names_lawful(short, long), "invalid: {short}, {long}");
+    }
+    let options = options(rt.alloc()).expect(&rt, "out of memory");
+    let words = ["-n", "Ann"];
+    let matches = options
+        .parse_words(rt.alloc(), &words)
+        .expect(&rt, "an error");
+    for name in ["name", "times", "help", "version"] {
+        assert!(rt; matches.opt_defined(name), "undefined: {name}");
     }
 }
