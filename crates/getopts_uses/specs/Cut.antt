@@ -34,7 +34,7 @@ refusal_of fail = refusal.Line fail
 -- the printed text of an error
 abbrev pub refusal_text : Refusal → Text
 refusal_text (refusal.Line (fail.ArgumentMissing name)) =
-    codes "cut: option requires an argument -- '" ++ (string_bytes name ++ codes "'")
+    codes "cut: option '" ++ (string_bytes name ++ codes "' requires an argument")
 refusal_text (refusal.Line (fail.OptionDuplicated name)) = codes "cut: only one list may be specified"
 refusal_text (refusal.Line fail) = codes "cut: " ++ fail_text fail
 refusal_text refusal.NoList = codes "cut: you must specify a list of bytes, characters, or fields"

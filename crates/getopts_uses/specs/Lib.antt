@@ -5,4 +5,5 @@ pub mod Driver
 pub mod Linker
 pub mod Logged
 pub mod Loudness
+pub mod Seq
 pub mod Wrapper

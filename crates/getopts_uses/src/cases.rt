@@ -11,6 +11,7 @@ use crate::lists::{any_given, count_of, place_named};
 use crate::logged::{read_and_log, read_build};
 use crate::loudness::read_report;
 use crate::plugin::add_flag;
+use crate::seq::read_seq;
 use crate::wrapper::handed_on;
 use crate::{driver, linker, subcommand};
 use getopts::{Matches, Options};
@@ -55,6 +56,7 @@ fn push_caller(
         "cut" => push_cut(alloc, text, words),
         "join" => push_joined(alloc, text, words),
         "report" => push(text, read_report(alloc, words)),
+        "seq" => push(text, read_seq(alloc, words)),
         "wrapper" => push(text, handed_on(alloc, words)),
         "command" => push(text, subcommand::read_run(alloc, words)),
         "add_help" => push(text, subcommand::add_help(alloc)),

@@ -80,7 +80,7 @@ impl fmt::Display for Refusal {
     fn fmt<W: fmt::Write>(&self, f: &mut fmt::Formatter<W>) -> fmt::Result {
         match self {
             Refusal::Line(Fail::ArgumentMissing(name)) => {
-                write!(f, "cut: option requires an argument -- '{name}'")
+                write!(f, "cut: option '{name}' requires an argument")
             }
             Refusal::Line(Fail::OptionDuplicated(_)) | Refusal::Lists => {
                 write!(f, "cut: only one list may be specified")

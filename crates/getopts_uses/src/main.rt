@@ -16,6 +16,7 @@ mod lists;
 mod logged;
 mod loudness;
 mod plugin;
+mod seq;
 mod subcommand;
 mod wrapper;
 
