@@ -27,7 +27,10 @@ pub(crate) fn check_counts(
         (λ fault. first_wrong 0 signatures.now (count_in (indices_in index.now)) ≡ Some fault)) }
 {
     for place in 0..signatures.len() {
-        check_count(alloc, signatures, place, index.count(place))?;
+        let count = index.count(place);
+        if !fits_count(signatures.record(place).kinds.occur, count) {
+            return Err(count_fault(alloc, signatures.main(place), count));
+        }
     }
     Ok(())
 }

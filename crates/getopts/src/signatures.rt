@@ -254,6 +254,7 @@ impl Signatures {
 impl Clone for Signatures {
     ghost is_clone = { λ a b. b ≡ a };
 
+    #[inline(always)]
     fn clone(&self) -> Result<Signatures, AllocError> {
         Ok(Signatures {
             text: self.text.clone()?,

@@ -19,7 +19,10 @@ pub(crate) fn check_counts(
     index: &Index,
 ) -> Result<(), Fail> {
     for place in 0..signatures.len() {
-        check_count(alloc, signatures, place, index.count(place))?;
+        let count = index.count(place);
+        if !fits_count(signatures.record(place).kinds.occur, count) {
+            return Err(count_fault(alloc, signatures.main(place), count));
+        }
     }
     Ok(())
 }

@@ -179,6 +179,7 @@ impl Signatures {
 }
 
 impl TryClone for Signatures {
+    #[inline(always)]
     fn try_clone(&self) -> Result<Signatures, AllocError> {
         Ok(Signatures {
             text: self.text.try_clone()?,

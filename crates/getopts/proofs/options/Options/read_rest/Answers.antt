@@ -1,4 +1,4 @@
--- The line that was read gives the matches of its reading, and its error is the error of the whole line.
+-- The line that was read gives the matches of its reading, and its error is that of the whole line.
 use Rattle.std.proofs.Common.{◌≡◌, ◌∙◌, Err, IfErr, List, Some, [], map, refl, rules}
 use Rattle.std.proofs.lemmas.List.{drop-map, take_rest}
 use Rattle.getopts.specs.Fail.{IsOutOfMemoryOr}
