@@ -72,6 +72,7 @@ def job_of(name):
 #   `Line::end` and `LineOccurrences::shrink` 2.5; `check_counts` 1.5; `Scanner::scan` 3.5
 # - `long`: `Scanner::shape` 6; `push_text`, `push_value`, `value_from`, `LineOccurrences::at` and
 #   `LineOccurrences::push` 9.5; `Occurrences::into_iter` and `OccurrencesIter::next` 5
+# - `none`: `Signatures::clone` 8
 # - `equal`: `Occurrences::get` and `Occurrences::at` 80; `Occurrences::same` 20;
 #   `MatchedGroups::same` (`inline(never)`) 14
 # - `files`, in `proved-getopts`: `push_copy` 3
