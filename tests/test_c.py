@@ -755,7 +755,7 @@ cc bindings/c/order.c -I%{buildroot}%{_includedir} -L%{buildroot}%{_libdir} -lge
 def test_rpm(tmp_path):
     """rpmbuild, set up as on Fedora, packs all files, also the debug information."""
     need_install()
-    need("rpmbuild", "eu-strip")
+    need("rpmbuild", "eu-strip", "file")
     name = f"getopts-{VERSION}"
     copy_tree(tmp_path / "sources" / name)
     shutil.make_archive(tmp_path / f"SOURCES/{name}", "gztar", tmp_path / "sources", name)

@@ -29,7 +29,7 @@ def test_stored_output_without_proofs(crate):
     assert rt_try(crate, "--", *words, status=status)[0] == (folder / "stdout").read_text()
 
 
-@pytest.mark.parametrize("crate, count", [("getopts_greet", 2), ("getopts_show", 2)])
+@pytest.mark.parametrize("crate, count", [("getopts_greet", 3), ("getopts_show", 2)])
 def test_own_tests_of_crate(crate, count):
     assert f"test result: ok. {count} passed" in rt_try(crate, "--test")[0]
 
