@@ -152,7 +152,7 @@ module _ {A : Set} where
   ... | inl (k′ , p′ , e′) = inl (suc k′ , s≤s p′ , e′)
   ... | inr c = inr c
 
-  -- Two ways to cut one list: the first cut is no later, or it is.
+  -- One list is cut twice. The first cut is no later than the second, or it is later.
   cuts : (xs ys us vs : List A) → xs ++ ys ≡ us ++ vs
     → (Σ[ zs ∈ List A ] (us ≡ xs ++ zs) × (ys ≡ zs ++ vs))
     ⊎ (Σ[ z ∈ A ] Σ[ zs ∈ List A ] (xs ≡ us ++ z ∷ zs) × (vs ≡ z ∷ zs ++ ys))

@@ -6,7 +6,8 @@ open import 01-Basics
 
 -- Division ----------------------------------------------------------------------------------------
 
--- If l + j ≡ m, `div k m n j` is k and the quotient of l + n by m + 1, and `mod l m n j` the rest.
+-- Here l + j ≡ m. `div k m n j` is k plus the quotient of l + n by m + 1. `mod l m n j` is the
+-- remainder.
 divided : ∀ k m n j l → l + j ≡ m
   → div k m n j * suc m + mod l m n j ≡ k * suc m + (l + n)
 divided k m zero j l e = cong (k * suc m +_) (sym (+-zero l))
@@ -26,7 +27,7 @@ left-over m (suc n) (suc j) l e = left-over m n j (suc l) (sym (+-suc l j) ∙ e
 remainder : ∀ c m → c % suc m ≤ m
 remainder c m = left-over m c m 0 refl
 
--- A quotient is determined.
+-- There is only one quotient.
 unique : ∀ m {r r′} q q′ → q * suc m + r ≡ q′ * suc m + r′ → r ≤ m → r′ ≤ m → q ≡ q′
 unique m zero zero e p p′ = refl
 unique m zero (suc q′) refl p p′ =
@@ -91,7 +92,7 @@ last-one : ∀ c more → chars-after 0 c more ≡ c ∷ chars more
 last-one c [] = refl
 last-one c (b ∷ bs) = refl
 
--- What is decoded is the character that was encoded.
+-- Decoding gives the character that was encoded.
 decoded : ∀ c more → chars (encode c ++ more) ≡ c ∷ chars more
 decoded c more with ltb c 128 in e₁
 ... | true rewrite e₁ = last-one c more

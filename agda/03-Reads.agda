@@ -2,9 +2,10 @@
 -- `read`, a function of the definitions, finds each reading and each scan error that the relations
 -- allow. So there is at most one of these.
 --
--- In all files, g is a grammar, w a word, ws and more are the words after it, i is an item, d are
--- dashes, n is a name, a an argument, k its kind, bs are flags, o ends a cluster, t is a text or a
--- tail, r a reading, f an error, m a mention, s a style and l whether long-only.
+-- Variables in all files:
+--   g grammar    w word    ws, more words after it    i item    d dashes    n name    a argument
+--   k kind of argument    bs flags    o last option of a cluster    t text or tail    r reading
+--   f error    m mention    s style    l whether the mode is long-only
 module 03-Reads where
 
 open import Definitions
@@ -22,11 +23,11 @@ open Sane public
 Outcome : Set
 Outcome = Result Reading Fault
 
--- The outcome of the words after a step.
+-- The result of the words that begin with this step.
 after : Grammar → Step → List Text → Outcome
 after g s ws = after-step s (read-both g ws .proj₁) (read-both g ws .proj₂)
 
--- A step that takes an argument goes on after its words.
+-- After a step that takes an item, reading goes on after the words of its argument.
 taken : ∀ g i a more
   → after g (takes i a) (argument-words a ++ more) ≡ with-items (i ∷ []) (read g more)
 taken g i none more = refl
@@ -165,7 +166,7 @@ module _ (g : Grammar) where
       first-decoded : ∀ t {cs} → chars t ≡ c ∷ cs → first-char t ≡ encode c
       first-decoded t e rewrite e = refl
 
-  -- A word with an error: its step is that error.
+  -- The step of a word with an error is that error.
   fault-step : ∀ {w ws f} → Sane g → IsFaultAt g w ws f → step g w ws ≡ faults f
   fault-step sane (unknown-name n a lf absent) = long-fault lf absent
   fault-step sane (unwanted-argument n a lf no) = long-fault lf no
@@ -185,7 +186,7 @@ module _ (g : Grammar) where
           byte-fault b c more front (sane .no-high b (subst (Each IsHigh) is high .proj₁)) refl
             (cong (_++ more) (sym is))
 
-  -- A free word takes no step that is an error.
+  -- A word whose step is an error is dashed.
   fault-dashed : ∀ w ws {f} → step g w ws ≡ faults f → is-dashed w ≡ true
   fault-dashed w ws e with split (is-dashed w)
   ... | inl dashed = dashed
@@ -208,7 +209,8 @@ ends-same (free _ ∷ items) h e = e
 ends-same (long _ _ _ ∷ items) h e = e
 ends-same (cluster _ _ ∷ items) h e = e
 
--- A scan error is what `read` finds: it takes the items before the word, whose step is the error.
+-- `read` finds each scan error: it takes the items before the word, and the word's step is the
+-- error.
 fault-read : ∀ {g words f} → Sane g → IsScanFault g words f → read g words ≡ Err f
 fault-read {g} {f = f} sane (mk _ w ws items refl (mk refl all _ followed) fault) =
   cong (read g) (spelled-then items (w ∷ ws)) ∙ go items all followed

@@ -1,5 +1,5 @@
 {-# OPTIONS --safe --without-K #-}
--- UTF-8 words have a reading or a scan error, and `read` finds it.
+-- UTF-8 words have a reading or a scan error, which `read` finds.
 module 04-Decided where
 
 open import Definitions
@@ -41,7 +41,8 @@ module _ (g : Grammar) (sane : Sane g) where
   ... | FloatingFrees = one-word (free w) refl (plain , style) λ ()
   ... | StopAtFirstFree = ends (rest (w ∷ ws)) refl (plain , style)
 
-  -- In long form, the name's kind decides, and whether an argument is attached or follows.
+  -- In long form, this depends on the kind of the name, and on whether an argument is attached or
+  -- a word follows.
   long-view : ∀ d t ws → MayPrecede (g .$long-only) d t → t ≢ [] → View (dash-text d ++ t) ws
   long-view d t ws p filled with cut-at-equals t | cut-parts t
   ... | n , a | refl , e = go a ((g .$kind) n) refl ws filled
@@ -121,7 +122,7 @@ module _ (g : Grammar) (sane : Sane g) where
       stop-or-long [] = ends (stop ws) refl tt
       stop-or-long (x ∷ t) = long-view two (x ∷ t) ws tt λ ()
 
-  -- What an outcome says of the words is right.
+  -- The result is right for these words: it is a reading or a scan error of them.
   Finds : List Text → Outcome → Set
   Finds words o = MatchResult o (λ r → IsReading g r words) (IsScanFault g words)
 

@@ -66,7 +66,7 @@ place-valid ns n p refl | Some _ | _ with position-some (is-main n) ns p m
 place-valid ns n p e | None | Some y with position-some (is-main (main-name y)) ns p e
 ... | x , at , _ = x , at
 
--- What the main theorem needs of a group's names: there is one, and none is a byte of a longer
+-- What the main theorem needs of a group: it has a name, and no name is one byte of a longer
 -- character.
 IsNamed : Names → Set
 IsNamed x = (main-name x ≢ []) × (∀ b → IsHigh b → (x .$short ≢ b ∷ []) × (x .$long ≢ b ∷ []))
@@ -89,7 +89,7 @@ module _ (ns : List Names) (named : Each IsNamed ns) where
   ...   | mk s (c ∷ l) , inside , as-main is =
           absurd (each-at ns named inside .proj₂ b high .proj₂ is)
 
--- The grammar is sane, since no group has the empty name, or half a character for a name.
+-- The grammar is sane: no group has an empty name, or a name that is part of a character.
 sane-groups : ∀ options → Each IsNamed (names-of (options .$groups)) → Sane (grammar-of options)
 sane-groups options named = record
   { no-empty = kind-none (empty-resolves-not (names-of gs) named)
@@ -144,7 +144,7 @@ one-byte-is-short ns valid byte place e with bearer ns (byte ∷ []) place e
     short (mk s []) _ (as-main is) = is
     short (mk s (c ∷ l)) (mk _ long-fits _ , _) (as-main is) = absurd (long-fits (cong length is))
 
--- Matched groups with these signatures have their names.
+-- Groups in matches have the names of the options' groups if their signatures are the same.
 held-are : ∀ groups {gs} → map (λ m → m .$signature) groups ≡ signatures-of gs
   → held-names groups ≡ names-of gs
 held-are [] {[]} e = refl

@@ -1,5 +1,5 @@
 {-# OPTIONS --safe --without-K #-}
--- There is at most one reading, and it decides what is accepted and what is rejected.
+-- Words have at most one reading, which decides whether they are accepted or rejected.
 module 06-Accepted where
 
 open import Definitions
@@ -9,8 +9,8 @@ open import 05-Resolved
 
 -- Any sane grammar --------------------------------------------------------------------------------
 
--- `read` gives each reading and each scan error. So there is one of them at most, and for UTF-8
--- words exactly one.
+-- `read` gives each reading and each scan error. So words have at most one of these. UTF-8 words
+-- have exactly one.
 module _ (g : Grammar) (sane : Sane g) (words : List Text) where
 
   one-reading-of : AtMostOne (λ r → IsReading g r words)
@@ -52,7 +52,7 @@ kept-and-broken kept (mk before g after refl _ broken _) =
 
 -- Any options -------------------------------------------------------------------------------------
 
--- What a relation of results calls the only reading, or the only error, is only one.
+-- Relations of results have at most one value: the matches, or the error.
 module _ (options : Declared) (words : List Text) where
 
   one-matches : AtMostOne (HasReading options words)

@@ -16,7 +16,7 @@ mention-in o = o .$mention
 mentions-in : Grammar → List Item → List Mention
 mentions-in g items = flat-map (mentions g) items
 
--- The mentions of occurrences are those of the items, whatever the positions.
+-- Occurrences mention what their items mention, whatever the positions.
 mentions-are : ∀ g before items
   → map mention-in (occurrences-after before g items) ≡ mentions-in g items
 mentions-are g before [] = refl
@@ -30,7 +30,7 @@ mentions-are g before (i ∷ items) =
     here [] = refl
     here (m ∷ ms) = cong (m ∷_) (here ms)
 
--- The options in an order are what the items mention, and its free words those of the items.
+-- The order of items has their mentions and their free words.
 order-parts : ∀ g items more → let order = order-of-items g items ++ more in
   (options-in order ≡ mentions-in g items ++ options-in more)
   × (frees-in order ≡ free-items items ++ frees-in more)
@@ -84,7 +84,7 @@ fits-end No (separate x) (no , _) = no refl
 fits-end Yes (separate x) fits = tt
 fits-end Maybe (separate x) fits = tt
 
--- The proofs need only the groups; the style and the mode are any.
+-- The proofs use only the groups, so the style and the mode may be any.
 given : ∀ options i → IsLawfulItem (grammar-of options) i
   → Each (Given-by (options .$groups)) (mentions (grammar-of options) i)
 given options (free w) _ = tt
@@ -266,7 +266,7 @@ module Lines (options : Declared) (named : Each IsNamed (names-of (options .$gro
       (cong (resolution (names-of gs)) (sym empty) ∙ sound))
     (cons-tail (cons-tail e))
 
-  -- Sound and plain contents with equal lines are equal, said or not: word by word.
+  -- Sound and plain contents with equal lines are equal, even if no words say them.
   one-line : ∀ c c′ → IsSound gs c → IsPlain gs c → IsSound gs c′ → IsPlain gs c′
     → canonical-line gs c ≡ canonical-line gs c′ → c ≡ c′
   one-line (mk ms fs) (mk ms′ fs′) = go ms ms′

@@ -44,7 +44,7 @@ count-app xs ys = cong length (spelled-app xs ys [] ∙ sym (spelled-then xs (sp
 
 -- Positions ---------------------------------------------------------------------------------------
 
--- The positions of items after b words: those of an item's mentions are all its own.
+-- The positions of items after b words. All mentions of an item have the item's position.
 places : Grammar → ℕ → List Item → List ℕ
 places g b [] = []
 places g b (x ∷ xs) = map (λ _ → b) (mentions g x) ++ places g (b + word-count (x ∷ [])) xs
@@ -93,7 +93,8 @@ module _ (g : Grammar) where
 
 -- One item for others -----------------------------------------------------------------------------
 
--- If a function of lists has the same value of these items, then also within a list.
+-- If a function has the same value for an item and for the others, it has the same value for lists
+-- with this item and lists with the others in its place.
 in-place : ∀ {A : Set} (h : List Item → List A) → (∀ xs ys → h (xs ++ ys) ≡ h xs ++ h ys)
   → ∀ front i others back → h others ≡ h (i ∷ [])
   → h (front ++ (others ++ back)) ≡ h (front ++ i ∷ back)
@@ -269,7 +270,7 @@ content-of-both g (mk items _) (mk items′ t) refl = mk
   (cong (_++ tail-frees t) (free-app items items′) ∙ ++-assoc (free-items items) _ _
     ∙ cong (_++ (free-items items′ ++ tail-frees t)) (sym (++-nil (free-items items))))
 
--- It is the only one, so each reading of the joined lines has the content of both.
+-- The joined reading is the only one, so each reading of the joined lines has the content of both.
 lines-law : ∀ g → Sane g → LinesCompose g
 lines-law g sane = mk λ first second words more p end last q →
   joined g first second p end last q , λ whole r → subst (HasContentOfBoth g first second)

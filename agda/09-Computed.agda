@@ -11,7 +11,8 @@ open import 05-Resolved
 open import 06-Accepted
 open import 07-Canonical
 
--- A relation of results has one value if each part of it has, and no two parts do.
+-- A relation of results has at most one value if each of its parts has at most one, and only one
+-- part has any.
 one-result : ∀ {X E : Set} {P : X → Set} {Q : E → Set} → AtMostOne P
   → (∀ {x f} → P x → ¬ (Q f)) → AtMostOne Q → AtMostOne (λ a → MatchResult a P Q)
 one-result unique apart unique′ (Ok x) (Ok x′) p q = cong Ok (unique x x′ p q)
@@ -23,8 +24,8 @@ Decides : Bool → Set → Set
 Decides true G = G
 Decides false G = ¬ G
 
--- A value h if G holds, and otherwise a value with the property R. If R has only one value, so has
--- this, and a test of G chooses it.
+-- If G is true, the value is h; otherwise, it has the property R. If only one value has R, there
+-- is only one such value, and a test of G chooses it.
 Or : {A : Set} → Set → A → (A → Set) → A → Set
 Or G h R a = (G × (a ≡ h)) ⊎ (¬ G × R a)
 
@@ -178,7 +179,7 @@ module _ (options : Declared) (words : List Text) where
       one-order _ _ (mk _ p refl _ _) (mk _ q refl _ _) =
         cong (order-of-reading (grammar-of options)) (one-accepted p q)
 
-  -- What `parse` answers, in the type of another call.
+  -- The result of `parse`, in the type of another call's result.
   Parses : {X : Set} → (Matched → X) → Result X Fault → Set
   Parses make a =
     Σ[ line ∈ _ ] IsParseAnswer options words line × (a ≡ result-map-both make (λ f → f) line)
@@ -237,7 +238,8 @@ module _ (options : Declared) (named : Each IsNamed (names-of (options .$groups)
   ...   | None | kept = mk p kept
   ...   | Some f | breaks = inr (mk _ (has-reading r p) breaks)
 
-  -- What is made of a reading that keeps the counts, if it is right for each.
+  -- What is made of the accepted reading is right if it is right for each reading that keeps the
+  -- counts.
   made-of-line : ∀ {X : Set} (P : X → Set) (make : Reading → X)
     → (∀ r → IsCountKeeping options r words → P (make r))
     → MatchResult (made-of make (accepted-reading options words)) P (IsRefused options words)

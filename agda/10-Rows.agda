@@ -10,7 +10,7 @@ open import Columns str-width
 
 -- Lists of lists ----------------------------------------------------------------------------------
 
--- `All` goes by index, and the proofs by recursion.
+-- `All` is defined by indices, but the proofs use recursion.
 each : {A : Set} (P : A → Set) (xs : List A) → All P xs → Each P xs
 each P [] _ = tt
 each P (x ∷ xs) all = all 0 x (s≤s z≤n) , each P xs λ k d l → all (suc k) d (s≤s l)
@@ -61,7 +61,7 @@ columns-inside front run back
   ≤-both {sum-by width-of run} (≤-after (sum-by width-of front) (≤-more _ ≤-refl))
     (≤-less-one {length run} (≤-after (length front) (≤-more _ ≤-refl)))
 
--- Words that fit into a row beside others fit by themselves.
+-- Words that fit together with others fit by themselves.
 fits-inside : ∀ limit front word run back → FitsIn limit (front ++ ((word ∷ run) ++ back))
   → FitsIn limit (word ∷ run)
 fits-inside limit front word run back (inr few) =
@@ -73,7 +73,7 @@ fits-inside limit (x ∷ y ∷ front) word run back (inl ())
 words-in : List Run → List Text
 words-in runs = flat-map (λ run → run) runs
 
--- A breaking as the proofs take it.
+-- A fitting breaking, stated by recursion.
 Filled : Run → Set
 Filled run = 0 < length run
 
@@ -141,7 +141,7 @@ one-tight-breaking limit words runs others (mk p t) (mk q u) = one-tight limit r
 
 -- Filling rows gives a tight breaking -------------------------------------------------------------
 
--- The first run that is filled begins with the words that it had.
+-- The first run begins with the words that it already has.
 begun : ∀ limit run words
   → Σ[ more ∈ Run ] Σ[ runs ∈ List Run ] runs-from limit run words ≡ (run ++ more) ∷ runs
 begun limit run [] = [] , [] , cong (_∷ []) (sym (++-nil run))
@@ -155,8 +155,8 @@ tight-breaking : ∀ {limit words} runs → words-in runs ≡ words → Breaks l
 tight-breaking runs all (filled , fits) =
   mk (mk all (all-of Filled runs filled) (all-of _ runs fits))
 
--- Rows that are filled word by word: each fits, and a word that begins a row had no room in the one
--- before.
+-- In rows that are filled word by word, each row fits, and a word that begins a row had no room in
+-- the row before.
 filled-up : ∀ limit w run words → FitsIn limit (w ∷ run)
   → IsTightBreaking limit ((w ∷ run) ++ words) (runs-from limit (w ∷ run) words)
 filled-up limit w run [] fits =

@@ -1,6 +1,5 @@
 {-# OPTIONS --safe --without-K #-}
--- Written by hand, with antt's precedences: what antt has built in, or defines by other means than
--- clauses.
+-- Written by hand, with antt's precedences. These are built into antt, or not defined by clauses.
 module Base where
 
 open import Agda.Builtin.Equality public using (_≡_; refl)

@@ -1,5 +1,5 @@
--- Canonical lines: what a command line says, rewritten with main names only; the laws of such
--- lines, and when there is no such line.
+-- Canonical lines: command lines rewritten with main names only. The laws of such lines, and when
+-- there is no such line.
 use Rattle.std.specs.Prelude.{◌≡◌, ◌≢◌, ◌↔◌, ℕ, Bool, false, List, [], ◌∷◌, ◌++◌, map, Option}
 use Rattle.std.specs.Prelude.{Some, None, slice_get}
 use Rattle.std.specs.List.{AllByRecursion, Contains}
@@ -13,19 +13,17 @@ use Rattle.getopts.specs.ReadingLaws.{mentions_of}
 use Rattle.getopts.specs.Matches.{matches_of, KeepsCounts}
 use Rattle.getopts.specs.declared.kinds.ParsingStyle.{ParsingStyle}
 
--- what a command line may say: mentions in order, and free words
+-- what a command line says, apart from positions
 pub record Content : Type 0 where
   pub mentions : List Mention
   pub free : List Text
 
--- the content of a reading by these options
 abbrev pub content_of : Declared → Reading → Content
 content_of options reading = record {
   mentions = mentions_of (grammar_of options) reading;
   free = free_words reading;
 }
 
--- the main name of the group at this place; empty past the last group
 abbrev pub main_at : List Group → ℕ → Text
 main_at groups place =
     option_map_or (λ group. main_name group.signature.names) (slice_get groups place) []
@@ -41,32 +39,27 @@ IsSound groups content =
     AllByRecursion (λ m. resolution (names_of groups) (main_at groups m.group) ≡ Some m.group)
     content.mentions
 
--- the canonical word of a mention: `--main`, or `--main=value` if it has a value
+-- `--main`, or `--main=value` if the mention has a value
 abbrev pub canonical_word : List Group → Mention → Text
 canonical_word groups m = long_word two (main_at groups m.group) m.value
 
--- the canonical line of a content: the words of its mentions, then `--`, then its free words
 abbrev pub canonical_line : List Group → Content → List Text
 canonical_line groups content =
     map (canonical_word groups) content.mentions ++ stop_word ∷ content.free
 
--- a value as an attached argument
 abbrev pub attached_value : Option Text → Argument
 attached_value None = none
 attached_value (Some value) = attached value
 
--- the canonical item of a mention: two dashes, the main name, and the value attached
 abbrev pub canonical_item : List Group → Mention → Item
 canonical_item groups m = long two (main_at groups m.group) (attached_value m.value)
 
--- the canonical reading of a content: its mentions' items, and the stop with its free words
 abbrev pub canonical_reading : List Group → Content → Reading
 canonical_reading groups content = record {
   items = map (canonical_item groups) content.mentions;
   tail = stop content.free;
 }
 
--- the options with the same groups, in this style and mode
 abbrev pub with_setting : Declared → ParsingStyle → Bool → Declared
 with_setting options style long_only = record options { style = style; long_only = long_only }
 
@@ -76,8 +69,7 @@ pub record IsCountKeeping (options : Declared) (reading : Reading) (words : List
   pub reads : IsReading (grammar_of options) reading words
   pub keeps : KeepsCounts (matches_of options reading).groups
 
--- In some style and mode the words have a reading with this content that keeps the counts.
--- The words say this content.
+-- In some style and mode, the words have a reading with this content that keeps the counts.
 pub record Says (options : Declared) (words : List Text) (content : Content) : Type 0 where
   pub style : ParsingStyle
   pub long_only : Bool
@@ -85,17 +77,15 @@ pub record Says (options : Declared) (words : List Text) (content : Content) : T
   pub reads : IsCountKeeping (with_setting options style long_only) reading words
   pub content_is : content ≡ content_of (with_setting options style long_only) reading
 
--- The canonical reading keeps the counts and has this content.
--- The canonical line of this content reads back.
+-- The canonical line is read as the canonical reading, which keeps the counts and this content.
 pub record ReadsBack (options : Declared) (content : Content) : Type 0 where
   pub reads : IsCountKeeping options (canonical_reading options.groups content)
       (canonical_line options.groups content)
   pub same : content_of options (canonical_reading options.groups content) ≡ content
 
--- The content is sound. Its canonical line reads back in both styles and both modes, says no other
--- content, and isn't the canonical line of another sound and plain content. Whatever content this
--- line says, that content's canonical line is this line again.
--- These are the laws of the canonical line of a plain content that some line says.
+-- The line reads back in both styles and both modes, and says no other content. No other sound and
+-- plain content has this line.
+-- These are the laws of the canonical line of a plain content.
 pub record HasCanonicalLine (options : Declared) (content : Content) : Type 0 where
   pub sound : IsSound options.groups content
   pub reads_back : (style : ParsingStyle) (long_only : Bool)
@@ -109,7 +99,6 @@ pub record HasCanonicalLine (options : Declared) (content : Content) : Type 0 wh
       → (canonical_line options.groups other ≡ canonical_line options.groups content)
       ↔ (other ≡ content)
 
--- There is no such item in either style or either mode.
 -- No valid item with just this mention begins with the mention's canonical word.
 abbrev pub HasNoItem : Declared → Mention → Type 0
 HasNoItem options m = (style : ParsingStyle) (long_only : Bool) (item : Item)

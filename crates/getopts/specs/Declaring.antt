@@ -6,30 +6,23 @@ use Rattle.getopts.specs.declared.kinds.HasArg.TheVariants.{Maybe, No, Yes}
 use Rattle.getopts.specs.declared.kinds.Occur.TheVariants.{Multi, Optional, Req}
 use Rattle.getopts.specs.declared.kinds.ParsingStyle.TheVariants.{FloatingFrees}
 
--- the group that `optflag` adds
 abbrev pub optflag : Text → Text → Text → Group
 optflag short long description = group_of short long description [] No Optional
 
--- the group that `optflagmulti` adds
 abbrev pub optflagmulti : Text → Text → Text → Group
 optflagmulti short long description = group_of short long description [] No Multi
 
--- the group that `optflagopt` adds
 abbrev pub optflagopt : Text → Text → Text → Text → Group
 optflagopt short long description hint = group_of short long description hint Maybe Optional
 
--- the group that `optmulti` adds
 abbrev pub optmulti : Text → Text → Text → Text → Group
 optmulti short long description hint = group_of short long description hint Yes Multi
 
--- the group that `optopt` adds
 abbrev pub optopt : Text → Text → Text → Text → Group
 optopt short long description hint = group_of short long description hint Yes Optional
 
--- the group that `reqopt` adds
 abbrev pub reqopt : Text → Text → Text → Text → Group
 reqopt short long description hint = group_of short long description hint Yes Req
 
--- options with these groups, in the style `FloatingFrees` and in ordinary mode
 abbrev pub options_of : List Group → Declared
 options_of groups = record { groups = groups; style = FloatingFrees; long_only = false }

@@ -14,7 +14,6 @@ pub data Fault : Type 0 where
   option_duplicated : Text → Fault
   unexpected_argument : Text → Fault
 
--- a number for each kind of error
 abbrev pub fault_index : Fault → ℕ
 fault_index (argument_missing name) = 1
 fault_index (unrecognized_option name) = 2
@@ -22,7 +21,6 @@ fault_index (option_missing name) = 3
 fault_index (option_duplicated name) = 4
 fault_index (unexpected_argument name) = 5
 
--- the name that an error reports
 abbrev pub fault_name : Fault → Text
 fault_name (argument_missing name) = name
 fault_name (unrecognized_option name) = name
@@ -30,7 +28,6 @@ fault_name (option_missing name) = name
 fault_name (option_duplicated name) = name
 fault_name (unexpected_argument name) = name
 
--- the error that a `Fail` reports; none if it is out of memory
 abbrev pub fault_of : Fail → Option Fault
 fault_of (fail.ArgumentMissing name) = Some (argument_missing (string_bytes name))
 fault_of (fail.UnrecognizedOption name) = Some (unrecognized_option (string_bytes name))
@@ -39,7 +36,6 @@ fault_of (fail.OptionDuplicated name) = Some (option_duplicated (string_bytes na
 fault_of (fail.UnexpectedArgument name) = Some (unexpected_argument (string_bytes name))
 fault_of fail.OutOfMemory = None
 
--- the printed text of an error
 abbrev pub fault_text : Fault → Text
 fault_text (argument_missing name) = codes "Argument to option '" ++ (name ++ codes "' missing")
 fault_text (unrecognized_option name) = codes "Unrecognized option: '" ++ (name ++ codes "'")
@@ -48,7 +44,6 @@ fault_text (option_duplicated name) = codes "Option '" ++ (name ++ codes "' give
 fault_text (unexpected_argument name) =
     codes "Option '" ++ (name ++ codes "' does not take an argument")
 
--- the printed text of a `Fail`: its error's text, or `Out of memory`
 abbrev pub fail_text : Fail → Text
 fail_text fail = option_map_or fault_text (fault_of fail) (codes "Out of memory")
 

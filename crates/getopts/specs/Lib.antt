@@ -1,8 +1,10 @@
--- What a caller has to trust, in reading order, and last what only private clauses cite. The last
--- line above a definition is its summary, which `rt lemma` prints; the lines before it give
--- details. A name with a capital letter is a type, of data (`Item`) or of facts (`IsReading`);
--- functions begin with a small letter. In names, *held* means contained in matches, *lawful* valid,
--- *fault* an error of a command line, and *refused* rejected.
+-- What a caller has to trust, in reading order. Definitions that only private clauses cite come
+-- last.
+-- A name with a capital letter is a type, of data (`Item`) or of facts (`IsReading`); functions
+-- begin with a small letter. In names, *held* means contained in matches, *lawful* valid, *fault*
+-- an error of a command line, and *refused* rejected.
+-- Comments say what names and types don't. The last line above a definition is its summary, which
+-- `rt lemma` prints.
 
 pub mod Only
 pub mod Names

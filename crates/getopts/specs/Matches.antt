@@ -9,7 +9,7 @@ use Rattle.getopts.specs.Reading.{Reading, Occurrence, occurrences_of, free_word
 use Rattle.getopts.specs.declared.kinds.Occur.{Occur}
 use Rattle.getopts.specs.declared.kinds.Occur.TheVariants.{Req, Optional, Multi}
 
--- an occurrence of a known group: its position, and its value if it has one
+-- an occurrence of a known option
 pub record GroupOccurrence : Type 0 where
   pub position : ℕ
   pub value : Option Text
@@ -19,18 +19,16 @@ pub record MatchedGroup : Type 0 where
   pub signature : Signature
   pub found : List GroupOccurrence
 
--- matches: groups, free words, and where the words after a stop begin among the free words
+-- matches; `trailing_start` is where the words after a stop begin among the free words
 pub record Matched : Type 0 where
   pub groups : List MatchedGroup
   pub free : List Text
   pub trailing_start : Option ℕ
 
--- an occurrence without its group
 abbrev pub without_group : Occurrence → GroupOccurrence
 without_group occurrence =
     record { position = occurrence.position; value = occurrence.mention.value }
 
--- the occurrences of the group at this place
 abbrev pub occurrences_mentioning : ℕ → List Occurrence → List GroupOccurrence
 occurrences_mentioning place occurrences =
     map without_group (filter (λ o. o.mention.group == place) occurrences)
@@ -42,7 +40,6 @@ matched place (signature ∷ signatures) occurrences =
     record { signature = signature; found = occurrences_mentioning place occurrences }
     ∷ matched (place + 1) signatures occurrences
 
--- the matches of a reading
 abbrev pub matches_of : Declared → Reading → Matched
 matches_of options reading = record {
   groups = matched 0 (signatures_of options.groups) (occurrences_of (grammar_of options) reading);
@@ -50,26 +47,24 @@ matches_of options reading = record {
   trailing_start = trailing_start reading;
 }
 
--- whether a group may have this many occurrences: exactly one, at most one, or any number
 abbrev pub fits_count : Occur → ℕ → Bool
 fits_count Req count = count == 1
 fits_count Optional count = nat_lt count 2
 fits_count Multi count = true
 
--- The group keeps its count.
+-- The group occurs as often as it may.
 abbrev pub KeepsCount : MatchedGroup → Type 0
 KeepsCount group = fits_count group.signature.occur (length group.found) ≡ true
 
--- Each group keeps its count.
+-- Each group occurs as often as it may.
 abbrev pub KeepsCounts : List MatchedGroup → Type 0
 KeepsCounts groups = AllByRecursion KeepsCount groups
 
--- the error for a broken count: missing if there is no occurrence, otherwise given too often
+-- the error of a group with this main name and a wrong number of occurrences
 abbrev pub count_fault : Text → ℕ → Fault
 count_fault main count = if count == 0 then option_missing main else option_duplicated main
 
--- The error reports the first group, in order of declaration, that breaks its count.
--- This is the count error of the groups.
+-- This is the count error of the groups. It reports the first group that breaks its count.
 pub record IsCountFault (groups : List MatchedGroup) (fault : Fault) : Type 0 where
   pub before : List MatchedGroup
   pub group : MatchedGroup

@@ -10,7 +10,6 @@ use Rattle.std.specs.Str.{IsUtf8, bytes_eq}
 abbrev pub Text : Type 0
 Text = List ℕ
 
--- the texts of borrowed words
 abbrev pub texts : List (Bor Text) → List Text
 texts words = map (λ word. word.now) words
 
@@ -23,8 +22,7 @@ pub record Names : Type 0 where
   pub short : Text
   pub long : Text
 
--- The names are valid.
--- The short name has at most one byte, the long name not exactly one, and not both are empty.
+-- The two names are valid.
 pub record AreLawful (short long : Text) : Type 0 where
   pub short_fits : length short ≤ 1
   pub long_fits : length long ≢ 1
@@ -34,19 +32,15 @@ pub record AreLawful (short long : Text) : Type 0 where
 abbrev pub IsLawfullyNamed : Names → Type 0
 IsLawfullyNamed names = AreLawful names.short names.long
 
--- whether a text has no bytes
 abbrev pub is_empty : Text → Bool
 is_empty text = length text == 0
 
--- the main name: the long name or, if there is none, the short name
 abbrev pub main_name : Names → Text
 main_name names = if is_empty names.long then names.short else names.long
 
--- whether this is the group's main name
 abbrev pub is_main : Text → Names → Bool
 is_main name names = bytes_eq (main_name names) name
 
--- whether this is the group's alias: its short name, if it has a long one too
 abbrev pub is_alias : Text → Names → Bool
 is_alias name names =
     not (is_empty names.long) && not (is_empty names.short) && bytes_eq names.short name
@@ -55,8 +49,7 @@ is_alias name names =
 abbrev pub main_place : List Names → Text → Option ℕ
 main_place groups name = position (is_main name) groups
 
--- A name resolves to the first group with this main name. If there is none, it resolves like the
--- main name of the first group with this alias.
+-- If no group has this main name, the main name of the first group with this alias is looked up.
 -- the place of the group that a name resolves to
 abbrev pub resolution : List Names → Text → Option ℕ
 resolution groups name = option_or (main_place groups name)

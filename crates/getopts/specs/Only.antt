@@ -1,7 +1,7 @@
--- One value, and no other.
+-- Uniqueness of values.
 use Rattle.std.specs.Prelude.{◌≡◌, ◌↔◌}
 
--- This value has the property, and no other value has.
+-- This value has the property, and no other value has it.
 abbrev pub IsTheOnly : {X : Type 0} → (X → Type 0) → X → Type 0
 IsTheOnly {X} Fact value = (other : X) → Fact other ↔ (other ≡ value)
 

@@ -8,19 +8,19 @@ use Rattle.getopts.specs.declared.kinds.HasArg.{HasArg}
 use Rattle.getopts.specs.declared.kinds.Occur.{Occur}
 use Rattle.getopts.specs.declared.kinds.ParsingStyle.{ParsingStyle}
 
--- what parsing uses of a group: its names, its kind of argument and its kind of occurrence
+-- what parsing uses of a group
 pub record Signature : Type 0 where
   pub names : Names
   pub kind : HasArg
   pub occur : Occur
 
--- a group: what parsing uses of it, with its hint and description for usage texts
+-- a declared option; its hint and its description are for usage texts
 pub record Group : Type 0 where
   pub signature : Signature
   pub hint : Text
   pub description : Text
 
--- the group that a call adds for these arguments
+-- the group that `opt` adds for its arguments, in their order
 abbrev pub group_of : Text → Text → Text → Text → HasArg → Occur → Group
 group_of short long description hint kind occur = record {
   signature = record {
@@ -32,17 +32,15 @@ group_of short long description hint kind occur = record {
   description = description;
 }
 
--- options: groups in order of declaration, a parsing style, and whether the mode is long-only
+-- the options of a program; groups are in order of declaration
 pub record Declared : Type 0 where
   pub groups : List Group
   pub style : ParsingStyle
   pub long_only : Bool
 
--- the options with this group added as the last
 abbrev pub with_group : Declared → Group → Declared
 with_group options group = record options { groups = options.groups ++ group ∷ [] }
 
--- the options with these groups added as the last, one after the other
 abbrev pub with_groups : Declared → List Group → Declared
 with_groups options [] = options
 with_groups options (group ∷ groups) = with_groups (with_group options group) groups
@@ -51,35 +49,29 @@ with_groups options (group ∷ groups) = with_groups (with_group options group) 
 abbrev pub AreLawfullyNamed : List Group → Type 0
 AreLawfullyNamed groups = AllByRecursion (λ group. IsLawfullyNamed group.signature.names) groups
 
--- The groups may be declared: each has valid names, and its short name is UTF-8.
+-- Options may have these groups. This is an invariant of the type `Options`.
 pub record MayBeDeclared (groups : List Group) : Type 0 where
   pub named : AreLawfullyNamed groups
   pub shorts : AllByRecursion (λ group. IsUtf8 group.signature.names.short) groups
 
--- the names of each group
 abbrev pub names_of : List Group → List Names
 names_of groups = map (λ group. group.signature.names) groups
 
--- what parsing uses of each group
 abbrev pub signatures_of : List Group → List Signature
 signatures_of groups = map (λ group. group.signature) groups
 
--- A grammar consists of the style, the mode and, for each name, the place and the kind of argument
--- of the group that the name resolves to.
--- what parsing uses of options
+-- what parsing uses of options; `place` and `kind` say what a name resolves to
 pub record Grammar : Type 0 where
   pub place : Text → Option ℕ
   pub kind : Text → Option HasArg
   pub style : ParsingStyle
   pub long_only : Bool
 
--- the kind of argument of the group that a name resolves to
 abbrev pub kind_of : List Group → Text → Option HasArg
 kind_of groups name =
     option_and_then (λ place. option_map (λ group. group.signature.kind) (slice_get groups place))
     (resolution (names_of groups) name)
 
--- the kind of occurrence of the group that a name resolves to
 abbrev pub occur_of : List Group → Text → Option Occur
 occur_of groups name =
     option_and_then (λ place. option_map (λ group. group.signature.occur) (slice_get groups place))
@@ -89,7 +81,6 @@ occur_of groups name =
 abbrev pub Declares : Declared → Text → Type 0
 Declares options name = IsSome (resolution (names_of options.groups) name)
 
--- the grammar of options
 abbrev pub grammar_of : Declared → Grammar
 grammar_of options = record {
   place = resolution (names_of options.groups);
@@ -104,6 +95,5 @@ grammar_of options = record {
 abbrev pub long_place : Grammar → Text → Option ℕ
 long_place grammar name = grammar.place name
 
--- the kind of argument of the group that a name in long form means
 abbrev pub long_kind : Grammar → Text → Option HasArg
 long_kind grammar name = grammar.kind name

@@ -1,6 +1,7 @@
--- The results of the calls that read a command line, as relations, which state the promise. If
--- options may be declared and words are UTF-8, the words are accepted, break a count or have no
--- reading: exactly one of the three. `Results` defines the same results as functions.
+-- The results of the calls that read a command line, as relations. They state what the library
+-- promises; `Results` defines the same results as functions. If options may be declared and words
+-- are UTF-8, exactly one of these is true: the words are accepted, break a count, or have no
+-- reading.
 use Rattle.std.specs.Prelude.{◌≡◌, ◌⊎◌, List, Option, MatchOption, Result, MatchResult, ⊤, codes}
 use Rattle.std.specs.Prelude.{Some, None, Ok, Err, ◌<◌, ℕ, [], ◌∷◌, ◌++◌, drop, length, map, IfSome}
 use Rattle.std.specs.Prelude.{IsSome, slice_get}
@@ -42,14 +43,12 @@ pub record HasReading (options : Declared) (words : List Text) (matches : Matche
   pub only : IsTheOnly (Reads options words) reading
   pub matches_are : matches ≡ matches_of options reading
 
--- The words have exactly one reading, and it keeps the counts.
 -- The words are accepted with these matches.
 pub record IsAccepted (options : Declared) (words : List Text) (matches : Matched) : Type 0 where
   pub read : HasReading options words matches
   pub counts : KeepsCounts matches.groups
 
--- The words have exactly one reading, and it breaks a count.
--- The error is about the first group that breaks its count.
+-- The words have exactly one reading, which breaks the counts with this error.
 pub record BreaksCounts (options : Declared) (words : List Text) (fault : Fault) : Type 0 where
   pub matches : Matched
   pub read : HasReading options words matches
@@ -66,7 +65,6 @@ IsRefused options words fault = HasNoReading options words fault ⊎ BreaksCount
 
 -- ---- contents, canonical lines and orders
 
--- The words have exactly one reading, which keeps the counts and has this content.
 -- The words are accepted with this content.
 pub record IsAcceptedWith (options : Declared) (words : List Text) (content : Content)
     : Type 0 where
@@ -82,8 +80,7 @@ pub record IsWritten (options : Declared) (words line : List Text) : Type 0 wher
   pub plain : IsPlain options.groups content
   pub line_is : line ≡ canonical_line options.groups content
 
--- Some mention of the content can't be written.
--- The words are accepted with a content that is sound but not plain.
+-- The words are accepted with a content that isn't plain, so they have no canonical line.
 pub record IsUnwritable (options : Declared) (words : List Text) : Type 0 where
   pub content : Content
   pub accepted : IsAcceptedWith options words content
@@ -96,9 +93,7 @@ abbrev pub KeepsLineLaws : Declared → Type 0
 KeepsLineLaws options = (words line : List Text) → (written : IsWritten options words line)
     → HasCanonicalLine options written.content
 
--- The words are accepted, and this is the order of their reading. It has all mentions and all free
--- words of their content.
--- This is the order of the options and free words in the words.
+-- The words are accepted, and this is the order of their reading.
 pub record IsOrder (options : Declared) (words : List Text) (order : List Given) : Type 0 where
   pub content : Content
   pub accepted : IsAcceptedWith options words content
@@ -108,8 +103,6 @@ pub record IsOrder (options : Declared) (words : List Text) (order : List Given)
 
 -- ---- help and version
 
--- The name resolves to the group of some occurrence of the reading. Words that can't be read, and
--- names that don't resolve, give nothing.
 -- The words give this name's option: they have a reading in which it occurs.
 pub record Gives (options : Declared) (words : List Text) (name : Text) : Type 0 where
   pub reading : Reading
@@ -128,6 +121,7 @@ IfParsed (Parsed it) P = P it
 IfParsed request P = ⊤
 
 -- ---- the result of each call
+-- Any call may also return out of memory (see `ReturnsResult`).
 
 -- This is the reading of the words, or why there is none.
 abbrev pub IsReadingOf : Declared → List Text → Result Reading Fault → Type 0
@@ -139,31 +133,30 @@ abbrev pub IsLineOf : Declared → List Text → Result Reading Fault → Type 0
 IsLineOf options words answer =
     MatchResult answer (λ reading. IsCountKeeping options reading words) (IsRefused options words)
 
--- This is the result of `parse` for these words, unless it is out of memory.
+-- This is the result of `parse`.
 abbrev pub IsParseAnswer : Declared → List Text → Result Matched Fault → Type 0
 IsParseAnswer options words answer =
     MatchResult answer (IsAccepted options words) (IsRefused options words)
 
--- This is the result of `parse_ignoring_counts` for these words, unless it is out of memory.
+-- This is the result of `parse_ignoring_counts`.
 abbrev pub IsReadAnswer : Declared → List Text → Result Matched Fault → Type 0
 IsReadAnswer options words answer =
     MatchResult answer (HasReading options words) (HasNoReading options words)
 
--- This is the result of `canonical` for these words, unless it is out of memory.
+-- This is the result of `canonical`.
 abbrev pub IsCanonicalAnswer : Declared → List Text → Result (Option (List Text)) Fault → Type 0
 IsCanonicalAnswer options words answer =
     MatchResult answer
     (λ written. MatchOption written (IsUnwritable options words) (IsWritten options words))
     (IsRefused options words)
 
--- This is the result of `parse_in_order` for these words, unless it is out of memory.
+-- This is the result of `parse_in_order`.
 abbrev pub IsOrderAnswer : Declared → List Text → Result (List Given) Fault → Type 0
 IsOrderAnswer options words answer =
     MatchResult answer (IsOrder options words) (IsRefused options words)
 
--- If the words give the flag, there are no matches, whatever the counts. Otherwise the words are
--- accepted or rejected as by `parse`.
--- This is the result of `parse_unless` for this flag and these words, unless it is out of memory.
+-- If the flag is given, the counts aren't checked.
+-- This is the result of `parse_unless`.
 abbrev pub IsUnlessAnswer : Declared → Text → List Text → Result (Option Matched) Fault → Type 0
 IsUnlessAnswer options flag words (Ok None) = Gives options words flag
 IsUnlessAnswer options flag words (Ok (Some matches)) =
@@ -171,9 +164,8 @@ IsUnlessAnswer options flag words (Ok (Some matches)) =
 IsUnlessAnswer options flag words (Err fault) =
     ¬ (Gives options words flag) × IsRefused options words fault
 
--- If the words give `help`, help is requested, whatever the counts. If they give `version` but not
--- `help`, the version is. Otherwise the words are accepted or rejected as by `parse`.
--- This is the result of `parse_request` for these words, unless it is out of memory.
+-- If help or the version is requested, the counts aren't checked.
+-- This is the result of `parse_request`.
 abbrev pub IsRequestAnswer : Declared → List Text → Result (Request Matched) Fault → Type 0
 IsRequestAnswer options words (Ok Help) = Gives options words (codes "help")
 IsRequestAnswer options words (Ok Version) =
@@ -195,13 +187,13 @@ pub record HasResults (options : Declared) (words : List Text) : Type 0 where
       → IsTheOnly (IsUnlessAnswer options flag words) (parse_unless_result options flag words)
   pub request : IsTheOnly (IsRequestAnswer options words) (parse_request_result options words)
 
--- The call's answer is out of memory or, with its value converted, has the property `Is`.
+-- The call returns out of memory or, with its value converted, a result with the property `Is`.
 abbrev pub ReturnsConverted : {A X : Type 0} → (A → X) → Result A Fail → (Result X Fault → Type 0)
     → Type 0
 ReturnsConverted convert answer Is =
     MatchResult answer (λ value. Is (Ok (convert value))) (λ fail. IsOutOfMemoryOr fail (λ fault. Is (Err fault)))
 
--- The call's answer is out of memory, or this result.
+-- The call returns out of memory, or this result.
 abbrev pub ReturnsResult : {X : Type 0} → Result X Fail → Result X Fault → Type 0
 ReturnsResult answer result = ReturnsConverted (λ value. value) answer (λ it. result ≡ it)
 
@@ -217,9 +209,7 @@ HaveValuesByKind groups =
     AllByRecursion (λ group. AllByRecursion (λ found. FitsKind group.signature.kind found.value)
     group.found) groups
 
--- The groups are those of the options, with positions in order and values that fit their kinds. An
--- option that needs an argument and was given has a value.
--- The matches fit the options: each declared name is defined.
+-- The groups in the matches fit the options, except that counts may be broken.
 pub record FitOptions (options : Declared) (groups : List MatchedGroup) : Type 0 where
   pub same_groups : AreGroupsOf options groups
   pub positions_in_order : HavePositionsInOrder groups
@@ -236,19 +226,16 @@ pub record FitOptionsAndCounts (options : Declared) (groups : List MatchedGroup)
   pub required : (name : Text) → occur_of options.groups name ≡ Some Req
       → length (occurrences_of_name groups name) ≡ 1
 
--- the kind of argument of the group at this place
 abbrev pub kind_at : List Group → ℕ → Option HasArg
 kind_at groups place = option_map (λ (group : Group). group.signature.kind) (slice_get groups place)
 
--- An option's place is below the number of groups, and its value fits its group's kind.
--- The groups declare what is given.
+-- The option is declared, and its value fits its kind. A free word is always allowed.
 abbrev pub IsDeclared : List Group → Given → Type 0
 IsDeclared groups (option place value) =
     (place < length groups) × IfSome (kind_at groups place) (λ kind. FitsKind kind value)
 IsDeclared groups (free_word word) = ⊤
 
--- The words before the free words give the same options by themselves, and no free words.
--- The words end in the free words.
+-- The words end in the free words. The words before these give the same options by themselves.
 pub record EndsInFreeWords (options : Declared) (words : List Text) (matches : Matched)
     : Type 0 where
   pub before : List Text
@@ -261,15 +248,12 @@ abbrev pub HaveLastWordsFree : Declared → List Text → Matched → Type 0
 HaveLastWordsFree options words matches =
     options.style ≡ StopAtFirstFree → EndsInFreeWords options words matches
 
--- There is at least one free word from the trailing start on.
--- The words are some words, `--`, and the free words from the trailing start on.
+-- The words end in `--` and the free words from the trailing start on.
 pub record EndsInTrailing (words : List Text) (matches : Matched) (start : ℕ) : Type 0 where
   pub below : start < length matches.free
   pub before : List Text
   pub words_are : words ≡ before ++ stop_word ∷ drop start matches.free
 
--- Positions are indices of words. Under `StopAtFirstFree` the words end in the free words. If there
--- is a trailing start, they end in `--` and the free words from there on.
 -- The options accept the words with these matches.
 pub record Accepts (options : Declared) (words : List Text) (matches : Matched) : Type 0 where
   pub accepted : IsAccepted options words matches

@@ -17,33 +17,27 @@ use Rattle.getopts.specs.Reading.{Given, given_option, options_in, frees_in, ord
 use Rattle.getopts.specs.Matches.{MatchedGroup}
 use Rattle.getopts.specs.declared.kinds.HasArg.TheVariants.{Yes}
 
--- what a reading mentions, in command-line order: its occurrences without their positions
 abbrev pub mentions_of : Grammar → Reading → List Mention
 mentions_of grammar reading = map (λ o. o.mention) (occurrences_of grammar reading)
 
--- the words that a reading spells
 abbrev pub spelled_words : Reading → List Text
 spelled_words reading = spelled_all reading.items (tail_words reading.tail)
 
--- the reading with items in three parts, and a tail
 abbrev pub reading_of : List Item → List Item → List Item → Tail → Reading
 reading_of front middle back tail = record { items = front ++ (middle ++ back); tail = tail }
 
--- the positions of a reading's occurrences, in command-line order
 abbrev pub positions_in : Grammar → Reading → List ℕ
 positions_in grammar reading = map (λ o. o.position) (occurrences_of grammar reading)
 
--- the other position, one higher if it is after this position
 abbrev pub one_higher_after : ℕ → ℕ → ℕ
 one_higher_after position other = if nat_le other position then other else other + 1
 
--- The new positions are the old ones, one higher if they are after this position.
+-- The new positions are the old ones, but each position after this one is one higher.
 abbrev pub AreHigherAfter : ℕ → List ℕ → List ℕ → Type 0
 AreHigherAfter position old new = new ≡ map (one_higher_after position) old
 
--- The new reading is a reading of what it spells, and its positions relate to the old ones as
--- `Alike` says.
--- The new reading has the mentions, free words and trailing start of the old one.
+-- `Alike` relates the new positions to the old ones.
+-- The new reading gives the same mentions, free words and trailing start as the old one.
 pub record ReadsAlike (grammar : Grammar) (Alike : List ℕ → List ℕ → Type 0) (old new : Reading)
     : Type 0 where
   pub reads : IsReading grammar new (spelled_words new)
@@ -52,8 +46,8 @@ pub record ReadsAlike (grammar : Grammar) (Alike : List ℕ → List ℕ → Typ
   pub trailing : trailing_start new ≡ trailing_start old
   pub positions : Alike (positions_in grammar old) (positions_in grammar new)
 
--- `Alike` may depend on the item's position.
--- A reading that contains the item reads alike with the others in its place.
+-- `Alike` also gets the position of the item.
+-- In every reading, the others may replace the item.
 abbrev pub Respells : Grammar → Item → List Item → (ℕ → List ℕ → List ℕ → Type 0) → Type 0
 Respells grammar item others Alike = (front back : List Item) (tail : Tail) (words : List Text)
     → IsReading grammar (reading_of front (item ∷ []) back tail) words
@@ -67,19 +61,15 @@ pub record AreOneWordApart (grammar : Grammar) (shorter longer : Item) : Type 0 
   pub to_shorter : Respells grammar longer (shorter ∷ [])
       (λ position old new. AreHigherAfter position new old)
 
--- `--name=argument` and `--name`, `argument` read alike if the name's kind is `Yes`, except that
--- positions of later items are one higher in the second form.
--- A long option's argument may be attached or separate.
+-- If the kind is `Yes`, `--name=argument` and `--name argument` read alike, except for positions.
 pub record LongAttachedOrSeparate (grammar : Grammar) : Type 0 where
   pub either : (dashes : Dashes) (name argument : Text)
       → long_kind grammar name ≡ Some Yes
       → AreOneWordApart grammar
       (long dashes name (attached argument)) (long dashes name (separate argument))
 
--- `-xargument` and `-x`, `argument` read alike, also after flags, if the kind of `x` is `Yes`,
--- except that positions of later items are one higher in the second form. An empty argument can't
--- be attached.
--- A short option's argument may be attached or separate.
+-- An empty argument can't be attached. Flags may precede `x` in its word.
+-- If the kind is `Yes`, `-xargument` and `-x argument` read alike, except for positions.
 pub record ShortAttachedOrSeparate (grammar : Grammar) : Type 0 where
   pub either : (bytes : List ℕ) (option : ℕ) (argument : Text)
       → grammar.kind (option ∷ []) ≡ Some Yes
@@ -87,9 +77,8 @@ pub record ShortAttachedOrSeparate (grammar : Grammar) : Type 0 where
       → AreOneWordApart grammar (cluster bytes (ends_in option (attached argument)))
       (cluster bytes (ends_in option (separate argument)))
 
--- `-xs` and `-x`, `-s` read alike except for positions, if `x` is a flag, and `s` isn't empty and
--- doesn't begin with `-`.
--- A cluster may be split after a flag.
+-- The text `s` isn't empty and doesn't begin with `-`.
+-- If `x` is a flag, `-xs` and `-x -s` read alike, except for positions.
 pub record ClusterSplits (grammar : Grammar) : Type 0 where
   pub after_flag : (flag : ℕ) (bytes : List ℕ) (end : End)
       → bytes ++ end_text end ≢ []
@@ -97,9 +86,8 @@ pub record ClusterSplits (grammar : Grammar) : Type 0 where
       → Respells grammar (cluster (flag ∷ bytes) end)
       (cluster (flag ∷ []) flags ∷ cluster bytes end ∷ []) (λ position old new. ⊤)
 
--- `-name` and `--name` read alike in long-only mode, with the same positions, if the name doesn't
--- begin with `-`.
--- In long-only mode a name may follow one dash or two.
+-- The name doesn't begin with `-`.
+-- In long-only mode, `-name` and `--name` read alike, with the same positions.
 pub record OneDashOrTwo (grammar : Grammar) : Type 0 where
   pub other_dashes : (dashes other : Dashes) (name : Text) (argument : Argument)
       → grammar.long_only ≡ true
@@ -107,23 +95,21 @@ pub record OneDashOrTwo (grammar : Grammar) : Type 0 where
       → Respells grammar (long dashes name argument) (long other name argument ∷ [])
       (λ position old new. new ≡ old)
 
--- whether the last item is a bare cluster
 abbrev pub is_last_bare : List Item → Bool
 is_last_bare items = option_map_or is_bare (last_or None items) false
 
--- the items of two readings one after the other, with the tail of the second
 abbrev pub joined_reading : Reading → Reading → Reading
 joined_reading first second = record { items = first.items ++ second.items; tail = second.tail }
 
--- The whole has the mentions and free words of the first reading, and then those of the second.
+-- The whole gives the mentions and free words of the first reading, then those of the second.
 pub record HasContentOfBoth (grammar : Grammar) (first second whole : Reading) : Type 0 where
   pub mentions : mentions_of grammar whole ≡ mentions_of grammar first ++ mentions_of grammar second
   pub free : free_words whole ≡ free_words first ++ free_words second
 
--- The first command line has a reading that ends with the line, and whose last item isn't a bare
--- cluster. The second one has any reading. Joined, the two readings are a reading of the joined
--- lines, and every reading of the joined lines has the content of both.
--- Command lines compose, in both styles.
+-- The reading of the first line has no stop and no rest, and doesn't end in a bare cluster. Joined,
+-- the two readings are a reading of the joined lines. Every reading of these has the content of
+-- both.
+-- Two command lines can be joined, in both styles.
 pub record LinesCompose (grammar : Grammar) : Type 0 where
   pub of_both : (first second : Reading) (words more : List Text)
       → IsReading grammar first words
@@ -139,7 +125,6 @@ pub record IsAfterStop (reading : Reading) (start : ℕ) : Type 0 where
   pub below : start < length (free_words reading)
   pub tail_is : reading.tail ≡ stop (drop start (free_words reading))
 
--- The trailing start is less than the number of free words.
 -- From the trailing start on, the free words are the words after the stop.
 pub record TrailingStartIsAfterStop (grammar : Grammar) : Type 0 where
   pub after_stop : (reading : Reading) (words : List Text) (start : ℕ)
@@ -163,8 +148,6 @@ abbrev pub HavePositionsInOrder : List MatchedGroup → Type 0
 HavePositionsInOrder groups =
     AllByRecursion (λ group. IsNonDecreasingBy (λ found. found.position) group.found) groups
 
--- The order consists of an earlier part, the item's options and a later part. The earlier part has
--- the options and free words of the items before this one.
 -- In an order, the item's options follow what the items before it give.
 pub record FollowsItems (grammar : Grammar) (order : List Given) (before : List Item) (item : Item)
     : Type 0 where
@@ -174,9 +157,7 @@ pub record FollowsItems (grammar : Grammar) (order : List Given) (before : List 
   pub options : options_in earlier ≡ flat_map (mentions grammar) before
   pub frees : frees_in earlier ≡ free_items before
 
--- The occurrence is one of the item's mentions. Its position is the number of words that earlier
--- items spell, and the word at that position is the item's first.
--- The occurrence belongs to an item.
+-- The occurrence is a mention of an item in the reading, at the position of the item's first word.
 pub record BelongsToItem (grammar : Grammar) (reading : Reading) (words : List Text)
     (occurrence : Occurrence) : Type 0 where
   pub before : List Item
@@ -188,8 +169,7 @@ pub record BelongsToItem (grammar : Grammar) (reading : Reading) (words : List T
   pub first_word : slice_get words occurrence.position ≡ slice_get (item_words item) 0
   pub in_order : FollowsItems grammar (order_of_reading grammar reading) before item
 
--- Each occurrence of a reading belongs to an item, and is at its first word.
--- Positions are indices of words.
+-- The position of each occurrence is the index of its item's first word.
 pub record PositionsAreWords (grammar : Grammar) : Type 0 where
   pub of_occurrence : (reading : Reading) (words : List Text) (occurrence : Occurrence)
       → IsReading grammar reading words
@@ -201,8 +181,6 @@ abbrev pub HavePositionsBelow : ℕ → List MatchedGroup → Type 0
 HavePositionsBelow count groups =
     AllByRecursion (λ group. AllByRecursion (λ found. found.position < count) group.found) groups
 
--- The laws are about other spellings of a command line, joined command lines, free words and
--- positions.
 -- This grammar obeys the laws of readings.
 pub record KeepsReadingLaws (grammar : Grammar) : Type 0 where
   pub long_argument : LongAttachedOrSeparate grammar

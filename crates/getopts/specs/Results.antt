@@ -1,6 +1,5 @@
 -- The results of the calls that read a command line, as functions. Nobody has to trust these
--- definitions: `HasResults` says that each function gives what a relation of `Parse` describes. An
--- *outcome* is a reading or an error.
+-- definitions: `HasResults` says that each function gives what a relation of `Parse` describes.
 use Rattle.std.specs.Prelude.{◌==◌, if◌then◌else◌, not, List, [], ◌∷◌, ◌++◌, length, Option, Some}
 use Rattle.std.specs.Prelude.{None, Result, Ok, Err, codes}
 use Rattle.std.specs.List.{list_all}
@@ -19,12 +18,11 @@ use Rattle.getopts.specs.declared.kinds.ParsingStyle.TheVariants.{FloatingFrees,
 use Rattle.getopts.specs.declared.request.Request.{Request}
 use Rattle.getopts.specs.declared.request.Request.TheVariants.{Help, Version, Parsed}
 
--- the step of a word that isn't dashed
 abbrev pub free_step : ParsingStyle → Text → List Text → Step
 free_step FloatingFrees word more = takes (free word) none
 free_step StopAtFirstFree word more = ends (rest (word ∷ more))
 
--- the step of two dashes and this text: the stop, or a name in long form
+-- the step of two dashes and this text
 abbrev pub two_dashes_step : Grammar → Text → List Text → Step
 two_dashes_step grammar [] more = ends (stop more)
 two_dashes_step grammar (c ∷ text) more = long_step grammar two (c ∷ text) more
@@ -42,21 +40,18 @@ step grammar (first ∷ second ∷ text) more = if first == dash
     else free_step grammar.style (first ∷ second ∷ text) more
 step grammar word more = free_step grammar.style word more
 
--- an outcome with these items before it
 abbrev pub with_items : List Item → Result Reading Fault → Result Reading Fault
 with_items items (Ok reading) = Ok (record { items = items ++ reading.items; tail = reading.tail })
 with_items items (Err fault) = Err fault
 
--- The outcome depends on the first word's step, and on the outcomes of what follows one word and
--- two words.
--- the outcome of a command line
+-- the result of a line, by its first step and by its results after one word and after two words
 abbrev pub after_step : Step → Result Reading Fault → Result Reading Fault → Result Reading Fault
 after_step (ends tail) after_one after_two = Ok (record { items = []; tail = tail })
 after_step (takes item (separate word)) after_one after_two = with_items (item ∷ []) after_two
 after_step (takes item argument) after_one after_two = with_items (item ∷ []) after_one
 after_step (faults fault) after_one after_two = Err fault
 
--- the outcomes of a command line, and of that line without its first word
+-- the results of a command line, and of the line without its first word
 unfoldable pub read_both : Grammar → List Text → Result Reading Fault × Result Reading Fault
 read_both grammar [] =
     (Ok (record { items = []; tail = line_end }), Ok (record { items = []; tail = line_end }))
@@ -66,95 +61,78 @@ read_both grammar (word ∷ more) = (
   (read_both grammar more).0,
 )
 
--- the reading of a command line, or its error
 unfoldable pub read : Grammar → List Text → Result Reading Fault
 unfolding read_both
 read grammar words = (read_both grammar words).0
 
--- the error of a group that breaks its count
 abbrev pub broken_count : MatchedGroup → Fault
 broken_count group = count_fault (main_name group.signature.names) (length group.found)
 
--- the error of the first group that breaks its count
 abbrev pub first_count_fault : List MatchedGroup → Option Fault
 first_count_fault [] = None
 first_count_fault (group ∷ groups) =
     if fits_count group.signature.occur (length group.found) then first_count_fault
     groups else Some (broken_count group)
 
--- the reading, unless there is this count error
 abbrev pub unless_fault : Reading → Option Fault → Result Reading Fault
 unless_fault reading None = Ok reading
 unless_fault reading (Some fault) = Err fault
 
--- an outcome with its counts checked
 abbrev pub with_counts_kept : Declared → Result Reading Fault → Result Reading Fault
 with_counts_kept options (Ok reading) =
     unless_fault reading (first_count_fault (matches_of options reading).groups)
 with_counts_kept options (Err fault) = Err fault
 
--- the reading of words, or their scan error
 unfoldable pub reading_or_error : Declared → List Text → Result Reading Fault
 reading_or_error options words = read (grammar_of options) words
 
--- the reading of words that keeps the counts, or their first error
 unfoldable pub accepted_reading : Declared → List Text → Result Reading Fault
 accepted_reading options words = with_counts_kept options (read (grammar_of options) words)
 
--- the canonical line of a content, or none if some mention of it can't be written
+-- the canonical line of a content, or none if the content isn't plain
 abbrev pub written_line : List Group → Content → Option (List Text)
 written_line groups content =
     if list_all (λ m. not (holds_equals (main_at groups m.group))) content.mentions then Some
     (canonical_line groups content) else None
 
--- what is made of a reading, or the error
 abbrev pub made_of : {X : Type 0} → (Reading → X) → Result Reading Fault → Result X Fault
 made_of make (Ok reading) = Ok (make reading)
 made_of make (Err fault) = Err fault
 
--- the result of `parse_ignoring_counts`
 abbrev pub parse_ignoring_counts_result : Declared → List Text → Result Matched Fault
 parse_ignoring_counts_result options words =
     made_of (matches_of options) (reading_or_error options words)
 
--- the result of `parse`
 abbrev pub parse_result : Declared → List Text → Result Matched Fault
 parse_result options words = made_of (matches_of options) (accepted_reading options words)
 
--- the result of `canonical`
 abbrev pub canonical_result : Declared → List Text → Result (Option (List Text)) Fault
 canonical_result options words =
     made_of (λ reading. written_line options.groups (content_of options reading))
     (accepted_reading options words)
 
--- the result of `parse_in_order`
 abbrev pub parse_in_order_result : Declared → List Text → Result (List Given) Fault
 parse_in_order_result options words =
     made_of (order_of_reading (grammar_of options)) (accepted_reading options words)
 
--- The two results are those without and with counts checked: if the flag is given, an option may be
--- missing or be given too often.
--- a command line's error; or its matches, or none if it gives the flag
+-- the result of `parse_unless`, by the results of `parse_ignoring_counts` and `parse`
 abbrev pub unless_given : Text → Result Matched Fault → Result Matched Fault
     → Result (Option Matched) Fault
 unless_given flag (Err fault) line = Err fault
 unless_given flag (Ok read) line = if is_present read.groups flag then Ok None
     else result_map_both Some (λ fault. fault) line
 
--- the result of `parse_unless`
 abbrev pub parse_unless_result : Declared → Text → List Text → Result (Option Matched) Fault
 parse_unless_result options flag words =
     unless_given flag (parse_ignoring_counts_result options words) (parse_result options words)
 
--- The two results are those without and with counts checked. Help takes precedence.
--- a command line's error; or its request: help, the version, or its matches
+-- the result of `parse_request`, by the results of `parse_ignoring_counts` and `parse`
 abbrev pub request_of : Result Matched Fault → Result Matched Fault → Result (Request Matched) Fault
 request_of (Err fault) line = Err fault
 request_of (Ok read) line = if is_present read.groups (codes "help") then Ok Help
     else (if is_present read.groups (codes "version") then Ok Version
     else result_map_both Parsed (λ fault. fault) line)
 
--- the result of `parse_request`
 abbrev pub parse_request_result : Declared → List Text → Result (Request Matched) Fault
 parse_request_result options words =
     request_of (parse_ignoring_counts_result options words) (parse_result options words)

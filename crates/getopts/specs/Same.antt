@@ -1,5 +1,5 @@
--- When two groups, options, matches or errors are the same, as `==` computes it. Nobody has to
--- trust these definitions: by its clause `same`, `==` is true exactly if both sides are equal.
+-- How `==` compares groups, options, matches and errors. Nobody has to trust these definitions: by
+-- its clause `same`, `==` is true if and only if both sides are equal.
 use Rattle.std.specs.Prelude.{◌==◌, ℕ, Bool}
 use Rattle.std.specs.Bool.{beq}
 use Rattle.std.specs.Cmp.Lexicographic.{pointwise}
@@ -17,65 +17,53 @@ use Rattle.getopts.specs.declared.kinds.HasArg.TheVariants.{Yes, No, Maybe}
 use Rattle.getopts.specs.declared.kinds.Occur.TheVariants.{Req, Optional, Multi}
 use Rattle.getopts.specs.declared.kinds.ParsingStyle.TheVariants.{FloatingFrees, StopAtFirstFree}
 
--- whether the short names and the long names are the same
 abbrev pub same_names : Names → Names → Bool
 same_names = eq_of_both (on (λ names. names.short) (pointwise ◌==◌))
     (on (λ names. names.long) (pointwise ◌==◌))
 
--- a number for each kind of argument
 abbrev pub kind_index : HasArg → ℕ
 kind_index Yes = 0
 kind_index No = 1
 kind_index Maybe = 2
 
--- a number for each kind of occurrence
 abbrev pub occurrence_index : Occur → ℕ
 occurrence_index Req = 0
 occurrence_index Optional = 1
 occurrence_index Multi = 2
 
--- a number for each parsing style
 abbrev pub style_index : ParsingStyle → ℕ
 style_index FloatingFrees = 0
 style_index StopAtFirstFree = 1
 
--- whether the names and the two kinds of two groups are the same
 abbrev pub same_signature : Signature → Signature → Bool
 same_signature = eq_of_both (on (λ signature. signature.names) same_names)
     (eq_of_both (on (λ signature. kind_index signature.kind) ◌==◌)
     (on (λ signature. occurrence_index signature.occur) ◌==◌))
 
--- whether all six parts of two groups are the same
 abbrev pub same_group : Group → Group → Bool
 same_group = eq_of_both (on (λ group. group.signature) same_signature)
     (eq_of_both (on (λ group. group.hint) (pointwise ◌==◌))
     (on (λ group. group.description) (pointwise ◌==◌)))
 
--- whether the groups in order, the style and the mode are the same
 abbrev pub same_options : Declared → Declared → Bool
 same_options = eq_of_both (on (λ options. options.groups) (pointwise same_group))
     (eq_of_both (on (λ options. style_index options.style) ◌==◌)
     (on (λ options. options.long_only) beq))
 
--- whether two errors are of one kind, with the same name
 abbrev pub same_fault : Fault → Fault → Bool
 same_fault = eq_of_both (on fault_index ◌==◌) (on fault_name (pointwise ◌==◌))
 
--- whether two values of `Fail` are the same
 abbrev pub same_fail : Fail → Fail → Bool
 same_fail = on fault_of (option_eq same_fault)
 
--- whether the positions and the values of two occurrences are the same
 abbrev pub same_group_occurrence : GroupOccurrence → GroupOccurrence → Bool
 same_group_occurrence = eq_of_both (on (λ found. found.position) ◌==◌)
     (on (λ found. found.value) (option_eq (pointwise ◌==◌)))
 
--- whether two groups are the same, with their occurrences in order
 abbrev pub same_matched_group : MatchedGroup → MatchedGroup → Bool
 same_matched_group = eq_of_both (on (λ group. group.signature) same_signature)
     (on (λ group. group.found) (pointwise same_group_occurrence))
 
--- whether the groups in order, the free words and the trailing start are the same
 abbrev pub same_matches : Matched → Matched → Bool
 same_matches = eq_of_both (on (λ matches. matches.groups) (pointwise same_matched_group))
     (eq_of_both (on (λ matches. matches.free) (pointwise (pointwise ◌==◌)))

@@ -24,8 +24,8 @@ AcceptedExactlyWhen options = (words : List Text) (matches : Matched)
     ↔ ((reading : Reading) × IsCountKeeping options reading words
     × (matches ≡ matches_of options reading))
 
--- The error is their scan error, or the count error of a reading of them.
--- Words are rejected if and only if no reading of them keeps the counts.
+-- The error is a scan error of the words, or the count error of a reading.
+-- Words are rejected if and only if they have no reading that keeps the counts.
 abbrev pub RefusedExactlyWhen : Declared → Type 0
 RefusedExactlyWhen options = (words : List Text) (fault : Fault)
     → IsRefused options words fault
@@ -38,7 +38,6 @@ RefusedExactlyWhen options = (words : List Text) (fault : Fault)
 abbrev pub HaveResults : Declared → Type 0
 HaveResults options = (words : List Text) → AreTexts words → HasResults options words
 
--- Each occurrence of each name has the same value, or none in both; the free words are the same.
 -- Two matches have the same values and free words; positions and the trailing start may differ.
 pub record HaveSameValues (matches other : Matched) : Type 0 where
   pub values : (name : Text)
@@ -62,14 +61,13 @@ pub record ReadAgain (options : Declared) (line : List Text) (matches : Matched)
   pub accepted : IsAccepted options line again
   pub same : HaveSameValues matches again
 
--- The line may be read in any style and mode.
--- A canonical line, read again, gives the same values and free words as the original words.
+-- In any style and mode, a canonical line gives the values and free words of the original words.
 abbrev pub LinesReadAgain : Declared → Type 0
 LinesReadAgain options = (words line : List Text) (matches : Matched) → IsWritten options words line
     → HasReading options words matches → (style : ParsingStyle) (long_only : Bool)
     → ReadAgain (with_setting options style long_only) line matches
 
--- Each content is said by some command line, in a style and a mode of its own.
+-- The styles and modes in which the two contents are said may differ.
 -- Two plain contents have equal canonical lines if and only if they are equal.
 abbrev pub OneLineOneContent : Declared → Type 0
 OneLineOneContent options = (words others : List Text) (content other : Content)

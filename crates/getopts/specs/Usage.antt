@@ -10,19 +10,12 @@ use Rattle.getopts.specs.declared.kinds.HasArg.TheVariants as argument
 use Rattle.getopts.specs.declared.kinds.Occur.{Occur}
 use Rattle.getopts.specs.declared.kinds.Occur.TheVariants as occurrence
 
--- ---- texts
-
--- this many spaces
 abbrev pub spaces : ℕ → Text
 spaces count = repeat count (codes " ")
 
--- whether the text takes at least one column
 abbrev pub has_columns : Text → Bool
 has_columns text = nat_lt 0 (width_of text)
 
--- ---- arguments
-
--- the hint, in brackets if the argument is optional
 abbrev pub argument_part : HasArg → Text → Text
 argument_part argument.Yes hint = hint
 argument_part argument.No hint = []
@@ -30,29 +23,24 @@ argument_part argument.Maybe hint = codes "[" ++ (hint ++ codes "]")
 
 -- ---- the short usage
 
--- the short name with one dash or, if there is none, the long name with two
 abbrev pub option_name : Names → Text
 option_name names =
     if is_empty names.short then codes "--" ++ names.long else codes "-" ++ names.short
 
--- an argument in the short usage: a space, and the hint as in a head
 abbrev pub option_argument : HasArg → Text → Text
 option_argument argument.No hint = []
 option_argument kind hint = codes " " ++ argument_part kind hint
 
--- brackets around what is optional, and two dots after what may be repeated
 abbrev pub bracketed : Occur → Text → Text
 bracketed occurrence.Req text = text
 bracketed occurrence.Optional text = codes "[" ++ (text ++ codes "]")
 bracketed occurrence.Multi text = codes "[" ++ (text ++ codes "]..")
 
--- an option in the short usage
 abbrev pub option_text : Group → Text
 option_text group =
     bracketed group.signature.occur
     (option_name group.signature.names ++ option_argument group.signature.kind group.hint)
 
--- the short usage of a program with these options
 abbrev pub short_usage_text : Declared → Text → Text
 short_usage_text options program =
     codes "Usage: "
@@ -60,27 +48,23 @@ short_usage_text options program =
 
 -- ---- rows
 
--- whether any group has a short name
 abbrev pub any_short : List Group → Bool
 any_short groups = list_any (λ group. not (is_empty group.signature.names.short)) groups
 
--- Without a short name, the part is four spaces if another group has a short name, and otherwise
--- empty.
--- the short name with a dash, and what separates it from what follows
+-- Spaces replace a missing short name if another group has one, so that long names are aligned.
 abbrev pub short_part : Bool → Names → Text
 short_part among_shorts names =
     if is_empty names.short
     then (if among_shorts then spaces 4 else [])
     else codes "-" ++ (names.short ++ (if has_columns names.long then codes ", " else codes " "))
 
--- the long name with its dashes and a space, unless it takes no column
 abbrev pub long_part : Bool → Text → Text
 long_part long_only long =
     if has_columns long
     then (if long_only then codes "-" else codes "--") ++ (long ++ codes " ")
     else []
 
--- what precedes the description of a group
+-- what precedes the description in a group's row
 abbrev pub head : Bool → Bool → Group → Text
 head long_only among_shorts group =
     spaces 4
@@ -91,46 +75,42 @@ head long_only among_shorts group =
 abbrev pub margin : ℕ
 margin = 24
 
--- a line end, and the spaces below a head
 abbrev pub next_row : Text
 next_row = codes "\n" ++ spaces margin
 
--- what separates a head from its description: spaces up to the margin, or else the next row
+-- what separates a head from its description
 abbrev pub padding : Text → Text
 padding head = if nat_lt (width_of head) margin then spaces (margin - width_of head) else next_row
 
--- a head, followed by the rows of its description
 abbrev pub row_text : Text → List Text → Text
 row_text head description = head ++ (padding head ++ joined next_row description)
 
--- the most columns of a description's row, if rows end within this many columns
+-- the columns of a description, if its rows end within this many columns
 abbrev pub description_columns : ℕ → ℕ
 description_columns columns = columns - margin
 
--- This is the group's row within this many columns: its head, its padding, and the description's
--- rows, which end within them.
+-- This is the group's row. The rows of its description end within this many columns.
 abbrev pub IsUsageRowIn : ℕ → Bool → Bool → Group → Text → Type 0
 IsUsageRowIn columns long_only among_shorts group row =
     (description : List Text)
     × IsDescriptionRows (description_columns columns) group.description description
     × (row ≡ row_text (head long_only among_shorts group) description)
 
--- These are the rows of the groups within this many columns, in order of declaration.
+-- These are the rows of all groups, in order of declaration.
 abbrev pub AreUsageRowsIn : ℕ → Declared → List Text → Type 0
 AreUsageRowsIn columns options rows =
     AllZip (IsUsageRowIn columns options.long_only (any_short options.groups)) options.groups rows
 
--- the columns of a usage text unless the caller chooses them, which leave 54 for descriptions
+-- the columns of a usage text unless the caller chooses them; descriptions have 54 of these
 abbrev pub usual_columns : ℕ
 usual_columns = margin + 54
 
--- These are the rows of the groups within the usual columns.
+-- These are the rows of all groups within the usual columns.
 abbrev pub AreUsageRows : Declared → List Text → Type 0
 AreUsageRows options rows = AreUsageRowsIn usual_columns options rows
 
 -- ---- the usage text
 
--- the brief, an empty line, a line `Options:`, the rows separated by line ends, and a line end
 abbrev pub usage_text : Text → List Text → Text
 usage_text brief rows =
     brief ++ (codes "\n\nOptions:\n" ++ (joined (codes "\n") rows ++ codes "\n"))

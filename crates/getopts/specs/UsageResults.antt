@@ -10,11 +10,10 @@ use Rattle.getopts.specs.Usage.{any_short, head, row_text, description_columns, 
 
 -- ---- rows of descriptions
 
--- whether the word fits after the run
 abbrev pub has_room : ℕ → Run → Text → Bool
 has_room limit run word = nat_le (columns_of (run ++ word ∷ [])) limit
 
--- the runs of words, if the first run begins with these and the others follow
+-- the runs of words, if this run may still grow and these words follow it
 abbrev pub runs_from : ℕ → Run → List Text → List Run
 runs_from limit run [] = run ∷ []
 runs_from limit run (word ∷ words) =
@@ -26,36 +25,29 @@ abbrev pub runs_of : ℕ → List Text → List Run
 runs_of limit [] = []
 runs_of limit (word ∷ words) = runs_from limit (word ∷ []) words
 
--- the rows of lines
 abbrev pub rows_of : ℕ → List Text → List Text
 rows_of limit lines =
     map text_of (flat_map (λ runs. runs) (map (runs_of limit) (map words_of lines)))
 
--- the rows of a description
 abbrev pub description_rows : ℕ → Text → List Text
 description_rows limit desc = rows_of limit (lines_of desc)
 
 -- ---- usage texts
 
--- a group's row within this many columns
 abbrev pub usage_row_in : ℕ → Bool → Bool → Group → Text
 usage_row_in columns long_only among_shorts group =
     row_text (head long_only among_shorts group)
     (description_rows (description_columns columns) group.description)
 
--- the rows within this many columns
 abbrev pub usage_rows_in_result : ℕ → Declared → List Text
 usage_rows_in_result columns options =
     map (usage_row_in columns options.long_only (any_short options.groups)) options.groups
 
--- the result of `usage_rows`
 abbrev pub usage_rows_result : Declared → List Text
 usage_rows_result options = usage_rows_in_result usual_columns options
 
--- the result of `usage_in`
 abbrev pub usage_in_result : ℕ → Declared → Text → Text
 usage_in_result columns options brief = usage_text brief (usage_rows_in_result columns options)
 
--- the result of `usage`
 abbrev pub usage_result : Declared → Text → Text
 usage_result options brief = usage_in_result usual_columns options brief

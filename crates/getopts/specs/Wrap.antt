@@ -10,7 +10,7 @@ use Rattle.unicode_width.specs.Width.{str_width}
 
 -- ---- words and runs
 
--- words in one row, as their bytes
+-- the words of one row
 abbrev pub Run : Type 0
 Run = List Text
 
@@ -18,11 +18,10 @@ Run = List Text
 unfoldable pub width_of : Text → ℕ
 width_of word = str_width false (chars word)
 
--- the columns of a run: those of each word, and one for each gap between words
 abbrev pub columns_of : Run → ℕ
 columns_of run = sum_by width_of run + (length run - 1)
 
--- a run as the text of a row: its words, joined by one space
+-- the words of a run, joined by one space
 abbrev pub text_of : Run → Text
 text_of run = join_with_byte 32 run
 
@@ -57,19 +56,16 @@ pub record IsFewestBreaking (limit : ℕ) (words : List Text) (runs : List Run) 
 
 -- ---- descriptions
 
--- the lines of a description, which is split at U+000A
 abbrev pub lines_of : Text → List Text
 lines_of desc = slice_split (λ byte. byte == 10) desc
 
--- Each word is as long as possible without white space.
--- the words of a line: the pieces that aren't empty, when it is split at white space
+-- the words of a line, which is split at white space
 abbrev pub words_of : Text → List Text
 words_of line =
     map encode_utf8_all
     (filter (λ piece. nat_lt 0 (length piece)) (slice_split is_whitespace (chars line)))
 
--- `IsBroken` says how the words of a line may be broken. The rows are the texts of each line's runs
--- in turn.
+-- `IsBroken` says how the words of a line may be broken into runs.
 -- The description breaks into these rows.
 pub record BreaksInto (IsBroken : List Text → List Run → Type 0) (desc : Text)
     (rows : List Text) : Type 0 where
@@ -77,16 +73,15 @@ pub record BreaksInto (IsBroken : List Text → List Run → Type 0) (desc : Tex
   pub each_line : AllZip IsBroken (map words_of (lines_of desc)) breakings
   pub rows_are : rows ≡ map text_of (flat_map (λ runs. runs) breakings)
 
--- These are the rows of the description: those of each line's tight breaking.
+-- These are the rows of the description, by a tight breaking of each line.
 abbrev pub IsDescriptionRows : ℕ → Text → List Text → Type 0
 IsDescriptionRows limit desc rows = BreaksInto (IsTightBreaking limit) desc rows
 
 -- ---- rows in one text
 
--- the texts in order, with the separator between them
 abbrev pub joined : Text → List Text → Text
 joined separator texts = join_by (λ text. text) separator texts
 
--- the separator, if `begun` says that other texts precede a text
+-- the separator before a text, unless that text is the first
 abbrev pub parting : Bool → Text → Text
 parting begun separator = if begun then separator else []

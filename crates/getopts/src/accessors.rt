@@ -18,7 +18,6 @@ use std::alloc::{AllocError, Global};
 use std::convert::AsStr;
 use std::str::FromStr;
 
-/// A copy of a text, if there is one.
 fn copied(alloc: Global, text: Option<&str>) -> Result<Option<String>, AllocError>
     ensures copy { IfOk result (λ copy. option_map string_bytes copy ≡ option_copied text.entry) }
     ensures absent { IfSome (option_copied text.entry) (λ text. text ≡ []) → IsOk result }
@@ -77,9 +76,10 @@ impl Matches {
         self.opt_place(name).is_some()
     }
 
-    /// How often an option was given, by either name: 3 after `-vv --verbose`, and 0 if it wasn't.
+    /// How often an option was given, by either name. This is 3 after `-vv --verbose`.
     ///
-    /// Requires a defined name (see `opt_defined`); the Rust crate panics on others.
+    /// Returns 0 if the option wasn't given. Requires a defined name (see `opt_defined`); the Rust
+    /// crate panics on others.
     pub fn opt_count(&self, name: &str) -> usize
         requires { IsDefined self.now.groups name.now }
         ensures count { result ≡ length (occurrences_of_name self.now.groups name.now) }
@@ -101,10 +101,10 @@ impl Matches {
 
     /// Returns the positions of an option's occurrences, in command-line order.
     ///
-    /// A position is the index, from 0, of the word in which the option (or its cluster) begins;
-    /// the options of a cluster share it, and a separate argument counts as a word. After
-    /// `-v -o x -vv` the positions of `v` are 0, 3 and 3. The result is empty if the option wasn't
-    /// given. Requires a defined name (see `opt_defined`). Fails only if an allocation fails.
+    /// A position is the index, from 0, of the word in which the option or its cluster begins.
+    /// Options of one cluster share a position. A separate argument counts as a word. After `-v -o
+    /// x -vv` the positions of `v` are 0, 3 and 3. The result is empty if the option wasn't given.
+    /// Requires a defined name (see `opt_defined`). Fails only if an allocation fails.
     ///
     /// The Rust crate doesn't count separate arguments.
     pub fn opt_positions(&self, alloc: Global, name: &str) -> Result<Vec<usize>, AllocError>
@@ -133,12 +133,13 @@ impl Matches {
         self.held.occurrences_of(name).values(alloc)
     }
 
-    /// Returns the position and value of each of an option's occurrences that has a value, in
+    /// Returns the positions and values of an option's occurrences that have a value, in
     /// command-line order.
     ///
-    /// Positions are as in `opt_positions`: the option's, even if its argument is a separate word.
-    /// Values are as in `opt_strs`. The result is empty if the option wasn't given. Requires a
-    /// defined name (see `opt_defined`). Fails only if an allocation fails.
+    /// Positions and values are as in `opt_positions` and `opt_strs`. The position is the position
+    /// of the option, even if its argument is a separate word. The result is empty if the option
+    /// wasn't given. Requires a defined name (see `opt_defined`). Fails only if an allocation
+    /// fails.
     pub fn opt_strs_pos(
         &self,
         alloc: Global,
@@ -157,10 +158,10 @@ impl Matches {
 
     /// Returns the value of an option's first occurrence.
     ///
-    /// After `-ofile` the value of `o` is `file`. Returns `None` if the option wasn't given or if
-    /// its first occurrence has no value, even if a later one does (see `opt_strs`). After `parse`,
-    /// a required option with a mandatory argument has a value. Requires a defined name (see
-    /// `opt_defined`). Fails only if an allocation fails.
+    /// After `-ofile` the value of `o` is `file`. Returns `None` if the option wasn't given, or if
+    /// its first occurrence has no value. Values of later occurrences don't count (see `opt_strs`).
+    /// After `parse`, a required option with a mandatory argument has a value. Requires a defined
+    /// name (see `opt_defined`). Fails only if an allocation fails.
     pub fn opt_str(&self, alloc: Global, name: &str) -> Result<Option<String>, AllocError>
         requires { IsDefined self.now.groups name.now }
         ensures value { IfOk result (λ value. option_map string_bytes value
@@ -171,11 +172,11 @@ impl Matches {
         copied(alloc, self.held.occurrences_of(name).first_value())
     }
 
-    /// Returns the value of an option's first occurrence, or `def` if that has none.
+    /// Returns the value of an option's first occurrence, or `def` if it has no value.
     ///
-    /// Returns `None` only if the option wasn't given. After `--color` alone,
-    /// `opt_default(alloc, "color", "always")` is `always`. Requires a defined name (see
-    /// `opt_defined`). Fails only if an allocation fails.
+    /// Returns `None` only if the option wasn't given. After `--color` alone, `opt_default(alloc,
+    /// "color", "always")` is `always`. Requires a defined name (see `opt_defined`). Fails only if
+    /// an allocation fails.
     pub fn opt_default(
         &self,
         alloc: Global,
@@ -267,7 +268,7 @@ impl Matches {
     /// Whether any of the named options was given, for defined names.
     ///
     /// Requires every name to be defined (see `opt_defined`). The Rust crate accepts any list of
-    /// texts, and stops at the first option that was given.
+    /// texts, and doesn't look at names after the first option that was given.
     pub fn opts_present_any(&self, names: &[&str]) -> bool
         requires { AreDefined self.now.groups (texts names.now) }
         ensures present { result ≡ list_any (λ name. is_present self.now.groups name.now) names.now }
@@ -275,7 +276,6 @@ impl Matches {
         names.iter().any(|name| self.has(name))
     }
 
-    /// The value of the first listed option whose first occurrence has one.
     fn first_among<T: AsStr>(&self, names: &[T]) -> Option<&str>
         ensures { option_copied result
             ≡ first_value_among self.now.groups (map T.text names.now) }
@@ -288,11 +288,11 @@ impl Matches {
         None
     }
 
-    /// Returns the value of the first listed option whose first occurrence has one.
+    /// Returns the value of the first named option whose first occurrence has a value.
     ///
-    /// Returns `None` if there is no such option, even if a later occurrence has a value. Requires
-    /// every name to be defined (see `opt_defined`); the Rust crate stops at the first match. Fails
-    /// only if an allocation fails.
+    /// Returns `None` if there is no such option. Values of later occurrences don't count. Requires
+    /// every name to be defined (see `opt_defined`); the Rust crate doesn't look at names after the
+    /// first value. Fails only if an allocation fails.
     pub fn opts_str(&self, alloc: Global, names: &[String]) -> Result<Option<String>, AllocError>
         requires { AreDefined self.now.groups (map string_bytes names.now) }
         ensures value { IfOk result (λ value. option_map string_bytes value
@@ -303,10 +303,10 @@ impl Matches {
         copied(alloc, self.first_among(names))
     }
 
-    /// Returns the value of the first listed option whose first occurrence has one, like
+    /// Returns the value of the first named option whose first occurrence has a value, like
     /// `opts_str`.
     ///
-    /// Returns `None` if there is no such option, even if a later occurrence has a value. Requires
+    /// Returns `None` if there is no such option. Values of later occurrences don't count. Requires
     /// every name to be defined (see `opt_defined`). The Rust crate accepts any list of texts.
     /// Fails only if an allocation fails.
     pub fn opts_str_first(

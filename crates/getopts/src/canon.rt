@@ -21,14 +21,12 @@ use crate::scan::{Given, are_texts};
 use std::alloc::{AllocError, Global};
 use std::convert::AsStr;
 
-/// Whether a text contains `=`.
 fn holds_equals(text: &str) -> bool
     ensures { result ≡ holds_equals text.now }
 {
     text.contains('=')
 }
 
-/// Whether a declared option has a main name that contains `=`.
 fn declare_equals(groups: &Groups) -> bool
     ensures { result ≡ false → (place : ℕ) → holds_equals (main_at groups.now place) ≡ false }
 {
@@ -40,8 +38,7 @@ fn declare_equals(groups: &Groups) -> bool
     false
 }
 
-/// Whether no main name of an option in the order contains `=`. Tests the declared names first if
-/// they are fewer.
+/// Tests the declared names first if they are fewer than the options and free words.
 fn are_plain(groups: &Groups, order: &[Given]) -> bool
     requires { All (λ given. IsDeclared groups.now (borrowed_given given)) order.now }
     ensures { result ≡ list_all (λ m. not (holds_equals (main_at groups.now m.group)))
@@ -60,7 +57,6 @@ fn are_plain(groups: &Groups, order: &[Given]) -> bool
     true
 }
 
-/// The word for an option: `--main`, or `--main=value` if it has a value.
 fn canonical_word(alloc: Global, main: &str, value: Option<&str>) -> Result<String, AllocError>
     ensures { IfOk result (λ word.
         string_bytes word ≡ long_word two main.now (option_copied value.entry)) }
@@ -112,16 +108,20 @@ impl Options {
     /// Rewrites an accepted command line with main names only, for programs that log, compare or
     /// cache command lines.
     ///
-    /// The canonical line has `--main` or `--main=value` for each option, in order, then always
-    /// `--`, then the free words. Here `main` is the option's long name or, if it has none, its
-    /// short name. With the options `v`/`verbose` and `o`/`output`, the latter with an argument,
-    /// `["-vofile", "x"]` and `["x", "--verbose", "--output", "file"]` both give
-    /// `["--verbose", "--output=file", "--", "x"]`, and an empty command line gives `["--"]`. The
-    /// canonical line doesn't show positions, nor which free words preceded which options.
+    /// The canonical line has a word for each option, in order: `--main` or `--main=value`. Here
+    /// `main` is the option's long name or, if it has none, its short name. Then there is always
+    /// `--`, and then the free words. The line doesn't show positions, nor which free words
+    /// preceded which options.
     ///
-    /// Returns `None` if the command line gives an option whose main name contains `=`: `--p=x`
-    /// means the option `p` with the argument `x`, so it can't name an option called `p=x`. Such an
-    /// option does no harm as long as it isn't given.
+    /// With the flag `v`/`verbose` and an option `o`/`output` that needs an argument:
+    ///
+    /// - `["-vofile", "x"]` gives `["--verbose", "--output=file", "--", "x"]`.
+    /// - `["x", "--verbose", "--output", "file"]` gives the same line.
+    /// - `[]` gives `["--"]`.
+    ///
+    /// Returns `None` if the command line gives an option whose main name contains `=`. Such an
+    /// option can't be written: `--p=x` means the option `p` with the argument `x`, not an option
+    /// called `p=x`. It does no harm as long as it isn't given.
     ///
     /// Fails exactly as `parse` does, or with `Fail::OutOfMemory` if an allocation fails. As for
     /// `parse`, the iterator has to end and, unless an allocation fails, all its items are taken.

@@ -14,8 +14,7 @@ use crate::scan::Given;
 use crate::signatures::Signatures;
 use std::alloc::Global;
 
-/// Checks how often each option occurs, in order of declaration, given the index of the
-/// occurrences.
+/// Checks the counts in order of declaration, by an index of the occurrences.
 #[inline(always)]
 pub(crate) fn check_counts(
     alloc: Global,
@@ -35,7 +34,7 @@ pub(crate) fn check_counts(
     Ok(())
 }
 
-/// Checks how often each option occurs in an order, in order of declaration.
+/// Checks the counts in order of declaration, by the order of a command line.
 pub(crate) fn check_order(
     alloc: Global,
     signatures: &Signatures,
@@ -55,7 +54,6 @@ pub(crate) fn check_order(
     Ok(())
 }
 
-/// Counts the options at each place.
 fn count_options(counts: &mut [usize], order: &[Given])
     requires { counts.old ≡ replicate (length counts.old) 0 }
     ensures size { length counts.new ≡ length counts.old }
@@ -71,7 +69,6 @@ fn count_options(counts: &mut [usize], order: &[Given])
     }
 }
 
-/// Checks how often one option occurs.
 #[inline(always)]
 fn check_count(
     alloc: Global,
@@ -105,7 +102,6 @@ fn fits_count(occur: Occur, count: usize) -> bool
     }
 }
 
-/// The error for an option that may not occur this often.
 fn count_fault(alloc: Global, main: &str, count: usize) -> Fail
     ensures { IsOutOfMemoryOr result (λ fault. fault ≡ count_fault main.now count) }
 {

@@ -15,7 +15,6 @@ use crate::signatures::{FIRST_GROUPS, SignatureView, Signatures};
 use std::alloc::{AllocError, Global};
 use std::marker::Model;
 
-/// A group with its hint and description, borrowed.
 #[derive(Clone, Copy)]
 pub(crate) struct GroupView<'g> {
     pub signature: SignatureView<'g>,
@@ -35,8 +34,8 @@ impl<'g> PartialEq for GroupView<'g> {
     }
 }
 
-/// Validly named groups: their names and kinds, one text with all hints and descriptions, and the
-/// ends of each group's hint and description in that text.
+/// Groups with valid names. `texts` has the hints and descriptions of all groups, and `ends` says
+/// where they are.
 #[derive(Debug)]
 pub(crate) struct Groups {
     signatures: Signatures,
@@ -69,7 +68,7 @@ impl Model for Groups {
 impl Groups {
     ghost use Rattle.getopts.specs.Stored.Groups.{group_view};
 
-    /// No groups. Allocates nothing.
+    /// Allocates nothing.
     pub(crate) fn new(alloc: Global) -> Groups
         ensures { result ≡ [] }
     {
@@ -86,7 +85,6 @@ impl Groups {
         self.ends.len()
     }
 
-    /// The names and kinds of the groups.
     pub(crate) fn signatures(&self) -> &Signatures
         ensures signatures { result.now ≡ signatures_of self.now }
         ensures declared { MayBeDeclared self.now }
@@ -95,7 +93,6 @@ impl Groups {
         &self.signatures
     }
 
-    /// The main name of the group at `place`.
     pub(crate) fn main(&self, place: usize) -> &str
         requires { place < length self.now }
         ensures { result.now ≡ main_at self.now place }
@@ -103,7 +100,6 @@ impl Groups {
         self.signatures.main(place)
     }
 
-    /// The group at `place`.
     pub(crate) fn get(&self, place: usize) -> GroupView<'_>
         requires { place < length self.now }
         ensures { Some (group_view result) ≡ slice_get self.now place }
@@ -116,7 +112,6 @@ impl Groups {
         }
     }
 
-    /// Appends a group. After an error nothing has changed.
     #[inline]
     pub(crate) fn push(
         &mut self,

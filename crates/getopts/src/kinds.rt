@@ -1,4 +1,4 @@
-//! What may be declared of a command line and of an option, besides names and texts.
+//! Parsing styles, and the kinds of an option: its kind of argument and its kind of occurrence.
 
 ghost use Rattle.std.specs.Cmp.Rules.{comparing};
 ghost use Rattle.std.proofs.Common.{rules};
@@ -19,9 +19,9 @@ pub enum HasArg {
     Yes,
     /// The option never has an argument.
     No,
-    /// The argument is optional. It follows `=` or, for a short name in ordinary mode, it follows
-    /// the name directly or is the next word, unless that begins with a dash and is longer than
-    /// `-`.
+    /// The argument is optional. After a name in long form, it follows `=`. After a short name in a
+    /// cluster, it is the rest of the word or, if nothing is left, the next word. A next word that
+    /// begins with a dash isn't taken, unless it is just `-`.
     Maybe,
 }
 
@@ -37,7 +37,6 @@ pub enum Occur {
     Multi,
 }
 
-/// The kinds of a group: whether it takes an argument, and how often it may occur.
 #[derive(Debug, Clone, Copy)]
 pub(crate) struct Kinds {
     pub kind: HasArg,

@@ -22,18 +22,18 @@ ghost use Rattle.getopts.specs.Wrap.{BreaksInto, IsDescriptionRows, IsFewestBrea
 use crate::matches::Matches;
 use crate::options::Options;
 
-/// The main theorem.
+/// The main theorem. This is a lemma for proofs, which does nothing.
 ///
 /// Unless an allocation fails, `parse` accepts words if and only if they have a reading that keeps
 /// the counts. That reading is the only one, and the matches are exactly what it says. Other words
 /// are rejected with their first error.
 ///
 /// If no main name in use contains `=`, two accepted command lines have equal canonical lines if
-/// and only if they give the same occurrences and free words, even in different styles and modes. A
-/// canonical line gives these in both styles and both modes.
+/// and only if they give the same occurrences and free words. Their styles and modes may differ. In
+/// both styles and both modes, a canonical line gives the same occurrences and free words again.
 ///
-/// Occurrences are the same if they are of the same options, in the same order, with the same
-/// values; their positions may differ. This is a lemma for proofs, which does nothing.
+/// Occurrences are the same if their options, their order and their values are. Their positions may
+/// differ.
 pub fn one_reading_one_canonical_line(options: &Options)
     // Words have at most one reading, in each style and each mode. They are accepted if and only if
     // it exists and keeps the counts, and otherwise rejected with the first error. Functions such
@@ -70,9 +70,10 @@ pub fn one_reading_one_canonical_line(options: &Options)
     let _signatures = options.signatures();
 }
 
-/// For all options that may be declared: the laws of readings and of canonical lines, that words
-/// with equal content have matches with the same values and free words, and four clauses of the
-/// main theorem. This is a lemma for proofs, which does nothing.
+/// Laws of all options that may be declared. This is a lemma for proofs, which does nothing.
+///
+/// The laws are about readings, about canonical lines, and about words with equal content, whose
+/// matches have the same values and free words. Four clauses of the main theorem follow.
 pub fn declared_options_keep_laws()
     ensures reading_laws { (options : Declared) → MayBeDeclared options.groups
         → KeepsReadingLaws (grammar_of options) }

@@ -14,8 +14,8 @@
 //! }
 //! ```
 //!
-//! Attributes `inline` and initial capacities stay only where measuring showed that they save
-//! instructions.
+//! Attributes `inline` and initial capacities are kept only if they saved instructions when
+//! measured.
 #![tactic(auto)]
 
 // What a caller declares.

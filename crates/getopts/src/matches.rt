@@ -52,7 +52,6 @@ impl Model for Matches {
 }
 
 impl Matches {
-    /// The matches of a command line, for groups with these names and kinds.
     pub(crate) fn of_line(signatures: Signatures, table: Table, line: Line, index: Index) -> Matches
         requires table { IsTableOf (names_in signatures) table }
         requires index { indices_in index ≡ index_of (length signatures) line.found }
@@ -120,12 +119,11 @@ impl PartialEq for Matches {
 
     ghost laws = { Prim.search (comparing, rules) depth 12 };
 
-    /// Whether both have the same names and kinds of groups, the same positions and values of each
-    /// group, the same free words and the same trailing start.
+    /// Whether the groups, their occurrences, the free words and the trailing starts are equal.
     ///
-    /// Hints and descriptions don't count, nor does the order of different options within a
-    /// cluster: the matches of `-ab` and `-ba` are equal. Allocates nothing, and visits the
-    /// occurrences of both once.
+    /// A group's names, kinds, positions and values count, but its hint and description don't. The
+    /// order of different options within a cluster doesn't count: the matches of `-ab` and `-ba`
+    /// are equal. Allocates nothing, and visits the occurrences of both once.
     fn eq(&self, other: &Matches) -> bool
         ensures answer { result ≡ same_matches self.now other.now }
         ensures same { IsTrue result ↔ (self.now ≡ other.now) }
@@ -140,7 +138,6 @@ impl Eq for Matches {
     ghost laws = { Prim.search (comparing, rules) depth 12 };
 }
 
-/// Groups, with the occurrences of each in a command line.
 #[derive(Debug)]
 pub(crate) struct MatchedGroups {
     signatures: Signatures,
@@ -175,14 +172,12 @@ impl Model for MatchedGroups {
 impl MatchedGroups {
     ghost use Rattle.getopts.specs.Same.{same_matched_group};
 
-    /// The names and kinds of the groups.
     pub(crate) fn signatures(&self) -> &Signatures
         ensures { map (λ group. group.signature) self.now ≡ result.now }
     {
         &self.signatures
     }
 
-    /// The place of the group that a name resolves to.
     pub(crate) fn place_of(&self, name: &str) -> Option<usize>
         ensures place { result ≡ place_of self.now name.now }
         ensures lawful { HaveLawfulNames self.now }
@@ -190,7 +185,6 @@ impl MatchedGroups {
         self.table.resolve(&self.signatures, name)
     }
 
-    /// The occurrences of the group at `place`.
     #[inline]
     pub(crate) fn occurrences_at(&self, place: usize) -> Occurrences<'_>
         ensures { result ≡ occurrences_of_group self.now place }
@@ -198,7 +192,6 @@ impl MatchedGroups {
         Occurrences::of(&self.found, self.index.indices(place))
     }
 
-    /// The occurrences of the group that a name resolves to, none if it is undefined.
     pub(crate) fn occurrences_of(&self, name: &str) -> Occurrences<'_>
         ensures { result ≡ occurrences_of_name self.now name.now }
     {
@@ -208,7 +201,6 @@ impl MatchedGroups {
         }
     }
 
-    /// Whether the groups are the same, and so are their occurrences.
     // Inlined, it would slow down its caller.
     #[inline(never)]
     pub(crate) fn same(&self, other: &MatchedGroups) -> bool

@@ -6,9 +6,13 @@ ghost use Rattle.getopts.specs.Stored.Names.{key_of};
 
 /// Whether an option group may have these two names.
 ///
-/// The short name has at most one byte, the long name has none or at least two, and at least one of
-/// them isn't empty. Lengths are in bytes, so a long name may be a single character of several
-/// bytes. The methods that add a group require this. The Rust crate has no such function: it panics
+/// The names are valid if all of these are true:
+///
+/// - The short name has at most one byte.
+/// - The long name is empty, or has at least two bytes. It may be one character of several bytes.
+/// - At least one of the names isn't empty.
+///
+/// The methods that add a group require valid names. The Rust crate has no such function: it panics
 /// if a name is too long or too short, and its `parse` panics if both are empty.
 ///
 /// `names_lawful("o", "output")` is true, `names_lawful("", "o")` is false.
@@ -18,7 +22,6 @@ pub fn names_lawful(short: &str, long: &str) -> bool
     short.len() <= 1 && long.len() != 1 && !(short.is_empty() && long.is_empty())
 }
 
-/// Both names of a group, borrowed. Either may be empty.
 #[derive(Clone, Copy)]
 pub(crate) struct NamesView<'g> {
     pub short: &'g str,
@@ -26,7 +29,7 @@ pub(crate) struct NamesView<'g> {
 }
 
 /// Packs the first seven bytes of a name into a key, and its length (8 if longer) into the lowest
-/// byte. So keys sort like the names' bytes, and names under eight bytes are equal if their keys
+/// byte. Keys sort as the bytes of the names do. Names under eight bytes are equal if their keys
 /// are.
 #[inline]
 #[tactic(auto, unfolding(crate::specs::Stored::Names::key_of))]
@@ -46,7 +49,6 @@ pub(crate) fn key_of(name: &[u8]) -> u64
     }
 }
 
-/// The key of what follows the first seven bytes of a name.
 #[tactic(auto, unfolding(crate::specs::Stored::Names::key_of))]
 pub(crate) fn rest_key(name: &[u8]) -> u64
     ensures { result ≡ key_of (drop 7 name.now) }
@@ -57,7 +59,6 @@ pub(crate) fn rest_key(name: &[u8]) -> u64
     }
 }
 
-/// The byte of a short name, unless it is empty.
 pub(crate) fn short_byte(short: &str) -> Option<u8>
     ensures { result ≡ slice_get short.now 0 }
 {

@@ -17,11 +17,10 @@ ghost use Rattle.getopts.specs.Stored.Occurrences.{occurrences_at_indices, AreIn
 use std::alloc::{AllocError, Global};
 use std::marker::Model;
 
-/// A stored occurrence of an option: the place of its group, the index of its item's first word,
-/// and its value.
+/// An occurrence of an option, as it is stored.
 ///
-/// In the text of all values, a value ends where the next record's starts. `value` is twice the
-/// index of its first byte, plus one if there is a value.
+/// All values are in one text, in order. `value` is twice the index at which this value starts,
+/// plus one if there is a value. The value ends where the value of the next record starts.
 #[derive(Clone, Copy, Debug)]
 pub(crate) struct OccurrenceRecord {
     pub place: usize,
@@ -29,8 +28,7 @@ pub(crate) struct OccurrenceRecord {
     pub value: usize,
 }
 
-/// An occurrence of an option, borrowed: the place of its group, the index of its item's first
-/// word, and its value if it has one.
+/// An occurrence of an option, borrowed. `position` is the index of the first word of its item.
 #[derive(Clone, Copy)]
 pub(crate) struct Occurrence<'l> {
     pub place: usize,
@@ -41,10 +39,10 @@ pub(crate) struct Occurrence<'l> {
 /// Bytes reserved for all values when the first one is stored.
 const FIRST_VALUES: usize = 64;
 
-/// Lists of more records, and values of more bytes, give back memory that they don't use.
+/// A list of more records, or a text of more bytes, gives back memory that it doesn't use.
 const FIRST_LONG: usize = 1024;
 
-/// Appends a text. The first one that isn't empty reserves `FIRST_VALUES` bytes.
+/// The first text that isn't empty reserves `FIRST_VALUES` bytes.
 #[inline(always)]
 fn push_text(values: &mut String, text: &str) -> Result<(), AllocError>
     ensures ok { OnOk result (string_bytes values.new ≡ string_bytes values.old ++ text.now) }
@@ -74,8 +72,7 @@ fn push_value(values: &mut String, value: Option<&str>) -> Result<usize, AllocEr
     }
 }
 
-/// The value that starts here among all values, and ends where the value of the record at `next`
-/// starts.
+/// The value from `start` to where the value of the record at `next` starts.
 #[inline(always)]
 fn value_from<'v>(
     values: &'v str,
@@ -128,7 +125,6 @@ impl Model for LineOccurrences {
 }
 
 impl LineOccurrences {
-    /// No options, with this much room.
     pub(crate) fn with_capacity(alloc: Global, room: usize) -> Result<LineOccurrences, AllocError>
         ensures { IfOk result (λ found. found ≡ []) }
     {
@@ -138,8 +134,8 @@ impl LineOccurrences {
         })
     }
 
-    /// Gives back memory of long lists, which `push` may have grown to twice what they need. If an
-    /// allocation for this fails, they keep their memory, which isn't an error.
+    /// Gives back unused memory of long lists, for which `push` may have reserved twice what they
+    /// need. Nothing changes if an allocation for this fails.
     #[inline]
     pub(crate) fn shrink(&mut self)
         ensures { self.new ≡ self.old }
@@ -158,7 +154,6 @@ impl LineOccurrences {
         self.records.len()
     }
 
-    /// The occurrence at `index`.
     #[inline(always)]
     pub(crate) fn at(&self, index: usize) -> Occurrence<'_>
         requires { index < length self.now }
@@ -177,7 +172,6 @@ impl LineOccurrences {
         }
     }
 
-    /// Appends an occurrence.
     #[inline(always)]
     pub(crate) fn push(
         &mut self,
@@ -236,7 +230,6 @@ impl<'m> Model for Occurrences<'m> {
 }
 
 impl<'m> Occurrences<'m> {
-    /// The occurrences at these indices of a command line.
     pub(crate) fn of(found: &'m LineOccurrences, indices: &'m [usize]) -> Occurrences<'m>
         requires { AreIndicesOf found.now indices.now }
         ensures { result ≡ occurrences_at_indices found.now indices.now }
@@ -258,7 +251,8 @@ impl<'m> Occurrences<'m> {
         self.len() == 0
     }
 
-    /// Returns the position of an occurrence and its value, if it has one, or `None` past the last.
+    /// Returns the position and the value of an occurrence, or `None` past the last. The value is
+    /// `None` if the occurrence has no value.
     #[inline]
     pub fn get(&self, nth: usize) -> Option<(usize, Option<&'m str>)>
         ensures occurrence { option_map borrowed_occurrence result ≡ slice_get self.now nth }
@@ -270,7 +264,6 @@ impl<'m> Occurrences<'m> {
         Some((occurrence.position, occurrence.value))
     }
 
-    /// The occurrence at an index that is in range.
     #[inline]
     fn at(&self, nth: usize) -> Occurrence<'m>
         requires { nth < length self.now }
@@ -318,7 +311,6 @@ impl<'m> Occurrences<'m> {
         Ok(pairs)
     }
 
-    /// The value of the first occurrence, if that has one.
     pub(crate) fn first_value(&self) -> Option<&'m str>
         ensures { option_copied result ≡ first_value self.now }
     {
@@ -326,7 +318,6 @@ impl<'m> Occurrences<'m> {
         value
     }
 
-    /// The value of the first occurrence, or `fallback` if that has none.
     pub(crate) fn first_value_or(&self, fallback: &'m str) -> Option<&'m str>
         ensures { option_copied result ≡ first_value_or self.now fallback.now }
     {
@@ -334,7 +325,6 @@ impl<'m> Occurrences<'m> {
         Some(value.unwrap_or(fallback))
     }
 
-    /// Whether both have the same positions and values, in the same order.
     #[inline]
     pub(crate) fn same(&self, other: &Occurrences<'_>) -> bool
         ensures { result ≡ pointwise same_group_occurrence self.now other.now }

@@ -33,10 +33,10 @@ impl Options {
 
     /// Parses a command line, given without the program's own name.
     ///
-    /// Returns the matches of the words, or their first error. The error reports the first word
-    /// that can't be read or, if all can be read, the first option, in order of declaration, that
-    /// is missing or was given too often. Returns `Fail::OutOfMemory` instead if an allocation
-    /// fails. The options aren't changed.
+    /// Returns the matches of the words, or their first error. If a word can't be read, the error
+    /// reports the first such word. Otherwise, it reports the first option, in order of
+    /// declaration, that is missing or was given too often. Returns `Fail::OutOfMemory` instead if
+    /// an allocation fails. The options aren't changed.
     ///
     /// With an option `o`/`output` that needs an argument, `["-ofile", "x"]`, `["-o", "file", "x"]`
     /// and `["--output=file", "x"]` all give `output` the value `file`, and the free word `x`.
@@ -62,10 +62,10 @@ impl Options {
     /// Parses a command line like `parse_words`, but doesn't check how often options occur.
     ///
     /// Use it to print help even if a required option is missing: call it first, print help if the
-    /// help option was given, and otherwise call `parse_words`. Succeeds if and only if every word
-    /// can be read; a required option may then be missing, and an option that may occur once may
-    /// occur several times. Otherwise, it returns the same error as `parse_words`. The Rust crate
-    /// has no such method.
+    /// help option was given, and otherwise call `parse_words`. It succeeds if and only if every
+    /// word can be read. Required options may then be missing, and options may occur too often. If
+    /// a word can't be read, it returns the same error as `parse_words`. The Rust crate has no such
+    /// method.
     pub fn parse_ignoring_counts<S: AsStr>(&self, alloc: Global, words: &[S]) -> crate::Result
         ensures result { ReturnsResult result
             (parse_ignoring_counts_result self.now (map S.text words.now)) }

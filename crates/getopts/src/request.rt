@@ -25,12 +25,16 @@ pub enum Request<T> {
 impl Options {
     /// Parses a command line like `parse_words`, unless it requests help or the version.
     ///
-    /// The options that request them have the names `help` and `version`, and are usually flags; an
-    /// option that isn't declared counts as not given. If a command line gives one of them, the
-    /// counts of options aren't checked, so required options may be missing. If it gives both, help
-    /// takes precedence. Every word must be readable: with these flags and the required option
-    /// `n`/`name`, `["--help"]` is `Request::Help`, `["--help", "--nope"]` is rejected, and `[]` is
-    /// rejected because `name` is missing.
+    /// The options that request these are called `help` and `version`, and are usually flags. An
+    /// option that isn't declared counts as not given.
+    ///
+    /// - If a command line gives one of them, counts aren't checked, so required options may be
+    ///   missing.
+    /// - If it gives both, help takes precedence.
+    /// - Every word must be readable.
+    ///
+    /// With these flags and a required option `name`, `["--help"]` is `Request::Help`. Both `[]`
+    /// and `["--help", "--nope"]` are rejected, the first because `name` is missing.
     ///
     /// The Rust crate has no such method.
     pub fn parse_request<S: AsStr>(
@@ -47,7 +51,6 @@ impl Options {
         ensures refused { IfErr result (λ fail. IsOutOfMemoryOr fail
             (IsRefused self.now (map S.text words.now))) }
 
-        // The matches are those that `parse_words` returns.
         ensures declared { IfOk result (λ request. IfParsed request (λ matches.
             FitOptionsAndCounts self.now matches.groups)) }
         ensures laws { OnOk result (KeepsReadingLaws (grammar_of self.now)) }
@@ -85,7 +88,6 @@ impl Options {
         ensures refused { IfErr result (λ fail. IsOutOfMemoryOr fail
             (IsRefused self.now (map S.text words.now))) }
 
-        // The matches are those that `parse_words` returns.
         ensures declared { IfOk result (λ answer. IfSome answer (λ matches.
             FitOptionsAndCounts self.now matches.groups)) }
         ensures laws { OnOk result (KeepsReadingLaws (grammar_of self.now)) }

@@ -30,7 +30,6 @@ pub(crate) struct Layout {
 /// The bytes that most rows need.
 const ROW_ROOM: usize = 80;
 
-/// The row of one group.
 pub(crate) fn row_of(
     alloc: Global,
     layout: Layout,
@@ -48,7 +47,6 @@ pub(crate) fn row_of(
     Ok(row)
 }
 
-/// Appends the head of a group's row, which precedes the description.
 fn push_head(text: &mut String, layout: Layout, group: GroupView<'_>) -> Result<(), AllocError>
     ensures { OnOk result (string_bytes text.new ≡ string_bytes text.old
         ++ head layout.long_only layout.any_short (group_view group.entry)) }
@@ -61,8 +59,6 @@ fn push_head(text: &mut String, layout: Layout, group: GroupView<'_>) -> Result<
     push_argument(text, kinds.kind, group.hint)
 }
 
-/// Appends the short name with its dash, or what replaces it. `wide` says whether the long name
-/// takes a column.
 fn push_short(
     text: &mut String,
     layout: Layout,
@@ -82,7 +78,6 @@ fn push_short(
     }
 }
 
-/// Appends the long name with its dashes if it takes a column, as `wide` says.
 fn push_long(text: &mut String, layout: Layout, long: &str, wide: bool) -> Result<(), AllocError>
     requires { wide ≡ has_columns long.now }
     ensures { OnOk result (string_bytes text.new ≡ string_bytes text.old
@@ -96,7 +91,6 @@ fn push_long(text: &mut String, layout: Layout, long: &str, wide: bool) -> Resul
     text.push(' ')
 }
 
-/// What separates a head from its description.
 fn padding_after(head: &str) -> &'static str
     ensures { result.now ≡ padding head.now }
 {
@@ -108,14 +102,12 @@ fn padding_after(head: &str) -> &'static str
     }
 }
 
-/// Whether a text takes a column.
 fn has_columns(text: &str) -> bool
     ensures { result ≡ has_columns text.now }
 {
     width_of(text) > 0
 }
 
-/// The columns that a text takes.
 #[tactic(auto, unfolding(crate::specs::Wrap::width_of))]
 fn width_of(text: &str) -> usize
     ensures { result ≡ width_of text.now }

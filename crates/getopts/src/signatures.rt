@@ -1,4 +1,4 @@
-//! Signatures of option groups, their names and kinds: stored together, and borrowed.
+//! Signatures of option groups, which are their names and kinds.
 
 ghost use Rattle.std.specs.Prelude.{◌≡◌, ◌++◌, ◌∷◌, [], Some, ◌+◌, ◌*◌, ◌<◌, ◌^◌, length};
 ghost use Rattle.std.specs.Prelude.{slice_get, OnOk, OnErr};
@@ -20,7 +20,6 @@ use std::marker::Model;
 /// Initial capacity: up to this many groups fit without reallocating.
 pub(crate) const FIRST_GROUPS: usize = 32;
 
-/// What parsing needs of a group, borrowed: its names and kinds.
 #[derive(Clone, Copy)]
 pub(crate) struct SignatureView<'g> {
     pub names: NamesView<'g>,
@@ -41,9 +40,9 @@ impl<'g> PartialEq for SignatureView<'g> {
     }
 }
 
-/// A stored group: where its long name begins and ends in the text of all names, what to look its
-/// names up by, and its kinds. It has 32 bytes, so that the first list, of `FIRST_GROUPS` records,
-/// fits in malloc's cache.
+/// A group as it is stored. `long` and `end` are where its long name starts and ends in the text of
+/// all names. A record has 32 bytes, so that the first list, of `FIRST_GROUPS` records, fits in
+/// malloc's cache.
 #[derive(Debug, Clone, Copy)]
 pub(crate) struct SignatureRecord {
     pub long: usize,
@@ -63,8 +62,6 @@ impl PartialEq for SignatureRecord {
 
     ghost laws = { Prim.search (comparing, rules) depth 12 };
 
-    /// Whether the short names are equal, the long names have the same ends, and the kinds are
-    /// equal.
     #[inline(always)]
     fn eq(&self, other: &SignatureRecord) -> bool {
         self.long == other.long
@@ -75,7 +72,7 @@ impl PartialEq for SignatureRecord {
 }
 
 impl SignatureRecord {
-    /// Where its names start and end: a short name has one byte.
+    /// Where the names are in the text of all names. A short name is the byte before the long name.
     #[inline(always)]
     fn ends(&self) -> PairEnds
         ensures { result ≡ ends_of self.now }
@@ -92,8 +89,8 @@ impl SignatureRecord {
     }
 }
 
-/// What parsing needs of validly named groups: one text with the short and long name of each group
-/// in turn, and a record for each group.
+/// What parsing needs of groups with valid names. `text` has the short and long name of each group
+/// in turn.
 #[derive(Debug)]
 pub(crate) struct Signatures {
     text: String,
@@ -124,7 +121,7 @@ impl Model for Signatures {
 impl Signatures {
     ghost use Rattle.getopts.specs.Stored.Signatures.{kinds_of};
 
-    /// No groups. Allocates nothing.
+    /// Allocates nothing.
     pub(crate) fn new(alloc: Global) -> Signatures
         ensures { result ≡ [] }
     {
@@ -142,7 +139,6 @@ impl Signatures {
         self.records.len()
     }
 
-    /// The record of the group at `place`.
     #[inline(always)]
     pub(crate) fn record(&self, place: usize) -> SignatureRecord
         requires { place < length self.now }
@@ -153,7 +149,6 @@ impl Signatures {
         self.records[place]
     }
 
-    /// The short name of the group at `place`.
     #[inline(always)]
     pub(crate) fn short(&self, place: usize) -> &str
         requires { place < length self.now }
@@ -162,7 +157,6 @@ impl Signatures {
         first_at(&self.text, self.records[place].ends())
     }
 
-    /// The long name of the group at `place`.
     #[inline(always)]
     pub(crate) fn long(&self, place: usize) -> &str
         requires { place < length self.now }
@@ -171,7 +165,6 @@ impl Signatures {
         second_at(&self.text, self.records[place].ends())
     }
 
-    /// Both names of the group at `place`.
     #[inline]
     pub(crate) fn names(&self, place: usize) -> NamesView<'_>
         requires { place < length self.now }
@@ -183,7 +176,6 @@ impl Signatures {
         }
     }
 
-    /// The main name of the group at `place`.
     #[inline(always)]
     pub(crate) fn main(&self, place: usize) -> &str
         requires { place < length self.now }
@@ -196,8 +188,8 @@ impl Signatures {
         }
     }
 
-    /// The long name of the group at `place`, or an empty text past the last group. Sorting and
-    /// searching a table need closures that accept any entry.
+    /// Past the last group, the name is empty: sorting and searching a table need closures that
+    /// accept any entry.
     pub(crate) fn long_or_empty(&self, place: usize) -> &str
         ensures { result.now ≡ (names_at (names_in self.now) place).long }
     {
@@ -208,7 +200,6 @@ impl Signatures {
         }
     }
 
-    /// The names and kinds of the group at `place`.
     #[inline(always)]
     pub(crate) fn get(&self, place: usize) -> SignatureView<'_>
         requires { place < length self.now }
@@ -220,7 +211,6 @@ impl Signatures {
         }
     }
 
-    /// Appends the names and kinds of a group. After an error nothing has changed.
     #[inline]
     pub(crate) fn push(&mut self, short: &str, long: &str, kinds: Kinds) -> Result<(), AllocError>
         requires { AreLawful short.now long.now }

@@ -11,7 +11,6 @@ use std::alloc::AllocError;
 /// The number of columns before a description.
 pub(crate) const MARGIN: usize = 24;
 
-/// Appends the hint, in brackets if the argument is optional.
 pub(crate) fn push_argument(text: &mut String, kind: HasArg, hint: &str) -> Result<(), AllocError>
     ensures { OnOk result (string_bytes text.new ≡ string_bytes text.old
         ++ argument_part kind hint.now) }
@@ -27,7 +26,6 @@ pub(crate) fn push_argument(text: &mut String, kind: HasArg, hint: &str) -> Resu
     }
 }
 
-/// Appends texts, with the separator between them.
 pub(crate) fn push_joined(
     text: &mut String,
     texts: &[String],
@@ -45,7 +43,6 @@ pub(crate) fn push_joined(
     Ok(())
 }
 
-/// Appends the separator if `begun` says that something precedes it.
 fn push_parting(text: &mut String, begun: bool, separator: &str) -> Result<(), AllocError>
     ensures { OnOk result (string_bytes text.new ≡ string_bytes text.old
         ++ parting begun separator.now) }

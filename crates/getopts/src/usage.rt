@@ -22,15 +22,16 @@ use std::alloc::{AllocError, Global};
 use std::marker::Model;
 use std::vec;
 
-/// The columns of a usage text unless the caller chooses them, which leave 54 for descriptions.
+/// The columns of a usage text unless the caller chooses them.
 const USUAL_COLUMNS: usize = MARGIN + 54;
 
 /// The rows of a usage text, one for each option group, in order of declaration.
 ///
-/// `Options::usage_with_format` passes them to its closure. They have all been built by then, so
-/// `next` allocates nothing. A row doesn't end with a line end. It contains one if its head (the
-/// indentation, the names and the hint) takes 24 columns or more, and one between the rows of the
-/// description.
+/// `Options::usage_with_format` passes them to its closure. All rows are built before, so `next`
+/// allocates nothing.
+///
+/// A row begins with its head: the indentation, the names and the hint. The row contains a line end
+/// after a head of 24 columns or more, and between the rows of the description, but not at its end.
 ///
 /// In the Rust crate the closure gets a `&mut dyn Iterator`, which builds each row on demand.
 #[derive(Debug, Drop)]
@@ -63,8 +64,9 @@ impl Iterator for UsageRows {
 impl Options {
     /// Returns all options in one line, for the top of a usage text.
     ///
-    /// Each option is shown by its short name or, if it has none, by its long name, with two dashes
-    /// even in long-only mode. The line has no line end; without options it ends with a space.
+    /// Each option is shown by its short name. If it has none, it is shown by its long name, with
+    /// two dashes even in long-only mode. The line has no line end. Without options, it ends with a
+    /// space.
     ///
     /// ```
     /// options.reqopt("b", "banana", "Desc", "VAL")?.optflag("k", "kiwi", "Desc")?;
@@ -88,10 +90,10 @@ impl Options {
 
     /// Returns the brief, then each option with its description, for a help screen.
     ///
-    /// Descriptions begin after 24 columns, in rows of at most 54; a wider word has a row of its
-    /// own. A head (the indentation, the names and the hint) of 24 columns or more has a line of
-    /// its own. Columns are counted by `unicode_width`, not in bytes, so descriptions are aligned
-    /// even if names aren't ASCII. A line may end in spaces.
+    /// Descriptions begin after 24 columns, in rows of at most 54 columns. A wider word has a row
+    /// of its own. A head (the indentation, the names and the hint) of 24 columns or more has a
+    /// line of its own. Columns are counted by `unicode_width`, not in bytes, so descriptions are
+    /// aligned even if names aren't ASCII. A line may end in spaces.
     ///
     /// ```
     /// options
@@ -110,11 +112,9 @@ impl Options {
     /// In the Rust crate this method can't fail. That crate leaves out a short name that takes no
     /// column, such as a tab in old width tables. Here every short name that isn't empty is shown.
     pub fn usage(&self, alloc: Global, brief: &str) -> Result<String, AllocError>
-        // This is the only usage text, byte for byte.
         ensures text { IfOk result (λ text.
             IsTheOnly (IsUsageText self.now brief.now) (string_bytes text)) }
 
-        // This text as a function.
         ensures result { IfOk result (λ text. string_bytes text ≡ usage_result self.now brief.now) }
     {
         self.usage_in(alloc, brief, USUAL_COLUMNS)
@@ -122,9 +122,9 @@ impl Options {
 
     /// Returns a usage text, as `usage` does, whose descriptions end within this many columns.
     ///
-    /// Descriptions begin after 24 columns, in rows of at most `columns - 24`; a wider word has a
-    /// row of its own. With 24 columns or fewer, every word has. Heads, hints and the brief aren't
-    /// wrapped, and may be wider. `usage(brief)` is `usage_in(brief, 78)`.
+    /// Descriptions begin after 24 columns, in rows of at most `columns - 24`. A wider word has a
+    /// row of its own. With 24 columns or fewer, every word has a row of its own. Heads, hints and
+    /// the brief aren't wrapped, and may be wider. `usage(brief)` is `usage_in(brief, 78)`.
     ///
     /// ```
     /// options.optflag("h", "help", "print this help and exit")?;
@@ -138,11 +138,9 @@ impl Options {
     ///
     /// Fails only if an allocation fails. The Rust crate has no such method.
     pub fn usage_in(&self, alloc: Global, brief: &str, columns: usize) -> Result<String, AllocError>
-        // This is the only usage text within these columns, byte for byte.
         ensures text { IfOk result (λ text.
             IsTheOnly (IsUsageTextIn columns self.now brief.now) (string_bytes text)) }
 
-        // This text as a function.
         ensures result { IfOk result (λ text.
             string_bytes text ≡ usage_in_result columns self.now brief.now) }
     {
@@ -156,11 +154,11 @@ impl Options {
 
     /// Passes the usage rows to a closure, and returns its result.
     ///
-    /// All rows are built first. Then the closure is called, once. If an allocation for the rows
-    /// fails, it isn't called.
+    /// First, all rows are built. Then the closure is called once. If an allocation for the rows
+    /// fails, the closure isn't called.
     ///
-    /// Requires a closure that may be called with any rows. As it isn't called again, it may be one
-    /// that can be called only once.
+    /// Requires a closure that may be called with any rows. A closure that can be called only once
+    /// is enough.
     ///
     /// ```
     /// let text = options.usage_with_format(alloc, |rows| {
@@ -180,12 +178,11 @@ impl Options {
     ) -> Result<String, AllocError>
         requires { (rows : _) → F.pre formatter rows }
 
-        // This is what the closure, as it was passed, returns for the usage rows. Only one list of
-        // texts is the usage rows.
+        // This is what the closure, as it was passed, returns for the usage rows, which are unique.
         ensures called { OnOk result ((rows : List Text) ×
             IsTheOnly (AreUsageRows self.now) rows × F.post formatter rows result) }
 
-        // The same with these rows as a function.
+        // The same, with the rows computed by a function.
         ensures result { OnOk result (F.post formatter (usage_rows_result self.now) result) }
 
         // Without options, only the closure can fail.
@@ -201,7 +198,6 @@ impl Options {
         ensures rows { IfOk result (λ rows.
             IsTheOnly (AreUsageRows self.now) (map string_bytes rows.items)) }
 
-        // These rows as a function.
         ensures result { IfOk result (λ rows.
             map string_bytes rows.items ≡ usage_rows_result self.now) }
         ensures absent { self.now.groups ≡ [] → IsOk result }
@@ -209,7 +205,6 @@ impl Options {
         self.usage_rows_in(alloc, USUAL_COLUMNS)
     }
 
-    /// The rows of the usage text within this many columns.
     fn usage_rows_in(&self, alloc: Global, columns: usize) -> Result<Vec<String>, AllocError>
         ensures rows { IfOk result (λ rows.
             IsTheOnly (AreUsageRowsIn columns self.now) (map string_bytes rows.items)) }
@@ -226,7 +221,6 @@ impl Options {
         Ok(rows)
     }
 
-    /// The options of the short usage, in order.
     fn option_texts(&self, alloc: Global) -> Result<Vec<String>, AllocError>
         ensures { IfOk result (λ texts.
             map string_bytes texts.items ≡ map option_text self.now.groups) }
@@ -241,7 +235,6 @@ impl Options {
         Ok(texts)
     }
 
-    /// What all rows within this many columns have in common.
     fn layout(&self, columns: usize) -> Layout
         ensures long_only { result.long_only ≡ self.now.long_only }
         ensures any_short { result.any_short ≡ any_short self.now.groups }
@@ -260,7 +253,6 @@ impl Options {
     }
 }
 
-/// Appends one option of the short usage.
 fn push_option(text: &mut String, group: GroupView<'_>) -> Result<(), AllocError>
     ensures { OnOk result (string_bytes text.new ≡ string_bytes text.old
         ++ option_text (group_view group.entry)) }
@@ -280,7 +272,6 @@ fn push_option(text: &mut String, group: GroupView<'_>) -> Result<(), AllocError
     text.push_str(after)
 }
 
-/// Appends the name of an option, as the short usage shows it.
 fn push_name(text: &mut String, names: NamesView<'_>) -> Result<(), AllocError>
     ensures { OnOk result (string_bytes text.new ≡ string_bytes text.old
         ++ option_name (names_view names.entry)) }

@@ -12,10 +12,14 @@ use unicode_width::UnicodeWidthStr;
 /// Breaks a description into rows of at most `lim` columns.
 ///
 /// The description is split into lines at U+000A, and each line into words at white space. The
-/// words of a line fill its rows in order, separated by one space: a word joins the current row if
-/// that then has at most `lim` columns, and otherwise begins a new row. A word wider than `lim` has
-/// a row of its own; with a `lim` of 0 every word does. A line without words gives no row. No other
-/// way to break a line into fitting rows has fewer of them.
+/// words of a line fill its rows in order, separated by one space:
+///
+/// - A word joins the current row if the row then has at most `lim` columns. Otherwise, it begins a
+///   new row.
+/// - A word wider than `lim` has a row of its own. With a `lim` of 0, every word has.
+/// - A line without words has no rows.
+///
+/// No other way to break a line into fitting rows has fewer rows.
 ///
 /// Columns are counted by `unicode_width` for each word by itself, plus one for each space between
 /// words. They aren't bytes: `日本` has six bytes and four columns. `lim` may be any number up to
@@ -32,12 +36,11 @@ use unicode_width::UnicodeWidthStr;
 /// Here it is public and measures word by word; it promises nothing about the width of a row as one
 /// text.
 pub fn each_split_within(alloc: Global, desc: &str, lim: usize) -> Result<Vec<String>, AllocError>
-    // These are the description's rows, byte for byte, and no other list is: in each line every row
-    // fits or is one word, and none has room for the next word of the line.
+    // These are the only rows of the description. In each line, every row fits or is one word, and
+    // no row has room for the next word.
     ensures rows { IfOk result (λ rows.
         IsTheOnly (IsDescriptionRows lim desc.now) (map string_bytes rows.items)) }
 
-    // These rows as a function.
     ensures result { IfOk result (λ rows.
         map string_bytes rows.items ≡ description_rows lim desc.now) }
 

@@ -9,7 +9,6 @@ use crate::alloc::{AllocError, Global};
 use crate::convert::AsStr;
 use core::str::FromStr;
 
-/// A copy of a text, if there is one.
 fn copied(alloc: Global, text: Option<&str>) -> Result<Option<String>, AllocError> {
     match text {
         Some(text) => {
@@ -55,9 +54,10 @@ impl Matches {
         self.opt_place(name).is_some()
     }
 
-    /// How often an option was given, by either name: 3 after `-vv --verbose`, and 0 if it wasn't.
+    /// How often an option was given, by either name. This is 3 after `-vv --verbose`.
     ///
-    /// Requires a defined name (see `opt_defined`); the Rust crate panics on others.
+    /// Returns 0 if the option wasn't given. Requires a defined name (see `opt_defined`); the Rust
+    /// crate panics on others.
     pub fn opt_count(&self, name: &str) -> usize {
         self.held.occurrences_of(name).len()
     }
@@ -71,10 +71,10 @@ impl Matches {
 
     /// Returns the positions of an option's occurrences, in command-line order.
     ///
-    /// A position is the index, from 0, of the word in which the option (or its cluster) begins;
-    /// the options of a cluster share it, and a separate argument counts as a word. After
-    /// `-v -o x -vv` the positions of `v` are 0, 3 and 3. The result is empty if the option wasn't
-    /// given. Requires a defined name (see `opt_defined`). Fails only if an allocation fails.
+    /// A position is the index, from 0, of the word in which the option or its cluster begins.
+    /// Options of one cluster share a position. A separate argument counts as a word. After `-v -o
+    /// x -vv` the positions of `v` are 0, 3 and 3. The result is empty if the option wasn't given.
+    /// Requires a defined name (see `opt_defined`). Fails only if an allocation fails.
     ///
     /// The Rust crate doesn't count separate arguments.
     pub fn opt_positions(&self, alloc: Global, name: &str) -> Result<Vec<usize>, AllocError> {
@@ -90,12 +90,13 @@ impl Matches {
         self.held.occurrences_of(name).values(alloc)
     }
 
-    /// Returns the position and value of each of an option's occurrences that has a value, in
+    /// Returns the positions and values of an option's occurrences that have a value, in
     /// command-line order.
     ///
-    /// Positions are as in `opt_positions`: the option's, even if its argument is a separate word.
-    /// Values are as in `opt_strs`. The result is empty if the option wasn't given. Requires a
-    /// defined name (see `opt_defined`). Fails only if an allocation fails.
+    /// Positions and values are as in `opt_positions` and `opt_strs`. The position is the position
+    /// of the option, even if its argument is a separate word. The result is empty if the option
+    /// wasn't given. Requires a defined name (see `opt_defined`). Fails only if an allocation
+    /// fails.
     pub fn opt_strs_pos(
         &self,
         alloc: Global,
@@ -106,19 +107,19 @@ impl Matches {
 
     /// Returns the value of an option's first occurrence.
     ///
-    /// After `-ofile` the value of `o` is `file`. Returns `None` if the option wasn't given or if
-    /// its first occurrence has no value, even if a later one does (see `opt_strs`). After `parse`,
-    /// a required option with a mandatory argument has a value. Requires a defined name (see
-    /// `opt_defined`). Fails only if an allocation fails.
+    /// After `-ofile` the value of `o` is `file`. Returns `None` if the option wasn't given, or if
+    /// its first occurrence has no value. Values of later occurrences don't count (see `opt_strs`).
+    /// After `parse`, a required option with a mandatory argument has a value. Requires a defined
+    /// name (see `opt_defined`). Fails only if an allocation fails.
     pub fn opt_str(&self, alloc: Global, name: &str) -> Result<Option<String>, AllocError> {
         copied(alloc, self.held.occurrences_of(name).first_value())
     }
 
-    /// Returns the value of an option's first occurrence, or `def` if that has none.
+    /// Returns the value of an option's first occurrence, or `def` if it has no value.
     ///
-    /// Returns `None` only if the option wasn't given. After `--color` alone,
-    /// `opt_default(alloc, "color", "always")` is `always`. Requires a defined name (see
-    /// `opt_defined`). Fails only if an allocation fails.
+    /// Returns `None` only if the option wasn't given. After `--color` alone, `opt_default(alloc,
+    /// "color", "always")` is `always`. Requires a defined name (see `opt_defined`). Fails only if
+    /// an allocation fails.
     pub fn opt_default(
         &self,
         alloc: Global,
@@ -184,12 +185,11 @@ impl Matches {
     /// Whether any of the named options was given, for defined names.
     ///
     /// Requires every name to be defined (see `opt_defined`). The Rust crate accepts any list of
-    /// texts, and stops at the first option that was given.
+    /// texts, and doesn't look at names after the first option that was given.
     pub fn opts_present_any(&self, names: &[&str]) -> bool {
         names.iter().any(|name| self.has(name))
     }
 
-    /// The value of the first listed option whose first occurrence has one.
     fn first_among<T: AsStr>(&self, names: &[T]) -> Option<&str> {
         for name in names {
             if let Some(value) = self.held.occurrences_of(name.as_str()).first_value() {
@@ -199,19 +199,19 @@ impl Matches {
         None
     }
 
-    /// Returns the value of the first listed option whose first occurrence has one.
+    /// Returns the value of the first named option whose first occurrence has a value.
     ///
-    /// Returns `None` if there is no such option, even if a later occurrence has a value. Requires
-    /// every name to be defined (see `opt_defined`); the Rust crate stops at the first match. Fails
-    /// only if an allocation fails.
+    /// Returns `None` if there is no such option. Values of later occurrences don't count. Requires
+    /// every name to be defined (see `opt_defined`); the Rust crate doesn't look at names after the
+    /// first value. Fails only if an allocation fails.
     pub fn opts_str(&self, alloc: Global, names: &[String]) -> Result<Option<String>, AllocError> {
         copied(alloc, self.first_among(names))
     }
 
-    /// Returns the value of the first listed option whose first occurrence has one, like
+    /// Returns the value of the first named option whose first occurrence has a value, like
     /// `opts_str`.
     ///
-    /// Returns `None` if there is no such option, even if a later occurrence has a value. Requires
+    /// Returns `None` if there is no such option. Values of later occurrences don't count. Requires
     /// every name to be defined (see `opt_defined`). The Rust crate accepts any list of texts.
     /// Fails only if an allocation fails.
     pub fn opts_str_first(

@@ -11,12 +11,10 @@ use super::scan::{Given, are_texts};
 use crate::alloc::{AllocError, Global};
 use crate::convert::AsStr;
 
-/// Whether a text contains `=`.
 fn holds_equals(text: &str) -> bool {
     text.contains('=')
 }
 
-/// Whether a declared option has a main name that contains `=`.
 fn declare_equals(groups: &Groups) -> bool {
     for place in 0..groups.len() {
         if holds_equals(groups.main(place)) {
@@ -26,8 +24,7 @@ fn declare_equals(groups: &Groups) -> bool {
     false
 }
 
-/// Whether no main name of an option in the order contains `=`. Tests the declared names first if
-/// they are fewer.
+/// Tests the declared names first if they are fewer than the options and free words.
 fn are_plain(groups: &Groups, order: &[Given]) -> bool {
     if groups.len() < order.len() && !declare_equals(groups) {
         return true;
@@ -42,7 +39,6 @@ fn are_plain(groups: &Groups, order: &[Given]) -> bool {
     true
 }
 
-/// The word for an option: `--main`, or `--main=value` if it has a value.
 fn canonical_word(alloc: Global, main: &str, value: Option<&str>) -> Result<String, AllocError> {
     let room = main.len() + value.unwrap_or("").len();
     let mut word = String::of_capacity(alloc, room.saturating_add(3))?;
@@ -80,16 +76,20 @@ impl Options {
     /// Rewrites an accepted command line with main names only, for programs that log, compare or
     /// cache command lines.
     ///
-    /// The canonical line has `--main` or `--main=value` for each option, in order, then always
-    /// `--`, then the free words. Here `main` is the option's long name or, if it has none, its
-    /// short name. With the options `v`/`verbose` and `o`/`output`, the latter with an argument,
-    /// `["-vofile", "x"]` and `["x", "--verbose", "--output", "file"]` both give
-    /// `["--verbose", "--output=file", "--", "x"]`, and an empty command line gives `["--"]`. The
-    /// canonical line doesn't show positions, nor which free words preceded which options.
+    /// The canonical line has a word for each option, in order: `--main` or `--main=value`. Here
+    /// `main` is the option's long name or, if it has none, its short name. Then there is always
+    /// `--`, and then the free words. The line doesn't show positions, nor which free words
+    /// preceded which options.
     ///
-    /// Returns `None` if the command line gives an option whose main name contains `=`: `--p=x`
-    /// means the option `p` with the argument `x`, so it can't name an option called `p=x`. Such an
-    /// option does no harm as long as it isn't given.
+    /// With the flag `v`/`verbose` and an option `o`/`output` that needs an argument:
+    ///
+    /// - `["-vofile", "x"]` gives `["--verbose", "--output=file", "--", "x"]`.
+    /// - `["x", "--verbose", "--output", "file"]` gives the same line.
+    /// - `[]` gives `["--"]`.
+    ///
+    /// Returns `None` if the command line gives an option whose main name contains `=`. Such an
+    /// option can't be written: `--p=x` means the option `p` with the argument `x`, not an option
+    /// called `p=x`. It does no harm as long as it isn't given.
     ///
     /// Fails exactly as `parse` does, or with `Fail::OutOfMemory` if an allocation fails. As for
     /// `parse`, the iterator has to end and, unless an allocation fails, all its items are taken.

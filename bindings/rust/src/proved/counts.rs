@@ -10,8 +10,7 @@ use super::scan::Given;
 use super::signatures::Signatures;
 use crate::alloc::Global;
 
-/// Checks how often each option occurs, in order of declaration, given the index of the
-/// occurrences.
+/// Checks the counts in order of declaration, by an index of the occurrences.
 #[inline(always)]
 pub(crate) fn check_counts(
     alloc: Global,
@@ -27,7 +26,7 @@ pub(crate) fn check_counts(
     Ok(())
 }
 
-/// Checks how often each option occurs in an order, in order of declaration.
+/// Checks the counts in order of declaration, by the order of a command line.
 pub(crate) fn check_order(
     alloc: Global,
     signatures: &Signatures,
@@ -42,7 +41,6 @@ pub(crate) fn check_order(
     Ok(())
 }
 
-/// Counts the options at each place.
 fn count_options(counts: &mut [usize], order: &[Given]) {
     for given in order {
         if let Given::Option { place, .. } = given {
@@ -53,7 +51,6 @@ fn count_options(counts: &mut [usize], order: &[Given]) {
     }
 }
 
-/// Checks how often one option occurs.
 #[inline(always)]
 fn check_count(
     alloc: Global,
@@ -77,7 +74,6 @@ fn fits_count(occur: Occur, count: usize) -> bool {
     }
 }
 
-/// The error for an option that may not occur this often.
 fn count_fault(alloc: Global, main: &str, count: usize) -> Fail {
     if count == 0 {
         Fail::option_missing(alloc, main)

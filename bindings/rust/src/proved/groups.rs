@@ -8,7 +8,6 @@ use super::pairs::{FIRST_TEXT, PairEnds, first_at, push_pair, second_at};
 use super::signatures::{FIRST_GROUPS, SignatureView, Signatures};
 use crate::alloc::{AllocError, Global};
 
-/// A group with its hint and description, borrowed.
 #[derive(Clone, Copy)]
 pub(crate) struct GroupView<'g> {
     pub signature: SignatureView<'g>,
@@ -22,8 +21,8 @@ impl<'g> PartialEq for GroupView<'g> {
     }
 }
 
-/// Validly named groups: their names and kinds, one text with all hints and descriptions, and the
-/// ends of each group's hint and description in that text.
+/// Groups with valid names. `texts` has the hints and descriptions of all groups, and `ends` says
+/// where they are.
 #[derive(Debug)]
 pub(crate) struct Groups {
     signatures: Signatures,
@@ -32,7 +31,7 @@ pub(crate) struct Groups {
 }
 
 impl Groups {
-    /// No groups. Allocates nothing.
+    /// Allocates nothing.
     pub(crate) fn new(alloc: Global) -> Groups {
         Groups {
             signatures: Signatures::new(alloc),
@@ -45,17 +44,14 @@ impl Groups {
         self.ends.len()
     }
 
-    /// The names and kinds of the groups.
     pub(crate) fn signatures(&self) -> &Signatures {
         &self.signatures
     }
 
-    /// The main name of the group at `place`.
     pub(crate) fn main(&self, place: usize) -> &str {
         self.signatures.main(place)
     }
 
-    /// The group at `place`.
     pub(crate) fn get(&self, place: usize) -> GroupView<'_> {
         let pair = self.ends[place];
         GroupView {
@@ -65,7 +61,6 @@ impl Groups {
         }
     }
 
-    /// Appends a group. After an error nothing has changed.
     #[inline]
     pub(crate) fn try_push(
         &mut self,

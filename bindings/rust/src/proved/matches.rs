@@ -26,7 +26,6 @@ pub struct Matches {
 }
 
 impl Matches {
-    /// The matches of a command line, for groups with these names and kinds.
     pub(crate) fn of_line(
         signatures: Signatures,
         table: Table,
@@ -73,12 +72,11 @@ fn same_words(words: &[String], others: &[String]) -> bool {
 }
 
 impl PartialEq for Matches {
-    /// Whether both have the same names and kinds of groups, the same positions and values of each
-    /// group, the same free words and the same trailing start.
+    /// Whether the groups, their occurrences, the free words and the trailing starts are equal.
     ///
-    /// Hints and descriptions don't count, nor does the order of different options within a
-    /// cluster: the matches of `-ab` and `-ba` are equal. Allocates nothing, and visits the
-    /// occurrences of both once.
+    /// A group's names, kinds, positions and values count, but its hint and description don't. The
+    /// order of different options within a cluster doesn't count: the matches of `-ab` and `-ba`
+    /// are equal. Allocates nothing, and visits the occurrences of both once.
     fn eq(&self, other: &Matches) -> bool {
         self.held.same(&other.held)
             && same_words(&self.free, &other.free)
@@ -88,7 +86,6 @@ impl PartialEq for Matches {
 
 impl Eq for Matches {}
 
-/// Groups, with the occurrences of each in a command line.
 #[derive(Debug)]
 pub(crate) struct MatchedGroups {
     signatures: Signatures,
@@ -98,23 +95,19 @@ pub(crate) struct MatchedGroups {
 }
 
 impl MatchedGroups {
-    /// The names and kinds of the groups.
     pub(crate) fn signatures(&self) -> &Signatures {
         &self.signatures
     }
 
-    /// The place of the group that a name resolves to.
     pub(crate) fn place_of(&self, name: &str) -> Option<usize> {
         self.table.resolve(&self.signatures, name)
     }
 
-    /// The occurrences of the group at `place`.
     #[inline]
     pub(crate) fn occurrences_at(&self, place: usize) -> Occurrences<'_> {
         Occurrences::of(&self.found, self.index.indices(place))
     }
 
-    /// The occurrences of the group that a name resolves to, none if it is undefined.
     pub(crate) fn occurrences_of(&self, name: &str) -> Occurrences<'_> {
         match self.place_of(name) {
             Some(place) => self.occurrences_at(place),
@@ -122,7 +115,6 @@ impl MatchedGroups {
         }
     }
 
-    /// Whether the groups are the same, and so are their occurrences.
     // Inlined, it would slow down its caller.
     #[inline(never)]
     pub(crate) fn same(&self, other: &MatchedGroups) -> bool {

@@ -5,11 +5,10 @@ use crate::fallible::*;
 
 use crate::alloc::{AllocError, Global};
 
-/// A stored occurrence of an option: the place of its group, the index of its item's first word,
-/// and its value.
+/// An occurrence of an option, as it is stored.
 ///
-/// In the text of all values, a value ends where the next record's starts. `value` is twice the
-/// index of its first byte, plus one if there is a value.
+/// All values are in one text, in order. `value` is twice the index at which this value starts,
+/// plus one if there is a value. The value ends where the value of the next record starts.
 #[derive(Clone, Copy, Debug)]
 pub(crate) struct OccurrenceRecord {
     pub place: usize,
@@ -17,8 +16,7 @@ pub(crate) struct OccurrenceRecord {
     pub value: usize,
 }
 
-/// An occurrence of an option, borrowed: the place of its group, the index of its item's first
-/// word, and its value if it has one.
+/// An occurrence of an option, borrowed. `position` is the index of the first word of its item.
 #[derive(Clone, Copy)]
 pub(crate) struct Occurrence<'l> {
     pub place: usize,
@@ -29,10 +27,10 @@ pub(crate) struct Occurrence<'l> {
 /// Bytes reserved for all values when the first one is stored.
 const FIRST_VALUES: usize = 64;
 
-/// Lists of more records, and values of more bytes, give back memory that they don't use.
+/// A list of more records, or a text of more bytes, gives back memory that it doesn't use.
 const FIRST_LONG: usize = 1024;
 
-/// Appends a text. The first one that isn't empty reserves `FIRST_VALUES` bytes.
+/// The first text that isn't empty reserves `FIRST_VALUES` bytes.
 #[inline(always)]
 fn push_text(values: &mut String, text: &str) -> Result<(), AllocError> {
     if values.is_empty() && !text.is_empty() {
@@ -54,8 +52,7 @@ fn push_value(values: &mut String, value: Option<&str>) -> Result<usize, AllocEr
     }
 }
 
-/// The value that starts here among all values, and ends where the value of the record at `next`
-/// starts.
+/// The value from `start` to where the value of the record at `next` starts.
 #[inline(always)]
 fn value_from<'v>(
     values: &'v str,
@@ -82,7 +79,6 @@ pub(crate) struct LineOccurrences {
 }
 
 impl LineOccurrences {
-    /// No options, with this much room.
     pub(crate) fn of_capacity(alloc: Global, room: usize) -> Result<LineOccurrences, AllocError> {
         Ok(LineOccurrences {
             records: Vec::of_capacity(alloc, room)?,
@@ -90,8 +86,8 @@ impl LineOccurrences {
         })
     }
 
-    /// Gives back memory of long lists, which `push` may have grown to twice what they need. If an
-    /// allocation for this fails, they keep their memory, which isn't an error.
+    /// Gives back unused memory of long lists, for which `push` may have reserved twice what they
+    /// need. Nothing changes if an allocation for this fails.
     #[inline]
     pub(crate) fn shrink(&mut self) {
         if self.records.len() > FIRST_LONG {
@@ -106,7 +102,6 @@ impl LineOccurrences {
         self.records.len()
     }
 
-    /// The occurrence at `index`.
     #[inline(always)]
     pub(crate) fn at(&self, index: usize) -> Occurrence<'_> {
         let held = self.records[index];
@@ -121,7 +116,6 @@ impl LineOccurrences {
         }
     }
 
-    /// Appends an occurrence.
     #[inline(always)]
     pub(crate) fn try_push(
         &mut self,
@@ -163,7 +157,6 @@ pub struct Occurrences<'m> {
 }
 
 impl<'m> Occurrences<'m> {
-    /// The occurrences at these indices of a command line.
     pub(crate) fn of(found: &'m LineOccurrences, indices: &'m [usize]) -> Occurrences<'m> {
         Occurrences { found, indices }
     }
@@ -178,7 +171,8 @@ impl<'m> Occurrences<'m> {
         self.len() == 0
     }
 
-    /// Returns the position of an occurrence and its value, if it has one, or `None` past the last.
+    /// Returns the position and the value of an occurrence, or `None` past the last. The value is
+    /// `None` if the occurrence has no value.
     #[inline]
     pub fn get(&self, nth: usize) -> Option<(usize, Option<&'m str>)> {
         if nth >= self.len() {
@@ -188,7 +182,6 @@ impl<'m> Occurrences<'m> {
         Some((occurrence.position, occurrence.value))
     }
 
-    /// The occurrence at an index that is in range.
     #[inline]
     fn at(&self, nth: usize) -> Occurrence<'m> {
         self.found.at(self.indices[nth])
@@ -223,19 +216,16 @@ impl<'m> Occurrences<'m> {
         Ok(pairs)
     }
 
-    /// The value of the first occurrence, if that has one.
     pub(crate) fn first_value(&self) -> Option<&'m str> {
         let (_, value) = self.get(0)?;
         value
     }
 
-    /// The value of the first occurrence, or `fallback` if that has none.
     pub(crate) fn first_value_or(&self, fallback: &'m str) -> Option<&'m str> {
         let (_, value) = self.get(0)?;
         Some(value.unwrap_or(fallback))
     }
 
-    /// Whether both have the same positions and values, in the same order.
     #[inline]
     pub(crate) fn same(&self, other: &Occurrences<'_>) -> bool {
         if self.is_empty() && other.is_empty() {

@@ -141,11 +141,13 @@ impl Options {
     /// Adds an option with an optional argument that may occur once.
     ///
     /// `options.optflagopt("c", "color", "colour the output", "WHEN")?` accepts `--color`,
-    /// `--color=auto` and, in ordinary mode, `-cauto` and `-c auto`. A long name takes an argument
-    /// only after `=`: in `--color auto`, `auto` is a free word. A short name doesn't take the next
-    /// word if that begins with a dash and is longer than `-`: `-c -v` gives `c` no argument and is
-    /// followed by the option `-v`, and `-c -` gives it the argument `-`. Requirements, result and
-    /// errors are the same as for `opt`.
+    /// `--color=auto` and, in ordinary mode, `-cauto` and `-c auto`.
+    ///
+    /// - A long name takes an argument only after `=`. In `--color auto`, `auto` is a free word.
+    /// - A short name doesn't take a next word that begins with a dash, except `-`. In `-c -v`, `c`
+    ///   has no argument, and `v` is another option. In `-c -`, the argument is `-`.
+    ///
+    /// Requirements, result and errors are the same as for `opt`.
     #[track_caller]
     pub fn optflagopt(
         &mut self,
@@ -204,7 +206,6 @@ impl Options {
     }
 }
 
-// Accessors for other modules.
 impl Options {
     pub(crate) fn style(&self) -> ParsingStyle {
         self.style
@@ -214,14 +215,12 @@ impl Options {
         self.long_only
     }
 
-    /// The groups.
     pub(crate) fn groups(&self) -> &Groups {
         // Called only for its clause `declared`.
         self.signatures();
         &self.groups
     }
 
-    /// The names and kinds of the groups.
     pub(crate) fn signatures(&self) -> &Signatures {
         self.groups.signatures()
     }

@@ -6,8 +6,8 @@ use crate::fallible::*;
 /// Initial capacity for a text that all groups share, in bytes.
 pub(crate) const FIRST_TEXT: usize = 1024;
 
-/// Where two adjacent texts are in a longer one: the start of the first, where it meets the
-/// second, and the end of that.
+/// Where two adjacent texts are in a longer text. The first ends, and the second starts, at
+/// `middle`.
 #[derive(Debug, Clone, Copy)]
 pub(crate) struct PairEnds {
     pub start: usize,
@@ -36,13 +36,11 @@ pub(crate) fn push_pair(texts: &mut String, first: &str, second: &str) -> PairEn
     PairEnds { start, middle, end }
 }
 
-/// The first of the two texts at `ends`.
 #[inline(always)]
 pub(crate) fn first_at(text: &str, ends: PairEnds) -> &str {
     &text[ends.start..ends.middle]
 }
 
-/// The second of the two texts at `ends`.
 #[inline(always)]
 pub(crate) fn second_at(text: &str, ends: PairEnds) -> &str {
     &text[ends.middle..ends.end]

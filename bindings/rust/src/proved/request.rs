@@ -18,12 +18,16 @@ pub enum Request<T> {
 impl Options {
     /// Parses a command line like `parse_words`, unless it requests help or the version.
     ///
-    /// The options that request them have the names `help` and `version`, and are usually flags; an
-    /// option that isn't declared counts as not given. If a command line gives one of them, the
-    /// counts of options aren't checked, so required options may be missing. If it gives both, help
-    /// takes precedence. Every word must be readable: with these flags and the required option
-    /// `n`/`name`, `["--help"]` is `Request::Help`, `["--help", "--nope"]` is rejected, and `[]` is
-    /// rejected because `name` is missing.
+    /// The options that request these are called `help` and `version`, and are usually flags. An
+    /// option that isn't declared counts as not given.
+    ///
+    /// - If a command line gives one of them, counts aren't checked, so required options may be
+    ///   missing.
+    /// - If it gives both, help takes precedence.
+    /// - Every word must be readable.
+    ///
+    /// With these flags and a required option `name`, `["--help"]` is `Request::Help`. Both `[]`
+    /// and `["--help", "--nope"]` are rejected, the first because `name` is missing.
     ///
     /// The Rust crate has no such method.
     pub fn parse_request<S: AsStr>(

@@ -26,7 +26,6 @@ pub(crate) struct Layout {
 /// The bytes that most rows need.
 const ROW_ROOM: usize = 80;
 
-/// The row of one group.
 pub(crate) fn row_of(
     alloc: Global,
     layout: Layout,
@@ -41,7 +40,6 @@ pub(crate) fn row_of(
     Ok(row)
 }
 
-/// Appends the head of a group's row, which precedes the description.
 fn push_head(text: &mut String, layout: Layout, group: GroupView<'_>) -> Result<(), AllocError> {
     text.try_push_str("    ")?;
     let SignatureView { names, kinds } = group.signature;
@@ -51,8 +49,6 @@ fn push_head(text: &mut String, layout: Layout, group: GroupView<'_>) -> Result<
     push_argument(text, kinds.kind, group.hint)
 }
 
-/// Appends the short name with its dash, or what replaces it. `wide` says whether the long name
-/// takes a column.
 fn push_short(
     text: &mut String,
     layout: Layout,
@@ -68,7 +64,6 @@ fn push_short(
     }
 }
 
-/// Appends the long name with its dashes if it takes a column, as `wide` says.
 fn push_long(text: &mut String, layout: Layout, long: &str, wide: bool) -> Result<(), AllocError> {
     if !wide {
         return Ok(());
@@ -78,7 +73,6 @@ fn push_long(text: &mut String, layout: Layout, long: &str, wide: bool) -> Resul
     text.try_push(' ')
 }
 
-/// What separates a head from its description.
 fn padding_after(head: &str) -> &'static str {
     let columns = width_of(head);
     if columns < MARGIN {
@@ -88,12 +82,10 @@ fn padding_after(head: &str) -> &'static str {
     }
 }
 
-/// Whether a text takes a column.
 fn has_columns(text: &str) -> bool {
     width_of(text) > 0
 }
 
-/// The columns that a text takes.
 fn width_of(text: &str) -> usize {
     text.width()
 }

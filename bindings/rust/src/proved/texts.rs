@@ -10,7 +10,6 @@ use crate::alloc::AllocError;
 /// The number of columns before a description.
 pub(crate) const MARGIN: usize = 24;
 
-/// Appends the hint, in brackets if the argument is optional.
 pub(crate) fn push_argument(text: &mut String, kind: HasArg, hint: &str) -> Result<(), AllocError> {
     match kind {
         HasArg::Yes => text.try_push_str(hint),
@@ -23,7 +22,6 @@ pub(crate) fn push_argument(text: &mut String, kind: HasArg, hint: &str) -> Resu
     }
 }
 
-/// Appends texts, with the separator between them.
 pub(crate) fn push_joined(
     text: &mut String,
     texts: &[String],
@@ -38,7 +36,6 @@ pub(crate) fn push_joined(
     Ok(())
 }
 
-/// Appends the separator if `begun` says that something precedes it.
 fn push_parting(text: &mut String, begun: bool, separator: &str) -> Result<(), AllocError> {
     text.try_push_str(if begun { separator } else { "" })
 }

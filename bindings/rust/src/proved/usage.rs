@@ -13,15 +13,16 @@ use super::texts::{MARGIN, push_argument, push_joined};
 use crate::alloc::{AllocError, Global};
 use crate::heap::vec;
 
-/// The columns of a usage text unless the caller chooses them, which leave 54 for descriptions.
+/// The columns of a usage text unless the caller chooses them.
 const USUAL_COLUMNS: usize = MARGIN + 54;
 
 /// The rows of a usage text, one for each option group, in order of declaration.
 ///
-/// `Options::usage_with_format` passes them to its closure. They have all been built by then, so
-/// `next` allocates nothing. A row doesn't end with a line end. It contains one if its head (the
-/// indentation, the names and the hint) takes 24 columns or more, and one between the rows of the
-/// description.
+/// `Options::usage_with_format` passes them to its closure. All rows are built before, so `next`
+/// allocates nothing.
+///
+/// A row begins with its head: the indentation, the names and the hint. The row contains a line end
+/// after a head of 24 columns or more, and between the rows of the description, but not at its end.
 ///
 /// In the Rust crate the closure gets a `&mut dyn Iterator`, which builds each row on demand.
 #[derive(Debug)]
@@ -40,8 +41,9 @@ impl Iterator for UsageRows {
 impl Options {
     /// Returns all options in one line, for the top of a usage text.
     ///
-    /// Each option is shown by its short name or, if it has none, by its long name, with two dashes
-    /// even in long-only mode. The line has no line end; without options it ends with a space.
+    /// Each option is shown by its short name. If it has none, it is shown by its long name, with
+    /// two dashes even in long-only mode. The line has no line end. Without options, it ends with a
+    /// space.
     ///
     /// ```text
     /// options.reqopt("b", "banana", "Desc", "VAL")?.optflag("k", "kiwi", "Desc")?;
@@ -62,10 +64,10 @@ impl Options {
 
     /// Returns the brief, then each option with its description, for a help screen.
     ///
-    /// Descriptions begin after 24 columns, in rows of at most 54; a wider word has a row of its
-    /// own. A head (the indentation, the names and the hint) of 24 columns or more has a line of
-    /// its own. Columns are counted by `unicode_width`, not in bytes, so descriptions are aligned
-    /// even if names aren't ASCII. A line may end in spaces.
+    /// Descriptions begin after 24 columns, in rows of at most 54 columns. A wider word has a row
+    /// of its own. A head (the indentation, the names and the hint) of 24 columns or more has a
+    /// line of its own. Columns are counted by `unicode_width`, not in bytes, so descriptions are
+    /// aligned even if names aren't ASCII. A line may end in spaces.
     ///
     /// ```text
     /// options
@@ -89,9 +91,9 @@ impl Options {
 
     /// Returns a usage text, as `usage` does, whose descriptions end within this many columns.
     ///
-    /// Descriptions begin after 24 columns, in rows of at most `columns - 24`; a wider word has a
-    /// row of its own. With 24 columns or fewer, every word has. Heads, hints and the brief aren't
-    /// wrapped, and may be wider. `usage(brief)` is `usage_in(brief, 78)`.
+    /// Descriptions begin after 24 columns, in rows of at most `columns - 24`. A wider word has a
+    /// row of its own. With 24 columns or fewer, every word has a row of its own. Heads, hints and
+    /// the brief aren't wrapped, and may be wider. `usage(brief)` is `usage_in(brief, 78)`.
     ///
     /// ```text
     /// options.optflag("h", "help", "print this help and exit")?;
@@ -120,11 +122,11 @@ impl Options {
 
     /// Passes the usage rows to a closure, and returns its result.
     ///
-    /// All rows are built first. Then the closure is called, once. If an allocation for the rows
-    /// fails, it isn't called.
+    /// First, all rows are built. Then the closure is called once. If an allocation for the rows
+    /// fails, the closure isn't called.
     ///
-    /// Requires a closure that may be called with any rows. As it isn't called again, it may be one
-    /// that can be called only once.
+    /// Requires a closure that may be called with any rows. A closure that can be called only once
+    /// is enough.
     ///
     /// ```text
     /// let text = options.usage_with_format(alloc, |rows| {
@@ -152,7 +154,6 @@ impl Options {
         self.usage_rows_in(alloc, USUAL_COLUMNS)
     }
 
-    /// The rows of the usage text within this many columns.
     fn usage_rows_in(&self, alloc: Global, columns: usize) -> Result<Vec<String>, AllocError> {
         let layout = self.layout(columns);
         let groups = self.groups();
@@ -163,7 +164,6 @@ impl Options {
         Ok(rows)
     }
 
-    /// The options of the short usage, in order.
     fn option_texts(&self, alloc: Global) -> Result<Vec<String>, AllocError> {
         let groups = self.groups();
         let mut texts = Vec::of_capacity(alloc, groups.len())?;
@@ -175,7 +175,6 @@ impl Options {
         Ok(texts)
     }
 
-    /// What all rows within this many columns have in common.
     fn layout(&self, columns: usize) -> Layout {
         let groups = self.groups();
         let mut any_short = false;
@@ -190,7 +189,6 @@ impl Options {
     }
 }
 
-/// Appends one option of the short usage.
 fn push_option(text: &mut String, group: GroupView<'_>) -> Result<(), AllocError> {
     let SignatureView { names, kinds } = group.signature;
     let (before, after) = match kinds.occur {
@@ -207,7 +205,6 @@ fn push_option(text: &mut String, group: GroupView<'_>) -> Result<(), AllocError
     text.try_push_str(after)
 }
 
-/// Appends the name of an option, as the short usage shows it.
 fn push_name(text: &mut String, names: NamesView<'_>) -> Result<(), AllocError> {
     if names.short.is_empty() {
         text.try_push_str("--")?;

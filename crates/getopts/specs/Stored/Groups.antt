@@ -11,18 +11,15 @@ use Rattle.getopts.specs.Stored.Signatures.{AreLawfulSignatures, signature_view}
 use Rattle.getopts.specs.declared.groups.GroupView.{GroupView}
 use Rattle.getopts.specs.declared.groups.Groups.TheInside.{Inside}
 
--- the group with this signature, hint and description
 abbrev pub group_with : Signature → Text × Text → Group
 group_with signature texts =
     record { signature = signature; hint = texts.0; description = texts.1 }
 
--- groups with these signatures, each with the next two texts
 abbrev pub groups_with : List Signature → List (Text × Text) → List Group
 groups_with (signature ∷ signatures) (texts ∷ more) =
     group_with signature texts ∷ groups_with signatures more
 groups_with signatures more = []
 
--- the groups that are stored
 abbrev pub groups_view : Inside → List Group
 groups_view inside =
     groups_with inside.signatures (map (pair_at (string_bytes inside.texts)) inside.ends.items)
@@ -33,7 +30,6 @@ pub record HoldGroups (inside : Inside) : Type 0 where
   pub as_many : length inside.ends.items ≡ length inside.signatures
   pub lawful : AreLawfulSignatures inside.signatures
 
--- a borrowed group
 abbrev pub group_view : GroupView → Group
 group_view held = record {
   signature = signature_view held.signature;
@@ -41,6 +37,5 @@ group_view held = record {
   description = held.desc.now;
 }
 
--- whether two borrowed groups are the same
 abbrev pub same_group_view : GroupView → GroupView → Bool
 same_group_view = on group_view same_group

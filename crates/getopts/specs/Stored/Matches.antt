@@ -6,11 +6,10 @@ use Rattle.getopts.specs.Stored.Index.{index_of, indices_in}
 use Rattle.getopts.specs.Stored.Table.{IsTableOf}
 use Rattle.getopts.specs.declared.matches.MatchedGroups.TheInside.{Inside}
 
--- the groups, each with its occurrences
 abbrev pub matched_view : Inside → List MatchedGroup
 matched_view inside = matched 0 inside.signatures inside.found
 
--- The table and the index are those of the groups.
+-- The table and the index fit the groups.
 pub record KeepsGroups (inside : Inside) : Type 0 where
   pub table : IsTableOf (names_in inside.signatures) inside.table
   pub index : indices_in inside.index ≡ index_of (length inside.signatures) inside.found

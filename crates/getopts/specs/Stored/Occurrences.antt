@@ -10,34 +10,31 @@ use Rattle.getopts.specs.Reading.{Occurrence}
 use Rattle.getopts.specs.declared.occurrences.OccurrenceRecord.{OccurrenceRecord}
 use Rattle.getopts.specs.declared.occurrences.LineOccurrences.TheInside.{Inside}
 
--- where a value ends: where that of the next record starts, or at the end of all values
+-- where a value ends: where the value of the next record starts, or where all values end
 abbrev pub end_by : Text → Option OccurrenceRecord → ℕ
 end_by values (Some next) = next.value / 2
 end_by values None = length values
 
--- the text between these indices, or none if it ends before it starts
 abbrev pub text_between : Text → ℕ → ℕ → Option Text
 text_between values start end = if nat_le start end then Some (slice_range values start end) else None
 
--- the value of a record that stores this number, among all values and by the next record
+-- the value of a record that stores this number; `next` is the record after it
 abbrev pub value_in : Text → ℕ → Option OccurrenceRecord → Option Text
 value_in values stored next =
     if stored % 2 == 1 then text_between values (stored / 2) (end_by values next) else None
 
--- the occurrence of a record, by the next record
 abbrev pub occurrence_in : Text → OccurrenceRecord → Option OccurrenceRecord → Occurrence
 occurrence_in values held next = record {
   mention = record { group = held.place; value = value_in values held.value next };
   position = held.position;
 }
 
--- the occurrences of these records
 abbrev pub occurrences_in : Text → List OccurrenceRecord → List Occurrence
 occurrences_in values [] = []
 occurrences_in values (held ∷ more) =
     occurrence_in values held (slice_get more 0) ∷ occurrences_in values more
 
--- A value was added to all values, if there is one, and its record stores this number.
+-- The value was appended, if there is one, and its record stores this number.
 pub record IsAdded (old new : Text) (value : Option Text) (stored : ℕ) : Type 0 where
   pub more : Text
   pub utf8 : IsUtf8 more
@@ -45,11 +42,10 @@ pub record IsAdded (old new : Text) (value : Option Text) (stored : ℕ) : Type 
   pub starts : stored / 2 ≡ length old
   pub value_is : value_in (old ++ more) stored None ≡ value
 
--- the occurrences of a line
 abbrev pub found_view : Inside → List Occurrence
 found_view inside = occurrences_in (string_bytes inside.values) inside.records.items
 
--- The value of each record starts between characters of all values.
+-- The value of each record starts at a character.
 abbrev pub HaveStarts : Text → List OccurrenceRecord → Type 0
 HaveStarts values records = AllByRecursion (λ held. IsCharBoundary values (held.value / 2)) records
 
@@ -61,7 +57,6 @@ HaveTheirValues inside = HaveStarts (string_bytes inside.values) inside.records.
 abbrev pub no_occurrence : Occurrence
 no_occurrence = record { mention = record { group = 0; value = None }; position = 0 }
 
--- the occurrences at these indices
 abbrev pub occurrences_at_indices : List Occurrence → List ℕ → List GroupOccurrence
 occurrences_at_indices occurrences indices =
     map (λ place. without_group (get_or occurrences place no_occurrence)) indices

@@ -4,7 +4,6 @@ use Rattle.std.specs.Str.{IsCharBoundary}
 use Rattle.getopts.specs.Names.{Text}
 use Rattle.getopts.specs.declared.pairs.PairEnds.{PairEnds}
 
--- the two texts with these ends
 abbrev pub pair_at : Text → PairEnds → Text × Text
 pair_at text e = (slice_range text e.start e.middle, slice_range text e.middle e.end)
 

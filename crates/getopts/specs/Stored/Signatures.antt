@@ -17,11 +17,9 @@ use Rattle.getopts.specs.declared.signatures.SignatureRecord.{SignatureRecord}
 use Rattle.getopts.specs.declared.signatures.SignatureView.{SignatureView}
 use Rattle.getopts.specs.declared.signatures.Signatures.TheInside.{Inside}
 
--- two borrowed names
 abbrev pub names_view : NamesView → Names
 names_view held = record { short = held.short.now; long = held.long.now }
 
--- the signature of a group with these kinds and names
 abbrev pub signature_with : Kinds → Text → Text → Signature
 signature_with kinds short long = record {
   names = record { short = short; long = long };
@@ -29,19 +27,16 @@ signature_with kinds short long = record {
   occur = kinds.occur;
 }
 
--- the kinds of a group
 abbrev pub kinds_of : Signature → Kinds
 kinds_of signature = record { kind = signature.kind; occur = signature.occur }
 
--- the names of each group
 abbrev pub names_in : List Signature → List Names
 names_in signatures = map (λ signature. signature.names) signatures
 
--- whether two groups' kinds are the same
 abbrev pub same_kinds : Kinds → Kinds → Bool
 same_kinds = on (λ kinds. signature_with kinds [] []) same_signature
 
--- where the names of a record are: a short name has one byte
+-- where the names of a record are; a short name is the byte before the long name
 abbrev pub ends_of : SignatureRecord → PairEnds
 ends_of group = record {
   start = option_map_or (λ _. group.long - 1) group.short group.long;
@@ -49,18 +44,15 @@ ends_of group = record {
   end = group.end;
 }
 
--- whether two records have the same short name, long names with the same ends, and the same kinds
 abbrev pub same_record : SignatureRecord → SignatureRecord → Bool
 same_record = eq_of_both (on (λ group. group.long) ◌==◌)
     (eq_of_both (on (λ group. group.end) ◌==◌)
     (eq_of_both (on (λ group. group.short) (option_eq ◌==◌)) (on (λ group. group.kinds) same_kinds)))
 
--- the signature of a record, by the text of all names
 abbrev pub signature_in : Text → SignatureRecord → Signature
 signature_in text group =
     let names = pair_at text (ends_of group) in signature_with group.kinds names.0 names.1
 
--- the names and kinds that are stored
 abbrev pub signatures_view : Inside → List Signature
 signatures_view inside = map (signature_in (string_bytes inside.text)) inside.records.items
 
@@ -74,13 +66,13 @@ pub record IsLawfulSignature (signature : Signature) : Type 0 where
 abbrev pub AreLawfulSignatures : List Signature → Type 0
 AreLawfulSignatures signatures = AllByRecursion IsLawfulSignature signatures
 
--- The record has the main name's key, the short name's byte, and whether there is a long name.
+-- The record has what these names are looked up by.
 pub record HasKeys (group : SignatureRecord) (names : Names) : Type 0 where
   pub key : group.key ≡ key_of (main_name names)
   pub short : group.short ≡ slice_get names.short 0
   pub has_long : group.has_long ≡ not (is_empty names.long)
 
--- The names of the record are in the text of all names, and valid, and it has their keys.
+-- The names of the record are in this text, and the record has their keys.
 pub record IsStored (text : Text) (group : SignatureRecord) : Type 0 where
   pub ends : AreEndsOf text (ends_of group)
   pub keys : HasKeys group (signature_in text group).names
@@ -90,10 +82,8 @@ pub record IsStored (text : Text) (group : SignatureRecord) : Type 0 where
 abbrev pub HoldSignatures : Inside → Type 0
 HoldSignatures inside = AllByRecursion (IsStored (string_bytes inside.text)) inside.records.items
 
--- the signature of a borrowed group
 abbrev pub signature_view : SignatureView → Signature
 signature_view held = signature_with held.kinds held.names.short.now held.names.long.now
 
--- whether the signatures of two borrowed groups are the same
 abbrev pub same_signature_view : SignatureView → SignatureView → Bool
 same_signature_view = on signature_view same_signature

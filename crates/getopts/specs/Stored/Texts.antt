@@ -1,4 +1,4 @@
--- Texts within a longer text.
+-- Lists of bytes.
 use Rattle.std.specs.Prelude.{◌<◌}
 use Rattle.std.specs.List.{All}
 use Rattle.getopts.specs.Names.{Text}
