@@ -591,7 +591,8 @@ fn scan_texts(
     before: usize,
     line: &mut Line,
 ) -> std::result::Result<usize, Fail> {
-    scanner.scan(Global, words, before, words.len() - 1, line).map_err(Fail::of)
+    let left = scanner.scan(Global, words, before, 1, line).map_err(Fail::of)?;
+    Ok(words.len() - left.len())
 }
 
 fn parse_rest(

@@ -107,31 +107,33 @@ cluster_step grammar bytes (byte ∷ text) after =
     byte_step (grammar.kind (byte ∷ [])) bytes byte text after
     (cluster_step grammar (bytes ++ byte ∷ []) text after)
 
--- An argument was chosen, which gives this value and uses this many words.
-pub record Chooses (chosen : Result Argument Fault) (value : Option Text) (used : ℕ) : Type 0 where
+-- An argument was chosen, which gives this value. Of the words after the option, these are left.
+pub record Chooses (chosen : Result Argument Fault) (after : List Text) (value : Option Text)
+    (left : List Text) : Type 0 where
   pub argument : Argument
   pub chosen_is : chosen ≡ Ok argument
   pub value_is : value ≡ value_of argument
-  pub used_is : used ≡ length (argument_words argument)
+  pub after_is : after ≡ argument_words argument ++ left
 
--- A dashed word gives one option, which uses this many words after it.
-pub record TakesOne (grammar : Grammar) (step : Step) (place : ℕ) (value : Option Text) (used : ℕ)
-    : Type 0 where
+-- A dashed word gives one option. Of the words after it, these are left.
+pub record TakesOne (grammar : Grammar) (step : Step) (after : List Text) (place : ℕ)
+    (value : Option Text) (left : List Text) : Type 0 where
   pub item : Item
   pub argument : Argument
   pub step_is : step ≡ takes item argument
-  pub used_is : used ≡ length (argument_words argument)
-  pub counted : word_count (item ∷ []) ≡ 1 + used
+  pub after_is : after ≡ argument_words argument ++ left
+  pub counted : word_count (item ∷ []) ≡ 1 + length (argument_words argument)
   pub no_free : free_items (item ∷ []) ≡ []
   pub mentioned : mentions grammar item ≡ record { group = place; value = value } ∷ []
 
--- The first of a cluster's names gives this option, and these names are left.
+-- The first of a cluster's names gives this option, and these names and words are left.
 pub data TakesName (grammar : Grammar) (names : Text) (after : List Text) (place : ℕ)
-    (value : Option Text) (used : ℕ) (left : Text) : Type 0 where
+    (value : Option Text) (names_left : Text) (left : List Text) : Type 0 where
   -- it ends the cluster
-  takes_last : left ≡ [] → TakesOne grammar (cluster_step grammar [] names after) place value used
-      → TakesName grammar names after place value used left
+  takes_last : names_left ≡ []
+      → TakesOne grammar (cluster_step grammar [] names after) after place value left
+      → TakesName grammar names after place value names_left left
   -- it is a flag
-  takes_flag : (byte : ℕ) → names ≡ byte ∷ left → IsFlag grammar byte
-      → grammar.place (byte ∷ []) ≡ Some place → value ≡ None → used ≡ 0
-      → TakesName grammar names after place value used left
+  takes_flag : (byte : ℕ) → names ≡ byte ∷ names_left → IsFlag grammar byte
+      → grammar.place (byte ∷ []) ≡ Some place → value ≡ None → left ≡ after
+      → TakesName grammar names after place value names_left left

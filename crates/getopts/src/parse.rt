@@ -192,8 +192,8 @@ impl Options {
             options: self,
             table: &table,
         };
-        let used = scanner.scan(alloc, words, before, words.len(), &mut line)?;
-        line.end(alloc, &words[used..])?;
+        let left = scanner.scan(alloc, words, before, 0, &mut line)?;
+        line.end(alloc, left)?;
         let index = Index::of(alloc, signatures.len(), &line.found)?;
         if counted {
             check_counts(alloc, signatures, &index)?;

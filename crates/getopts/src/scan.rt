@@ -1,8 +1,8 @@
 //! Reading a command line, one option or free word at a time.
 
-ghost use Rattle.std.specs.Prelude.{◌≡◌, ◌≢◌, ◌<◌, ◌≤◌, ◌+◌, ◌^◌, ◌∷◌, ◌++◌, [], List, MatchOption};
+ghost use Rattle.std.specs.Prelude.{◌≡◌, ◌≢◌, ◌<◌, ◌≤◌, ◌+◌, ◌-◌, ◌^◌, ◌∷◌, ◌++◌, [], List, MatchOption};
 ghost use Rattle.std.specs.Prelude.{OnOk, IfOk, IfErr, IfSome, IfNone, IsSomeAnd, Some, None, Ok, Err, false, length};
-ghost use Rattle.std.specs.Prelude.{map, drop};
+ghost use Rattle.std.specs.Prelude.{map, drop, if◌then◌else◌, ◌==◌};
 ghost use Rattle.std.specs.String.{string_bytes};
 ghost use Rattle.std.specs.Option.{option_copied};
 ghost use Rattle.getopts.specs.Reading.{Dashes, dash, holds_equals, is_dashed, free_word, tail_frees};
@@ -123,55 +123,33 @@ pub(crate) struct Resolved {
     pub kind: HasArg,
 }
 
-/// The value that an option takes, if any, and how many of the following words it uses: none or
-/// one.
-#[derive(Clone, Copy)]
-struct Argument<'w> {
+/// The value that an option takes, if any, and the words that are left after its argument.
+#[derive(Drop)]
+struct Argument<'w, S> {
     value: Option<&'w str>,
-    used: usize,
+    left: &'w [S],
 }
 
-/// An option that was read: its place, its value, how many of the following words it uses, and the
-/// names that are left in its cluster.
-#[derive(Clone, Copy)]
-struct Taken<'w> {
+/// An option that was read, the names that are left in its cluster, and the words that are left.
+#[derive(Drop)]
+struct Taken<'w, S> {
     place: usize,
     value: Option<&'w str>,
-    used: usize,
     names: &'w str,
+    left: &'w [S],
 }
 
 /// A command line that is read one option or free word at a time.
 #[derive(Drop)]
 pub(crate) struct Steps<'w, S> {
-    pub words: &'w [S],
-    /// Items that begin at this index or later aren't read.
-    pub end: usize,
-    /// How many words were read.
-    pub at: usize,
-    /// The index of the first word of the item that was read last.
-    pub position: usize,
+    /// The words that are left.
+    pub left: &'w [S],
     /// The names that are left in the cluster that is being read.
     pub names: &'w str,
-}
-
-impl<'w, S> Steps<'w, S> {
-    /// Before the first of these words, of which items begin before `end`.
-    #[inline(always)]
-    fn of(words: &'w [S], end: usize) -> Steps<'w, S>
-        ensures words { result.words.now ≡ words.now }
-        ensures end { result.end ≡ end }
-        ensures at { result.at ≡ 0 }
-        ensures names { result.names.now ≡ [] }
-    {
-        Steps {
-            words,
-            end,
-            at: 0,
-            position: 0,
-            names: "",
-        }
-    }
+    /// How many words follow the first word of the item that was read last.
+    pub after: usize,
+    /// No item begins in this many last words.
+    pub kept: usize,
 }
 
 /// How a word is read.
@@ -239,12 +217,14 @@ fn tail_words<S: AsStr>(left: &[S]) -> &[S]
 }
 
 /// The text after a leading dash, if there is one.
-#[tactic(auto, using(std::proofs::lemmas::Str::Pattern::strip_prefix_char))]
 fn after_dash(text: &str) -> Option<&str>
     ensures { MatchOption result ((rest : Text) → text.now ≢ dash ∷ rest)
         (λ rest. text.now ≡ dash ∷ rest.now) }
 {
-    text.strip_prefix('-')
+    match text.as_bytes() {
+        [b'-', ..] => Some(&text[1..]),
+        _ => None,
+    }
 }
 
 /// The name in the text of a long item, and the attached argument, which follows the first `=`.
@@ -280,7 +260,7 @@ fn dashed_words<S: AsStr>(words: &[S], stops: bool) -> usize {
                 if *second == b'-' && bytes.len() == 2 {
                     return dashed;
                 }
-                dashed = dashed.saturating_add(1);
+                dashed = dashed.wrapping_add(1);
             }
             _ if stops => return dashed,
             _ => {}
@@ -302,6 +282,17 @@ fn first_character(text: &str) -> &str
     }
 }
 
+/// The words after an argument that uses none or one of them.
+#[inline(always)]
+fn words_after<S>(words: &[S], used: usize) -> &[S]
+    ensures { result.now ≡ (if used == 0 then words.now else drop 1 words.now) }
+{
+    match words.split_first() {
+        Some((_, others)) if used != 0 => others,
+        _ => words,
+    }
+}
+
 /// The argument of an option of kind `Yes` or `Maybe` in a cluster: `rest` is the rest of the
 /// cluster's word, `after` the words after it.
 fn last_argument<'w, S: AsStr>(
@@ -310,11 +301,11 @@ fn last_argument<'w, S: AsStr>(
     name: &str,
     rest: &'w str,
     after: &'w [S],
-) -> Result<Argument<'w>, Fail>
+) -> Result<Argument<'w, S>, Fail>
     requires { kind ≢ HasArg.No }
-    ensures ok { IfOk result (λ end. Chooses
-        (chosen_end kind name.now rest.now (map S.text after.now)) (option_copied end.value) end.used) }
-    ensures within { IfOk result (λ end. end.used ≤ length after.now) }
+    ensures ok { let after = map S.text after.now in IfOk result (λ end.
+        Chooses (chosen_end kind name.now rest.now after) after
+        (option_copied end.value) (map S.text end.left.now)) }
     ensures err { IfErr result (λ fail. IsOutOfMemoryOr fail (λ fault.
         chosen_end kind name.now rest.now (map S.text after.now) ≡ Err fault)) }
 {
@@ -324,7 +315,10 @@ fn last_argument<'w, S: AsStr>(
         None if kind == HasArg::Yes => return Err(Fail::argument_missing(alloc, name)),
         _ => (None, 0),
     };
-    Ok(Argument { value, used })
+    Ok(Argument {
+        value,
+        left: words_after(after, used),
+    })
 }
 
 impl<'o> Scanner<'o> {
@@ -333,7 +327,7 @@ impl<'o> Scanner<'o> {
     ghost use Rattle.getopts.specs.Stored.Scan.{HasShape, given_with};
     ghost use Rattle.getopts.specs.Reading.{order_of_reading};
     ghost use Rattle.getopts.specs.Results.{made_of, read};
-    ghost use Rattle.getopts.specs.Stored.Scan.{AreNext, ReadsOne, read_names};
+    ghost use Rattle.getopts.specs.Stored.Scan.{IsNext, ReadsOne, read_names};
 
     /// The option that a name resolves to.
     #[inline(always)]
@@ -357,14 +351,12 @@ impl<'o> Scanner<'o> {
         alloc: Global,
         text: &'w str,
         after: &'w [S],
-    ) -> Result<Taken<'w>, Fail>
+    ) -> Result<Taken<'w, S>, Fail>
         requires lawful { IsLawfulScanner self.now }
-        ensures ok { let grammar = scanner_grammar self.now in
+        ensures ok { let grammar = scanner_grammar self.now in let after = map S.text after.now in
             IfOk result (λ taken. (dashes : Dashes)
-            → TakesOne grammar (long_step grammar dashes text.now (map S.text after.now))
-            taken.place (option_copied taken.value) taken.used) }
-        ensures within { IfOk result (λ taken. taken.used ≤ length after.now) }
-        ensures names { IfOk result (λ taken. taken.names.now ≡ []) }
+            → TakesOne grammar (long_step grammar dashes text.now after) after
+            taken.place (option_copied taken.value) (map S.text taken.left.now)) }
         ensures err { let grammar = scanner_grammar self.now in
             IfErr result (λ fail. (dashes : Dashes) → IsOutOfMemoryOr fail (λ fault.
             long_step grammar dashes text.now (map S.text after.now) ≡ faults fault)) }
@@ -387,8 +379,8 @@ impl<'o> Scanner<'o> {
         Ok(Taken {
             place: option.place,
             value,
-            used,
             names: "",
+            left: words_after(after, used),
         })
     }
 
@@ -400,13 +392,12 @@ impl<'o> Scanner<'o> {
         alloc: Global,
         names: &'w str,
         after: &'w [S],
-    ) -> Result<Taken<'w>, Fail>
+    ) -> Result<Taken<'w, S>, Fail>
         requires lawful { IsLawfulScanner self.now }
         requires filled { names.now ≢ [] }
         ensures ok { IfOk result (λ taken.
             TakesName (scanner_grammar self.now) names.now (map S.text after.now)
-            taken.place (option_copied taken.value) taken.used taken.names.now) }
-        ensures within { IfOk result (λ taken. taken.used ≤ length after.now) }
+            taken.place (option_copied taken.value) taken.names.now (map S.text taken.left.now)) }
         ensures err { let grammar = scanner_grammar self.now in
             IfErr result (λ fail. IsOutOfMemoryOr fail (λ fault.
             cluster_step grammar [] names.now (map S.text after.now) ≡ faults fault)) }
@@ -426,16 +417,16 @@ impl<'o> Scanner<'o> {
             ) => Ok(Taken {
                 place,
                 value: None,
-                used: 0,
                 names: &names[1..],
+                left: after,
             }),
             Some(Resolved { place, kind }) => {
                 let argument = last_argument(alloc, kind, name, &names[1..], after)?;
                 Ok(Taken {
                     place,
                     value: argument.value,
-                    used: argument.used,
                     names: "",
+                    left: argument.left,
                 })
             }
         }
@@ -470,62 +461,58 @@ impl<'o> Scanner<'o> {
         steps: &mut Steps<'w, S>,
     ) -> Result<Option<Given<'w>>, Fail>
         requires lawful { IsLawfulScanner self.now }
-        requires end { steps.old.end ≤ length steps.old.words.now }
-        requires within { steps.old.at ≤ length steps.old.words.now }
-        requires next { AreNext steps.old.names.now steps.old.position steps.old.at steps.old.end }
-        ensures words { steps.new.words ≡ steps.old.words }
-        ensures end { steps.new.end ≡ steps.old.end }
+        requires next { IsNext steps.old.kept steps.old.names.now (map S.text steps.old.left.now) }
+        ensures kept { steps.new.kept ≡ steps.old.kept }
         ensures some { IfOk result (λ given. IfSome given (λ given.
-            ReadsOne (scanner_grammar self.now) (map S.text steps.old.words.now)
-            steps.old.end steps.old.names.now steps.old.position steps.old.at
-            steps.new.names.now steps.new.position steps.new.at (borrowed_given given))) }
+            ReadsOne (scanner_grammar self.now) steps.old.kept steps.new.after
+            steps.old.names.now (map S.text steps.old.left.now)
+            steps.new.names.now (map S.text steps.new.left.now) (borrowed_given given))) }
         ensures none { IfOk result (λ given. IfNone given
-            ((steps.old.names.now ≡ []) × (steps.new.at ≡ steps.old.at))) }
+            ((steps.old.names.now ≡ []) × (steps.new.left.now ≡ steps.old.left.now))) }
         ensures tail { IfOk result (λ given. IfNone given
-            ((steps.old.end ≤ steps.old.at → steps.old.end ≡ length steps.old.words.now)
-            → let left = drop steps.old.at (map S.text steps.old.words.now) in
+            ((length steps.old.left.now ≤ steps.old.kept → steps.old.kept ≡ 0)
+            → let left = map S.text steps.old.left.now in
             read (scanner_grammar self.now) left
             ≡ Ok (record { items = []; tail = tail_of left }))) }
         ensures err { let grammar = scanner_grammar self.now in
-            let texts = map S.text steps.old.words.now in
             IfErr result (λ fail. IsOutOfMemoryOr fail (λ fault. (more : List Text)
-            → (steps.old.end ≡ length steps.old.words.now → more ≡ [])
-            → read_names grammar steps.old.names.now (drop steps.old.at texts ++ more) ≡ Err fault)) }
+            → (steps.old.kept ≡ 0 → more ≡ [])
+            → read_names grammar steps.old.names.now (map S.text steps.old.left.now ++ more)
+            ≡ Err fault)) }
     {
-        let words = steps.words;
         if steps.names.is_empty() {
-            if steps.at >= steps.end {
-                return Ok(None);
-            }
-            let word = words[steps.at].as_str();
-            steps.position = steps.at;
+            let (word, after) = match steps.left.split_first() {
+                Some((word, after)) if after.len() >= steps.kept => (word.as_str(), after),
+                _ => return Ok(None),
+            };
+            steps.after = after.len();
             match self.shape(word) {
                 Shape::Free => {
                     if self.options.style() == ParsingStyle::StopAtFirstFree {
                         return Ok(None);
                     }
-                    steps.at += 1;
+                    steps.left = after;
                     return Ok(Some(Given::Free(word)));
                 }
                 Shape::Stop => return Ok(None),
                 Shape::Long(text) => {
-                    let after = &words[steps.at + 1..];
                     let taken = self.long(alloc, text, after)?;
-                    steps.at += 1 + taken.used;
+                    steps.left = taken.left;
                     return Ok(Some(Given::Option {
                         place: taken.place,
                         value: taken.value,
                     }));
                 }
                 Shape::Cluster(text) => {
-                    steps.at += 1;
+                    steps.left = after;
                     steps.names = text;
                 }
             }
+        } else {
+            steps.after = steps.left.len();
         }
-        let after = &words[steps.at..];
-        let taken = self.short(alloc, steps.names, after)?;
-        steps.at += taken.used;
+        let taken = self.short(alloc, steps.names, steps.left)?;
+        steps.left = taken.left;
         steps.names = taken.names;
         Ok(Some(Given::Option {
             place: taken.place,
@@ -533,46 +520,50 @@ impl<'o> Scanner<'o> {
         }))
     }
 
-    /// Reads the items that begin before `end`, up to `--` or, if options stop there, the first
-    /// free word. Adds them to the line, and returns how many words they have. `before` is the
-    /// number of words that were read before these.
+    /// Reads the items that don't begin in the last `kept` words, up to `--` or, if options stop
+    /// there, the first free word. Adds them to the line, and returns the words that are left.
+    /// `before` is the number of words that were read before these.
     #[inline(always)]
-    pub(crate) fn scan<S: AsStr>(
+    pub(crate) fn scan<'w, S: AsStr>(
         &self,
         alloc: Global,
-        words: &[S],
+        words: &'w [S],
         before: usize,
-        end: usize,
+        kept: usize,
         line: &mut Line,
-    ) -> Result<usize, Fail>
+    ) -> Result<&'w [S], Fail>
         requires lawful { IsLawfulScanner self.now }
         requires count { before + length words.now < 2 ^ 64 }
-        requires end { end ≤ length words.now }
         ensures ok { let grammar = scanner_grammar self.now in
-            let texts = map S.text words.now in
-            IfOk result (λ used. (more : List Text) → (end ≡ length words.now → more ≡ [])
-            → given_with grammar before line.old (texts ++ more)
-            ≡ given_with grammar (before + used) line.new (drop used texts ++ more)) }
-        ensures within { IfOk result (λ used. used ≤ length words.now) }
-        ensures tail { IfOk result (λ used. (end ≤ used → end ≡ length words.now)
-            → let left = drop used (map S.text words.now) in read (scanner_grammar self.now) left
-            ≡ Ok (record { items = []; tail = tail_of left })) }
+            IfOk result (λ left. (more : List Text) → (kept ≡ 0 → more ≡ [])
+            → given_with grammar before line.old (map S.text words.now ++ more)
+            ≡ given_with grammar (before + length words.now - length left.now) line.new
+            (map S.text left.now ++ more)) }
+        ensures within { IfOk result (λ left. length left.now ≤ length words.now) }
+        ensures tail { IfOk result (λ left. (length left.now ≤ kept → kept ≡ 0)
+            → read (scanner_grammar self.now) (map S.text left.now)
+            ≡ Ok (record { items = []; tail = tail_of (map S.text left.now) })) }
         ensures err { let grammar = scanner_grammar self.now in
             IfErr result (λ fail. IsOutOfMemoryOr fail
-            (λ fault. (more : List Text) → (end ≡ length words.now → more ≡ [])
+            (λ fault. (more : List Text) → (kept ≡ 0 → more ≡ [])
             → given_with grammar before line.old (map S.text words.now ++ more) ≡ Err fault)) }
     {
-        let mut steps = Steps::of(words, end);
+        let mut steps = Steps {
+            left: words,
+            names: "",
+            after: 0,
+            kept,
+        };
         'items: while let Some(given) = self.next(alloc, &mut steps)? {
             match given {
                 Given::Option { place, value } => {
-                    let position = before + steps.position;
+                    let position = before + (words.len() - (steps.after + 1));
                     line.found.push(place, position, value)?
                 }
                 Given::Free(word) => push_copy(alloc, &mut line.free, word)?,
             }
         }
-        Ok(steps.at)
+        Ok(steps.left)
     }
 
     /// Reads a command line, and returns its options and free words in order.
@@ -590,11 +581,16 @@ impl<'o> Scanner<'o> {
             (λ fault. read grammar (map S.text words.now) ≡ Err fault)) }
     {
         let mut order = Vec::with_capacity(alloc, words.len().min(FIRST_ROOM))?;
-        let mut steps = Steps::of(words, words.len());
+        let mut steps = Steps {
+            left: words,
+            names: "",
+            after: 0,
+            kept: 0,
+        };
         'items: while let Some(given) = self.next(alloc, &mut steps)? {
             order.push(given)?;
         }
-        push_free_words(&mut order, tail_words(&words[steps.at..]))?;
+        push_free_words(&mut order, tail_words(steps.left))?;
         Ok(order)
     }
 }

@@ -101,49 +101,30 @@ pub(crate) struct Resolved {
     pub kind: HasArg,
 }
 
-/// The value that an option takes, if any, and how many of the following words it uses: none or
-/// one.
-#[derive(Clone, Copy)]
-struct Argument<'w> {
+/// The value that an option takes, if any, and the words that are left after its argument.
+struct Argument<'w, S> {
     value: Option<&'w str>,
-    used: usize,
+    left: &'w [S],
 }
 
-/// An option that was read: its place, its value, how many of the following words it uses, and the
-/// names that are left in its cluster.
-#[derive(Clone, Copy)]
-struct Taken<'w> {
+/// An option that was read, the names that are left in its cluster, and the words that are left.
+struct Taken<'w, S> {
     place: usize,
     value: Option<&'w str>,
-    used: usize,
     names: &'w str,
+    left: &'w [S],
 }
 
 /// A command line that is read one option or free word at a time.
 pub(crate) struct Steps<'w, S> {
-    pub words: &'w [S],
-    /// Items that begin at this index or later aren't read.
-    pub end: usize,
-    /// How many words were read.
-    pub at: usize,
-    /// The index of the first word of the item that was read last.
-    pub position: usize,
+    /// The words that are left.
+    pub left: &'w [S],
     /// The names that are left in the cluster that is being read.
     pub names: &'w str,
-}
-
-impl<'w, S> Steps<'w, S> {
-    /// Before the first of these words, of which items begin before `end`.
-    #[inline(always)]
-    fn of(words: &'w [S], end: usize) -> Steps<'w, S> {
-        Steps {
-            words,
-            end,
-            at: 0,
-            position: 0,
-            names: "",
-        }
-    }
+    /// How many words follow the first word of the item that was read last.
+    pub after: usize,
+    /// No item begins in this many last words.
+    pub kept: usize,
 }
 
 /// How a word is read.
@@ -201,7 +182,10 @@ fn tail_words<S: AsStr>(left: &[S]) -> &[S] {
 
 /// The text after a leading dash, if there is one.
 fn after_dash(text: &str) -> Option<&str> {
-    text.strip_prefix('-')
+    match text.as_bytes() {
+        [b'-', ..] => Some(&text[1..]),
+        _ => None,
+    }
 }
 
 /// The name in the text of a long item, and the attached argument, which follows the first `=`.
@@ -232,7 +216,7 @@ fn dashed_words<S: AsStr>(words: &[S], stops: bool) -> usize {
                 if *second == b'-' && bytes.len() == 2 {
                     return dashed;
                 }
-                dashed = dashed.saturating_add(1);
+                dashed = dashed.wrapping_add(1);
             }
             _ if stops => return dashed,
             _ => {}
@@ -252,6 +236,15 @@ fn first_character(text: &str) -> &str {
     }
 }
 
+/// The words after an argument that uses none or one of them.
+#[inline(always)]
+fn words_after<S>(words: &[S], used: usize) -> &[S] {
+    match words.split_first() {
+        Some((_, others)) if used != 0 => others,
+        _ => words,
+    }
+}
+
 /// The argument of an option of kind `Yes` or `Maybe` in a cluster: `rest` is the rest of the
 /// cluster's word, `after` the words after it.
 fn last_argument<'w, S: AsStr>(
@@ -260,14 +253,17 @@ fn last_argument<'w, S: AsStr>(
     name: &str,
     rest: &'w str,
     after: &'w [S],
-) -> Result<Argument<'w>, Fail> {
+) -> Result<Argument<'w, S>, Fail> {
     let (value, used) = match after.first() {
         _ if !rest.is_empty() => (Some(rest), 0),
         Some(word) if kind == HasArg::Yes || !is_dashed(word.as_str()) => (Some(word.as_str()), 1),
         None if kind == HasArg::Yes => return Err(Fail::argument_missing(alloc, name)),
         _ => (None, 0),
     };
-    Ok(Argument { value, used })
+    Ok(Argument {
+        value,
+        left: words_after(after, used),
+    })
 }
 
 impl<'o> Scanner<'o> {
@@ -288,7 +284,7 @@ impl<'o> Scanner<'o> {
         alloc: Global,
         text: &'w str,
         after: &'w [S],
-    ) -> Result<Taken<'w>, Fail> {
+    ) -> Result<Taken<'w, S>, Fail> {
         let (name, argument) = name_and_argument(text);
         let option = match self.option(name) {
             Some(option) => option,
@@ -307,8 +303,8 @@ impl<'o> Scanner<'o> {
         Ok(Taken {
             place: option.place,
             value,
-            used,
             names: "",
+            left: words_after(after, used),
         })
     }
 
@@ -320,7 +316,7 @@ impl<'o> Scanner<'o> {
         alloc: Global,
         names: &'w str,
         after: &'w [S],
-    ) -> Result<Taken<'w>, Fail> {
+    ) -> Result<Taken<'w, S>, Fail> {
         if !names.as_bytes()[0].is_ascii() {
             let name = first_character(names);
             return Err(Fail::unrecognized_option(alloc, name));
@@ -334,16 +330,16 @@ impl<'o> Scanner<'o> {
             }) => Ok(Taken {
                 place,
                 value: None,
-                used: 0,
                 names: &names[1..],
+                left: after,
             }),
             Some(Resolved { place, kind }) => {
                 let argument = last_argument(alloc, kind, name, &names[1..], after)?;
                 Ok(Taken {
                     place,
                     value: argument.value,
-                    used: argument.used,
                     names: "",
+                    left: argument.left,
                 })
             }
         }
@@ -375,40 +371,39 @@ impl<'o> Scanner<'o> {
         alloc: Global,
         steps: &mut Steps<'w, S>,
     ) -> Result<Option<Given<'w>>, Fail> {
-        let words = steps.words;
         if steps.names.is_empty() {
-            if steps.at >= steps.end {
-                return Ok(None);
-            }
-            let word = words[steps.at].as_str();
-            steps.position = steps.at;
+            let (word, after) = match steps.left.split_first() {
+                Some((word, after)) if after.len() >= steps.kept => (word.as_str(), after),
+                _ => return Ok(None),
+            };
+            steps.after = after.len();
             match self.shape(word) {
                 Shape::Free => {
                     if self.options.style() == ParsingStyle::StopAtFirstFree {
                         return Ok(None);
                     }
-                    steps.at += 1;
+                    steps.left = after;
                     return Ok(Some(Given::Free(word)));
                 }
                 Shape::Stop => return Ok(None),
                 Shape::Long(text) => {
-                    let after = &words[steps.at + 1..];
                     let taken = self.long(alloc, text, after)?;
-                    steps.at += 1 + taken.used;
+                    steps.left = taken.left;
                     return Ok(Some(Given::Option {
                         place: taken.place,
                         value: taken.value,
                     }));
                 }
                 Shape::Cluster(text) => {
-                    steps.at += 1;
+                    steps.left = after;
                     steps.names = text;
                 }
             }
+        } else {
+            steps.after = steps.left.len();
         }
-        let after = &words[steps.at..];
-        let taken = self.short(alloc, steps.names, after)?;
-        steps.at += taken.used;
+        let taken = self.short(alloc, steps.names, steps.left)?;
+        steps.left = taken.left;
         steps.names = taken.names;
         Ok(Some(Given::Option {
             place: taken.place,
@@ -416,29 +411,34 @@ impl<'o> Scanner<'o> {
         }))
     }
 
-    /// Reads the items that begin before `end`, up to `--` or, if options stop there, the first
-    /// free word. Adds them to the line, and returns how many words they have. `before` is the
-    /// number of words that were read before these.
+    /// Reads the items that don't begin in the last `kept` words, up to `--` or, if options stop
+    /// there, the first free word. Adds them to the line, and returns the words that are left.
+    /// `before` is the number of words that were read before these.
     #[inline(always)]
-    pub(crate) fn scan<S: AsStr>(
+    pub(crate) fn scan<'w, S: AsStr>(
         &self,
         alloc: Global,
-        words: &[S],
+        words: &'w [S],
         before: usize,
-        end: usize,
+        kept: usize,
         line: &mut Line,
-    ) -> Result<usize, Fail> {
-        let mut steps = Steps::of(words, end);
+    ) -> Result<&'w [S], Fail> {
+        let mut steps = Steps {
+            left: words,
+            names: "",
+            after: 0,
+            kept,
+        };
         'items: while let Some(given) = self.next(alloc, &mut steps)? {
             match given {
                 Given::Option { place, value } => {
-                    let position = before + steps.position;
+                    let position = before + (words.len() - (steps.after + 1));
                     line.found.try_push(place, position, value)?
                 }
                 Given::Free(word) => push_copy(alloc, &mut line.free, word)?,
             }
         }
-        Ok(steps.at)
+        Ok(steps.left)
     }
 
     /// Reads a command line, and returns its options and free words in order.
@@ -448,11 +448,16 @@ impl<'o> Scanner<'o> {
         words: &'w [S],
     ) -> Result<Vec<Given<'w>>, Fail> {
         let mut order = Vec::of_capacity(alloc, words.len().min(FIRST_ROOM))?;
-        let mut steps = Steps::of(words, words.len());
+        let mut steps = Steps {
+            left: words,
+            names: "",
+            after: 0,
+            kept: 0,
+        };
         'items: while let Some(given) = self.next(alloc, &mut steps)? {
             order.try_push(given)?;
         }
-        push_free_words(&mut order, tail_words(&words[steps.at..]))?;
+        push_free_words(&mut order, tail_words(steps.left))?;
         Ok(order)
     }
 }

@@ -1,6 +1,6 @@
 -- The option that begins with a word in long form, by its name, its kind and its argument.
-use Rattle.std.proofs.Common.{map, ◌≡◌, ◌+◌, ℕ, false, List, [], ◌∷◌, ◌++◌, length, drop, Option, Some, None, Ok}
-use Rattle.std.proofs.Common.{refl, ◌∙◌, slice_get, rules}
+use Rattle.std.proofs.Common.{◌≡◌, ◌+◌, ℕ, false, List, [], ◌∷◌, ◌++◌, length, Option, Some, Ok}
+use Rattle.std.proofs.Common.{◌∙◌, rules, drop, slice_get, map}
 use Rattle.getopts.specs.Names.{Text}
 use Rattle.getopts.specs.Options.{Grammar, long_kind, long_place}
 use Rattle.getopts.specs.Reading.{Argument, Dashes, argument_words, value_of, holds_equals}
@@ -12,9 +12,10 @@ use Rattle.getopts.specs.declared.kinds.HasArg.TheVariants.{Maybe}
 use Rattle.getopts.proofs.Weaker.{IsOutOfMemoryOr-one}
 use Rattle.getopts.proofs.Reading.Steps.{long_step_cut}
 
--- a chosen argument, with its value and its number of words
-pub Chooses-ok : (argument : Argument) → Chooses (Ok argument) (value_of argument) (length (argument_words argument))
-Chooses-ok argument = search rules
+-- a chosen argument, with its value and its words
+pub Chooses-ok : (argument : Argument) (left : List Text)
+    → Chooses (Ok argument) (argument_words argument ++ left) (value_of argument) left
+Chooses-ok argument left = search rules
 
 -- an item of one word and its argument's has one word more than the argument
 pub length-argument : (word : Text) (argument : Argument)
@@ -23,7 +24,7 @@ length-argument word argument = search rules
 
 -- an option that may have an argument takes an attached one
 pub Chooses-maybe : (name : Text) (value : Option Text) (after : List Text)
-    → Chooses (chosen_long Maybe name value after) value 0
+    → Chooses (chosen_long Maybe name value after) after value after
 Chooses-maybe name value after = search (rules, Chooses-ok)
 
 -- A text in long form, by its name and its attached argument.
@@ -43,20 +44,15 @@ module _ (grammar : Grammar) (dashes : Dashes) (text name : Text) (argument : Op
       (λ f. long_step grammar dashes text after ≡ faults f) told (long_step-long_name kind kind_is ∙ is)
 
   -- its option
-  pub TakesOne-long : (kind : HasArg) (group used : ℕ) (value : Option Text)
-      → long_kind grammar name ≡ Some kind → long_place grammar name ≡ Some group
-      → Chooses (chosen_long kind name argument after) value used
-      → TakesOne grammar (long_step grammar dashes text after) group value used
-  TakesOne-long kind group used value kind_is place_is chooses =
+  pub TakesOne-long : (kind : HasArg) (place : ℕ) (value : Option Text) (left : List Text)
+      → long_kind grammar name ≡ Some kind → long_place grammar name ≡ Some place
+      → Chooses (chosen_long kind name argument after) after value left
+      → TakesOne grammar (long_step grammar dashes text after) after place value left
+  TakesOne-long kind place value left kind_is place_is chooses =
       search (rules, long_step-long_name (Some kind) kind_is, length-argument [] chooses.argument)
 
--- a nonempty list of borrowed words
-pub texts-first : {X : Type 0} (text : X → Text) (words : List X) (word : X)
-    → slice_get words 0 ≡ Some word → map text words ≡ text word ∷ drop 1 (map text words)
-texts-first text [] word h = cc
-texts-first {X} text (x ∷ words) word h = search rules
-
--- an empty list of borrowed words
-pub texts-none : {X : Type 0} (text : X → Text) (words : List X) → slice_get words 0 ≡ None → map text words ≡ []
-texts-none text [] h = refl
-texts-none text (x ∷ words) h = cc
+-- the first of borrowed words is before the others
+pub texts_first : {X : Type 0} (text : X → Text) (words : List X) (word : X)
+    → slice_get words 0 ≡ Some word → map text words ≡ text word ∷ map text (drop 1 words)
+texts_first text [] word is = cc
+texts_first text (x ∷ words) word is = search rules

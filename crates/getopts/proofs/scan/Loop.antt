@@ -1,8 +1,7 @@
 -- A line that was read up to a place: what it has so far, one more item, and all ways in which it
 -- ends.
-use Rattle.std.proofs.Common.{Err, ◌≡◌, ◌+◌, ◌-◌, ◌<◌, ℕ, List, [], ◌∷◌, ◌++◌, length, rules, map, drop}
-use Rattle.std.proofs.Common.{take, get_or, false, Ok}
-use Rattle.std.proofs.lemmas.List.{drop-map, drop_more, take_rest}
+use Rattle.std.proofs.Common.{Err, ◌≡◌, ℕ, List, [], ◌∷◌, ◌++◌, rules}
+use Rattle.std.proofs.Common.{false, Ok}
 use Rattle.getopts.specs.Names.{Text}
 use Rattle.getopts.specs.Options.{Grammar}
 use Rattle.getopts.specs.Fail.{Fault}
@@ -15,12 +14,6 @@ use Rattle.getopts.specs.declared.kinds.ParsingStyle.TheVariants.{StopAtFirstFre
 use Rattle.getopts.proofs.Reading.Reader.{step, read}
 use Rattle.getopts.proofs.Reading.Readings.{read_step}
 use Rattle.getopts.proofs.Reading.Steps.{step_free, step_long, step_stop}
-
--- the rest of borrowed words from a place on is the word there, and the slice of the others
-pub texts_from : {X : Type 0} (text : X → Text) (words : List X) (at : ℕ) (here : X) (word : Text) → at < length words
-    → here ≡ get_or words at here → word ≡ text here
-    → drop at (map text words) ≡ word ∷ map text (take (length words - (at + 1)) (drop (at + 1) words))
-texts_from text words at here word within there is = search (rules, take_rest, drop-map, drop_more)
 
 -- Only the next word may be an option's argument. If there is none, this is the last word.
 module _ (grammar : Grammar) (after more : List Text) (enough : after ≡ [] → more ≡ []) where
@@ -52,13 +45,13 @@ module _ (grammar : Grammar) (words : List Text) (word : Text) (after : List Tex
 module _ (grammar : Grammar) (whole words : List Text) (before : ℕ) (line : Line)
     (left : made_of (with_reading grammar 0 [] []) (read grammar whole) ≡ given_with grammar before line words) where
   -- its outcome is a reading that gives the line, which ended with the tail
-  pub GivesLine-ended : (found : List Spec.Occurrence) (frees : List Text) (used : ℕ) (ended : Line)
+  pub GivesLine-ended : (found : List Spec.Occurrence) (frees : List Text) (at : ℕ) (last : List Text) (ended : Line)
       → given_with grammar before line (words ++ [])
-      ≡ made_of (with_reading grammar (before + used) found frees) (read grammar (drop used words ++ []))
-      → read grammar (drop used words) ≡ Ok (record { items = []; tail = tail_of (drop used words) })
-      → parts_of ended ≡ with_tail found frees (tail_of (drop used words))
+      ≡ made_of (with_reading grammar at found frees) (read grammar (last ++ []))
+      → read grammar last ≡ Ok (record { items = []; tail = tail_of last })
+      → parts_of ended ≡ with_tail found frees (tail_of last)
       → GivesLine grammar (read grammar whole) ended
-  GivesLine-ended found frees used ended read_is tail_is parts = search rules
+  GivesLine-ended found frees at last ended read_is tail_is parts = search rules
 
   -- or the error that they have
   pub read-ended : (fault : Fault) → given_with grammar before line (words ++ []) ≡ Err fault

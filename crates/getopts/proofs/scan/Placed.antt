@@ -1,6 +1,6 @@
 -- A line that was read up to a place: what it has so far, and what is left.
-use Rattle.std.proofs.Common.{Err, ◌≡◌, ◌+◌, ℕ, List, [], ◌∷◌, ◌++◌, rules, map, drop, refl, length}
-use Rattle.std.proofs.Common.{◌∙◌, sym, ap, add-zero, Ok, Result}
+use Rattle.std.proofs.Common.{Err, ◌≡◌, ◌+◌, ◌-◌, ◌≤◌, ℕ, List, [], ◌∷◌, ◌++◌, rules, map, refl, length, arith}
+use Rattle.std.proofs.Common.{◌∙◌, sym, ap, Ok, Result}
 use Rattle.std.proofs.lemmas.List.{append-nil, map-append}
 use Rattle.getopts.specs.Names.{Text}
 use Rattle.getopts.specs.Options.{Grammar}
@@ -8,7 +8,7 @@ use Rattle.getopts.specs.Fail.{Fault}
 use Rattle.getopts.specs.Reading as Spec
 use Rattle.getopts.specs.Results.{made_of, read}
 use Rattle.getopts.specs.Stored.Scan.{Parts, with_tail, with_reading, Placed, placed_after, Left, left_of, preceded}
-use Rattle.getopts.specs.Stored.Scan.{read_names, start_of, ReadsOne}
+use Rattle.getopts.specs.Stored.Scan.{read_names, words_left, ReadsOne}
 use Rattle.getopts.proofs.Reading.Positions.{frees_in-items}
 
 -- what was given, in order
@@ -130,45 +130,48 @@ made_of-fault f (Ok reading) fault is = cc is
 made_of-fault f (Err other) fault is = cc is
 
 -- The whole is what is made of what is left.
-pub record SoFar {X : Type 0} (grammar : Grammar) (whole : Result X Fault) (make : Left → X) (before : ℕ)
-    (names : Text) (position at : ℕ) (left : List Text) : Type 0 where
-  pub gives : whole ≡ made_of (λ reading. make (left_of grammar (before + start_of names position at) reading))
-      (read_names grammar names left)
+pub record SoFar {X : Type 0} (grammar : Grammar) (whole : Result X Fault) (make : Left → X) (total : ℕ)
+    (names : Text) (words more : List Text) : Type 0 where
+  pub gives : whole ≡ made_of (λ reading. make (left_of grammar (total - words_left names words) reading))
+      (read_names grammar names (words ++ more))
 
 -- before the first word
-pub SoFar-parts : (grammar : Grammar) (words more : List Text) (before position at : ℕ) (names : Text)
-    (found : List Spec.Occurrence) (frees : List Text) → names ≡ [] → at ≡ 0
+pub SoFar-parts : (grammar : Grammar) (words more : List Text) (before : ℕ) (found : List Spec.Occurrence)
+    (frees : List Text)
     → SoFar grammar (made_of (with_reading grammar before found frees) (read grammar (words ++ more)))
-    (parts_with found frees) before names position at (drop at words ++ more)
-SoFar-parts grammar words more before position at names found frees none first = record {
-  gives = rw (none, first, add-zero before) (parts_of_reading grammar before found frees (read grammar (words ++ more)));
+    (parts_with found frees) (before + length words) [] words more
+SoFar-parts grammar words more before found frees = record {
+  gives =
+      let start : before + length words - length words ≡ before = omega arith in
+      rw start (parts_of_reading grammar before found frees (read grammar (words ++ more)));
 }
 
-pub SoFar-order : (grammar : Grammar) (words : List Text) (position at : ℕ) (names : Text)
-    (order : List Spec.Given) → names ≡ [] → at ≡ 0 → order ≡ []
-    → SoFar grammar (made_of (Spec.order_of_reading grammar) (read grammar words)) (order_with order) 0 names position
-    at (drop at words ++ [])
-SoFar-order grammar words position at names order none first empty = record {
-  gives = rw (none, first, empty, append-nil words) (order_of_left grammar 0 (read grammar words));
+pub SoFar-order : (grammar : Grammar) (words : List Text) (order : List Spec.Given) → order ≡ []
+    → SoFar grammar (made_of (Spec.order_of_reading grammar) (read grammar words)) (order_with order) (length words)
+    [] words []
+SoFar-order grammar words order empty = record {
+  gives = rw (empty, append-nil words) (order_of_left grammar _ (read grammar words));
 }
 
 -- an error
-pub SoFar-fault : {X : Type 0} {grammar : Grammar} {whole : Result X Fault} {make : Left → X} {before : ℕ}
-    {names : Text} {position at : ℕ} {left : List Text} (fault : Fault)
-    → SoFar grammar whole make before names position at left
-    → read_names grammar names left ≡ Err fault → whole ≡ Err fault
+pub SoFar-fault : {X : Type 0} {grammar : Grammar} {whole : Result X Fault} {make : Left → X} {total : ℕ}
+    {names : Text} {words more : List Text} (fault : Fault) → SoFar grammar whole make total names words more
+    → read_names grammar names (words ++ more) ≡ Err fault → whole ≡ Err fault
 SoFar-fault fault so_far fails = so_far.gives ∙ rw fails refl
 
 -- One more option or free word was read.
-pub SoFar-next : {X : Type 0} {grammar : Grammar} {words : List Text} {end : ℕ} {names : Text} {position at : ℕ}
-    {names_new : Text} {position_new at_new before : ℕ} {whole : Result X Fault} {make : Left → X}
-    (make_new : Left → X) {given : Spec.Given} (more : List Text) → (end ≡ length words → more ≡ [])
-    → SoFar grammar whole make before names position at (drop at words ++ more)
-    → ReadsOne grammar words end names position at names_new position_new at_new given
-    → ((left : Left) → make (preceded (before + position_new) given left) ≡ make_new left)
-    → SoFar grammar whole make_new before names_new position_new at_new (drop at_new words ++ more)
-SoFar-next {before = before} {make = make} make_new more may so_far reads same = record {
-  gives = so_far.gives
-      ∙ made_of-then make _ _ _ _ (reads.gives before more may)
-      ∙ made_of-same _ _ _ (λ reading. same _);
+pub SoFar-next : {X : Type 0} {grammar : Grammar} {kept after total : ℕ} {names : Text} {words : List Text}
+    {names_new : Text} {words_new : List Text} {whole : Result X Fault} {make : Left → X} (make_new : Left → X)
+    {given : Spec.Given} (more : List Text) → (kept ≡ 0 → more ≡ []) → 1 + after ≤ total
+    → SoFar grammar whole make total names words more
+    → ReadsOne grammar kept after names words names_new words_new given
+    → ((left : Left) → make (preceded (total - (1 + after)) given left) ≡ make_new left)
+    → SoFar grammar whole make_new total names_new words_new more
+SoFar-next {after = after} {total = total} {names_new = names_new} {words_new = words_new} {make = make} make_new more may few so_far reads same = record {
+  gives =
+      let later : total - (1 + after) + (1 + after - words_left names_new words_new) ≡ total - words_left names_new words_new =
+      omega (arith, few, reads.within) in
+      (rw (← reads.begins) at so_far.gives)
+      ∙ made_of-then make _ _ _ _ (reads.gives (total - (1 + after)) more may)
+      ∙ made_of-same _ _ _ (λ reading. rw later (same _));
 }

@@ -1,6 +1,6 @@
 -- What the functions of `scan` find in the words that they are given.
 use Rattle.std.specs.Prelude.{◌≡◌, Bool, true, false, if◌then◌else◌, Some, List, [], ◌∷◌, ◌++◌, length, map}
-use Rattle.std.specs.Prelude.{Result, Ok, Option, ℕ, ◌≢◌, ◌≤◌, ◌<◌, ◌+◌, drop}
+use Rattle.std.specs.Prelude.{Result, Ok, Option, ℕ, ◌≢◌, ◌≤◌, ◌<◌, ◌+◌, ◌-◌, drop}
 use Rattle.std.specs.String.{string_bytes}
 use Rattle.getopts.specs.Names.{Text}
 use Rattle.getopts.specs.Options.{Declared, Grammar, MayBeDeclared, names_of, grammar_of}
@@ -142,14 +142,14 @@ read_names grammar (byte ∷ names) words =
     after_step (cluster_step grammar [] (byte ∷ names) words) (read grammar words)
     (read grammar (drop 1 words))
 
--- where what is left begins: with names at the position of their cluster
-abbrev pub start_of : Text → ℕ → ℕ → ℕ
-start_of [] position at = at
-start_of (byte ∷ names) position at = position
+-- how many words are left, with the cluster's if names of it are left
+abbrev pub words_left : Text → List Text → ℕ
+words_left [] words = length words
+words_left (byte ∷ names) words = 1 + length words
 
--- Names that are left are in a cluster that began before the end, and the words after it are next.
-abbrev pub AreNext : Text → ℕ → ℕ → ℕ → Type 0
-AreNext names position at end = names ≢ [] → (at ≡ position + 1) × (position < end)
+-- If names are left, what is kept is among the words that are left.
+abbrev pub IsNext : ℕ → Text → List Text → Type 0
+IsNext kept names words = names ≢ [] → kept ≤ length words
 
 -- the bytes of words, and their number
 abbrev pub words_size : List Text → ℕ
@@ -160,16 +160,17 @@ words_size (word ∷ words) = 1 + length word + words_size words
 abbrev pub size_left : Text → List Text → ℕ
 size_left names words = length names + words_size words
 
--- Between two places in words, this was read.
-pub record ReadsOne (grammar : Grammar) (words : List Text) (end : ℕ) (names : Text)
-    (position at : ℕ) (names_new : Text) (position_new at_new : ℕ) (given : Given) : Type 0 where
-  pub gives : (before : ℕ) (more : List Text) → (end ≡ length words → more ≡ [])
-      → made_of (left_of grammar (before + start_of names position at))
-      (read_names grammar names (drop at words ++ more))
-      ≡ made_of (λ reading. preceded (before + position_new) given
-      (left_of grammar (before + start_of names_new position_new at_new) reading))
-      (read_names grammar names_new (drop at_new words ++ more))
-  pub less : size_left names_new (drop at_new words) < size_left names (drop at words)
-  pub next : AreNext names_new position_new at_new end
-  pub placed : position_new < end
-  pub within : at_new ≤ length words
+-- Of these names and words, this was read, and those are left. So many words follow the first of its
+-- item. More words may follow, if some of these are kept for them.
+-- What is left before gives this, and then what is left after.
+pub record ReadsOne (grammar : Grammar) (kept after : ℕ) (names : Text) (words : List Text)
+    (names_new : Text) (words_new : List Text) (given : Given) : Type 0 where
+  pub gives : (at : ℕ) (more : List Text) → (kept ≡ 0 → more ≡ [])
+      → made_of (left_of grammar at) (read_names grammar names (words ++ more))
+      ≡ made_of (λ reading. preceded at given
+      (left_of grammar (at + (1 + after - words_left names_new words_new)) reading))
+      (read_names grammar names_new (words_new ++ more))
+  pub begins : 1 + after ≡ words_left names words
+  pub within : words_left names_new words_new ≤ 1 + after
+  pub less : size_left names_new words_new < size_left names words
+  pub next : IsNext kept names_new words_new

@@ -1,6 +1,5 @@
 -- The line that was read gives the matches of its reading, and its error is that of the whole line.
 use Rattle.std.proofs.Common.{◌≡◌, ◌∙◌, Err, IfErr, List, Some, [], map, refl, rules}
-use Rattle.std.proofs.lemmas.List.{drop-map, take_rest}
 use Rattle.getopts.specs.Fail.{IsOutOfMemoryOr}
 use Rattle.getopts.specs.Names.{Text}
 use Rattle.getopts.specs.Options.{grammar_of, signatures_of}
@@ -19,21 +18,17 @@ gives : (g : Over) (c : After-of g) (whole : List Text)
     → IsLeft c.args.self.now c.args.before c.args.line whole (map g.S.AsStr.text c.args.words.now)
     → GivesLine (grammar_of c.args.self.now) (read (grammar_of c.args.self.now) whole) c.end.new.self
 gives g c whole left = GivesLine-ended (grammar_of c.args.self.now) whole
-    (map g.S.AsStr.text c.args.words.now) c.args.before c.args.line left _ _ c.in_ok-used.used c.end.new.self
-    (c.in_ok-used.ensures.ok [] (λ end. refl)) (c.in_ok-used.ensures.tail (λ read. refl))
-    (rw (
-      drop-map g.S.AsStr.text c.in_ok-used.used c.args.words.now,
-      ← take_rest c.args.words.now c.in_ok-used.used,
-    ) c.in_ok-end.ensures)
+    (map g.S.AsStr.text c.args.words.now) c.args.before c.args.line left _ _ _ _ c.end.new.self
+    (c.in_ok-left.ensures.ok [] (λ none. refl)) (c.in_ok-left.ensures.tail (λ read. refl)) c.in_ok-end.ensures
 
-pub returns-in_err-used : goal.returns-in_err-used
+pub returns-in_err-left : goal.returns-in_err-left
 unfolding reading_or_error
-returns-in_err-used g c = λ whole left.
+returns-in_err-left g c = λ whole left.
     let told : IfErr c.from_residual.result (λ fail. IsOutOfMemoryOr fail (λ fault.
     reading_if c.args.counted c.args.self.now whole ≡ Err fault)) =
-    IsOutOfMemoryOr-exit _ c.in_err-used.field-0.0 _ _ c.from_residual.ensures.1 c.in_err-used.ensures.err
+    IsOutOfMemoryOr-exit _ c.in_err-left.field-0.0 _ _ c.from_residual.ensures.1 c.in_err-left.ensures.err
     (λ fault told. reading_if-fault c.args.counted _ whole fault (read-ended (grammar_of c.args.self.now)
-    whole (map g.S.AsStr.text c.args.words.now) c.args.before c.args.line left fault (told [] (λ end. refl)))) in
+    whole (map g.S.AsStr.text c.args.words.now) c.args.before c.args.line left fault (told [] (λ none. refl)))) in
     search rules
 
 pub returns-in_err-check_counts : goal.returns-in_err-check_counts

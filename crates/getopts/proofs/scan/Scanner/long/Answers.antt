@@ -1,5 +1,6 @@
 -- Each name of a known kind begins an item with its argument, or is an error.
 use Rattle.std.proofs.Common.{map, Some, None, refl, rules}
+use Rattle.std.proofs.lemmas.List.{nil_from_length}
 use Rattle.std.specs.Option.{option_copied}
 use Rattle.getopts.specs.Fail.{argument_missing, unrecognized_option, unexpected_argument}
 use Rattle.getopts.specs.Reading.{none, attached, separate}
@@ -16,22 +17,25 @@ returns-clause-ok g c = λ dashes.
     let after = map g.S.AsStr.text c.args.after.now in
     let cut = c.name_and_argument.ensures in
     let named = c.in-Some.ensures in
-    let chooses : Chooses (chosen_long c.in-Some.option.kind name argument after)
-    (option_copied c.match-option-2.used.0) c.match-option-2.used.1 = elim c.match-option-2.branch [
-      | goal.in-No-None w ↦ rw (w.used-is, w.in-No-None.is-0, w.in-No-None.is-1) (Items.Chooses-ok none)
+    let chooses : Chooses (chosen_long c.in-Some.option.kind name argument after) after
+    (option_copied c.match-option-2.used.0) (map g.S.AsStr.text c.words_after.result.now) =
+    elim c.match-option-2.branch [
+      | goal.in-No-None w ↦
+          rw (c.words_after.ensures, w.used-is, w.in-No-None.is-0, w.in-No-None.is-1) (Items.Chooses-ok none after)
       | goal.in-Yes-None+in-Some-first w ↦
           rw (
+            c.words_after.ensures,
             w.used-is,
             w.in-Yes-None.is-0,
             w.in-Yes-None.is-1,
-            Items.texts-first g.S.AsStr.text c.args.after.now w.in-Some-first.word.now (search rules),
+            Items.texts_first g.S.AsStr.text c.args.after.now w.in-Some-first.word.now (search rules),
             w.as_str.ensures,
           )
-          (Items.Chooses-ok (separate (g.S.AsStr.text w.in-Some-first.word.now)))
+          (Items.Chooses-ok (separate (g.S.AsStr.text w.in-Some-first.word.now)) _)
       | goal.in-Yes-Some w ↦
-          rw (w.used-is, w.in-Yes-Some.is-0, w.in-Yes-Some.is-1)
-          (Items.Chooses-ok (attached w.in-Yes-Some.value.now))
-      | goal.in-Maybe-default w ↦ rw (w.used-is, w.in-Maybe-default.is-0)
+          rw (c.words_after.ensures, w.used-is, w.in-Yes-Some.is-0, w.in-Yes-Some.is-1)
+          (Items.Chooses-ok (attached w.in-Yes-Some.value.now) after)
+      | goal.in-Maybe-default w ↦ rw (c.words_after.ensures, w.used-is, w.in-Maybe-default.is-0)
           (Items.Chooses-maybe name argument after)
     ] in
     Items.TakesOne-long (scanner_grammar c.args.self.now) dashes c.args.text.now name argument after
@@ -58,9 +62,10 @@ returns-in-No-Some-clause-err g c = λ dashes.
 
 pub returns-in-None-first-clause-err : goal.returns-in-None-first-clause-err
 returns-in-None-first-clause-err g c = λ dashes.
+    let nothing = nil_from_length c.args.after.now (search rules) in
     let name = c.name_and_argument.result.0.now in
     let cut = c.name_and_argument.ensures in
     Items.IsOutOfMemoryOr-long (scanner_grammar c.args.self.now) dashes c.args.text.now name None
     (map g.S.AsStr.text c.args.after.now) (rw c.in-Yes-None.is-1 at cut.text) cut.name (Some Yes)
     (rw c.in-Yes-None.is-0 at c.in-Some.ensures.kind) c.argument_missing.result (argument_missing name)
-    (rw (Items.texts-none g.S.AsStr.text c.args.after.now (search rules)) refl) c.argument_missing.ensures
+    (rw nothing refl) c.argument_missing.ensures

@@ -36,7 +36,6 @@ returns-in_err-argument-in-Some g c =
     let is = c.range-name.ensures.value ∙ Names.first_name c.args.names.now c.requires.filled in
     record {
       ok = search rules;
-      within = search rules;
       err = IsOutOfMemoryOr-exit _ c.in_err-argument-in-Some.field-0.0 _ _ c.from_residual.ensures.1
           (rw (is, c.range_from-in-Some.ensures.value) at c.in_err-argument-in-Some.ensures.err)
           (λ fault told. Names.name_error (scanner_grammar c.args.self.now) _ c.args.names.now c.in-Some.field-0.kind fault
@@ -62,9 +61,8 @@ pub returns-in_ok-argument-in-Some : goal.returns-in_ok-argument-in-Some
 returns-in_ok-argument-in-Some g c =
     let is = c.range-name.ensures.value ∙ Names.first_name c.args.names.now c.requires.filled in
     record {
-      ok = Names.name_last (scanner_grammar c.args.self.now) _ c.args.names.now c.in-Some.field-0.place _
-          c.in-Some.field-0.kind _ c.requires.filled (rw is at c.in-Some.ensures.place) (search rules)
+      ok = Names.name_last (scanner_grammar c.args.self.now) _ c.args.names.now c.in-Some.field-0.place
+          c.in-Some.field-0.kind _ _ c.requires.filled (rw is at c.in-Some.ensures.place) (search rules)
           (rw is at c.in-Some.ensures.kind) (rw (is, c.range_from-in-Some.ensures.value) at c.in_ok-argument-in-Some.ensures.ok);
-      within = search rules;
       err = search rules;
     }
