@@ -20,11 +20,11 @@ record Sane (g : Grammar) : Set where
     no-high : ∀ b → IsHigh b → (g .$kind) (b ∷ []) ≡ None
 open Sane public
 
-Outcome : Set
-Outcome = Result Reading Fault
+ReadResult : Set
+ReadResult = Result Reading Fault
 
 -- The result of the words that begin with this step.
-after : Grammar → Step → List Text → Outcome
+after : Grammar → Step → List Text → ReadResult
 after g s ws = after-step s (read-both g ws .proj₁) (read-both g ws .proj₂)
 
 -- After a step that takes an item, reading goes on after the words of its argument.

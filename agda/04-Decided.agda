@@ -123,7 +123,7 @@ module _ (g : Grammar) (sane : Sane g) where
       stop-or-long (x ∷ t) = long-view two (x ∷ t) ws tt λ ()
 
   -- The result is right for these words: it is a reading or a scan error of them.
-  Finds : List Text → Outcome → Set
+  Finds : List Text → ReadResult → Set
   Finds words o = MatchResult o (λ r → IsReading g r words) (IsScanFault g words)
 
   goes-on : ∀ i more → IsLawfulItem g i → (is-bare i ≡ true → EndsOrIsDashed more)

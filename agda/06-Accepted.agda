@@ -31,7 +31,7 @@ module _ (g : Grammar) (sane : Sane g) (words : List Text) where
 counted : ∀ groups
   → MatchOption (first-count-fault groups) (KeepsCounts groups) (IsCountFault groups)
 counted [] = tt
-counted (g ∷ gs) with fits-count (g .$signature .$occur) (length (g .$found)) in e
+counted (g ∷ gs) with fits-count (g .$signature .$occur) (length (g .$occurrences)) in e
 ... | false = mk [] g gs refl tt (λ k → true≢false k e) refl
 ... | true with first-count-fault gs | counted gs
 ...   | None | ks = refl , ks

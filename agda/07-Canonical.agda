@@ -57,9 +57,9 @@ record Given-by (groups : List Group) (m : Mention) : Set where
   constructor mk
   field
     {group} : Group
-    at : slice-get groups (m .$group) ≡ Some group
+    at : slice-get groups (m .$place) ≡ Some group
     resolves : resolution (names-of groups) (main-name (group .$signature .$names))
-      ≡ Some (m .$group)
+      ≡ Some (m .$place)
     fits : FitsKind (group .$signature .$kind) (m .$value)
 
 mentioned : ∀ groups n k v → kind-of groups n ≡ Some k → FitsKind k v
@@ -103,12 +103,12 @@ given options (cluster bs end) (mk _ _ all last) =
 -- Counts and values depend on mentions alone ------------------------------------------------------
 
 values-of-group : ℕ → List Mention → List (Option Text)
-values-of-group place ms = map (λ m → m .$value) (filter (λ m → m .$group == place) ms)
+values-of-group place ms = map (λ m → m .$value) (filter (λ m → m .$place == place) ms)
 
 values-are : ∀ place os
   → each-value (occurrences-mentioning place os) ≡ values-of-group place (map mention-in os)
 values-are place [] = refl
-values-are place (o ∷ os) with eqb (o .$mention .$group) place
+values-are place (o ∷ os) with eqb (o .$mention .$place) place
 ... | true = cong (_ ∷_) (values-are place os)
 ... | false = values-are place os
 
@@ -151,8 +151,8 @@ says = mk
 
 -- Main names resolve to their groups, and have no `=`.
 Sound Plain : List Group → Mention → Set
-Sound groups m = resolution (names-of groups) (main-at groups (m .$group)) ≡ Some (m .$group)
-Plain groups m = holds-equals (main-at groups (m .$group)) ≡ false
+Sound groups m = resolution (names-of groups) (main-at groups (m .$place)) ≡ Some (m .$place)
+Plain groups m = holds-equals (main-at groups (m .$place)) ≡ false
 
 sound-mention : ∀ groups m → Given-by groups m → Sound groups m
 sound-mention groups m (mk at resolves _) rewrite at = resolves
@@ -174,7 +174,7 @@ module _ (options : Declared) where
   canonical-lawful m (given , plain) =
     mk tt plain (_ , kind given , fits-attached _ (m .$value) (Given-by.fits given))
     where
-      kind : (given : Given-by groups m) → kind-of groups (main-at groups (m .$group))
+      kind : (given : Given-by groups m) → kind-of groups (main-at groups (m .$place))
         ≡ Some (Given-by.group given .$signature .$kind)
       kind given rewrite sound-mention groups m given | Given-by.at given = refl
 
@@ -261,7 +261,7 @@ module Lines (options : Declared) (named : Each IsNamed (names-of (options .$gro
 
   -- No canonical word is `--`, since no main name is empty.
   not-stop : ∀ m → Sound gs m → canonical-word gs m ≢ stop-word
-  not-stop m sound e = filled-left (main-at gs (m .$group))
+  not-stop m sound e = filled-left (main-at gs (m .$place))
     (λ empty → None≢Some (empty-resolves-not (names-of gs) named)
       (cong (resolution (names-of gs)) (sym empty) ∙ sound))
     (cons-tail (cons-tail e))

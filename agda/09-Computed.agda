@@ -54,14 +54,14 @@ longer x more e = not-less (subst (length x <_)
   (sym (cong length e ∙ length-++ more (equals-sign ∷ x))) (≤-after (length more) ≤-refl))
 
 -- A main name with `=` would be cut at it, so no valid item spells it.
-no-item : ∀ options m → holds-equals (main-at (options .$groups) (m .$group)) ≡ true
+no-item : ∀ options m → holds-equals (main-at (options .$groups) (m .$place)) ≡ true
   → HasNoItem options m
 no-item options m eq s l (free w) lawful () first
 no-item options m eq s l (cluster bs end) (mk _ plain _ _) ms first =
   true≢false (cong begins-with-dash (cons-tail (some first))) plain
 no-item options m eq s l (long d n a) (mk p no-equals _) ms first = go d p a (value ms) (some first)
   where
-    main = main-at (options .$groups) (m .$group)
+    main = main-at (options .$groups) (m .$place)
     value : ∀ {m m′ : Mention} {ms} → m ∷ [] ≡ m′ ∷ ms → m .$value ≡ m′ .$value
     value refl = refl
     go : ∀ d → MayPrecede l d n → ∀ a → value-of a ≡ m .$value
@@ -86,12 +86,12 @@ no-item options m eq s l (long d n a) (mk p no-equals _) ms first = go d p a (va
 
 -- A content is plain, or one of its mentions isn't.
 plain-or-not : ∀ groups ms
-  → let plain = list-all (λ m → not (holds-equals (main-at groups (m .$group)))) ms in
+  → let plain = list-all (λ m → not (holds-equals (main-at groups (m .$place)))) ms in
   (plain ≡ true × Each (Plain groups) ms)
   ⊎ (plain ≡ false × (Σ[ m ∈ Mention ] Contains ms m
-    × (holds-equals (main-at groups (m .$group)) ≡ true)))
+    × (holds-equals (main-at groups (m .$place)) ≡ true)))
 plain-or-not groups [] = inl (refl , tt)
-plain-or-not groups (m ∷ ms) with holds-equals (main-at groups (m .$group)) in is
+plain-or-not groups (m ∷ ms) with holds-equals (main-at groups (m .$place)) in is
 ... | true = inr (refl , m , (0 , s≤s z≤n , refl) , is)
 ... | false with plain-or-not groups ms
 ...   | inl (e , all) = inl (e , refl , all)
@@ -104,11 +104,11 @@ decides-iff true to from g = to g
 decides-iff false to from n h = n (from h)
 
 Mentioned : ℕ → List Occurrence → Set
-Mentioned p os = Any (λ o → Some p ≡ Some (o .$mention .$group)) os
+Mentioned p os = Any (λ o → Some p ≡ Some (o .$mention .$place)) os
 
 found? : ∀ p os → Decides (ltb 0 (length (occurrences-mentioning p os))) (Mentioned p os)
 found? p [] (_ , _ , () , _)
-found? p (o ∷ os) with eqb (o .$mention .$group) p in is
+found? p (o ∷ os) with eqb (o .$mention .$place) p in is
 ... | true = 0 , o , s≤s z≤n , refl , cong Some (sym (eqb→≡ _ p is))
 ... | false with ltb 0 (length (occurrences-mentioning p os)) | found? p os
 ...   | true | k , x , below , at , same = suc k , x , s≤s below , at , same
@@ -144,18 +144,18 @@ module _ (options : Declared) (words : List Text) where
   content-or-refused (mk r only kept _) =
     accepted-or-refused options words (mk (mk r only refl) kept)
 
-  one-parse-answer : AtMostOne (IsParseAnswer options words)
-  one-parse-answer = one-result (λ m m′ p q → one-matches options words m m′ (p .$read) (q .$read))
+  one-parse-result : AtMostOne (IsParseResult options words)
+  one-parse-result = one-result (λ m m′ p q → one-matches options words m m′ (p .$read) (q .$read))
     (accepted-or-refused options words) (one-fault options words)
 
   one-unread : AtMostOne (HasNoReading options words)
   one-unread f f′ p q = one-fault options words f f′ (inl p) (inl q)
 
-  one-read-answer : AtMostOne (IsReadAnswer options words)
-  one-read-answer = one-result (one-matches options words) (not-unread options words) one-unread
+  one-read-result : AtMostOne (IsReadResult options words)
+  one-read-result = one-result (one-matches options words) (not-unread options words) one-unread
 
-  one-canonical-answer : AtMostOne (IsCanonicalAnswer options words)
-  one-canonical-answer = one-result one-written
+  one-canonical-result : AtMostOne (IsCanonicalResult options words)
+  one-canonical-result = one-result one-written
       (λ { {None} (mk _ p _ _ _) → content-or-refused p
          ; {Some l} (mk _ p _ _) → content-or-refused p })
       (one-fault options words)
@@ -171,8 +171,8 @@ module _ (options : Declared) (words : List Text) where
       one-written (Some _) (Some _) (mk _ p _ refl) (mk _ q _ refl) =
         cong (λ c → Some (canonical-line (options .$groups) c)) (one-content _ _ p q)
 
-  one-order-answer : AtMostOne (IsOrderAnswer options words)
-  one-order-answer =
+  one-order-result : AtMostOne (IsOrderResult options words)
+  one-order-result =
     one-result one-order (λ { (mk _ p _ _ _) → content-or-refused p }) (one-fault options words)
     where
       one-order : AtMostOne (IsOrder options words)
@@ -182,19 +182,19 @@ module _ (options : Declared) (words : List Text) where
   -- The result of `parse`, in the type of another call's result.
   Parses : {X : Set} → (Matched → X) → Result X Fault → Set
   Parses make a =
-    Σ[ line ∈ _ ] IsParseAnswer options words line × (a ≡ result-map-both make (λ f → f) line)
+    Σ[ line ∈ _ ] IsParseResult options words line × (a ≡ result-map-both make (λ f → f) line)
 
   Unless : Text → Result (Option Matched) Fault → Set
   Unless flag = Or (Gives options words flag) (Ok None) (Parses Some)
 
-  unless-says : ∀ flag a → IsUnlessAnswer options flag words a ↔ Unless flag a
+  unless-says : ∀ flag a → IsUnlessResult options flag words a ↔ Unless flag a
   unless-says flag a = to a , from
     where
-      to : ∀ a → IsUnlessAnswer options flag words a → Unless flag a
+      to : ∀ a → IsUnlessResult options flag words a → Unless flag a
       to (Ok None) p = inl (p , refl)
       to (Ok (Some m)) (n , p) = inr (n , Ok m , p , refl)
       to (Err f) (n , p) = inr (n , Err f , p , refl)
-      from : Unless flag a → IsUnlessAnswer options flag words a
+      from : Unless flag a → IsUnlessResult options flag words a
       from (inl (p , refl)) = p
       from (inr (n , Ok m , p , refl)) = n , p
       from (inr (n , Err f , p , refl)) = n , p
@@ -203,21 +203,21 @@ module _ (options : Declared) (words : List Text) where
   Requests = Or (Gives options words (codes "help")) (Ok Help)
     (Or (Gives options words (codes "version")) (Ok Version) (Parses Parsed))
 
-  request-says : ∀ a → IsRequestAnswer options words a ↔ Requests a
+  request-says : ∀ a → IsRequestResult options words a ↔ Requests a
   request-says a = to a , from
     where
-      to : ∀ a → IsRequestAnswer options words a → Requests a
+      to : ∀ a → IsRequestResult options words a → Requests a
       to (Ok Help) p = inl (p , refl)
       to (Ok Version) (n , p) = inr (n , inl (p , refl))
       to (Ok (Parsed m)) ((n , n′) , p) = inr (n , inr (n′ , Ok m , p , refl))
       to (Err f) ((n , n′) , p) = inr (n , inr (n′ , Err f , p , refl))
-      from : Requests a → IsRequestAnswer options words a
+      from : Requests a → IsRequestResult options words a
       from (inl (p , refl)) = p
       from (inr (n , inl (p , refl))) = n , p
       from (inr (n , inr (n′ , Ok m , p , refl))) = (n , n′) , p
       from (inr (n , inr (n′ , Err f , p , refl))) = (n , n′) , p
 
--- The functions give answers ----------------------------------------------------------------------
+-- The functions give results ----------------------------------------------------------------------
 
 module _ (options : Declared) (named : Each IsNamed (names-of (options .$groups)))
   (words : List Text) (texts : AreTexts words) where
@@ -247,15 +247,15 @@ module _ (options : Declared) (named : Each IsNamed (names-of (options .$groups)
   ... | Ok r | kept = h r kept
   ... | Err f | refused = refused
 
-  only-parse : IsTheOnly (IsParseAnswer options words) (parse-result options words)
-  only-parse = only-by (made-of-line _ (matches-of options) accept) (one-parse-answer options words)
+  only-parse : IsTheOnly (IsParseResult options words) (parse-result options words)
+  only-parse = only-by (made-of-line _ (matches-of options) accept) (one-parse-result options words)
 
   only-parses : ∀ {X : Set} (make : Matched → X) → IsTheOnly (Parses options words make)
     (result-map-both make (λ f → f) (parse-result options words))
   only-parses make a = (λ { (line , p , refl) → cong _ (only-parse line .proj₁ p) })
     , λ { refl → _ , only-parse _ .proj₂ refl , refl }
 
-  read-is : IsReadAnswer options words (parse-ignoring-counts-result options words)
+  read-is : IsReadResult options words (parse-ignoring-counts-result options words)
   read-is with read g words | reading-is
   ... | Ok r | p = has-reading r p
   ... | Err f | none-is = none-is
@@ -264,11 +264,11 @@ module _ (options : Declared) (named : Each IsNamed (names-of (options .$groups)
     → IsAcceptedWith options words (content-of options r)
   accepted-with r (mk p kept) = mk r (only-by p (one-reading words)) kept refl
 
-  canonical-is : IsCanonicalAnswer options words (canonical-result options words)
-  canonical-is = made-of-line (λ written → IsCanonicalAnswer options words (Ok written)) _ written?
+  canonical-is : IsCanonicalResult options words (canonical-result options words)
+  canonical-is = made-of-line (λ written → IsCanonicalResult options words (Ok written)) _ written?
     where
       written? : ∀ r → IsCountKeeping options r words
-        → IsCanonicalAnswer options words (Ok (written-line gs (content-of options r)))
+        → IsCanonicalResult options words (Ok (written-line gs (content-of options r)))
       written? r kept with plain-or-not gs (content-of options r .$mentions)
       ... | inl (is , plain) rewrite is = mk _ (accepted-with r kept) plain refl
       ... | inr (is , m , inside , eq) rewrite is = mk (content-of options r) (accepted-with r kept)
@@ -276,7 +276,7 @@ module _ (options : Declared) (named : Each IsNamed (names-of (options .$groups)
         (λ all → true≢false eq (each-at (content-of options r .$mentions) all inside))
         (mk m inside (no-item options m eq))
 
-  order-is : IsOrderAnswer options words (parse-in-order-result options words)
+  order-is : IsOrderResult options words (parse-in-order-result options words)
   order-is = made-of-line _ (order-of-reading g) λ { r@(mk items t) kept →
     mk (content-of options r) (accepted-with r kept) refl
       (order-parts g items _ .proj₁
@@ -289,7 +289,7 @@ module _ (options : Declared) (named : Each IsNamed (names-of (options .$groups)
   present r name = is-present (matches-of options r .$groups) name
 
   occurs? : ∀ r name → Decides (present r name)
-    (Any (λ o → resolution (names-of gs) name ≡ Some (o .$mention .$group)) (occurrences-of g r))
+    (Any (λ o → resolution (names-of gs) name ≡ Some (o .$mention .$place)) (occurrences-of g r))
   occurs? r name rewrite held-all 0 gs (occurrences-of g r) with resolution (names-of gs) name in e
   ... | None = λ { (_ , _ , _ , _ , ()) }
   ... | Some p with signature-at gs name p e
@@ -305,7 +305,7 @@ module _ (options : Declared) (named : Each IsNamed (names-of (options .$groups)
   gives-not scan (mk r p _) = not-both g sane words p scan
 
   only-unless : ∀ flag
-    → IsTheOnly (IsUnlessAnswer options flag words) (parse-unless-result options flag words)
+    → IsTheOnly (IsUnlessResult options flag words) (parse-unless-result options flag words)
   only-unless flag = only-same (unless-says options words flag) chosen
     where
       chosen : IsTheOnly (Unless options words flag) (parse-unless-result options flag words)
@@ -313,7 +313,7 @@ module _ (options : Declared) (named : Each IsNamed (names-of (options .$groups)
       ... | Err f | scan | line = only-or false (gives-not scan) line
       ... | Ok r | p | line = only-or _ (gives? r flag p) line
 
-  only-request : IsTheOnly (IsRequestAnswer options words) (parse-request-result options words)
+  only-request : IsTheOnly (IsRequestResult options words) (parse-request-result options words)
   only-request = only-same (request-says options words) chosen
     where
       chosen : IsTheOnly (Requests options words) (parse-request-result options words)
@@ -331,7 +331,7 @@ module _ (options : Declared) (named : Each IsNamed (names-of (options .$groups)
     (only-by line-is (one-result (λ r r′ p q → one-reading words r r′ (p .$reads) (q .$reads))
       (λ kept → accepted-or-refused options words (accept _ kept)) (one-fault options words)))
     only-parse
-    (only-by read-is (one-read-answer options words))
-    (only-by canonical-is (one-canonical-answer options words))
-    (only-by order-is (one-order-answer options words))
+    (only-by read-is (one-read-result options words))
+    (only-by canonical-is (one-canonical-result options words))
+    (only-by order-is (one-order-result options words))
     only-unless only-request

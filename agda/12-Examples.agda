@@ -17,7 +17,7 @@ options = options-of (optopt (codes "o") (codes "output") [] []
 given : List Text → Result (List (Text × Option Text) × List Text) Text
 given words with accepted-reading options words
 ... | Err f = Err (fault-text f)
-... | Ok r = Ok (map (λ m → main-at (options .$groups) (m .$group) , m .$value)
+... | Ok r = Ok (map (λ m → main-at (options .$groups) (m .$place) , m .$value)
   (mentions-of (grammar-of options) r) , free-words r)
 
 output color : Text → Text × Option Text

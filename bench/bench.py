@@ -62,7 +62,7 @@ def job_of(name):
 # attributes of these functions, were left out of the source as it was then:
 #
 # - `typical`: `FIRST_GROUPS` 32, `FIRST_TEXT` 15, `FIRST_VALUES` 3.5; `SignatureRecord`, `Signatures`, `Kinds` and the
-#   texts that they store 7; `Signatures::push` and `Groups::push` 3.3; `MatchedGroups::occurrences_at`,
+#   texts that they store 7; `Signatures::push` and `Groups::push` 3.3; `MatchedGroups::occurrences_of_group`,
 #   `Matches::occurrences_at` and `Index::indices` 2.4
 # - `typical`, in `proved-getopts`: `Entry::order`, `main_entries`, `sort` and `Entry::name_order` (`inline(never)`) 6
 # - `usage`: `ROW_ROOM` 40

@@ -31,12 +31,12 @@ impl<'m> Occurrences<'m> {
     /// The occurrences of the option at this place.
     #[inline]
     pub(crate) fn of(held: &'m MatchedGroups, place: usize) -> Occurrences<'m> {
-        Occurrences { held, place, left: 0..held.occurrences_at(place).len() }
+        Occurrences { held, place, left: 0..held.occurrences_of_group(place).len() }
     }
 
     #[inline]
     fn get(&self, nth: usize) -> Option<(usize, Option<&'m str>)> {
-        self.held.occurrences_at(self.place).get(nth)
+        self.held.occurrences_of_group(self.place).get(nth)
     }
 }
 

@@ -67,7 +67,7 @@ impl Matches {
     #[inline]
     #[track_caller]
     pub(crate) fn place(&self, name: &str) -> usize {
-        match self.held.place_of(name) {
+        match self.held.opt_place(name) {
             Some(place) => place,
             None => panic!("No option '{name}' defined"),
         }
@@ -81,7 +81,7 @@ impl Matches {
     #[inline]
     #[track_caller]
     fn given(&self, name: &str) -> proved::Occurrences<'_> {
-        self.held.occurrences_at(self.place(name))
+        self.held.occurrences_of_group(self.place(name))
     }
 
     /// For each option, the list of what `each` returns for its occurrences.
@@ -161,7 +161,7 @@ impl Matches {
     /// assert!(matches.opt_defined("quiet") && !matches.opt_defined("loud"));
     /// ```
     pub fn opt_defined(&self, name: &str) -> bool {
-        self.held.place_of(name).is_some()
+        self.held.opt_place(name).is_some()
     }
 
     /// Whether an option was given, by either name.
@@ -212,7 +212,7 @@ impl Matches {
     /// assert!(options.parse(["-b"]).unwrap().opts_present(&names));
     /// ```
     pub fn opts_present(&self, names: &[String]) -> bool {
-        let given = |name: &String| !self.held.occurrences_of(name).is_empty();
+        let given = |name: &String| !self.held.occurrences_of_name(name).is_empty();
         names.iter().any(given)
     }
 

@@ -159,7 +159,7 @@ impl Options {
         })
     }
 
-    /// Calls `ask` with the proved options and the words, and `of` with its answer and whether a
+    /// Calls `ask` with the proved options and the words, and `of` with its result and whether a
     /// word wasn't text.
     fn read_os<'o, T, U>(
         &'o self,
@@ -167,21 +167,21 @@ impl Options {
         ask: impl Fn(&'o proved::Options, &[&str]) -> Result<T, Fail>,
         of: impl Fn(T, bool) -> U,
     ) -> Result<U, Fail> {
-        let answer = |texts: &[&str], marked| match ask(&self.proved, texts) {
+        let result_of = |texts: &[&str], marked| match ask(&self.proved, texts) {
             Ok(given) => Ok(of(given, marked)),
             Err(fail) => Err(shown(fail)),
         };
         read_words(
             args.into_iter(),
             plain,
-            |texts| answer(texts, false),
+            |texts| result_of(texts, false),
             |texts, word, others| {
                 let (first, others) = (texts.iter().map(OsStr::new), others.collect::<Vec<_>>());
                 let others = others.iter().map(|word| word.as_ref());
                 let words: Vec<_> = first.chain([word]).chain(others).collect();
                 let texts =
                     words.iter().map(|word| text_of(word)).collect::<Result<Vec<_>, _>>()?;
-                let given = answer(&borrowed(&texts), true);
+                let given = result_of(&borrowed(&texts), true);
                 // In a cluster, the name is only a character's first mark: name the character.
                 if matches!(&given, Err(Fail::UnrecognizedOption(name)) if name == "\u{FFFD}") {
                     let texts: Vec<_> = words.iter().map(|word| word.to_string_lossy()).collect();

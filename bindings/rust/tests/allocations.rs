@@ -199,9 +199,9 @@ fn long_lines_keep_memory_that_cannot_be_given_back() {
     let wanted = options.parse_words(Global, &words);
     let mut kept = 0;
     for granted in 0.. {
-        let (answer, failed) = failing(granted, false, || options.parse_words(Global, &words));
-        if answer != Err(Fail::OutOfMemory) {
-            assert!(answer == wanted);
+        let (result, failed) = failing(granted, false, || options.parse_words(Global, &words));
+        if result != Err(Fail::OutOfMemory) {
+            assert!(result == wanted);
             if !failed {
                 break;
             }
@@ -223,8 +223,8 @@ fn invalid_words_report_error_or_out_of_memory() {
     ] {
         let words: Vec<&str> = line.split(' ').collect();
         for granted in 0.. {
-            let (answer, _) = failing(granted, false, || options.parse_words(Global, &words));
-            let fail = answer.unwrap_err();
+            let (result, _) = failing(granted, false, || options.parse_words(Global, &words));
+            let fail = result.unwrap_err();
             if !matches!(fail, Fail::OutOfMemory) {
                 assert!(granted > 0 && fail.to_string().contains(wanted), "{fail}");
                 assert_eq!(fail_each_of(&fail, |fail| fail.try_clone()), 1);

@@ -274,9 +274,9 @@ fn parse_takes_all_items_and_asks_for_no_more() {
         for word in ["x", "--unknown"] {
             let mut left = (0..=count).rev();
             let words = std::iter::from_fn(|| (left.next().unwrap() > 0).then_some(word));
-            let answer = options().parse(Promised(words, promised));
+            let result = options().parse(Promised(words, promised));
             assert_eq!(
-                answer.map(|matches| matches.free.len()).ok(),
+                result.map(|matches| matches.free.len()).ok(),
                 (word == "x").then_some(count)
             );
             assert_eq!(left.next(), None);

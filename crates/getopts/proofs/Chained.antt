@@ -84,15 +84,15 @@ Returned κ = Res.the_row (MutRef (named 0) κ Options) AE.the_row
 abbrev pub Added : RattleType
 Added = Res.the_row unit AE.the_row
 
-abbrev pub Answer : Type 0
-Answer = Result (Unit {0}) AllocError
+abbrev pub AddedResult : Type 0
+AddedResult = Result (Unit {0}) AllocError
 
 abbrev added_fields : enums.Laws (Res.the_type unit AE.the_row)
 added_fields = result_fields unit AE.the_row (of_field unit-field unit-laws refl (copy_shared unit-field unit-copy))
     error_laws (field_told unit-field unit-laws) error_told
 
 -- the two values of the result of `add_group`
-pub added_values : (u : Answer) (v : Val) → Is Added u (v ∷ [])
+pub added_values : (u : AddedResult) (v : Val) → Is Added u (v ∷ [])
     → ((v ≡ live 0 (vcons vunit vnil)) × (u ≡ Ok (record {})))
     ⊎ ((v ≡ live 1 (vcons (vstruct vnil) vnil)) × (u ≡ Err (record {})))
 added_values (Ok x) v is = inl (ap only (enums.tells (Res.the_type unit AE.the_row) added_fields (Ok x) (v ∷ []) is), refl)
@@ -259,18 +259,18 @@ module _ {M : Type 1} {𝓤 : Ura M} (𝓛 : Logic 𝓤) (𝓜 : Model 𝓤 𝓛
   abbrev G : Contract 𝓤
   G = triple_of 𝓛 g.signature (g.spec 𝓛 𝓜.mem 𝓡.returns)
 
-  abbrev Answered : Type 0
-  Answered = Result (MutBor Declared) AllocError
+  abbrev ReturnedResult : Type 0
+  ReturnedResult = Result (MutBor Declared) AllocError
 
   -- the clause `added` of `opt`, for these two values
-  abbrev Adds : Declared → List ℕ → List ℕ → List ℕ → List ℕ → Answered → Type 0
+  abbrev Adds : Declared → List ℕ → List ℕ → List ℕ → List ℕ → ReturnedResult → Type 0
   Adds old short long description hint r = IfOk r (λ options. options.now ≡ with_group old (group_of short long description hint kind occur))
 
   -- what a call ensures if Claim is its clause `added`
-  abbrev says_of : MutBor Declared → Answered → Type 0 → SProp 𝓤
+  abbrev says_of : MutBor Declared → ReturnedResult → Type 0 → SProp 𝓤
   says_of options r Claim = sep 𝓤 (sem 𝓛 (UnchangedIfErr options r)) (sep 𝓤 (fact 𝓤 Claim) (fact 𝓤 (IfOk r (λ after. after.ghost_name ≡ options.ghost_name))))
 
-  says_more : (options : MutBor Declared) (r : Answered) {A B : Type 0} → (A → B) → ent 𝓤 (says_of options r A) (says_of options r B)
+  says_more : (options : MutBor Declared) (r : ReturnedResult) {A B : Type 0} → (A → B) → ent 𝓤 (says_of options r A) (says_of options r B)
   says_more options r {A} {B} f = qed 𝓛 (‵ (UnchangedIfErr options r) ∷ raw (fact 𝓤 A) ∷ raw (fact 𝓤 (IfOk r (λ after. after.ghost_name ≡ options.ghost_name))) ∷ []) ∵
       move ! (1 ∷ []) $ heard ! _ (λ a. use0 𝓛 (raw (fact 𝓤 B)) (fact_i 𝓤 B (emp 𝓤) (f a)) $ move ! (1 ∷ 0 ∷ 2 ∷ []) $ done !)
 
@@ -281,7 +281,7 @@ module _ {M : Type 1} {𝓤 : Ura M} (𝓛 : Logic 𝓤) (𝓜 : Model 𝓤 𝓛
   occur_typed = ((occur_row.lawful 𝓛).typed occur (occur_val occur ∷ []) (occur_is occur)).0
 
   -- calls with three texts, which pass an empty hint
-  module _ (Claim : (κs : Lfts 4) → Args three.signature κs → Answered → Type 0) where
+  module _ (Claim : (κs : Lfts 4) → Args three.signature κs → ReturnedResult → Type 0) where
     abbrev clauses_3 : Clauses 𝓤 three.ended
     clauses_3 κs a = record {
       ghost = Unit {0};
@@ -290,7 +290,7 @@ module _ {M : Type 1} {𝓤 : Ura M} (𝓛 : Logic 𝓤) (𝓜 : Model 𝓤 𝓛
     }
 
     pub passes_3 : (c : Clauses 𝓤 three.ended) → c ≡ clauses_3
-        → ((κs : Lfts 4) (a : Args three.signature κs) (r : Answered) → Adds a.0.now a.1.0.now a.1.1.0.now a.1.1.1.0.now [] r → Claim κs a r)
+        → ((κs : Lfts 4) (a : Args three.signature κs) (r : ReturnedResult) → Adds a.0.now a.1.0.now a.1.1.0.now a.1.1.1.0.now [] r → Claim κs a r)
         → (key : Callee) → Closed 𝓤 𝓛.H 𝓣.C 𝓣.Λ key (code_3 kind occur) → Meets 𝓛 three.signature (𝓣.C key) (closing 𝓛 three.ended clauses_3)
     passes_3 c is added key closed =
         let stayed : Stays three.signature.params three.ended.kept = (stay_dropped _ no, (stay_dropped _ yes, (stay_dropped _ yes, (stay_dropped _ yes, tt)))) in
@@ -325,7 +325,7 @@ module _ {M : Type 1} {𝓤 : Ura M} (𝓛 : Logic 𝓤) (𝓜 : Model 𝓤 𝓛
         use0 𝓛 (raw (fact 𝓤 Lawful)) (fact_i 𝓤 Lawful (emp 𝓤) lawful) $ move ! (1 ∷ 0 ∷ []) $ use2 𝓛 (raw (G.pre z)) (id⊢ 𝓤 _) $
         calls_at ! (framed 𝓤 𝓛.H 𝓜 𝓣) G met z
         (and_then ! (get ! refl) (and_then ! (get ! refl) (and_then ! (get ! refl) (and_then ! (get ! refl) (and_then ! (get ! refl) (and_then ! (get ! refl) (and_then ! (get ! refl) (no_more !)))))))) (λ v.
-        use1 𝓛 (later (some (λ (r : Answered). ((‵ t₀ ⊛ ‵ t₁ ⊛ ‵ t₂ ⊛ ‵ t₃ ⊛ ‵ (flft (β ∷ []) full_share) ⊛ ‵ ftrue) ⊛ ‵ (Out.own_val r (v ∷ []))) ⊛
+        use1 𝓛 (later (some (λ (r : ReturnedResult). ((‵ t₀ ⊛ ‵ t₁ ⊛ ‵ t₂ ⊛ ‵ t₃ ⊛ ‵ (flft (β ∷ []) full_share) ⊛ ‵ ftrue) ⊛ ‵ (Out.own_val r (v ∷ []))) ⊛
         some (λ (ws : Lasts g.ended κs' z.0.3). ‵ (lasts g.ended κs' z.0.3 ws) ⊛ raw (says_of a.0 r (Adds a.0.now a.1.0.now a.1.1.0.now a.1.1.1.0.now [] r)))))) (id⊢ 𝓤 _) $
         await ! tt $ pick ! (λ r. split ! $ split ! $ split ! $ move ! (1 ∷ []) $ split ! $ move ! (1 ∷ []) $ split ! $ move ! (1 ∷ []) $ split ! $
         -- [t₃; the token of β; t₂; t₁; t₀; the result; the ensures]
@@ -338,7 +338,7 @@ module _ {M : Type 1} {𝓤 : Ura M} (𝓛 : Logic 𝓤) (𝓜 : Model 𝓤 𝓛
         nothing ! $ nothing ! $ nothing ! $ nothing ! $ nothing ! $ group ! 5 $ move ! (1 ∷ 0 ∷ []) $ group ! 3 $ done !)))))))))
 
   -- calls with four texts
-  module _ (Claim : (κs : Lfts 5) → Args four.signature κs → Answered → Type 0) where
+  module _ (Claim : (κs : Lfts 5) → Args four.signature κs → ReturnedResult → Type 0) where
     abbrev clauses_4 : Clauses 𝓤 four.ended
     clauses_4 κs a = record {
       ghost = Unit {0};
@@ -347,7 +347,7 @@ module _ {M : Type 1} {𝓤 : Ura M} (𝓛 : Logic 𝓤) (𝓜 : Model 𝓤 𝓛
     }
 
     pub passes_4 : (c : Clauses 𝓤 four.ended) → c ≡ clauses_4
-        → ((κs : Lfts 5) (a : Args four.signature κs) (r : Answered) → Adds a.0.now a.1.0.now a.1.1.0.now a.1.1.1.0.now a.1.1.1.1.0.now r → Claim κs a r)
+        → ((κs : Lfts 5) (a : Args four.signature κs) (r : ReturnedResult) → Adds a.0.now a.1.0.now a.1.1.0.now a.1.1.1.0.now a.1.1.1.1.0.now r → Claim κs a r)
         → (key : Callee) → Closed 𝓤 𝓛.H 𝓣.C 𝓣.Λ key (code_4 kind occur) → Meets 𝓛 four.signature (𝓣.C key) (closing 𝓛 four.ended clauses_4)
     passes_4 c is added key closed =
         let stayed : Stays four.signature.params four.ended.kept = (stay_dropped _ no, (stay_dropped _ yes, (stay_dropped _ yes, (stay_dropped _ yes, (stay_dropped _ yes, tt))))) in
@@ -377,7 +377,7 @@ module _ {M : Type 1} {𝓤 : Ura M} (𝓛 : Logic 𝓤) (𝓜 : Model 𝓤 𝓛
         sets ! (agg ! (and_then ! (lit ! (lt→ltb _ _ occur_typed.1.0.fits)) (no_more !))) refl occur_typed $
         calls_at ! (framed 𝓤 𝓛.H 𝓜 𝓣) G met z
         (and_then ! (get ! refl) (and_then ! (get ! refl) (and_then ! (get ! refl) (and_then ! (get ! refl) (and_then ! (get ! refl) (and_then ! (get ! refl) (and_then ! (get ! refl) (no_more !)))))))) (λ v.
-        use1 𝓛 (later (some (λ (r : Answered). (raw (alive 𝓛 four.signature κs qs) ⊛ ‵ (Out.own_val r (v ∷ []))) ⊛ some (λ (ws : Lasts g.ended κs z.0.3).
+        use1 𝓛 (later (some (λ (r : ReturnedResult). (raw (alive 𝓛 four.signature κs qs) ⊛ ‵ (Out.own_val r (v ∷ []))) ⊛ some (λ (ws : Lasts g.ended κs z.0.3).
         ‵ (lasts g.ended κs z.0.3 ws) ⊛ raw (says_of a.0 r (Adds a.0.now a.1.0.now a.1.1.0.now a.1.1.1.0.now a.1.1.1.1.0.now r)))))) (id⊢ 𝓤 _) $
         await ! tt $ pick ! (λ r. split ! $ split ! $ move ! (1 ∷ []) $ peeks ! Out (Is Out) (shows 𝓛 Out) r (v ∷ []) (λ is.
         lands_as ! refl refl (returned_typed 𝓛 κs.0 r v is) $ move ! (2 ∷ []) $ pick ! (λ ws. split ! $ drop ! $

@@ -38,15 +38,15 @@ letter_c = 99
 
 -- a mention of `output` with this value
 abbrev pub output : Text → Mention
-output value = record { group = 0; value = Some value }
+output value = record { place = 0; value = Some value }
 
 -- a mention of `verbose`
 abbrev pub verbose : Mention
-verbose = record { group = 1; value = None }
+verbose = record { place = 1; value = None }
 
 -- a mention of `color`, with this value or none
 abbrev pub color : Option Text → Mention
-color value = record { group = 2; value = value }
+color value = record { place = 2; value = value }
 
 -- The reading keeps the counts, mentions these options and has these free words.
 -- The words have one reading only, with these items and this tail.
@@ -60,9 +60,9 @@ pub record IsReadAs (words : List Text) (items : List Item) (tail : Tail) (menti
 abbrev pub IsRejectedWith : List Text → Fault → Type 0
 IsRejectedWith words fault = IsTheOnly (IsLineOf sample words) (Err fault)
 
-computed : (words : List Text) (answer : Result Reading Fault) → list_all is_plain_text words ≡ true
-    → accepted_reading sample words ≡ answer → IsTheOnly (IsLineOf sample words) answer
-computed words answer plain gives =
+computed : (words : List Text) (result : Result Reading Fault) → list_all is_plain_text words ≡ true
+    → accepted_reading sample words ≡ result → IsTheOnly (IsLineOf sample words) result
+computed words result plain gives =
     let declared = MayBeDeclared-plain sample refl in
     subst (IsTheOnly (IsLineOf sample words)) gives
     (HasResults-declared sample declared words (AreTexts-plain words plain)).line

@@ -18,11 +18,11 @@ pub IsOutOfMemoryOr-one : (fail : Fail) (fault : Fault) (Q : Fault → Type 0) �
 IsOutOfMemoryOr-one fail fault Q tells holds = search (rules, IsOutOfMemoryOr-weaker)
 
 -- and so has the error that the exit of a `?` returns
-pub IsOutOfMemoryOr-exit : {T : Type 0} (answer : Result T Fail) (fail : Fail)
-    (P Q : Fault → Type 0) → IsErrAnd answer (λ other. other ≡ fail) → IsOutOfMemoryOr fail P
-    → ((fault : Fault) → P fault → Q fault) → IfErr answer (λ fail. IsOutOfMemoryOr fail Q)
-IsOutOfMemoryOr-exit answer fail P Q exit tells follows = search (rules, err_from_is_err_and, IsOutOfMemoryOr-weaker)
+pub IsOutOfMemoryOr-exit : {T : Type 0} (result : Result T Fail) (fail : Fail)
+    (P Q : Fault → Type 0) → IsErrAnd result (λ other. other ≡ fail) → IsOutOfMemoryOr fail P
+    → ((fault : Fault) → P fault → Q fault) → IfErr result (λ fail. IsOutOfMemoryOr fail Q)
+IsOutOfMemoryOr-exit result fail P Q exit tells follows = search (rules, err_from_is_err_and, IsOutOfMemoryOr-weaker)
 
 -- a fact about the case without a value implies all facts that follow from it
-pub IfNone-weaker : {X : Type 0} (answer : Option X) (P Q : Type 0) → (P → Q) → IfNone answer P → IfNone answer Q
-IfNone-weaker answer P Q follows holds = search rules
+pub IfNone-weaker : {X : Type 0} (result : Option X) (P Q : Type 0) → (P → Q) → IfNone result P → IfNone result Q
+IfNone-weaker result P Q follows holds = search rules

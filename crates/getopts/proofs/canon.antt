@@ -1,3 +1,3 @@
 -- Canonical lines, and the result of `canonical`.
 pub mod Lines
-pub mod Answered
+pub mod OneResult

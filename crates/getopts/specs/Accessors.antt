@@ -18,12 +18,12 @@ use Rattle.getopts.specs.declared.scan.Given.TheVariants as borrowed
 abbrev pub held_names : List MatchedGroup → List Names
 held_names groups = map (λ group. group.signature.names) groups
 
-abbrev pub place_of : List MatchedGroup → Text → Option ℕ
-place_of groups name = resolution (held_names groups) name
+abbrev pub opt_place : List MatchedGroup → Text → Option ℕ
+opt_place groups name = resolution (held_names groups) name
 
 -- The name is defined: it resolves to a group.
 abbrev pub IsDefined : List MatchedGroup → Text → Type 0
-IsDefined groups name = IsSome (place_of groups name)
+IsDefined groups name = IsSome (opt_place groups name)
 
 -- Each name is defined.
 abbrev pub AreDefined : List MatchedGroup → List Text → Type 0
@@ -34,11 +34,11 @@ abbrev pub HaveLawfulNames : List MatchedGroup → Type 0
 HaveLawfulNames groups = AllByRecursion (λ group. IsLawfullyNamed group.signature.names) groups
 
 abbrev pub occurrences_of_group : List MatchedGroup → ℕ → List GroupOccurrence
-occurrences_of_group groups place = option_map_or (λ group. group.found) (slice_get groups place) []
+occurrences_of_group groups place = option_map_or (λ group. group.occurrences) (slice_get groups place) []
 
 abbrev pub occurrences_of_name : List MatchedGroup → Text → List GroupOccurrence
 occurrences_of_name groups name =
-    option_map_or (occurrences_of_group groups) (place_of groups name) []
+    option_map_or (occurrences_of_group groups) (opt_place groups name) []
 
 abbrev pub is_present : List MatchedGroup → Text → Bool
 is_present groups name = nat_lt 0 (length (occurrences_of_name groups name))
@@ -54,29 +54,29 @@ abbrev pub pair_view : ℕ × String Global → ℕ × Text
 pair_view pair = (pair.0, string_bytes pair.1)
 
 abbrev pub positions_of : List GroupOccurrence → List ℕ
-positions_of founds = map (λ found. found.position) founds
+positions_of occurrences = map (λ occurrence. occurrence.position) occurrences
 
 abbrev pub each_value : List GroupOccurrence → List (Option Text)
-each_value founds = map (λ found. found.value) founds
+each_value occurrences = map (λ occurrence. occurrence.value) occurrences
 
 abbrev pub values_of : List GroupOccurrence → List Text
-values_of founds = filter_map (λ found. found.value) founds
+values_of occurrences = filter_map (λ occurrence. occurrence.value) occurrences
 
 abbrev pub pair_of : GroupOccurrence → Option (ℕ × Text)
-pair_of found = option_map (λ value. (found.position, value)) found.value
+pair_of occurrence = option_map (λ value. (occurrence.position, value)) occurrence.value
 
 abbrev pub pairs_of : List GroupOccurrence → List (ℕ × Text)
-pairs_of founds = filter_map pair_of founds
+pairs_of occurrences = filter_map pair_of occurrences
 
 -- the value of the first occurrence, which may have none even if a later occurrence has one
 abbrev pub first_value : List GroupOccurrence → Option Text
 first_value [] = None
-first_value (found ∷ founds) = found.value
+first_value (occurrence ∷ occurrences) = occurrence.value
 
 -- the value of the first occurrence, or this text if it has none
 abbrev pub first_value_or : List GroupOccurrence → Text → Option Text
 first_value_or [] fallback = None
-first_value_or (found ∷ founds) fallback = Some (unwrap_or found.value fallback)
+first_value_or (occurrence ∷ occurrences) fallback = Some (unwrap_or occurrence.value fallback)
 
 -- the first `first_value` that exists, if names are tried in order
 abbrev pub first_value_among : List MatchedGroup → List Text → Option Text
@@ -87,13 +87,13 @@ first_value_among groups (name ∷ names) =
 -- If there is a value, this is what parsing it gives. Otherwise, this is `Ok None`.
 abbrev pub IsParsedAs : {T E : Type 0} → (Text → Result T E → Type 0)
     → Option Text → Result (Option T) E → Type 0
-IsParsedAs gives value answer =
-    MatchOption value (answer ≡ Ok None) (λ text. IsSomeAnd (result_transpose answer) (gives text))
+IsParsedAs gives value result =
+    MatchOption value (result ≡ Ok None) (λ text. IsSomeAnd (result_transpose result) (gives text))
 
 -- If there is a value, this is what parsing it gives. Otherwise, this is the default.
 abbrev pub IsParsedOr : {T E : Type 0} → (Text → Result T E → Type 0)
     → Option Text → T → Result T E → Type 0
-IsParsedOr gives value default answer = MatchOption value (answer ≡ Ok default) (λ text. gives text answer)
+IsParsedOr gives value default result = MatchOption value (result ≡ Ok default) (λ text. gives text result)
 
 abbrev pub free_before_trailing : Matched → List Text
 free_before_trailing matches =

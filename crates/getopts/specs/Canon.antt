@@ -31,17 +31,17 @@ main_at groups place =
 -- The content is plain: no mentioned group has a main name that contains `=`.
 abbrev pub IsPlain : List Group → Content → Type 0
 IsPlain groups content =
-    AllByRecursion (λ m. holds_equals (main_at groups m.group) ≡ false) content.mentions
+    AllByRecursion (λ m. holds_equals (main_at groups m.place) ≡ false) content.mentions
 
 -- The content is sound: the main name of each mentioned group resolves to that group.
 abbrev pub IsSound : List Group → Content → Type 0
 IsSound groups content =
-    AllByRecursion (λ m. resolution (names_of groups) (main_at groups m.group) ≡ Some m.group)
+    AllByRecursion (λ m. resolution (names_of groups) (main_at groups m.place) ≡ Some m.place)
     content.mentions
 
 -- `--main`, or `--main=value` if the mention has a value
 abbrev pub canonical_word : List Group → Mention → Text
-canonical_word groups m = long_word two (main_at groups m.group) m.value
+canonical_word groups m = long_word two (main_at groups m.place) m.value
 
 abbrev pub canonical_line : List Group → Content → List Text
 canonical_line groups content =
@@ -52,7 +52,7 @@ attached_value None = none
 attached_value (Some value) = attached value
 
 abbrev pub canonical_item : List Group → Mention → Item
-canonical_item groups m = long two (main_at groups m.group) (attached_value m.value)
+canonical_item groups m = long two (main_at groups m.place) (attached_value m.value)
 
 abbrev pub canonical_reading : List Group → Content → Reading
 canonical_reading groups content = record {

@@ -17,7 +17,7 @@ pub record GroupOccurrence : Type 0 where
 -- a group in matches, with its occurrences in command-line order
 pub record MatchedGroup : Type 0 where
   pub signature : Signature
-  pub found : List GroupOccurrence
+  pub occurrences : List GroupOccurrence
 
 -- matches; `trailing_start` is where the words after a stop begin among the free words
 pub record Matched : Type 0 where
@@ -31,13 +31,13 @@ without_group occurrence =
 
 abbrev pub occurrences_mentioning : ℕ → List Occurrence → List GroupOccurrence
 occurrences_mentioning place occurrences =
-    map without_group (filter (λ o. o.mention.group == place) occurrences)
+    map without_group (filter (λ o. o.mention.place == place) occurrences)
 
 -- each group with its occurrences; the first group has this place
 abbrev pub matched : ℕ → List Signature → List Occurrence → List MatchedGroup
 matched place [] occurrences = []
 matched place (signature ∷ signatures) occurrences =
-    record { signature = signature; found = occurrences_mentioning place occurrences }
+    record { signature = signature; occurrences = occurrences_mentioning place occurrences }
     ∷ matched (place + 1) signatures occurrences
 
 abbrev pub matches_of : Declared → Reading → Matched
@@ -54,7 +54,7 @@ fits_count Multi count = true
 
 -- The group occurs as often as it may.
 abbrev pub KeepsCount : MatchedGroup → Type 0
-KeepsCount group = fits_count group.signature.occur (length group.found) ≡ true
+KeepsCount group = fits_count group.signature.occur (length group.occurrences) ≡ true
 
 -- Each group occurs as often as it may.
 abbrev pub KeepsCounts : List MatchedGroup → Type 0
@@ -72,4 +72,4 @@ pub record IsCountFault (groups : List MatchedGroup) (fault : Fault) : Type 0 wh
   pub groups_are : groups ≡ before ++ group ∷ after
   pub kept : KeepsCounts before
   pub broken : ¬ (KeepsCount group)
-  pub fault_is : fault ≡ count_fault (main_name group.signature.names) (length group.found)
+  pub fault_is : fault ≡ count_fault (main_name group.signature.names) (length group.occurrences)

@@ -107,7 +107,7 @@ pub record IsOrder (options : Declared) (words : List Text) (order : List Given)
 pub record Gives (options : Declared) (words : List Text) (name : Text) : Type 0 where
   pub reading : Reading
   pub reads : Reads options words reading
-  pub occurs : Any (λ o. resolution (names_of options.groups) name ≡ Some o.mention.group)
+  pub occurs : Any (λ o. resolution (names_of options.groups) name ≡ Some o.mention.place)
       (occurrences_of (grammar_of options) reading)
 
 -- The words give neither `help` nor `version`.
@@ -125,77 +125,77 @@ IfParsed request P = ⊤
 
 -- This is the reading of the words, or why there is none.
 abbrev pub IsReadingOf : Declared → List Text → Result Reading Fault → Type 0
-IsReadingOf options words answer =
-    MatchResult answer (Reads options words) (HasNoReading options words)
+IsReadingOf options words result =
+    MatchResult result (Reads options words) (HasNoReading options words)
 
 -- This is the reading of the words that keeps the counts, or their first error.
 abbrev pub IsLineOf : Declared → List Text → Result Reading Fault → Type 0
-IsLineOf options words answer =
-    MatchResult answer (λ reading. IsCountKeeping options reading words) (IsRefused options words)
+IsLineOf options words result =
+    MatchResult result (λ reading. IsCountKeeping options reading words) (IsRefused options words)
 
 -- This is the result of `parse`.
-abbrev pub IsParseAnswer : Declared → List Text → Result Matched Fault → Type 0
-IsParseAnswer options words answer =
-    MatchResult answer (IsAccepted options words) (IsRefused options words)
+abbrev pub IsParseResult : Declared → List Text → Result Matched Fault → Type 0
+IsParseResult options words result =
+    MatchResult result (IsAccepted options words) (IsRefused options words)
 
 -- This is the result of `parse_ignoring_counts`.
-abbrev pub IsReadAnswer : Declared → List Text → Result Matched Fault → Type 0
-IsReadAnswer options words answer =
-    MatchResult answer (HasReading options words) (HasNoReading options words)
+abbrev pub IsReadResult : Declared → List Text → Result Matched Fault → Type 0
+IsReadResult options words result =
+    MatchResult result (HasReading options words) (HasNoReading options words)
 
 -- This is the result of `canonical`.
-abbrev pub IsCanonicalAnswer : Declared → List Text → Result (Option (List Text)) Fault → Type 0
-IsCanonicalAnswer options words answer =
-    MatchResult answer
+abbrev pub IsCanonicalResult : Declared → List Text → Result (Option (List Text)) Fault → Type 0
+IsCanonicalResult options words result =
+    MatchResult result
     (λ written. MatchOption written (IsUnwritable options words) (IsWritten options words))
     (IsRefused options words)
 
 -- This is the result of `parse_in_order`.
-abbrev pub IsOrderAnswer : Declared → List Text → Result (List Given) Fault → Type 0
-IsOrderAnswer options words answer =
-    MatchResult answer (IsOrder options words) (IsRefused options words)
+abbrev pub IsOrderResult : Declared → List Text → Result (List Given) Fault → Type 0
+IsOrderResult options words result =
+    MatchResult result (IsOrder options words) (IsRefused options words)
 
 -- If the flag is given, the counts aren't checked.
 -- This is the result of `parse_unless`.
-abbrev pub IsUnlessAnswer : Declared → Text → List Text → Result (Option Matched) Fault → Type 0
-IsUnlessAnswer options flag words (Ok None) = Gives options words flag
-IsUnlessAnswer options flag words (Ok (Some matches)) =
+abbrev pub IsUnlessResult : Declared → Text → List Text → Result (Option Matched) Fault → Type 0
+IsUnlessResult options flag words (Ok None) = Gives options words flag
+IsUnlessResult options flag words (Ok (Some matches)) =
     ¬ (Gives options words flag) × IsAccepted options words matches
-IsUnlessAnswer options flag words (Err fault) =
+IsUnlessResult options flag words (Err fault) =
     ¬ (Gives options words flag) × IsRefused options words fault
 
 -- If help or the version is requested, the counts aren't checked.
 -- This is the result of `parse_request`.
-abbrev pub IsRequestAnswer : Declared → List Text → Result (Request Matched) Fault → Type 0
-IsRequestAnswer options words (Ok Help) = Gives options words (codes "help")
-IsRequestAnswer options words (Ok Version) =
+abbrev pub IsRequestResult : Declared → List Text → Result (Request Matched) Fault → Type 0
+IsRequestResult options words (Ok Help) = Gives options words (codes "help")
+IsRequestResult options words (Ok Version) =
     ¬ (Gives options words (codes "help")) × Gives options words (codes "version")
-IsRequestAnswer options words (Ok (Parsed matches)) =
+IsRequestResult options words (Ok (Parsed matches)) =
     RequestsNeither options words × IsAccepted options words matches
-IsRequestAnswer options words (Err fault) =
+IsRequestResult options words (Err fault) =
     RequestsNeither options words × IsRefused options words fault
 
 -- Each function computes the only result that its relation allows.
 pub record HasResults (options : Declared) (words : List Text) : Type 0 where
   pub reading : IsTheOnly (IsReadingOf options words) (reading_or_error options words)
   pub line : IsTheOnly (IsLineOf options words) (accepted_reading options words)
-  pub parse : IsTheOnly (IsParseAnswer options words) (parse_result options words)
-  pub read : IsTheOnly (IsReadAnswer options words) (parse_ignoring_counts_result options words)
-  pub canonical : IsTheOnly (IsCanonicalAnswer options words) (canonical_result options words)
-  pub order : IsTheOnly (IsOrderAnswer options words) (parse_in_order_result options words)
+  pub parse : IsTheOnly (IsParseResult options words) (parse_result options words)
+  pub read : IsTheOnly (IsReadResult options words) (parse_ignoring_counts_result options words)
+  pub canonical : IsTheOnly (IsCanonicalResult options words) (canonical_result options words)
+  pub order : IsTheOnly (IsOrderResult options words) (parse_in_order_result options words)
   pub unless : (flag : Text)
-      → IsTheOnly (IsUnlessAnswer options flag words) (parse_unless_result options flag words)
-  pub request : IsTheOnly (IsRequestAnswer options words) (parse_request_result options words)
+      → IsTheOnly (IsUnlessResult options flag words) (parse_unless_result options flag words)
+  pub request : IsTheOnly (IsRequestResult options words) (parse_request_result options words)
 
 -- The call returns out of memory or, with its value converted, a result with the property `Is`.
 abbrev pub ReturnsConverted : {A X : Type 0} → (A → X) → Result A Fail → (Result X Fault → Type 0)
     → Type 0
-ReturnsConverted convert answer Is =
-    MatchResult answer (λ value. Is (Ok (convert value))) (λ fail. IsOutOfMemoryOr fail (λ fault. Is (Err fault)))
+ReturnsConverted convert result Is =
+    MatchResult result (λ value. Is (Ok (convert value))) (λ fail. IsOutOfMemoryOr fail (λ fault. Is (Err fault)))
 
 -- The call returns out of memory, or this result.
 abbrev pub ReturnsResult : {X : Type 0} → Result X Fail → Result X Fault → Type 0
-ReturnsResult answer result = ReturnsConverted (λ value. value) answer (λ it. result ≡ it)
+ReturnsResult returned result = ReturnsConverted (λ value. value) returned (λ it. result ≡ it)
 
 -- ---- what accepted words and their matches obey
 
@@ -206,8 +206,8 @@ AreGroupsOf options groups = map (λ group. group.signature) groups ≡ signatur
 -- The occurrences of each group have values that fit its kind.
 abbrev pub HaveValuesByKind : List MatchedGroup → Type 0
 HaveValuesByKind groups =
-    AllByRecursion (λ group. AllByRecursion (λ found. FitsKind group.signature.kind found.value)
-    group.found) groups
+    AllByRecursion (λ group. AllByRecursion (λ occurrence. FitsKind group.signature.kind occurrence.value)
+    group.occurrences) groups
 
 -- The groups in the matches fit the options, except that counts may be broken.
 pub record FitOptions (options : Declared) (groups : List MatchedGroup) : Type 0 where

@@ -201,12 +201,12 @@ pub record IsReading (grammar : Grammar) (reading : Reading) (words : List Text)
 
 -- a mention of an option, by its place among the groups
 pub record Mention : Type 0 where
-  pub group : ℕ
+  pub place : ℕ
   pub value : Option Text
 
 -- Every name in a valid item resolves, so the 0 is never used.
 abbrev pub mention_at : Option ℕ → Option Text → Mention
-mention_at place value = record { group = unwrap_or place 0; value = value }
+mention_at place value = record { place = unwrap_or place 0; value = value }
 
 abbrev pub mention_of : Grammar → Text → Option Text → Mention
 mention_of grammar name value = mention_at (grammar.place name) value
@@ -258,7 +258,7 @@ pub data Given : Type 0 where
   free_word : Text → Given
 
 abbrev pub given_option : Mention → Given
-given_option m = option m.group m.value
+given_option m = option m.place m.value
 
 abbrev pub given_by : Grammar → Item → List Given
 given_by grammar (free word) = free_word word ∷ []
@@ -276,7 +276,7 @@ order_of_reading grammar reading =
 abbrev pub options_in : List Given → List Mention
 options_in [] = []
 options_in (option place value ∷ order) =
-    record { group = place; value = value } ∷ options_in order
+    record { place = place; value = value } ∷ options_in order
 options_in (free_word word ∷ order) = options_in order
 
 abbrev pub frees_in : List Given → List Text

@@ -146,7 +146,7 @@ pub record FreeWordsAreSubsequence (grammar : Grammar) : Type 0 where
 -- In each group in the matches, the positions never decrease.
 abbrev pub HavePositionsInOrder : List MatchedGroup → Type 0
 HavePositionsInOrder groups =
-    AllByRecursion (λ group. IsNonDecreasingBy (λ found. found.position) group.found) groups
+    AllByRecursion (λ group. IsNonDecreasingBy (λ occurrence. occurrence.position) group.occurrences) groups
 
 -- In an order, the item's options follow what the items before it give.
 pub record FollowsItems (grammar : Grammar) (order : List Given) (before : List Item) (item : Item)
@@ -179,7 +179,7 @@ pub record PositionsAreWords (grammar : Grammar) : Type 0 where
 -- Each position in the matches is below this number of words.
 abbrev pub HavePositionsBelow : ℕ → List MatchedGroup → Type 0
 HavePositionsBelow count groups =
-    AllByRecursion (λ group. AllByRecursion (λ found. found.position < count) group.found) groups
+    AllByRecursion (λ group. AllByRecursion (λ occurrence. occurrence.position < count) group.occurrences) groups
 
 -- This grammar obeys the laws of readings.
 pub record KeepsReadingLaws (grammar : Grammar) : Type 0 where

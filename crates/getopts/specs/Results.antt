@@ -66,12 +66,12 @@ unfolding read_both
 read grammar words = (read_both grammar words).0
 
 abbrev pub broken_count : MatchedGroup → Fault
-broken_count group = count_fault (main_name group.signature.names) (length group.found)
+broken_count group = count_fault (main_name group.signature.names) (length group.occurrences)
 
 abbrev pub first_count_fault : List MatchedGroup → Option Fault
 first_count_fault [] = None
 first_count_fault (group ∷ groups) =
-    if fits_count group.signature.occur (length group.found) then first_count_fault
+    if fits_count group.signature.occur (length group.occurrences) then first_count_fault
     groups else Some (broken_count group)
 
 abbrev pub unless_fault : Reading → Option Fault → Result Reading Fault
@@ -92,7 +92,7 @@ accepted_reading options words = with_counts_kept options (read (grammar_of opti
 -- the canonical line of a content, or none if the content isn't plain
 abbrev pub written_line : List Group → Content → Option (List Text)
 written_line groups content =
-    if list_all (λ m. not (holds_equals (main_at groups m.group))) content.mentions then Some
+    if list_all (λ m. not (holds_equals (main_at groups m.place))) content.mentions then Some
     (canonical_line groups content) else None
 
 abbrev pub made_of : {X : Type 0} → (Reading → X) → Result Reading Fault → Result X Fault

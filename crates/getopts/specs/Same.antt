@@ -57,12 +57,12 @@ abbrev pub same_fail : Fail → Fail → Bool
 same_fail = on fault_of (option_eq same_fault)
 
 abbrev pub same_group_occurrence : GroupOccurrence → GroupOccurrence → Bool
-same_group_occurrence = eq_of_both (on (λ found. found.position) ◌==◌)
-    (on (λ found. found.value) (option_eq (pointwise ◌==◌)))
+same_group_occurrence = eq_of_both (on (λ occurrence. occurrence.position) ◌==◌)
+    (on (λ occurrence. occurrence.value) (option_eq (pointwise ◌==◌)))
 
 abbrev pub same_matched_group : MatchedGroup → MatchedGroup → Bool
 same_matched_group = eq_of_both (on (λ group. group.signature) same_signature)
-    (on (λ group. group.found) (pointwise same_group_occurrence))
+    (on (λ group. group.occurrences) (pointwise same_group_occurrence))
 
 abbrev pub same_matches : Matched → Matched → Bool
 same_matches = eq_of_both (on (λ matches. matches.groups) (pointwise same_matched_group))

@@ -124,7 +124,7 @@ pub record TakesOne (grammar : Grammar) (step : Step) (after : List Text) (place
   pub after_is : after ≡ argument_words argument ++ left
   pub counted : word_count (item ∷ []) ≡ 1 + length (argument_words argument)
   pub no_free : free_items (item ∷ []) ≡ []
-  pub mentioned : mentions grammar item ≡ record { group = place; value = value } ∷ []
+  pub mentioned : mentions grammar item ≡ record { place = place; value = value } ∷ []
 
 -- The first of a cluster's names gives this option, and these names and words are left.
 pub data TakesName (grammar : Grammar) (names : Text) (after : List Text) (place : ℕ)

@@ -8,7 +8,7 @@ ghost use Rattle.std.specs.String.{string_bytes};
 ghost use Rattle.getopts.specs.Accessors.{AreDefined, HaveLawfulNames, IsDefined, IsParsedAs};
 ghost use Rattle.getopts.specs.Accessors.{IsParsedOr, first_value, first_value_among, first_value_or};
 ghost use Rattle.getopts.specs.Accessors.{occurrences_of_group, is_present, occurrences_of_name};
-ghost use Rattle.getopts.specs.Accessors.{pair_view, pairs_of, place_of, free_before_trailing};
+ghost use Rattle.getopts.specs.Accessors.{pair_view, pairs_of, opt_place, free_before_trailing};
 ghost use Rattle.getopts.specs.Accessors.{positions_of, trailing_words, values_of};
 ghost use Rattle.getopts.specs.Names.{texts};
 
@@ -40,10 +40,10 @@ impl Matches {
     /// false. After `optopt("o",..)` and `optflag("v",..)`, `v` gives `Some(1)`. The Rust crate has
     /// no such method.
     pub fn opt_place(&self, name: &str) -> Option<usize>
-        ensures place { result ≡ place_of self.now.groups name.now }
+        ensures place { result ≡ opt_place self.now.groups name.now }
         ensures lawful { HaveLawfulNames self.now.groups }
     {
-        self.held.place_of(name)
+        self.held.opt_place(name)
     }
 
     /// Borrows the occurrences of the option group at an index, in command-line order.
@@ -55,14 +55,14 @@ impl Matches {
     pub fn occurrences_at(&self, place: usize) -> Occurrences<'_>
         ensures occurrences { result ≡ occurrences_of_group self.now.groups place }
     {
-        self.held.occurrences_at(place)
+        self.held.occurrences_of_group(place)
     }
 
     /// Whether an option was given. An undefined option counts as not given.
     pub(crate) fn has(&self, name: &str) -> bool
         ensures { result ≡ is_present self.now.groups name.now }
     {
-        !self.held.occurrences_of(name).is_empty()
+        !self.held.occurrences_of_name(name).is_empty()
     }
 
     /// Whether a name resolves to a group.
@@ -84,7 +84,7 @@ impl Matches {
         requires { IsDefined self.now.groups name.now }
         ensures count { result ≡ length (occurrences_of_name self.now.groups name.now) }
     {
-        self.held.occurrences_of(name).len()
+        self.held.occurrences_of_name(name).len()
     }
 
     /// Whether an option was given, by either name.
@@ -115,7 +115,7 @@ impl Matches {
             ≡ length (occurrences_of_name self.now.groups name.now)) }
         ensures absent { occurrences_of_name self.now.groups name.now ≡ [] → IsOk result }
     {
-        self.held.occurrences_of(name).positions(alloc)
+        self.held.occurrences_of_name(name).positions(alloc)
     }
 
     /// Returns the values of an option's occurrences, in command-line order.
@@ -130,7 +130,7 @@ impl Matches {
         ensures absent { values_of (occurrences_of_name self.now.groups name.now) ≡ []
             → IsOk result }
     {
-        self.held.occurrences_of(name).values(alloc)
+        self.held.occurrences_of_name(name).values(alloc)
     }
 
     /// Returns the positions and values of an option's occurrences that have a value, in
@@ -153,7 +153,7 @@ impl Matches {
         ensures absent { values_of (occurrences_of_name self.now.groups name.now) ≡ []
             → IsOk result }
     {
-        self.held.occurrences_of(name).pairs(alloc)
+        self.held.occurrences_of_name(name).pairs(alloc)
     }
 
     /// Returns the value of an option's first occurrence.
@@ -169,7 +169,7 @@ impl Matches {
         ensures absent { IfSome (first_value (occurrences_of_name self.now.groups name.now))
             (λ value. value ≡ []) → IsOk result }
     {
-        copied(alloc, self.held.occurrences_of(name).first_value())
+        copied(alloc, self.held.occurrences_of_name(name).first_value())
     }
 
     /// Returns the value of an option's first occurrence, or `def` if it has no value.
@@ -189,7 +189,10 @@ impl Matches {
         ensures absent { IfSome (first_value_or (occurrences_of_name self.now.groups name.now) def.now)
             (λ value. value ≡ []) → IsOk result }
     {
-        copied(alloc, self.held.occurrences_of(name).first_value_or(def))
+        copied(
+            alloc,
+            self.held.occurrences_of_name(name).first_value_or(def),
+        )
     }
 
     /// Parses the value of an option's first occurrence as a `T`.
@@ -203,7 +206,7 @@ impl Matches {
         ensures parsed { IsParsedAs T.from_str_gives
             (first_value (occurrences_of_name self.now.groups name.now)) result }
     {
-        match self.held.occurrences_of(name).first_value() {
+        match self.held.occurrences_of_name(name).first_value() {
             Some(text) => Ok(Some(text.parse()?)),
             None => Ok(None),
         }
@@ -220,7 +223,7 @@ impl Matches {
         ensures parsed { IsParsedOr T.from_str_gives
             (first_value (occurrences_of_name self.now.groups name.now)) def result }
     {
-        match self.held.occurrences_of(name).first_value() {
+        match self.held.occurrences_of_name(name).first_value() {
             Some(text) => text.parse(),
             None => Ok(def),
         }
@@ -281,7 +284,7 @@ impl Matches {
             ≡ first_value_among self.now.groups (map T.text names.now) }
     {
         for name in names {
-            if let Some(value) = self.held.occurrences_of(name.as_str()).first_value() {
+            if let Some(value) = self.held.occurrences_of_name(name.as_str()).first_value() {
                 return Some(value);
             }
         }

@@ -41,7 +41,7 @@ fn declare_equals(groups: &Groups) -> bool
 /// Tests the declared names first if they are fewer than the options and free words.
 fn are_plain(groups: &Groups, order: &[Given]) -> bool
     requires { All (λ given. IsDeclared groups.now (borrowed_given given)) order.now }
-    ensures { result ≡ list_all (λ m. not (holds_equals (main_at groups.now m.group)))
+    ensures { result ≡ list_all (λ m. not (holds_equals (main_at groups.now m.place)))
         (options_in (map borrowed_given order.now)) }
 {
     if groups.len() < order.len() && !declare_equals(groups) {
@@ -134,11 +134,12 @@ impl Options {
         requires can { I.can_next args }
         requires ends { IsFinite (I.remaining args) }
         ensures result { ReturnsConverted (option_map (λ line. map string_bytes line.items)) result
-            (λ answer. WholeRun I.next_gives args
-            (λ run. canonical_result self.now (texts run.items) ≡ answer)) }
-        ensures written { IfOk result (λ answer. IfSome answer (λ line. WholeRun I.next_gives args
+            (λ returned. WholeRun I.next_gives args
+            (λ run. canonical_result self.now (texts run.items) ≡ returned)) }
+        ensures written { IfOk result (λ returned. IfSome returned (λ line.
+            WholeRun I.next_gives args
             (λ run. IsWritten self.now (texts run.items) (map string_bytes line.items)))) }
-        ensures unwritable { IfOk result (λ answer. IfNone answer (WholeRun I.next_gives args
+        ensures unwritable { IfOk result (λ returned. IfNone returned (WholeRun I.next_gives args
             (λ run. IsUnwritable self.now (texts run.items)))) }
         ensures refused { IfErr result
             (λ fail. IsOutOfMemoryOr fail (λ fault. WholeRun I.next_gives args
@@ -160,10 +161,10 @@ impl Options {
         words: &[S],
     ) -> Result<Option<Vec<String>>, Fail>
         ensures result { ReturnsConverted (option_map (λ line. map string_bytes line.items)) result
-            (λ answer. canonical_result self.now (map S.text words.now) ≡ answer) }
-        ensures written { IfOk result (λ answer. IfSome answer (λ line.
+            (λ returned. canonical_result self.now (map S.text words.now) ≡ returned) }
+        ensures written { IfOk result (λ returned. IfSome returned (λ line.
             IsWritten self.now (map S.text words.now) (map string_bytes line.items))) }
-        ensures unwritable { IfOk result (λ answer. IfNone answer
+        ensures unwritable { IfOk result (λ returned. IfNone returned
             (IsUnwritable self.now (map S.text words.now))) }
         ensures refused { IfErr result (λ fail. IsOutOfMemoryOr fail
             (IsRefused self.now (map S.text words.now))) }

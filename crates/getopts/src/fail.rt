@@ -68,7 +68,7 @@ impl PartialEq for Fail {
 
     /// Whether both are the same variant, with the same name.
     fn eq(&self, other: &Fail) -> bool
-        ensures answer { result ≡ same_fail self.now other.now }
+        ensures result { result ≡ same_fail self.now other.now }
         ensures same { IsTrue result ↔ (fault_of self.now ≡ fault_of other.now) }
     {
         match (self, other) {

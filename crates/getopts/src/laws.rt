@@ -5,7 +5,7 @@ ghost use Rattle.getopts.specs.Canon.{Content, Says, IsSound, IsPlain, HasCanoni
 ghost use Rattle.getopts.specs.declared.kinds.ParsingStyle.{ParsingStyle};
 ghost use Rattle.std.specs.Prelude.{ℕ, List, Bool};
 ghost use Rattle.getopts.specs.Accessors.{held_names};
-ghost use Rattle.getopts.specs.Parse.{IsParseAnswer, IsCanonicalAnswer, KeepsLineLaws, HasResults};
+ghost use Rattle.getopts.specs.Parse.{IsParseResult, IsCanonicalResult, KeepsLineLaws, HasResults};
 ghost use Rattle.getopts.specs.Names.{Text, AreTexts, MainNameResolves, OneByteIsShort};
 ghost use Rattle.getopts.specs.Names.{EmptyResolvesNot};
 ghost use Rattle.getopts.specs.Only.{AtMostOne, IsTheOnly};
@@ -126,9 +126,9 @@ pub fn held_names_resolve(matches: &Matches)
 /// This is a lemma for proofs, which does nothing.
 pub fn equal_input_equal_answers()
     ensures parse { (options : Declared) (words : List Text)
-        → AtMostOne (IsParseAnswer options words) }
+        → AtMostOne (IsParseResult options words) }
     ensures canonical { (options : Declared) (words : List Text)
-        → AtMostOne (IsCanonicalAnswer options words) }
+        → AtMostOne (IsCanonicalResult options words) }
 {}
 
 /// The results of the calls are those that functions such as `parse_result` compute. This is a

@@ -6,7 +6,7 @@ ghost use Rattle.std.specs.Cmp.Rules.{comparing};
 ghost use Rattle.std.specs.String.{string_bytes};
 ghost use Rattle.std.proofs.Common.{rules};
 ghost use Rattle.getopts.specs.Accessors.{HaveLawfulNames, occurrences_of_group};
-ghost use Rattle.getopts.specs.Accessors.{occurrences_of_name, place_of};
+ghost use Rattle.getopts.specs.Accessors.{occurrences_of_name, opt_place};
 ghost use Rattle.getopts.specs.Fail.{IsOutOfMemoryOr};
 ghost use Rattle.getopts.specs.Matches.{matched};
 ghost use Rattle.getopts.specs.Results.{first_count_fault};
@@ -125,7 +125,7 @@ impl PartialEq for Matches {
     /// order of different options within a cluster doesn't count: the matches of `-ab` and `-ba`
     /// are equal. Allocates nothing, and visits the occurrences of both once.
     fn eq(&self, other: &Matches) -> bool
-        ensures answer { result ≡ same_matches self.now other.now }
+        ensures result { result ≡ same_matches self.now other.now }
         ensures same { IsTrue result ↔ (self.now ≡ other.now) }
     {
         self.held.same(&other.held)
@@ -178,25 +178,25 @@ impl MatchedGroups {
         &self.signatures
     }
 
-    pub(crate) fn place_of(&self, name: &str) -> Option<usize>
-        ensures place { result ≡ place_of self.now name.now }
+    pub(crate) fn opt_place(&self, name: &str) -> Option<usize>
+        ensures place { result ≡ opt_place self.now name.now }
         ensures lawful { HaveLawfulNames self.now }
     {
         self.table.resolve(&self.signatures, name)
     }
 
     #[inline]
-    pub(crate) fn occurrences_at(&self, place: usize) -> Occurrences<'_>
+    pub(crate) fn occurrences_of_group(&self, place: usize) -> Occurrences<'_>
         ensures { result ≡ occurrences_of_group self.now place }
     {
         Occurrences::of(&self.found, self.index.indices(place))
     }
 
-    pub(crate) fn occurrences_of(&self, name: &str) -> Occurrences<'_>
+    pub(crate) fn occurrences_of_name(&self, name: &str) -> Occurrences<'_>
         ensures { result ≡ occurrences_of_name self.now name.now }
     {
-        match self.place_of(name) {
-            Some(place) => self.occurrences_at(place),
+        match self.opt_place(name) {
+            Some(place) => self.occurrences_of_group(place),
             None => Occurrences::of(&self.found, &[]),
         }
     }
@@ -211,8 +211,8 @@ impl MatchedGroups {
         }
         for place in 0..self.signatures.len() {
             if !self
-                .occurrences_at(place)
-                .same(&other.occurrences_at(place))
+                .occurrences_of_group(place)
+                .same(&other.occurrences_of_group(place))
             {
                 return false;
             }

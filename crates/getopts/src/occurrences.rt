@@ -158,14 +158,14 @@ impl LineOccurrences {
     pub(crate) fn at(&self, index: usize) -> Occurrence<'_>
         requires { index < length self.now }
         ensures { slice_get self.now index ≡ Some (at_position result.position
-            (record { group = result.place; value = option_copied result.value })) }
+            (record { place = result.place; value = option_copied result.value })) }
     {
-        let held = self.records[index];
+        let stored = self.records[index];
         Occurrence {
-            place: held.place,
-            position: held.position,
-            value: if held.value % 2 == 1 {
-                value_from(&self.values, held.value / 2, &self.records, index + 1)
+            place: stored.place,
+            position: stored.position,
+            value: if stored.value % 2 == 1 {
+                value_from(&self.values, stored.value / 2, &self.records, index + 1)
             } else {
                 None
             },
@@ -180,7 +180,7 @@ impl LineOccurrences {
         value: Option<&str>,
     ) -> Result<(), AllocError>
         ensures { OnOk result (self.new ≡ self.old ++ at_position position
-            (record { group = place; value = option_copied value.entry }) ∷ []) }
+            (record { place = place; value = option_copied value.entry }) ∷ []) }
     {
         let value = push_value(&mut self.values, value)?;
         self.records.push(OccurrenceRecord {

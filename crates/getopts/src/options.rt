@@ -350,7 +350,7 @@ impl PartialEq for Options {
 
     /// Whether all six parts of each group in order, the style and the mode are equal.
     fn eq(&self, other: &Options) -> bool
-        ensures answer { result ≡ same_options self.now other.now }
+        ensures result { result ≡ same_options self.now other.now }
         ensures same { IsTrue result ↔ (self.now ≡ other.now) }
     {
         self.groups == other.groups

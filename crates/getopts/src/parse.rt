@@ -92,8 +92,8 @@ impl Options {
         requires can { I.can_next args }
         requires ends { IsFinite (I.remaining args) }
         ensures result { ReturnsConverted (λ matches. matches) result
-            (λ answer. WholeRun I.next_gives args
-            (λ run. parse_result self.now (texts run.items) ≡ answer)) }
+            (λ returned. WholeRun I.next_gives args
+            (λ run. parse_result self.now (texts run.items) ≡ returned)) }
         ensures accepted { IfOk result (λ matches. WholeRun I.next_gives args
             (λ run. Accepts self.now (texts run.items) matches)) }
         ensures refused { IfErr result
@@ -124,7 +124,7 @@ impl Options {
         words: &'w [S],
     ) -> Result<Vec<Given<'w>>, Fail>
         ensures result { ReturnsConverted (λ order. map borrowed_given order.items) result
-            (λ answer. parse_in_order_result self.now (map S.text words.now) ≡ answer) }
+            (λ returned. parse_in_order_result self.now (map S.text words.now) ≡ returned) }
         ensures order { IfOk result (λ order.
             IsOrder self.now (map S.text words.now) (map borrowed_given order.items)) }
 

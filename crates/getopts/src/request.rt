@@ -81,14 +81,14 @@ impl Options {
     ) -> Result<Option<Matches>, Fail>
         ensures result { ReturnsResult result
             (parse_unless_result self.now flag.now (map S.text words.now)) }
-        ensures accepted { IfOk result (λ answer. IfSome answer
+        ensures accepted { IfOk result (λ returned. IfSome returned
             (Accepts self.now (map S.text words.now))) }
-        ensures parsed { IfOk result (λ answer. IfSome answer (λ matches.
+        ensures parsed { IfOk result (λ returned. IfSome returned (λ matches.
             parse_result self.now (map S.text words.now) ≡ Ok matches)) }
         ensures refused { IfErr result (λ fail. IsOutOfMemoryOr fail
             (IsRefused self.now (map S.text words.now))) }
 
-        ensures declared { IfOk result (λ answer. IfSome answer (λ matches.
+        ensures declared { IfOk result (λ returned. IfSome returned (λ matches.
             FitOptionsAndCounts self.now matches.groups)) }
         ensures laws { OnOk result (KeepsReadingLaws (grammar_of self.now)) }
     {

@@ -20,7 +20,7 @@ use Rattle.getopts_shell.specs.Quote.{quoted, quoted_words, replaced, spaced}
 use Rattle.getopts_shell.specs.Stored.{entries_of, entry_of_row}
 use Rattle.getopts_shell.specs.Table.{Entry}
 use Rattle.getopts_shell.specs.Variables.{first_fault, given_from, is_variable, with_same_variable, is_variable_byte}
-use Rattle.getopts_shell.specs.Variables.{texts_found, variable, variable_byte, variable_fault, VariableFault}
+use Rattle.getopts_shell.specs.Variables.{texts_given, variable, variable_byte, variable_fault, VariableFault}
 use Rattle.getopts_shell.specs.Variables.{variable_of}
 use Rattle.getopts_shell.specs.declared.row.Row.{Row}
 use Rattle.std.proofs.lemmas.Grind.{common_steps}
@@ -38,15 +38,16 @@ name_written (byte ∷ name) = search (rules, name_written name)
 -- ---- values
 
 -- the value of an occurrence, or the empty text
-pub text_of : (founds : List GroupOccurrence) (nth : ℕ)
-    → get_or (texts_found founds) nth [] ≡ option_map_or (λ found. unwrap_or found.value []) (slice_get founds nth) []
+pub text_of : (occurrences : List GroupOccurrence) (nth : ℕ)
+    → get_or (texts_given occurrences) nth []
+    ≡ option_map_or (λ occurrence. unwrap_or occurrence.value []) (slice_get occurrences nth) []
 text_of [] nth = refl
-text_of (first ∷ founds) zero = refl
-text_of (first ∷ founds) (suc nth) = text_of founds nth
+text_of (first ∷ occurrences) zero = refl
+text_of (first ∷ occurrences) (suc nth) = text_of occurrences nth
 
 -- there is one text for each occurrence
-pub length_texts : (founds : List GroupOccurrence) → length (texts_found founds) ≡ length founds
-length_texts founds = simp length-map
+pub length_texts : (occurrences : List GroupOccurrence) → length (texts_given occurrences) ≡ length occurrences
+length_texts occurrences = simp length-map
 
 -- one more word after a space
 spaced_last : (front : Text) (words : List Text) (word : Text)
@@ -80,26 +81,26 @@ last_text (text ∷ []) before some = refl
 last_text (text ∷ other ∷ texts) before some = search (rules, last_text (other ∷ texts) (Some text) (omega arith))
 
 -- the value of the last occurrence
-pub last_found : (founds : List GroupOccurrence) (count : ℕ) → count ≡ length founds → count ≢ 0
-    → last_or None (texts_found founds) ≡ Some (get_or (texts_found founds) (count - 1) [])
-last_found founds count is some = search (rules, last_text, length_texts)
+pub last_given : (occurrences : List GroupOccurrence) (count : ℕ) → count ≡ length occurrences → count ≢ 0
+    → last_or None (texts_given occurrences) ≡ Some (get_or (texts_given occurrences) (count - 1) [])
+last_given occurrences count is some = search (rules, last_text, length_texts)
 
 -- one more option
 pub given_more : (place : ℕ) (rows : List Row) (held : List MatchedGroup) (row : Row)
-    (found : List GroupOccurrence)
-    → place < length rows → row ≡ get_or rows place row → found ≡ occurrences_of_group held place
+    (occurrences : List GroupOccurrence)
+    → place < length rows → row ≡ get_or rows place row → occurrences ≡ occurrences_of_group held place
     → given_from 0 (entries_of (take (place + 1) rows)) held
     ≡ given_from 0 (entries_of (take place rows)) held
-    ++ record { entry = entry_of_row row; found = found } ∷ []
-given_more place rows held row found below is found_is =
-    rw (add-one place, found_is) (by_place 0 place rows below is (omega arith))
+    ++ record { entry = entry_of_row row; occurrences = occurrences } ∷ []
+given_more place rows held row occurrences below is occurrences_are =
+    rw (add-one place, occurrences_are) (by_place 0 place rows below is (omega arith))
   where
     by_place : (from before : ℕ) (rows : List Row) → before < length rows
         → row ≡ get_or rows before row
         → from + before ≡ place
         → given_from from (entries_of (take (suc before) rows)) held
         ≡ given_from from (entries_of (take before rows)) held
-        ++ record { entry = entry_of_row row; found = occurrences_of_group held place } ∷ []
+        ++ record { entry = entry_of_row row; occurrences = occurrences_of_group held place } ∷ []
     by_place from before [] below is here = absurd (omega arith)
     by_place from zero (other ∷ rows) below is here = search rules
     by_place from (suc before) (other ∷ rows) below is here =

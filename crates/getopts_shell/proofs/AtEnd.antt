@@ -97,8 +97,8 @@ module _ (options : Declared) (declared : MayBeDeclared options.groups) where
 
   -- no option may follow words that have no such reading
   none_after : (words : List Text) → AreTexts words → groups_before_option options words ≡ None
-      → (outcome : Result Reading Fault) → IsReadingOf options (with_stop words) outcome
-      → groups_after (made_of (matches_of options) outcome) ≡ None
+      → (result : Result Reading Fault) → IsReadingOf options (with_stop words) result
+      → groups_after (made_of (matches_of options) result) ≡ None
   none_after words are unread (Err fault) is = refl
   none_after words are unread (Ok reading) is = by reading.items reading.tail is where
     by : (items : List Item) (tail : Tail)
@@ -119,10 +119,10 @@ module _ (options : Declared) (declared : MayBeDeclared options.groups) where
   pub groups_before_option-stop : (words : List Text) → AreTexts words
       → groups_after (parse_ignoring_counts_result options (with_stop words)) ≡ groups_before_option options words
   groups_before_option-stop words are = by (reading_or_error options words) refl (result_of words are) where
-    unread : (outcome : Result Reading Fault) → reading_or_error options words ≡ outcome
-        → groups_at_end options outcome ≡ None
+    unread : (result : Result Reading Fault) → reading_or_error options words ≡ result
+        → groups_at_end options result ≡ None
         → groups_after (parse_ignoring_counts_result options (with_stop words)) ≡ None
-    unread outcome is none = none_after words are (ap (groups_at_end options) is ∙ none)
+    unread result is none = none_after words are (ap (groups_at_end options) is ∙ none)
         (reading_or_error options (with_stop words))
         (result_of (with_stop words) (texts_stopped words are))
 
@@ -134,18 +134,18 @@ module _ (options : Declared) (declared : MayBeDeclared options.groups) where
     by_tail items line_end is reads =
         let one : length (free_items items ++ [] ∷ []) - length (free_items items) ≡ 1 =
         omega (arith, length-append (free_items items) ([] ∷ [])) in
-        ap (λ (outcome : Result Reading Fault).
-        groups_after (made_of (matches_of options) outcome))
+        ap (λ (result : Result Reading Fault).
+        groups_after (made_of (matches_of options) result))
         (read_as (with_stop words) (record { items = items; tail = stop ([] ∷ []) })
         (texts_stopped words are) (stop_reads (grammar_of options) items words reads))
         ∙ rw one refl
     by_tail items (stop more) is reads = unread _ is refl
     by_tail items (rest more) is reads = unread _ is refl
 
-    by : (outcome : Result Reading Fault) → reading_or_error options words ≡ outcome
-        → IsReadingOf options words outcome
+    by : (result : Result Reading Fault) → reading_or_error options words ≡ result
+        → IsReadingOf options words result
         → groups_after (parse_ignoring_counts_result options (with_stop words))
-        ≡ groups_at_end options outcome
+        ≡ groups_at_end options result
     by (Err fault) is reads = unread (Err fault) is refl
     by (Ok reading) is reads = by_tail reading.items reading.tail is reads
 

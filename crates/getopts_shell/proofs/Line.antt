@@ -20,7 +20,7 @@ plain_at (group ∷ groups) plain (suc place) = plain_at groups plain.1 place
 
 -- each content is plain
 always_plain : (groups : List Group) → ArePlainlyNamed groups → (mentioned : List Mention)
-    → AllByRecursion (λ (m : Mention). holds_equals (main_at groups m.group) ≡ false) mentioned
+    → AllByRecursion (λ (m : Mention). holds_equals (main_at groups m.place) ≡ false) mentioned
 always_plain groups plain [] = tt
 always_plain groups plain (m ∷ mentioned) = search (rules, plain_at, always_plain groups plain mentioned)
 
@@ -31,17 +31,17 @@ never_unwritable options words plain is = search (rules, always_plain)
 
 -- the canonical word of a main name isn't the stop
 main_no_stop : (groups : List Group) → EmptyResolvesNot (names_of groups) → (m : Mention)
-    → resolution (names_of groups) (main_at groups m.group) ≡ Some m.group → canonical_word groups m ≢ stop_word
-main_no_stop groups empty m sound = λ same. by_main (main_at groups m.group) sound same
+    → resolution (names_of groups) (main_at groups m.place) ≡ Some m.place → canonical_word groups m ≢ stop_word
+main_no_stop groups empty m sound = λ same. by_main (main_at groups m.place) sound same
   where
-    by_main : (main : Text) → resolution (names_of groups) main ≡ Some m.group
+    by_main : (main : Text) → resolution (names_of groups) main ≡ Some m.place
         → 45 ∷ 45 ∷ (main ++ option_map_or (λ (text : Text). 61 ∷ text) m.value []) ≡ 45 ∷ 45 ∷ []
         → ⊥
-    by_main [] sound same = let both : None ≡ Some m.group = sym empty ∙ sound in cc
+    by_main [] sound same = let both : None ≡ Some m.place = sym empty ∙ sound in cc
     by_main (byte ∷ main) sound same = cc
 
 no_stops : (groups : List Group) → EmptyResolvesNot (names_of groups) → (mentioned : List Mention)
-    → AllByRecursion (λ (m : Mention). resolution (names_of groups) (main_at groups m.group) ≡ Some m.group) mentioned
+    → AllByRecursion (λ (m : Mention). resolution (names_of groups) (main_at groups m.place) ≡ Some m.place) mentioned
     → AllByRecursion (λ (m : Mention). canonical_word groups m ≢ stop_word) mentioned
 no_stops groups empty [] sound = tt
 no_stops groups empty (m ∷ mentioned) sound = search (rules, main_no_stop, no_stops groups empty mentioned sound.1)

@@ -8,7 +8,7 @@ use Rattle.getopts.specs.Names.{Text}
 use Rattle.getopts_shell.specs.Quote.{quoted, quoted_words, shell_words}
 use Rattle.getopts_shell.specs.Variables.{array_front, array_words, assigns, Given, is_variable, command_line}
 use Rattle.getopts_shell.specs.Variables.{last_command, line_code, many, no_command, one, option_code, own_value}
-use Rattle.getopts_shell.specs.Variables.{Runs, RunsCommand, RunsText, sets, Shell, texts_found, unsets, value_line}
+use Rattle.getopts_shell.specs.Variables.{Runs, RunsCommand, RunsText, sets, Shell, texts_given, unsets, value_line}
 use Rattle.getopts_shell.specs.Variables.{variable_of, Value, variables_code, with_options, with_variable, one_word}
 use Rattle.getopts_shell.proofs.Quoting.{word_same, words_same}
 
@@ -73,7 +73,7 @@ after_codes : (prefix : Text) (arrays : Bool) (shell : Shell) (options : List Gi
     (free : List Text) (more : Text)
     → AllByRecursion (λ entry. is_variable (variable_of prefix entry) ≡ true)
     (map (λ (option : Given). option.entry) options)
-    → ((held : Shell) → RunsText held more (record held { words = free }))
+    → ((state : Shell) → RunsText state more (record state { words = free }))
     → RunsText shell (flat_map (option_code prefix arrays) options ++ more)
     (with_options prefix arrays options free shell)
 after_codes prefix arrays shell [] free more make last = last shell
@@ -93,12 +93,12 @@ code_runs prefix arrays options free make before =
     let front = flat_map (option_code prefix arrays) options in
     let last = set_front ++ quoted_words free in record {
       whole = after_codes prefix arrays before options free (line_code free) make
-          (λ held. line_then held _ _ last [] _ (sets (quoted_words free) free (words_same free))
-          (no_command (record held { words = free })) (simp append_assoc refl));
+          (λ state. line_then state _ _ last [] _ (sets (quoted_words free) free (words_same free))
+          (no_command (record state { words = free })) (simp append_assoc refl));
       cut = front ++ last;
       cut_is = simp append_assoc refl;
       runs_cut = after_codes prefix arrays before options free last make
-          (λ held. last_command held _ last (sets (quoted_words free) free (words_same free)));
+          (λ state. last_command state _ last (sets (quoted_words free) free (words_same free)));
     }
 
 -- a shell that runs the command holds the words
@@ -108,8 +108,8 @@ line_runs words before = code_runs [] false [] words tt before
 -- the values that a text of words gives
 pub once_more : (options : List Given)
     → AllByRecursion
-    (λ option. shell_words (quoted_words (texts_found option.found))
-    ≡ Some (texts_found option.found))
+    (λ option. shell_words (quoted_words (texts_given option.occurrences))
+    ≡ Some (texts_given option.occurrences))
     options
 once_more [] = tt
-once_more (option ∷ options) = (words_same (texts_found option.found), once_more options)
+once_more (option ∷ options) = (words_same (texts_given option.occurrences), once_more options)

@@ -20,10 +20,10 @@ use Rattle.getopts.specs.declared.kinds.HasArg.TheVariants.{Yes, No, Maybe}
 use Rattle.getopts_bytes.specs.Marks.{bytes_of}
 use Rattle.getopts_shell.specs.Program.{IsOneWord}
 use Rattle.getopts_shell.specs.Table.{Entry}
-use Rattle.getopts_shell.specs.Variables.{AreTextValues, CodeSetsVariables, found_in_bytes, Given, count_text}
-use Rattle.getopts_shell.specs.Variables.{given_alone, HaveOwnVariables, held_value, holds_all, HoldTexts, in_bytes}
+use Rattle.getopts_shell.specs.Variables.{AreTextValues, CodeSetsVariables, occurrence_in_bytes, Given, count_text}
+use Rattle.getopts_shell.specs.Variables.{given_alone, HaveOwnVariables, variable_value, holds_all, HoldTexts, in_bytes}
 use Rattle.getopts_shell.specs.Variables.{is_variable, is_variable_byte, line_code, many, one, option_code}
-use Rattle.getopts_shell.specs.Variables.{SetsVariables, SetsWords, texts_found, Value, value_line, variable_of}
+use Rattle.getopts_shell.specs.Variables.{SetsVariables, SetsWords, texts_given, Value, value_line, variable_of}
 use Rattle.getopts_shell.proofs.Assignments.{each_makes}
 use Rattle.getopts_shell.proofs.Quoting.{word_same}
 use Rattle.getopts_shell.proofs.QuotedBytes.{append_gives, ascii_gives, Gives, quoted_gives, text_gives, words_give}
@@ -74,10 +74,10 @@ count_gives count = by_test (eqb count 0)
 -- ---- values
 
 -- the values in bytes are the bytes of the values
-texts_in_bytes : (founds : List GroupOccurrence)
-    → texts_found (map found_in_bytes founds) ≡ map bytes_of (texts_found founds)
+texts_in_bytes : (occurrences : List GroupOccurrence)
+    → texts_given (map occurrence_in_bytes occurrences) ≡ map bytes_of (texts_given occurrences)
 texts_in_bytes [] = refl
-texts_in_bytes (found ∷ founds) = search (rules, ascii_gives, texts_in_bytes founds)
+texts_in_bytes (occurrence ∷ occurrences) = search (rules, ascii_gives, texts_in_bytes occurrences)
 
 -- so is the last value
 last_in_bytes : (texts : List Text) (before : Option Text)
@@ -100,15 +100,15 @@ many_give name texts named are =
     (append_gives (words_give texts are) (ascii_gives (codes ")\n") refl))))
 
 -- the line of an option that takes an argument
-argument_gives : (name : Text) (arrays all : Bool) (founds : List GroupOccurrence) → Gives name name
-    → AreTextValues Yes all founds
-    → Gives (value_line name (held_value arrays Yes all founds))
-    (value_line name (held_value arrays Yes all (map found_in_bytes founds)))
-argument_gives name true true founds named are = search (rules, texts_in_bytes, many_give)
-argument_gives name false true founds named are = search (rules, texts_in_bytes, one_gives, words_give)
-argument_gives name arrays false founds named are =
-    rw (texts_in_bytes founds, last_in_bytes (texts_found founds) None)
-    (by_last (last_or None (texts_found founds)) are)
+argument_gives : (name : Text) (arrays all : Bool) (occurrences : List GroupOccurrence) → Gives name name
+    → AreTextValues Yes all occurrences
+    → Gives (value_line name (variable_value arrays Yes all occurrences))
+    (value_line name (variable_value arrays Yes all (map occurrence_in_bytes occurrences)))
+argument_gives name true true occurrences named are = search (rules, texts_in_bytes, many_give)
+argument_gives name false true occurrences named are = search (rules, texts_in_bytes, one_gives, words_give)
+argument_gives name arrays false occurrences named are =
+    rw (texts_in_bytes occurrences, last_in_bytes (texts_given occurrences) None)
+    (by_last (last_or None (texts_given occurrences)) are)
   where
     by_last : (last : Option Text) → MatchOption last ⊤ IsUtf8
         → Gives (value_line name (option_map {U = Value} (λ text. one text) last))
@@ -117,14 +117,14 @@ argument_gives name arrays false founds named are =
     by_last (Some text) utf8 = one_gives name text _ named (text_gives text utf8)
 
 -- the line of an option
-value_gives : (name : Text) (arrays all : Bool) (kind : HasArg) (founds : List GroupOccurrence)
+value_gives : (name : Text) (arrays all : Bool) (kind : HasArg) (occurrences : List GroupOccurrence)
     → Gives name name
-    → AreTextValues kind all founds
-    → Gives (value_line name (held_value arrays kind all founds))
-    (value_line name (held_value arrays kind all (map found_in_bytes founds)))
-value_gives name arrays all No founds named are = search (rules, length-map, one_gives, count_gives)
-value_gives name arrays all Yes founds named are = argument_gives name arrays all founds named are
-value_gives name arrays all Maybe founds named are = argument_gives name arrays all founds named are
+    → AreTextValues kind all occurrences
+    → Gives (value_line name (variable_value arrays kind all occurrences))
+    (value_line name (variable_value arrays kind all (map occurrence_in_bytes occurrences)))
+value_gives name arrays all No occurrences named are = search (rules, length-map, one_gives, count_gives)
+value_gives name arrays all Yes occurrences named are = argument_gives name arrays all occurrences named are
+value_gives name arrays all Maybe occurrences named are = argument_gives name arrays all occurrences named are
 
 -- ---- the text
 
@@ -145,7 +145,7 @@ codes_give prefix arrays (option ∷ options) make hold =
     let named = variable_gives name make.0 in
     append_gives (append_gives (ascii_gives (codes "\\unset -v ") refl)
     (append_gives named (append_gives (ascii_gives (codes "\n") refl)
-    (value_gives name arrays (holds_all option.entry.frequency) option.entry.kind option.found
+    (value_gives name arrays (holds_all option.entry.frequency) option.entry.kind option.occurrences
     named hold.0))))
     (codes_give prefix arrays options make.1 hold.1)
 

@@ -158,33 +158,33 @@ prefix_fault prefix entries =
 -- an option as words give it: its entry, and its occurrences
 pub record Given : Type 0 where
   pub entry : Entry
-  pub found : List GroupOccurrence
+  pub occurrences : List GroupOccurrence
 
 -- the options of a table as matches give them, if the first has this place
 abbrev pub given_from : ℕ → List Entry → List MatchedGroup → List Given
 given_from place [] held = []
 given_from place (entry ∷ entries) held =
-    record { entry = entry; found = occurrences_of_group held place } ∷ given_from (place + 1) entries held
+    record { entry = entry; occurrences = occurrences_of_group held place } ∷ given_from (place + 1) entries held
 
 -- one occurrence without a value
 abbrev pub once : List GroupOccurrence
 once = record { position = 0; value = None } ∷ []
 
 -- the occurrences of an option if only this one is given, once and without a value
-abbrev pub found_alone : Entry → Entry → List GroupOccurrence
-found_alone entry alone =
+abbrev pub occurrences_alone : Entry → Entry → List GroupOccurrence
+occurrences_alone entry alone =
     if bytes_eq (main_name entry.names) (main_name alone.names) then once else []
 
 -- the options of a table if only this one is given
 abbrev pub given_alone : List Entry → Entry → List Given
 given_alone entries alone =
-    map (λ entry. record { entry = entry; found = found_alone entry alone }) entries
+    map (λ entry. record { entry = entry; occurrences = occurrences_alone entry alone }) entries
 
 -- the occurrences of an option, as the code stores them
-abbrev pub founds_of : OptionOccurrences → List GroupOccurrence
-founds_of (option_occurrences.InMatches held) = held.now
-founds_of option_occurrences.Once = once
-founds_of option_occurrences.Never = []
+abbrev pub occurrences_stored : OptionOccurrences → List GroupOccurrence
+occurrences_stored (option_occurrences.InMatches occurrences) = occurrences.now
+occurrences_stored option_occurrences.Once = once
+occurrences_stored option_occurrences.Never = []
 
 -- whether all values of an option count
 abbrev pub holds_all : Frequency → Bool
@@ -192,13 +192,13 @@ holds_all All = true
 holds_all frequency = false
 
 -- the values of occurrences, with an empty text for one that has none
-abbrev pub texts_found : List GroupOccurrence → List Text
-texts_found founds = map (λ value. unwrap_or value []) (each_value founds)
+abbrev pub texts_given : List GroupOccurrence → List Text
+texts_given occurrences = map (λ value. unwrap_or value []) (each_value occurrences)
 
 -- all values, as an array or as words to be read once more
 abbrev pub all_values : Bool → List GroupOccurrence → Value
-all_values arrays founds =
-    if arrays then many (texts_found founds) else one (quoted_words (texts_found founds))
+all_values arrays occurrences =
+    if arrays then many (texts_given occurrences) else one (quoted_words (texts_given occurrences))
 
 -- how often an option was given, as text: empty for 0
 abbrev pub count_text : ℕ → Text
@@ -206,21 +206,21 @@ count_text count = if count == 0 then [] else decimal count
 
 -- what a variable holds: how often the option was given if it takes no argument, all values, or
 -- the last value if there is one
-abbrev pub held_value : Bool → HasArg → Bool → List GroupOccurrence → Option Value
-held_value arrays No all founds = Some (one (count_text (length founds)))
-held_value arrays kind true founds = Some (all_values arrays founds)
-held_value arrays kind false founds = option_map one (last_or None (texts_found founds))
+abbrev pub variable_value : Bool → HasArg → Bool → List GroupOccurrence → Option Value
+variable_value arrays No all occurrences = Some (one (count_text (length occurrences)))
+variable_value arrays kind true occurrences = Some (all_values arrays occurrences)
+variable_value arrays kind false occurrences = option_map one (last_or None (texts_given occurrences))
 
 -- what the variable of an option holds
 abbrev pub own_value : Bool → Given → Option Value
 own_value arrays option =
-    held_value arrays option.entry.kind (holds_all option.entry.frequency) option.found
+    variable_value arrays option.entry.kind (holds_all option.entry.frequency) option.occurrences
 
 -- a shell that holds these options: the variable of each has its value or none, all others are
 -- unchanged, and the words are the free words
 abbrev pub with_options : Text → Bool → List Given → List Text → Shell → Shell
 with_options prefix arrays options free shell = record (fold
-    (λ held option. with_variable held (variable_of prefix option.entry) (own_value arrays option))
+    (λ so_far option. with_variable so_far (variable_of prefix option.entry) (own_value arrays option))
     shell options) { words = free }
 
 -- ---- the text
@@ -249,22 +249,22 @@ variables_code prefix arrays options free =
 -- ---- what a shell makes of the text, and of its bytes
 
 -- an option with the bytes of its values
-abbrev pub found_in_bytes : GroupOccurrence → GroupOccurrence
-found_in_bytes found = record found { value = option_map bytes_of found.value }
+abbrev pub occurrence_in_bytes : GroupOccurrence → GroupOccurrence
+occurrence_in_bytes occurrence = record occurrence { value = option_map bytes_of occurrence.value }
 
 abbrev pub in_bytes : Given → Given
-in_bytes option = record option { found = map found_in_bytes option.found }
+in_bytes option = record option { occurrences = map occurrence_in_bytes option.occurrences }
 
 -- What a variable holds of an option is UTF-8.
 abbrev pub AreTextValues : HasArg → Bool → List GroupOccurrence → Type 0
-AreTextValues No all founds = ⊤
-AreTextValues kind true founds = AreTexts (texts_found founds)
-AreTextValues kind false founds = MatchOption (last_or None (texts_found founds)) ⊤ IsUtf8
+AreTextValues No all occurrences = ⊤
+AreTextValues kind true occurrences = AreTexts (texts_given occurrences)
+AreTextValues kind false occurrences = MatchOption (last_or None (texts_given occurrences)) ⊤ IsUtf8
 
 -- The variables of these options hold UTF-8 texts.
 abbrev pub HoldTexts : List Given → Type 0
 HoldTexts options = AllByRecursion
-    (λ option. AreTextValues option.entry.kind (holds_all option.entry.frequency) option.found) options
+    (λ option. AreTextValues option.entry.kind (holds_all option.entry.frequency) option.occurrences) options
 
 -- A shell that runs the command holds these words, and one that runs its bytes holds their bytes.
 pub record SetsWords (words : List Text) : Type 0 where
@@ -283,8 +283,8 @@ pub record SetsVariables (prefix : Text) (arrays : Bool) (options : List Given) 
   pub bytes : HoldTexts options → AreTexts free → (before : Shell)
       → Runs before (bytes_of (variables_code prefix arrays options free))
       (with_options prefix arrays (map in_bytes options) (map bytes_of free) before)
-  pub once_more : AllByRecursion (λ option. shell_words (quoted_words (texts_found option.found))
-      ≡ Some (texts_found option.found)) options
+  pub once_more : AllByRecursion (λ option. shell_words (quoted_words (texts_given option.occurrences))
+      ≡ Some (texts_given option.occurrences)) options
 
 -- The code for options sets variables, if each option makes one and no two make the same.
 abbrev pub CodeSetsVariables : Type 0

@@ -13,11 +13,11 @@ ghost use Rattle.getopts_shell.specs.Quote.{quoted_words};
 ghost use Rattle.getopts_shell.specs.Stored.{entries_of, entry_of_row, variable_fault_told};
 ghost use Rattle.getopts_shell.specs.Table.{Entry};
 ghost use Rattle.getopts_shell.specs.Variables.{AreTextValues, CodeSetsVariables, HoldTexts};
-ghost use Rattle.getopts_shell.specs.Variables.{all_values, count_text, found_alone, founds_of};
+ghost use Rattle.getopts_shell.specs.Variables.{all_values, count_text, occurrences_alone};
 ghost use Rattle.getopts_shell.specs.Variables.{given_alone, given_from, holds_all, is_prefix};
 ghost use Rattle.getopts_shell.specs.Variables.{is_shell_variable, is_variable, is_variable_byte};
-ghost use Rattle.getopts_shell.specs.Variables.{option_code};
-ghost use Rattle.getopts_shell.specs.Variables.{own_value, prefix_fault, texts_found, value_line};
+ghost use Rattle.getopts_shell.specs.Variables.{occurrences_stored, option_code};
+ghost use Rattle.getopts_shell.specs.Variables.{own_value, prefix_fault, texts_given, value_line};
 ghost use Rattle.getopts_shell.specs.Variables.{variable, variable_byte, variable_fault};
 ghost use Rattle.getopts_shell.specs.Variables.{variable_of, variables_code, one};
 
@@ -124,8 +124,8 @@ pub(crate) fn alone_code(
 
 /// How an option was given if only this one is.
 fn occurrences_alone(row: Row<'_>, alone: Row<'_>) -> OptionOccurrences<'static>
-    ensures { founds_of result
-        ≡ found_alone (entry_of_row row.entry) (entry_of_row alone.entry) }
+    ensures { occurrences_stored result
+        ≡ occurrences_alone (entry_of_row row.entry) (entry_of_row alone.entry) }
 {
     if main_name(row) == main_name(alone) {
         OptionOccurrences::Once
@@ -144,9 +144,10 @@ fn push_option(
 ) -> Result<(), AllocError>
     ensures text { OnOk result (string_bytes text.new ≡ string_bytes text.old
         ++ option_code variables.entry.prefix.now variables.entry.arrays
-        record { entry = entry_of_row row.entry; found = founds_of given.entry }) }
+        record { entry = entry_of_row row.entry; occurrences = occurrences_stored given.entry }) }
     ensures values { OnOk result
-        (AreTextValues row.entry.kind (holds_all row.entry.frequency) (founds_of given.entry)) }
+        (AreTextValues row.entry.kind (holds_all row.entry.frequency)
+        (occurrences_stored given.entry)) }
 {
     push_unset(text, variables.prefix, main_name(row))?;
     push_option_value(alloc, text, variables, row, given)
@@ -173,9 +174,10 @@ fn push_option_value(
     ensures text { OnOk result (string_bytes text.new ≡ string_bytes text.old
         ++ value_line (variable_of variables.entry.prefix.now (entry_of_row row.entry))
         (own_value variables.entry.arrays
-        record { entry = entry_of_row row.entry; found = founds_of given.entry })) }
+        record { entry = entry_of_row row.entry; occurrences = occurrences_stored given.entry })) }
     ensures values { OnOk result
-        (AreTextValues row.entry.kind (holds_all row.entry.frequency) (founds_of given.entry)) }
+        (AreTextValues row.entry.kind (holds_all row.entry.frequency)
+        (occurrences_stored given.entry)) }
 {
     let name = main_name(row);
     match (row.kind, row.frequency) {
@@ -206,7 +208,7 @@ fn push_count(
 
 /// Appends the command that sets a variable to the value of an option's last occurrence, if it has
 /// one.
-#[tactic(auto, using(crate::proofs::Assignments::last_found))]
+#[tactic(auto, using(crate::proofs::Assignments::last_given))]
 fn push_last(
     text: &mut String,
     prefix: &str,
@@ -215,9 +217,9 @@ fn push_last(
 ) -> Result<(), AllocError>
     ensures text { OnOk result (string_bytes text.new ≡ string_bytes text.old
         ++ value_line (variable prefix.now name.now)
-        (option_map one (last_or None (texts_found (founds_of given.entry))))) }
+        (option_map one (last_or None (texts_given (occurrences_stored given.entry))))) }
     ensures values { OnOk result (MatchOption
-        (last_or None (texts_found (founds_of given.entry))) ⊤ IsUtf8) }
+        (last_or None (texts_given (occurrences_stored given.entry))) ⊤ IsUtf8) }
 {
     let count = count(given);
     if count == 0 {
@@ -249,8 +251,8 @@ fn push_all(
 ) -> Result<(), AllocError>
     ensures text { OnOk result (string_bytes text.new ≡ string_bytes text.old
         ++ value_line (variable variables.entry.prefix.now name.now)
-        (Some (all_values variables.entry.arrays (founds_of given.entry)))) }
-    ensures values { OnOk result (AreTexts (texts_found (founds_of given.entry))) }
+        (Some (all_values variables.entry.arrays (occurrences_stored given.entry)))) }
+    ensures values { OnOk result (AreTexts (texts_given (occurrences_stored given.entry))) }
 {
     let mut words = String::new(alloc);
     push_texts(&mut words, given)?;
@@ -268,8 +270,8 @@ fn push_all(
 /// Appends the values of occurrences as words in quotes, with an empty text for one that has none.
 fn push_texts(text: &mut String, given: OptionOccurrences<'_>) -> Result<(), AllocError>
     ensures text { OnOk result (string_bytes text.new ≡ string_bytes text.old
-        ++ quoted_words (texts_found (founds_of given.entry))) }
-    ensures values { OnOk result (AreTexts (texts_found (founds_of given.entry))) }
+        ++ quoted_words (texts_given (occurrences_stored given.entry))) }
+    ensures values { OnOk result (AreTexts (texts_given (occurrences_stored given.entry))) }
 {
     for nth in 0..count(given) {
         push_parting(text, nth > 0, " ")?;
@@ -280,10 +282,10 @@ fn push_texts(text: &mut String, given: OptionOccurrences<'_>) -> Result<(), All
 
 /// How many occurrences there are.
 fn count(given: OptionOccurrences<'_>) -> usize
-    ensures { result ≡ length (founds_of given.entry) }
+    ensures { result ≡ length (occurrences_stored given.entry) }
 {
     match given {
-        OptionOccurrences::InMatches(found) => found.len(),
+        OptionOccurrences::InMatches(occurrences) => occurrences.len(),
         OptionOccurrences::Once => 1,
         OptionOccurrences::Never => 0,
     }
@@ -292,10 +294,10 @@ fn count(given: OptionOccurrences<'_>) -> usize
 /// The value of one of the occurrences, or an empty text if it has none.
 #[tactic(auto, using(crate::proofs::Assignments::text_of))]
 fn text_at<'m>(given: OptionOccurrences<'m>, nth: usize) -> &'m str
-    ensures { result.now ≡ get_or (texts_found (founds_of given.entry)) nth [] }
+    ensures { result.now ≡ get_or (texts_given (occurrences_stored given.entry)) nth [] }
 {
     match given {
-        OptionOccurrences::InMatches(found) => match found.get(nth) {
+        OptionOccurrences::InMatches(occurrences) => match occurrences.get(nth) {
             Some((_, Some(value))) => value,
             _ => "",
         },

@@ -14,15 +14,15 @@ module _ {S T A : Type 0} {steps : S → Option (Bor A) → S → Type 0}
   of_run P (run, from, whole, holds) = search rules
 
   -- the same if there is no value
-  pub none_of_run : {X : Type 0} (P : List A → Type 0) (answer : Option X)
-      → IfNone answer (WholeRun copied copy (λ run. P run.items)) → IfNone answer (P words)
+  pub none_of_run : {X : Type 0} (P : List A → Type 0) (returned : Option X)
+      → IfNone returned (WholeRun copied copy (λ run. P run.items)) → IfNone returned (P words)
   none_of_run P None is = of_run P is
   none_of_run P (Some x) is = tt
 
   -- the same for a call's result
   pub result_of_run : {B X : Type 0} (convert : B → X) (result : List A → Result X Fault)
-      (answer : Result B Fail)
-      → ReturnsConverted convert answer (λ r. WholeRun copied copy (λ run. result run.items ≡ r))
-      → ReturnsConverted convert answer (λ r. result words ≡ r)
+      (returned : Result B Fail)
+      → ReturnsConverted convert returned (λ r. WholeRun copied copy (λ run. result run.items ≡ r))
+      → ReturnsConverted convert returned (λ r. result words ≡ r)
   result_of_run convert result (Ok value) is = of_run (λ xs. result xs ≡ Ok (convert value)) is
   result_of_run convert result (Err fail) is = search rules

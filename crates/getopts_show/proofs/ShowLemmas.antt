@@ -38,9 +38,9 @@ pub of_the_only : (words : List Text) (text : Text) (status : ℕ)
 of_the_only words text status only is = (accepted_reading program_options words, only, is)
 
 -- matches are computed from a reading
-of_reading : (outcome : Result Reading Fault) (matches : Matched)
-    → made_of (matches_of program_options) outcome ≡ Ok matches
-    → (reading : Reading) × (outcome ≡ Ok reading) × (matches_of program_options reading ≡ matches)
+of_reading : (result : Result Reading Fault) (matches : Matched)
+    → made_of (matches_of program_options) result ≡ Ok matches
+    → (reading : Reading) × (result ≡ Ok reading) × (matches_of program_options reading ≡ matches)
 of_reading (Ok reading) matches is = (reading, refl, cc)
 of_reading (Err fault) matches is = cc
 

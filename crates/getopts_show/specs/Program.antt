@@ -41,9 +41,9 @@ position_mark position = codes " @" ++ decimal position
 
 -- the line `name: count` for some occurrences, with the mark of each position after the count
 abbrev pub count_line : Text → List GroupOccurrence → Text
-count_line name founds =
-    name ++ (codes ": " ++ (decimal (length founds)
-    ++ (flat_map position_mark (positions_of founds) ++ newline)))
+count_line name occurrences =
+    name ++ (codes ": " ++ (decimal (length occurrences)
+    ++ (flat_map position_mark (positions_of occurrences) ++ newline)))
 
 -- the line `name @position = value`
 abbrev pub value_line : Text → ℕ × Text → Text
@@ -56,7 +56,7 @@ word_line label word = label ++ (codes ": " ++ (word ++ newline))
 
 -- the count and positions of an option with this name and these occurrences, and its values
 abbrev pub option_lines : Text → List GroupOccurrence → Text
-option_lines name founds = count_line name founds ++ flat_map (value_line name) (pairs_of founds)
+option_lines name occurrences = count_line name occurrences ++ flat_map (value_line name) (pairs_of occurrences)
 
 -- the lines of the option that this name resolves to, under this name
 abbrev pub named_lines : List MatchedGroup → Text → Text
@@ -69,7 +69,7 @@ HasProgramGroups groups =
 
 -- the lines of a group, under its main name
 abbrev pub group_lines : MatchedGroup → Text
-group_lines group = option_lines (main_name group.signature.names) group.found
+group_lines group = option_lines (main_name group.signature.names) group.occurrences
 
 -- the output for matches: the lines of each option in order, and the line of each free word
 abbrev pub matches_text : Matched → Text

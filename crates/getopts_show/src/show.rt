@@ -123,9 +123,9 @@ fn parsed(alloc: Global, options: &Options, words: &[&str]) -> getopts::Result
 /// The canonical line of words, or their first error. There is none if it can't be written.
 fn rewritten(alloc: Global, options: &Options, words: &[&str]) -> Result<Option<Vec<String>>, Fail>
     ensures result { ReturnsConverted (option_map (λ line. map string_bytes line.items)) result
-        (λ answer. canonical_result options.now (texts words.now) ≡ answer) }
-    ensures unwritable { IfOk result (λ answer.
-        IfNone answer (IsUnwritable options.now (texts words.now))) }
+        (λ returned. canonical_result options.now (texts words.now) ≡ returned) }
+    ensures unwritable { IfOk result (λ returned.
+        IfNone returned (IsUnwritable options.now (texts words.now))) }
 {
     options.canonical(alloc, words.iter().copied())
 }

@@ -3,7 +3,7 @@
 ghost use Rattle.std.specs.Prelude.{◌≡◌, ◌↔◌, [], None, length, IfSome, IsSome, IsTrue};
 ghost use Rattle.std.specs.List.{list_any};
 ghost use Rattle.getopts.specs.Prelude.{IsDefined, is_present, occurrences_of_name};
-ghost use Rattle.getopts.specs.Accessors.{AreDefined, place_of};
+ghost use Rattle.getopts.specs.Accessors.{AreDefined, opt_place};
 ghost use Rattle.getopts.specs.Names.{texts};
 
 use getopts::{Matches, held_names_resolve};
@@ -23,7 +23,7 @@ pub fn count_of(matches: &Matches, name: &str) -> Option<usize>
 
 /// The place of the option that a line in a list names. An empty line names none.
 pub fn place_named(matches: &Matches, line: &str) -> Option<usize>
-    ensures place { result ≡ place_of matches.now.groups line.now }
+    ensures place { result ≡ opt_place matches.now.groups line.now }
     ensures empty { line.now ≡ [] → result ≡ None }
 {
     held_names_resolve(matches);

@@ -28,7 +28,7 @@ impl Matches {
     /// false. After `optopt("o",..)` and `optflag("v",..)`, `v` gives `Some(1)`. The Rust crate has
     /// no such method.
     pub fn opt_place(&self, name: &str) -> Option<usize> {
-        self.held.place_of(name)
+        self.held.opt_place(name)
     }
 
     /// Borrows the occurrences of the option group at an index, in command-line order.
@@ -38,12 +38,12 @@ impl Matches {
     /// 0 has one occurrence, with position 1 and the value `x`. The Rust crate has no such method.
     #[inline]
     pub fn occurrences_at(&self, place: usize) -> Occurrences<'_> {
-        self.held.occurrences_at(place)
+        self.held.occurrences_of_group(place)
     }
 
     /// Whether an option was given. An undefined option counts as not given.
     pub(crate) fn has(&self, name: &str) -> bool {
-        !self.held.occurrences_of(name).is_empty()
+        !self.held.occurrences_of_name(name).is_empty()
     }
 
     /// Whether a name resolves to a group.
@@ -59,7 +59,7 @@ impl Matches {
     /// Returns 0 if the option wasn't given. Requires a defined name (see `opt_defined`); the Rust
     /// crate panics on others.
     pub fn opt_count(&self, name: &str) -> usize {
-        self.held.occurrences_of(name).len()
+        self.held.occurrences_of_name(name).len()
     }
 
     /// Whether an option was given, by either name.
@@ -78,7 +78,7 @@ impl Matches {
     ///
     /// The Rust crate doesn't count separate arguments.
     pub fn opt_positions(&self, alloc: Global, name: &str) -> Result<Vec<usize>, AllocError> {
-        self.held.occurrences_of(name).positions(alloc)
+        self.held.occurrences_of_name(name).positions(alloc)
     }
 
     /// Returns the values of an option's occurrences, in command-line order.
@@ -87,7 +87,7 @@ impl Matches {
     /// so there may be fewer values than `opt_count` says. The result is empty if the option wasn't
     /// given. Requires a defined name (see `opt_defined`). Fails only if an allocation fails.
     pub fn opt_strs(&self, alloc: Global, name: &str) -> Result<Vec<String>, AllocError> {
-        self.held.occurrences_of(name).values(alloc)
+        self.held.occurrences_of_name(name).values(alloc)
     }
 
     /// Returns the positions and values of an option's occurrences that have a value, in
@@ -102,7 +102,7 @@ impl Matches {
         alloc: Global,
         name: &str,
     ) -> Result<Vec<(usize, String)>, AllocError> {
-        self.held.occurrences_of(name).pairs(alloc)
+        self.held.occurrences_of_name(name).pairs(alloc)
     }
 
     /// Returns the value of an option's first occurrence.
@@ -112,7 +112,7 @@ impl Matches {
     /// After `parse`, a required option with a mandatory argument has a value. Requires a defined
     /// name (see `opt_defined`). Fails only if an allocation fails.
     pub fn opt_str(&self, alloc: Global, name: &str) -> Result<Option<String>, AllocError> {
-        copied(alloc, self.held.occurrences_of(name).first_value())
+        copied(alloc, self.held.occurrences_of_name(name).first_value())
     }
 
     /// Returns the value of an option's first occurrence, or `def` if it has no value.
@@ -126,7 +126,10 @@ impl Matches {
         name: &str,
         def: &str,
     ) -> Result<Option<String>, AllocError> {
-        copied(alloc, self.held.occurrences_of(name).first_value_or(def))
+        copied(
+            alloc,
+            self.held.occurrences_of_name(name).first_value_or(def),
+        )
     }
 
     /// Parses the value of an option's first occurrence as a `T`.
@@ -136,7 +139,7 @@ impl Matches {
     /// Requires a defined name (see `opt_defined`). Parses the text in place; the Rust crate copies
     /// it first.
     pub fn opt_get<T: FromStr>(&self, name: &str) -> Result<Option<T>, T::Err> {
-        match self.held.occurrences_of(name).first_value() {
+        match self.held.occurrences_of_name(name).first_value() {
             Some(text) => Ok(Some(text.parse()?)),
             None => Ok(None),
         }
@@ -149,7 +152,7 @@ impl Matches {
     /// parsed. Requires a defined name (see `opt_defined`). Parses the text in place; the Rust
     /// crate copies it first.
     pub fn opt_get_default<T: FromStr>(&self, name: &str, def: T) -> Result<T, T::Err> {
-        match self.held.occurrences_of(name).first_value() {
+        match self.held.occurrences_of_name(name).first_value() {
             Some(text) => text.parse(),
             None => Ok(def),
         }
@@ -192,7 +195,7 @@ impl Matches {
 
     fn first_among<T: AsStr>(&self, names: &[T]) -> Option<&str> {
         for name in names {
-            if let Some(value) = self.held.occurrences_of(name.as_str()).first_value() {
+            if let Some(value) = self.held.occurrences_of_name(name.as_str()).first_value() {
                 return Some(value);
             }
         }

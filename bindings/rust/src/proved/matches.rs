@@ -99,18 +99,18 @@ impl MatchedGroups {
         &self.signatures
     }
 
-    pub(crate) fn place_of(&self, name: &str) -> Option<usize> {
+    pub(crate) fn opt_place(&self, name: &str) -> Option<usize> {
         self.table.resolve(&self.signatures, name)
     }
 
     #[inline]
-    pub(crate) fn occurrences_at(&self, place: usize) -> Occurrences<'_> {
+    pub(crate) fn occurrences_of_group(&self, place: usize) -> Occurrences<'_> {
         Occurrences::of(&self.found, self.index.indices(place))
     }
 
-    pub(crate) fn occurrences_of(&self, name: &str) -> Occurrences<'_> {
-        match self.place_of(name) {
-            Some(place) => self.occurrences_at(place),
+    pub(crate) fn occurrences_of_name(&self, name: &str) -> Occurrences<'_> {
+        match self.opt_place(name) {
+            Some(place) => self.occurrences_of_group(place),
             None => Occurrences::of(&self.found, &[]),
         }
     }
@@ -123,8 +123,8 @@ impl MatchedGroups {
         }
         for place in 0..self.signatures.len() {
             if !self
-                .occurrences_at(place)
-                .same(&other.occurrences_at(place))
+                .occurrences_of_group(place)
+                .same(&other.occurrences_of_group(place))
             {
                 return false;
             }

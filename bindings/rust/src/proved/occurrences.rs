@@ -104,12 +104,12 @@ impl LineOccurrences {
 
     #[inline(always)]
     pub(crate) fn at(&self, index: usize) -> Occurrence<'_> {
-        let held = self.records[index];
+        let stored = self.records[index];
         Occurrence {
-            place: held.place,
-            position: held.position,
-            value: if held.value % 2 == 1 {
-                value_from(&self.values, held.value / 2, &self.records, index + 1)
+            place: stored.place,
+            position: stored.position,
+            value: if stored.value % 2 == 1 {
+                value_from(&self.values, stored.value / 2, &self.records, index + 1)
             } else {
                 None
             },

@@ -210,7 +210,7 @@ fn push_texts(text: &mut String, given: OptionOccurrences<'_>) -> Result<(), All
 /// How many occurrences there are.
 fn count(given: OptionOccurrences<'_>) -> usize {
     match given {
-        OptionOccurrences::InMatches(found) => found.len(),
+        OptionOccurrences::InMatches(occurrences) => occurrences.len(),
         OptionOccurrences::Once => 1,
         OptionOccurrences::Never => 0,
     }
@@ -219,7 +219,7 @@ fn count(given: OptionOccurrences<'_>) -> usize {
 /// The value of one of the occurrences, or an empty text if it has none.
 fn text_at<'m>(given: OptionOccurrences<'m>, nth: usize) -> &'m str {
     match given {
-        OptionOccurrences::InMatches(found) => match found.get(nth) {
+        OptionOccurrences::InMatches(occurrences) => match occurrences.get(nth) {
             Some((_, Some(value))) => value,
             _ => "",
         },

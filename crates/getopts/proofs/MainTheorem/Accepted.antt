@@ -13,7 +13,7 @@ use Rattle.getopts.proofs.parse.Parsed.{text_names_here}
 use Rattle.getopts.proofs.Reading.Readings.{reading_read}
 
 module _ (options : Declared) (declared : MayBeDeclared options.groups) (words : List Text) where
-  -- a reading that keeps the counts is the outcome
+  -- a reading that keeps the counts is the result
   pub accepted_reading-keeps : (reading : Reading) → IsCountKeeping options reading words
       → accepted_reading options words ≡ Ok reading
   unfolding accepted_reading

@@ -32,14 +32,15 @@ first_of_values : List (Option Text) → Option Text
 first_of_values [] = None
 first_of_values (value ∷ more) = value
 
-first_value-each : (founds : List GroupOccurrence) → first_value founds ≡ first_of_values (each_value founds)
+first_value-each : (occurrences : List GroupOccurrence)
+    → first_value occurrences ≡ first_of_values (each_value occurrences)
 unfolding first_of_values
-first_value-each founds = search rules
+first_value-each occurrences = search rules
 
-values_of-each : (founds : List GroupOccurrence)
-    → values_of founds ≡ filter_map (λ (value : Option Text). value) (each_value founds)
+values_of-each : (occurrences : List GroupOccurrence)
+    → values_of occurrences ≡ filter_map (λ (value : Option Text). value) (each_value occurrences)
 values_of-each [] = refl
-values_of-each (found ∷ founds) = ap (cons_option found.value) (values_of-each founds)
+values_of-each (occurrence ∷ occurrences) = ap (cons_option occurrence.value) (values_of-each occurrences)
 
 module _ (matches other : Matched) (same : HaveSameValues matches other) where
   -- In matches that hold the same, an option has the same first value.
@@ -66,12 +67,12 @@ module _ (matches other : Matched) (same : HaveSameValues matches other) where
 module _ (groups : List MatchedGroup) (name : Text) where
   -- The positions of an option never decrease.
   pub positions_rise : HavePositionsInOrder groups
-      → IsNonDecreasingBy (λ found. found.position) (occurrences_of_name groups name)
+      → IsNonDecreasingBy (λ occurrence. occurrence.position) (occurrences_of_name groups name)
   positions_rise in_order = search (rules, AllByRecursion-at)
 
   -- The positions of an option are below the number of words.
   pub positions_below : (count : ℕ) → HavePositionsBelow count groups
-      → AllByRecursion (λ found. found.position < count) (occurrences_of_name groups name)
+      → AllByRecursion (λ occurrence. occurrence.position < count) (occurrences_of_name groups name)
   positions_below count below = search (rules, AllByRecursion-at)
 
 -- ---- canonical lines
@@ -110,9 +111,9 @@ plain_at (group ∷ groups) plain zero = not-true _ (and_parts _ _ plain).0
 plain_at (group ∷ groups) plain (suc place) = plain_at groups (and_parts _ _ plain).1 place
 
 all_plain : (groups : List Group) → are_mains_plain groups ≡ true → (ms : List Mention)
-    → AllByRecursion (λ m. holds_equals (main_at groups m.group) ≡ false) ms
+    → AllByRecursion (λ m. holds_equals (main_at groups m.place) ≡ false) ms
 all_plain groups plain [] = tt
-all_plain groups plain (m ∷ ms) = (plain_at groups plain m.group, all_plain groups plain ms)
+all_plain groups plain (m ∷ ms) = (plain_at groups plain m.place, all_plain groups plain ms)
 
 -- If no main name contains `=`, accepted words have a canonical line. This is about what
 -- `canonical` returns for these options, which are the caller's own.

@@ -14,18 +14,18 @@ use Rattle.getopts.specs.Fail.{Fault}
 use Rattle.getopts.specs.Reading.{Reading, Occurrence, occurrences_of}
 use Rattle.getopts.specs.Matches.{GroupOccurrence, MatchedGroup, Matched, matches_of, occurrences_mentioning}
 use Rattle.getopts.specs.Accessors.{is_present}
-use Rattle.getopts.specs.Parse.{HasReading, HasNoReading, IsParseAnswer, IsReadAnswer, Gives, IsUnlessAnswer}
-use Rattle.getopts.specs.Parse.{IsRequestAnswer}
+use Rattle.getopts.specs.Parse.{HasReading, HasNoReading, IsParseResult, IsReadResult, Gives, IsUnlessResult}
+use Rattle.getopts.specs.Parse.{IsRequestResult}
 use Rattle.getopts.specs.Results.{unless_given, request_of}
 use Rattle.getopts.specs.declared.request.Request.{Request}
 use Rattle.getopts.specs.declared.request.Request.TheVariants.{Help, Version, Parsed}
-use Rattle.getopts.proofs.canon.Answered.{reads_of}
-use Rattle.getopts.proofs.parse.Holds.{found-named}
+use Rattle.getopts.proofs.canon.OneResult.{reads_of}
+use Rattle.getopts.proofs.parse.Holds.{occurrences-named}
 
 -- a group has an occurrence if one mentions it
 some_mentioning : (place : ℕ) (occurrences : List Occurrence)
     → nat_lt 0 (length (occurrences_mentioning place occurrences))
-    ≡ list_any (λ o. o.mention.group == place) occurrences
+    ≡ list_any (λ o. o.mention.place == place) occurrences
 some_mentioning place [] = refl
 some_mentioning place (o ∷ occurrences) = search (rules, cases_Bool, lt-ltb, some_mentioning place occurrences)
 
@@ -39,16 +39,16 @@ module _ (options : Declared) (reading : Reading) (name : Text) where
   -- a name is present if the group that it resolves to is mentioned
   present : (at : Option ℕ) → resolution (names_of options.groups) name ≡ at
       → is_present groups name
-      ≡ option_map_or (λ place. list_any (λ o. o.mention.group == place) occurrences) at false
+      ≡ option_map_or (λ place. list_any (λ o. o.mention.place == place) occurrences) at false
   present at resolves =
-      found-named (λ (founds : List GroupOccurrence). nat_lt 0 (length founds)) _ options occurrences
+      occurrences-named (λ (own : List GroupOccurrence). nat_lt 0 (length own)) _ options occurrences
       (λ place. some_mentioning place occurrences) name
       ∙ ap (λ at. option_map_or
-      (λ place. list_any (λ (o : Occurrence). o.mention.group == place) occurrences) at false) resolves
+      (λ place. list_any (λ (o : Occurrence). o.mention.place == place) occurrences) at false) resolves
 
   -- the name's option occurs in the reading
   abbrev Occurs : Type 0
-  Occurs = Any (λ o. resolution (names_of options.groups) name ≡ Some o.mention.group) occurrences
+  Occurs = Any (λ o. resolution (names_of options.groups) name ≡ Some o.mention.place) occurrences
 
   -- a present name occurs
   occurs : is_present groups name ≡ true → Occurs
@@ -56,7 +56,7 @@ module _ (options : Declared) (reading : Reading) (name : Text) where
     by_place : (at : Option ℕ) → resolution (names_of options.groups) name ≡ at → Occurs
     by_place None none = absurd (true≢false (sym is ∙ present None none))
     by_place (Some place) resolves =
-        let found = Any-from_list_any (λ (o : Occurrence). o.mention.group == place) occurrences
+        let there = Any-from_list_any (λ (o : Occurrence). o.mention.place == place) occurrences
         (sym (present (Some place) resolves) ∙ is) in search (rules, eqb-true)
 
 -- what a test tells about a fact
@@ -99,24 +99,24 @@ module _ (options : Declared) (words : List Text) where
     told false isnt = λ gives.
         true≢false (search (rules, present, list_any-from_Any, eq-eqb))
 
-  module _ (usual : Result Matched Fault) (parse : IsTheOnly (IsParseAnswer options words) usual) where
+  module _ (usual : Result Matched Fault) (parse : IsTheOnly (IsParseResult options words) usual) where
     -- what `parse` returns, in the type of another call
     abbrev usually : {X : Type 0} → (Matched → X) → Result X Fault
     usually make = result_map_both make (λ fault. fault) usual
 
     -- a result in the type of another call is what `parse` returns
     parsed : {X : Type 0} (make : Matched → X) → ((m n : Matched) → make m ≡ make n → m ≡ n)
-        → (answer : Result Matched Fault) → (result_map_both make (λ fault. fault) answer ≡ usually make)
-        ↔ IsParseAnswer options words answer
-    parsed make same answer = (
-      λ e. (parse answer).1 (search (rules, same)),
-      λ is. ap (result_map_both make (λ fault. fault)) ((parse answer).0 is),
+        → (result : Result Matched Fault) → (result_map_both make (λ fault. fault) result ≡ usually make)
+        ↔ IsParseResult options words result
+    parsed make same result = (
+      λ e. (parse result).1 (search (rules, same)),
+      λ is. ap (result_map_both make (λ fault. fault)) ((parse result).0 is),
     )
 
     -- `parse_unless` returns none if the flag is given, and otherwise what `parse` returns
-    unless_says : (flag : Text) (answer : Result (Option Matched) Fault)
-        → Or (Gives options words flag) (Ok None) (λ answer. answer ≡ usually Some) answer
-        ↔ IsUnlessAnswer options flag words answer
+    unless_says : (flag : Text) (result : Result (Option Matched) Fault)
+        → Or (Gives options words flag) (Ok None) (λ other. other ≡ usually Some) result
+        ↔ IsUnlessResult options flag words result
     unless_says flag (Ok None) = search rules
     unless_says flag (Ok (Some matches)) =
         let is = parsed (λ m. Some m) (λ m n e. cc e) (Ok matches) in search (rules, is.0, is.1)
@@ -124,9 +124,9 @@ module _ (options : Declared) (words : List Text) where
         let is = parsed (λ m. Some m) (λ m n e. cc e) (Err fault) in search (rules, is.0, is.1)
 
     -- `parse_request` returns help, the version, or what `parse` returns
-    request_says : (answer : Result (Request Matched) Fault) → Or (Gives options words (codes "help")) (Ok Help)
-        (Or (Gives options words (codes "version")) (Ok Version) (λ answer. answer ≡ usually Parsed)) answer
-        ↔ IsRequestAnswer options words answer
+    request_says : (result : Result (Request Matched) Fault) → Or (Gives options words (codes "help")) (Ok Help)
+        (Or (Gives options words (codes "version")) (Ok Version) (λ other. other ≡ usually Parsed)) result
+        ↔ IsRequestResult options words result
     request_says (Ok Help) = search rules
     request_says (Ok Version) = search rules
     request_says (Ok (Parsed matches)) =
@@ -135,17 +135,17 @@ module _ (options : Declared) (words : List Text) where
         let is = parsed (λ m. Parsed m) (λ m n e. cc e) (Err fault) in search (rules, is.0, is.1)
 
     -- so each has one result
-    pub only_unless : (flag : Text) (read : Result Matched Fault) → IsReadAnswer options words read
-        → IsTheOnly (IsUnlessAnswer options flag words) (unless_given flag read usual)
-    only_unless flag (Err fault) none = subst (IsTheOnly (IsUnlessAnswer options flag words))
+    pub only_unless : (flag : Text) (read : Result Matched Fault) → IsReadResult options words read
+        → IsTheOnly (IsUnlessResult options flag words) (unless_given flag read usual)
+    only_unless flag (Err fault) none = subst (IsTheOnly (IsUnlessResult options flag words))
         (ap (result_map_both Some (λ fault. fault)) (sym ((parse (Err fault)).0 (inl none))))
         (only_same _ _ (unless_says flag) _ (only_or _ _ _ false (nothing_given fault none flag) _ itself))
     only_unless flag (Ok matches) has =
         only_same _ _ (unless_says flag) _ (only_or _ _ _ _ (told matches has flag _ refl) _ itself)
 
-    pub only_request : (read : Result Matched Fault) → IsReadAnswer options words read
-        → IsTheOnly (IsRequestAnswer options words) (request_of read usual)
-    only_request (Err fault) none = subst (IsTheOnly (IsRequestAnswer options words))
+    pub only_request : (read : Result Matched Fault) → IsReadResult options words read
+        → IsTheOnly (IsRequestResult options words) (request_of read usual)
+    only_request (Err fault) none = subst (IsTheOnly (IsRequestResult options words))
         (ap (result_map_both Parsed (λ fault. fault)) (sym ((parse (Err fault)).0 (inl none))))
         (only_same _ _ request_says _ (only_or _ _ _ false (nothing_given fault none _) _
         (only_or _ _ _ false (nothing_given fault none _) _ itself)))

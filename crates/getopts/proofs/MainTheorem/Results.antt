@@ -8,21 +8,21 @@ use Rattle.getopts.specs.Options.{Declared, MayBeDeclared, grammar_of}
 use Rattle.getopts.specs.Fail.{Fault}
 use Rattle.getopts.specs.Reading.{Reading, IsReading, holds_equals, order_of_reading}
 use Rattle.getopts.specs.Matches.{Matched, matches_of}
-use Rattle.getopts.specs.Parse.{Reads, IsRefused, HasReading, HasNoReading, Accepts, IsAcceptedWith, IsCanonicalAnswer}
+use Rattle.getopts.specs.Parse.{Reads, IsRefused, HasReading, HasNoReading, Accepts, IsAcceptedWith, IsCanonicalResult}
 use Rattle.getopts.specs.Parse.{IsOrder}
 use Rattle.getopts.specs.Canon.{Content, content_of, main_at, canonical_line, IsCountKeeping}
 use Rattle.getopts.specs.Results as Spec
 use Rattle.getopts.specs.Parse.{IsLineOf, HasResults}
 use Rattle.getopts.proofs.canon.Lines.{is_plain-true, is_plain-from, Says-accepted, IsSound-says}
 use Rattle.getopts.proofs.canon.Lines.{HasUnwritable-content}
-use Rattle.getopts.proofs.canon.Answered as Answered
+use Rattle.getopts.proofs.canon.OneResult as OneResult
 use Rattle.getopts.proofs.counts.FirstFault.{HaveFault, first_count_fault-is}
 use Rattle.getopts.proofs.MainTheorem.BeforeFree.{Accepts-accepted}
 use Rattle.getopts.proofs.MainTheorem.Given.{only_unless, only_request}
 use Rattle.getopts.proofs.Only.{IsTheOnly-from}
 use Rattle.getopts.proofs.parse.Parsed.{only_reads, text_names_here, HasNoReading-fault, HasReading-reading, IsAccepted-reading}
 use Rattle.getopts.proofs.Reading.Positions.{options_in-order, frees_in-order}
-use Rattle.getopts.proofs.Reading.Readings.{IsSoundOutcome, read_sound}
+use Rattle.getopts.proofs.Reading.Readings.{IsSoundResult, read_sound}
 use Rattle.std.proofs.lemmas.Bool.{true≢false}
 use Rattle.std.proofs.lemmas.Result.{MatchResult-weaker}
 pub use Rattle.getopts.proofs.Reading.Readings.{made_of-ok}
@@ -34,16 +34,16 @@ the_only {Is = Is} only value is = IsTheOnly-from Is value is (λ other also. on
 
 -- a result made of a reading has a property that follows from what is known of the reading
 made_of-is : {X : Type 0} (Is : X → Type 0) (No : Fault → Type 0) (Reads : Reading → Type 0)
-    (make : Reading → X) (outcome : Result Reading Fault) → ((r : Reading) → Reads r → Is (make r))
-    → MatchResult outcome Reads No → MatchResult (Spec.made_of make outcome) Is No
-made_of-is Is No Reads make outcome so reads = search rules
+    (make : Reading → X) (result : Result Reading Fault) → ((r : Reading) → Reads r → Is (make r))
+    → MatchResult result Reads No → MatchResult (Spec.made_of make result) Is No
+made_of-is Is No Reads make result so reads = search rules
 
 module _ (options : Declared) (declared : MayBeDeclared options.groups) (words : List Text) where
-  written_answer : (content : Content) → IsAcceptedWith options words content → (plain : Bool)
-      → list_all (λ m. not (holds_equals (main_at options.groups m.group))) content.mentions ≡ plain
-      → IsCanonicalAnswer options words (Ok (if plain then Some (canonical_line options.groups content) else None))
-  written_answer content accepted true plain = search (rules, is_plain-true)
-  written_answer content accepted false some = record {
+  written_result : (content : Content) → IsAcceptedWith options words content → (plain : Bool)
+      → list_all (λ m. not (holds_equals (main_at options.groups m.place))) content.mentions ≡ plain
+      → IsCanonicalResult options words (Ok (if plain then Some (canonical_line options.groups content) else None))
+  written_result content accepted true plain = search (rules, is_plain-true)
+  written_result content accepted false some = record {
     content = content;
     accepted = accepted;
     sound = IsSound-says options words content
@@ -59,10 +59,10 @@ module _ (options : Declared) (declared : MayBeDeclared options.groups) (words :
   counted reading reads None kept = record { reads = reads; keeps = kept }
   counted reading reads (Some fault) breaks = search (rules, HasReading-reading options declared words reading reads)
 
-  line_answer : (outcome : Result Reading Fault) → IsSoundOutcome (grammar_of options) words outcome
-      → IsLineOf options words (Spec.with_counts_kept options outcome)
-  line_answer (Ok reading) reads = search (rules, counted, first_count_fault-is)
-  line_answer (Err fault) fails = inl (HasNoReading-fault options declared words fault fails)
+  line_result : (result : Result Reading Fault) → IsSoundResult (grammar_of options) words result
+      → IsLineOf options words (Spec.with_counts_kept options result)
+  line_result (Ok reading) reads = search (rules, counted, first_count_fault-is)
+  line_result (Err fault) fails = inl (HasNoReading-fault options declared words fault fails)
 
   -- the only content of words that are accepted
   abbrev with_content : (reading : Reading) → IsCountKeeping options reading words
@@ -85,20 +85,20 @@ module _ (options : Declared) (declared : MayBeDeclared options.groups) (words :
       (text_names_here options declared) words texts _ refl in
       let reading = MatchResult-weaker (Spec.read (grammar_of options) words) sound (λ r reads. reads)
       (HasNoReading-fault options declared words) in
-      let line = line_answer (Spec.read (grammar_of options) words) sound in
-      let parse = the_only (Answered.only_parse_answer options words) (Spec.parse_result options words)
+      let line = line_result (Spec.read (grammar_of options) words) sound in
+      let parse = the_only (OneResult.only_parse_result options words) (Spec.parse_result options words)
       (search (rules, made_of-is, IsAccepted-reading)) in
       let matches = made_of-is (HasReading options words) (HasNoReading options words) (Reads options words)
       (matches_of options) (Spec.reading_or_error options words)
       (HasReading-reading options declared words) reading in
       record {
-        reading = search (rules, the_only, Answered.only_of_reading, once);
-        line = search (rules, the_only, Answered.only_answer, once);
+        reading = search (rules, the_only, OneResult.only_of_reading, once);
+        line = search (rules, the_only, OneResult.only_accepted, once);
         parse = parse;
-        read = search (rules, the_only, Answered.only_read_answer);
+        read = search (rules, the_only, OneResult.only_read_result);
         canonical =
-            search (rules, the_only, Answered.only_canonical_answer, made_of-is, written_answer, with_content);
-        order = the_only (Answered.only_order_answer options words) (Spec.parse_in_order_result options words)
+            search (rules, the_only, OneResult.only_canonical_result, made_of-is, written_result, with_content);
+        order = the_only (OneResult.only_order_result options words) (Spec.parse_in_order_result options words)
             (made_of-is (IsOrder options words) (IsRefused options words) (λ r. IsCountKeeping options r words)
             (order_of_reading (grammar_of options)) (Spec.accepted_reading options words) (λ r keeps. record {
               content = content_of options r;

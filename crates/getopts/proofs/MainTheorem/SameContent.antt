@@ -12,8 +12,8 @@ use Rattle.getopts.specs.Accessors.{occurrences_of_name, each_value}
 use Rattle.getopts.specs.Theorem.{AcceptedExactlyWhen, HaveSameValues, OneContentHoldsSame, LinesReadAgain}
 use Rattle.getopts.specs.declared.kinds.ParsingStyle.{ParsingStyle}
 use Rattle.getopts.proofs.canon.Lines.{KeepsCounts-mentions, values_at, values-occurrences_mentioning}
-use Rattle.getopts.proofs.canon.Answered.{reads_of}
-use Rattle.getopts.proofs.parse.Holds.{found-named}
+use Rattle.getopts.proofs.canon.OneResult.{reads_of}
+use Rattle.getopts.proofs.parse.Holds.{occurrences-named}
 use Rattle.getopts.proofs.parse.Parsed.{IsAccepted-reading}
 
 -- the values of a name, from the mentions
@@ -21,7 +21,7 @@ values-named : (options : Declared) (os : List Occurrence) (name : Text)
     → each_value (occurrences_of_name (matched 0 (signatures_of options.groups) os) name)
     ≡ option_map_or (λ place. values_at place (map (λ (o : Occurrence). o.mention) os))
     (resolution (names_of options.groups) name) []
-values-named options os = found-named each_value _ options os
+values-named options os = occurrences-named each_value _ options os
     (λ place. values-occurrences_mentioning place os)
 
 -- readings with the same content give matches that hold the same

@@ -7,7 +7,7 @@ use Rattle.getopts.specs.Reading.{Reading, IsReading, IsScanFault}
 use Rattle.getopts.specs.Matches.{matches_of, IsCountFault}
 use Rattle.getopts.specs.Parse.{IsAccepted, IsRefused}
 use Rattle.getopts.specs.Theorem.{OneReading, AcceptedExactlyWhen, RefusedExactlyWhen}
-use Rattle.getopts.proofs.canon.Answered.{reads_of, keeps_accepted, not_refused}
+use Rattle.getopts.proofs.canon.OneResult.{reads_of, keeps_accepted, not_refused}
 use Rattle.getopts.proofs.Only.{meets}
 use Rattle.getopts.proofs.parse.Parsed.{text_names_here, HasNoReading-fault, HasReading-reading, IsAccepted-reading}
 use Rattle.getopts.proofs.Reading.Readings.{only_reading}

@@ -323,26 +323,26 @@ FreeWordsAreSubsequence_lem grammar = record {
 -- the positions are at least this one, and never decrease
 abbrev RiseFrom : ℕ → List GroupOccurrence → Type 0
 RiseFrom low [] = Unit {0}
-RiseFrom low (found ∷ founds) = (low ≤ found.position) × RiseFrom found.position founds
+RiseFrom low (occurrence ∷ occurrences) = (low ≤ occurrence.position) × RiseFrom occurrence.position occurrences
 
 -- the same from a lower position
-RiseFrom-lower : (low high : ℕ) (founds : List GroupOccurrence) → low ≤ high → RiseFrom high founds
-    → RiseFrom low founds
+RiseFrom-lower : (low high : ℕ) (occurrences : List GroupOccurrence) → low ≤ high → RiseFrom high occurrences
+    → RiseFrom low occurrences
 RiseFrom-lower low high [] below rise = tt
-RiseFrom-lower low high (found ∷ founds) below rise = (omega (arith, rise.0), rise.1)
+RiseFrom-lower low high (occurrence ∷ occurrences) below rise = (omega (arith, rise.0), rise.1)
 
 -- each is at least the one before it
-RiseFrom-adjacent : (low : ℕ) (founds : List GroupOccurrence) → RiseFrom low founds
-    → AllAdjacentBelow (λ one next. one.position ≤ next.position) founds (length founds)
+RiseFrom-adjacent : (low : ℕ) (occurrences : List GroupOccurrence) → RiseFrom low occurrences
+    → AllAdjacentBelow (λ one next. one.position ≤ next.position) occurrences (length occurrences)
 RiseFrom-adjacent low [] rise k default within = absurd (omega arith)
-RiseFrom-adjacent low (found ∷ []) rise k default within = absurd (omega arith)
-RiseFrom-adjacent low (found ∷ next ∷ founds) rise zero default within = rise.1.0
-RiseFrom-adjacent low (found ∷ next ∷ founds) rise (suc k) default within =
-    search (rules, RiseFrom-adjacent found.position (next ∷ founds) rise.1 k default (omega arith))
+RiseFrom-adjacent low (occurrence ∷ []) rise k default within = absurd (omega arith)
+RiseFrom-adjacent low (occurrence ∷ next ∷ occurrences) rise zero default within = rise.1.0
+RiseFrom-adjacent low (occurrence ∷ next ∷ occurrences) rise (suc k) default within =
+    search (rules, RiseFrom-adjacent occurrence.position (next ∷ occurrences) rise.1 k default (omega arith))
 
 -- the positions of a group's occurrences never decrease
 abbrev NeverDecrease : List GroupOccurrence → Type 0
-NeverDecrease founds = IsNonDecreasingBy (λ found. found.position) founds
+NeverDecrease occurrences = IsNonDecreasingBy (λ occurrence. occurrence.position) occurrences
 
 -- the occurrences of an item rise from its position, if the later ones do
 RiseFrom-item : (place position : ℕ) (told : List Mention) (later : List Occurrence)
@@ -368,7 +368,7 @@ RiseFrom-items grammar place before (item ∷ items) =
 NeverDecrease-reading : (grammar : Grammar) (reading : Reading) (place : ℕ)
     → NeverDecrease (occurrences_mentioning place (occurrences_of grammar reading))
 NeverDecrease-reading grammar reading place =
-    IsNonDecreasingBy-from_all_adjacent (λ (found : GroupOccurrence). found.position) _
+    IsNonDecreasingBy-from_all_adjacent (λ (occurrence : GroupOccurrence). occurrence.position) _
     (RiseFrom-adjacent 0 _ (RiseFrom-items grammar place 0 reading.items))
 
 -- the positions of groups in a reading's matches are in order

@@ -45,7 +45,7 @@ options_in-append : (order more : List Given)
     → options_in (order ++ more) ≡ options_in order ++ options_in more
 options_in-append [] more = refl
 options_in-append (option place value ∷ order) more =
-    ap (λ told. record { group = place; value = value } ∷ told) (options_in-append order more)
+    ap (λ told. record { place = place; value = value } ∷ told) (options_in-append order more)
 options_in-append (free_word word ∷ order) more = options_in-append order more
 
 frees_in-append : (order more : List Given)
@@ -140,9 +140,9 @@ order_of_items-append grammar (item ∷ items) others =
 given_by-mentioned : (grammar : Grammar) (at : ℕ) (item : Item) (occurrence : Occurrence)
     → Contains (map (at_position at) (mentions grammar item)) occurrence
     → given_by grammar item ≡ map given_option (mentions grammar item)
-given_by-mentioned grammar at (free word) occurrence held = absurd (omega (arith, held.1))
-given_by-mentioned grammar at (long dashes name argument) occurrence held = refl
-given_by-mentioned grammar at (cluster bytes end) occurrence held = refl
+given_by-mentioned grammar at (free word) occurrence contained = absurd (omega (arith, contained.1))
+given_by-mentioned grammar at (long dashes name argument) occurrence contained = refl
+given_by-mentioned grammar at (cluster bytes end) occurrence contained = refl
 
 -- its options follow what the items before it give
 FollowsItems-reading : (grammar : Grammar) (reading : Reading) (before after : List Item) (item : Item)
@@ -214,10 +214,10 @@ belongs : (grammar : Grammar) (reading : Reading) (words : List Text) (occurrenc
     (before items : List Item) → IsReading grammar reading words → reading.items ≡ before ++ items
     → Contains (occurrences_after (word_count before) grammar items) occurrence
     → Spec.BelongsToItem grammar reading words occurrence
-belongs grammar reading words occurrence before [] reads are held = absurd (omega (arith, held.1))
-belongs grammar reading words occurrence before (item ∷ items) reads are held =
+belongs grammar reading words occurrence before [] reads are contained = absurd (omega (arith, contained.1))
+belongs grammar reading words occurrence before (item ∷ items) reads are contained =
     elim (Contains-append_cases (map (at_position (word_count before)) (mentions grammar item)) _
-    occurrence held) [
+    occurrence contained) [
       | inl here ↦
           let more = spelled_all items (tail_words reading.tail) in
           let place = All-contains (λ o. o.position ≡ word_count before) _ occurrence
@@ -249,8 +249,8 @@ belongs grammar reading words occurrence before (item ∷ items) reads are held 
 -- positions are indices of words
 pub PositionsAreWords_lem : (grammar : Grammar) → Spec.PositionsAreWords grammar
 PositionsAreWords_lem grammar = record {
-  of_occurrence = λ reading words occurrence reads held.
-      belongs grammar reading words occurrence [] reading.items reads refl held;
+  of_occurrence = λ reading words occurrence reads contained.
+      belongs grammar reading words occurrence [] reading.items reads refl contained;
 }
 
 -- an item has a first word
@@ -265,8 +265,8 @@ below-occurrences_of : (grammar : Grammar) (reading : Reading) (words : List Tex
 below-occurrences_of grammar reading words reads =
     let occurrences = occurrences_of grammar reading in
     recursion_from_All (λ o. o.position < length words) occurrences
-    (All-weaker (Contains occurrences) (λ o. o.position < length words) (λ o held.
-    let there = (PositionsAreWords_lem grammar).of_occurrence reading words o reads held in
+    (All-weaker (Contains occurrences) (λ o. o.position < length words) (λ o contained.
+    let there = (PositionsAreWords_lem grammar).of_occurrence reading words o reads contained in
     let first = first_word there.item in
     slice_get_within words o.position first.0 (there.first_word ∙ first.1))
     occurrences (All-contains_itself occurrences))

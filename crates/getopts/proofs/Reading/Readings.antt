@@ -16,7 +16,7 @@ use Rattle.getopts.proofs.Reading.Steps as Steps
 
 -- `read` on one word, by its step.
 module _ (grammar : Grammar) (word : Text) (more : List Text) where
-  -- what it says, and the outcomes of the words after it
+  -- what it says, and the results of the words after it
   pub read_step : (said : Step) → step grammar word more ≡ said → read grammar (word ∷ more)
       ≡ after_step said (read_both grammar more).0 (read_both grammar more).1
   unfolding read
@@ -34,23 +34,23 @@ pub read_nil : (grammar : Grammar) → read grammar [] ≡ Ok (record { items = 
 unfolding read
 read_nil grammar = refl
 
--- an item goes in front of the outcome of the words after it
+-- an item goes in front of the result of the words after it
 pub taken_read : (grammar : Grammar) (words : List Text) (item : Item) (others : List Text)
     → Steps.TakesItem grammar words item others → read grammar words ≡ with_items (item ∷ []) (read grammar others)
 taken_read grammar [] item others taken = absurd taken
 taken_read grammar (word ∷ more) item others taken =
     cc (read_item grammar word more item taken.0 taken.1, drop-append_seam (argument_words taken.0) others)
 
--- no item before an outcome
-pub with_items-none : (outcome : Result Reading Fault) → outcome ≡ with_items [] outcome
-with_items-none outcome = search rules
+-- no item before a result
+pub with_items-none : (result : Result Reading Fault) → result ≡ with_items [] result
+with_items-none result = search rules
 
 -- items before others
-pub with_items-append : (items others : List Item) (outcome : Result Reading Fault)
-    → with_items (items ++ others) outcome ≡ with_items items (with_items others outcome)
-with_items-append items others outcome = search (rules, append_assoc)
+pub with_items-append : (items others : List Item) (result : Result Reading Fault)
+    → with_items (items ++ others) result ≡ with_items items (with_items others result)
+with_items-append items others result = search (rules, append_assoc)
 
--- valid items go in front of the outcome of the words after them
+-- valid items go in front of the result of the words after them
 pub items_read : (grammar : Grammar) → HasTextNames grammar → (items : List Item) (more : List Text)
     → AllByRecursion (IsLawfulItem grammar) items → AreWellFollowed items more
     → read grammar (spelled_all items more) ≡ with_items items (read grammar more)
@@ -107,10 +107,10 @@ fault_read grammar named words fault is =
     search (rules, followed-append, Steps.faults_dashed) in
     search (rules, read, items_read, with_items, read_step)
 
--- a value made of an outcome is made of a reading
-pub made_of-ok : {X : Type 0} (make : Reading → X) (outcome : Result Reading Fault) (x : X)
-    → made_of make outcome ≡ Ok x → (reading : Reading) × (outcome ≡ Ok reading) × (make reading ≡ x)
-made_of-ok make outcome x same = search rules
+-- a value made of a result is made of a reading
+pub made_of-ok : {X : Type 0} (make : Reading → X) (result : Result Reading Fault) (x : X)
+    → made_of make result ≡ Ok x → (reading : Reading) × (result ≡ Ok reading) × (make reading ≡ x)
+made_of-ok make result x same = search rules
 
 -- The laws of a line: at most one reading, at most one error, and never both.
 module _ (grammar : Grammar) (named : HasTextNames grammar) (words : List Text) where
@@ -129,10 +129,10 @@ module _ (grammar : Grammar) (named : HasTextNames grammar) (words : List Text) 
   no_reading f r fault reading =
       cc (fault_read grammar named words f fault, reading_read grammar named r words reading)
 
--- The line has the reading or error of its outcome.
-abbrev pub IsSoundOutcome : Grammar → List Text → Result Reading Fault → Type 0
-IsSoundOutcome grammar words outcome =
-    MatchResult outcome (λ reading. IsReading grammar reading words) (IsScanFault grammar words)
+-- The line has the reading or error of its result.
+abbrev pub IsSoundResult : Grammar → List Text → Result Reading Fault → Type 0
+IsSoundResult grammar words result =
+    MatchResult result (λ reading. IsReading grammar reading words) (IsScanFault grammar words)
 
 -- a reading of the words after an item, with the item
 pub reading_after_item : (grammar : Grammar) (words : List Text) (item : Item) (others : List Text)
@@ -153,29 +153,29 @@ fault_after_item grammar words item others fault begins is = record {
   fault_at = is.fault_at;
 }
 
--- an item before an outcome
+-- an item before a result
 item_sound : (grammar : Grammar) (words : List Text) (item : Item) (others : List Text)
-    (outcome : Result Reading Fault) → Steps.BeginsWith grammar words item others
-    → IsSoundOutcome grammar others outcome
-    → IsSoundOutcome grammar words (with_items (item ∷ []) outcome)
-item_sound grammar words item others outcome begins sound = search (rules, reading_after_item, fault_after_item)
+    (result : Result Reading Fault) → Steps.BeginsWith grammar words item others
+    → IsSoundResult grammar others result
+    → IsSoundResult grammar words (with_items (item ∷ []) result)
+item_sound grammar words item others result begins sound = search (rules, reading_after_item, fault_after_item)
 
 -- a line that consists of a tail
 tail_sound : (grammar : Grammar) (words : List Text) (tail : Tail) → IsLawfulTail grammar tail
     → tail_words tail ≡ words → IsReading grammar (record { items = []; tail = tail }) words
 tail_sound grammar words tail lawful spells = search rules
 
--- the outcomes of a line and of the line without its first word
+-- the results of a line and of the line without its first word
 both_sound : (grammar : Grammar) → HasTextNames grammar → (words : List Text) → AreTexts words
-    → IsSoundOutcome grammar words (read_both grammar words).0
-    × IsSoundOutcome grammar (drop 1 words) (read_both grammar words).1
+    → IsSoundResult grammar words (read_both grammar words).0
+    × IsSoundResult grammar (drop 1 words) (read_both grammar words).1
 unfolding read_both
 both_sound grammar named [] texts = search (rules, tail_sound)
 both_sound grammar named (word ∷ more) texts =
     search (rules, read_both, step, Steps.step_sound, both_sound grammar named more texts.1, tail_sound, item_sound)
 
--- the outcome of `read` is right for a line of texts
+-- the result of `read` is right for a line of texts
 pub read_sound : (grammar : Grammar) → HasTextNames grammar → (words : List Text) → AreTexts words
-    → (outcome : Result Reading Fault) → read grammar words ≡ outcome → IsSoundOutcome grammar words outcome
+    → (result : Result Reading Fault) → read grammar words ≡ result → IsSoundResult grammar words result
 unfolding read
-read_sound grammar named words texts outcome e = search (rules, both_sound)
+read_sound grammar named words texts result e = search (rules, both_sound)

@@ -14,7 +14,7 @@ use Rattle.getopts.specs.Stored.Signatures.{names_in}
 use Rattle.getopts.specs.Stored.Index.{index_of}
 use Rattle.getopts.specs.Reading.{Occurrence}
 use Rattle.getopts.specs.Matches.{GroupOccurrence, MatchedGroup, occurrences_mentioning, matched, without_group}
-use Rattle.getopts.specs.Accessors.{occurrences_of_group, place_of, values_of, pairs_of}
+use Rattle.getopts.specs.Accessors.{occurrences_of_group, opt_place, values_of, pairs_of}
 use Rattle.getopts.specs.Same.{same_signature, same_group_occurrence, same_matched_group}
 use Rattle.getopts.proofs.counts.Groups.{length-matched}
 use Rattle.getopts.specs.Stored.Occurrences.{no_occurrence, occurrences_at_indices}
@@ -28,58 +28,58 @@ signatures-matched first (signature ∷ signatures) occurrences =
     search (rules, signatures-matched (first + 1) signatures occurrences)
 
 -- the occurrences of the group at a place
-pub found-matched : (first : ℕ) (signatures : List Signature) (occurrences : List Occurrence) (i : ℕ)
+pub occurrences-matched : (first : ℕ) (signatures : List Signature) (occurrences : List Occurrence) (i : ℕ)
     → i < length signatures
     → occurrences_of_group (matched first signatures occurrences) i ≡ occurrences_mentioning (first + i) occurrences
-found-matched first [] occurrences i within = absurd (omega arith)
-found-matched first (signature ∷ signatures) occurrences zero within = search rules
-found-matched first (signature ∷ signatures) occurrences (suc i) within =
-    search (rules, found-matched (first + 1) signatures occurrences i (omega arith))
+occurrences-matched first [] occurrences i within = absurd (omega arith)
+occurrences-matched first (signature ∷ signatures) occurrences zero within = search rules
+occurrences-matched first (signature ∷ signatures) occurrences (suc i) within =
+    search (rules, occurrences-matched (first + 1) signatures occurrences i (omega arith))
 
 -- a name resolves among matched groups as among their names
-pub place_of-signatures : (groups : List MatchedGroup) (signatures : List Signature)
+pub opt_place-signatures : (groups : List MatchedGroup) (signatures : List Signature)
     → map (λ (group : MatchedGroup). group.signature) groups ≡ signatures → (name : Text)
-    → resolution (names_in signatures) name ≡ place_of groups name
-place_of-signatures groups signatures are name = search (rules, map-map)
+    → resolution (names_in signatures) name ≡ opt_place groups name
+opt_place-signatures groups signatures are name = search (rules, map-map)
 
 module _ (signatures : List Signature) (occurrences : List Occurrence) (place : ℕ) where
-  -- the places of the occurrences of the group at this place are within the occurrences
+  -- the indices of the occurrences of the group at this place are within the occurrences
   pub indexed-within : AllByRecursion (λ p. p < length occurrences) (index_of (length signatures) occurrences place)
   indexed-within = search (rules, cases_lt, lt-ltb, length-map, recursion_from_All, le-ltb, indices_from-within)
 
   -- they are the occurrences of that group
-  pub indexed-found :
+  pub indexed-occurrences :
       occurrences_at_indices occurrences (index_of (length signatures) occurrences place)
       ≡ occurrences_of_group (matched 0 signatures occurrences) place
-  indexed-found = elim (cases_lt place (length signatures)) [
+  indexed-occurrences = elim (cases_lt place (length signatures)) [
     | inl there ↦
         rw (lt-ltb place (length signatures) there)
         (sym (map-map without_group (λ p. get_or occurrences p no_occurrence) _)
         ∙ ap (map without_group) (search (rules, map-indices_of))
         ∙ ap (λ n. occurrences_mentioning n occurrences) (sym (zero-add place))
-        ∙ sym (found-matched 0 signatures occurrences place there))
+        ∙ sym (occurrences-matched 0 signatures occurrences place there))
     | inr past ↦ search (rules, le-ltb, slice_get_past, length-matched)
   ]
 
 -- values are the texts of the pairs
-pub texts_of_pairs : (founds : List GroupOccurrence)
-    → map (λ (pair : ℕ × Text). pair.1) (pairs_of founds) ≡ values_of founds
+pub texts_of_pairs : (occurrences : List GroupOccurrence)
+    → map (λ (pair : ℕ × Text). pair.1) (pairs_of occurrences) ≡ values_of occurrences
 texts_of_pairs [] = refl
-texts_of_pairs (found ∷ founds) = search (rules, texts_of_pairs founds)
+texts_of_pairs (occurrence ∷ occurrences) = search (rules, texts_of_pairs occurrences)
 
 -- groups are equal if their signatures and the occurrences at each place are
-pub same_found_everywhere : (groups others : List MatchedGroup)
+pub same_occurrences_everywhere : (groups others : List MatchedGroup)
     → pointwise same_signature (map (λ (group : MatchedGroup). group.signature) groups)
     (map (λ (group : MatchedGroup). group.signature) others) ≡ true
     → ((i : ℕ) → i < length groups
     → pointwise same_group_occurrence (occurrences_of_group groups i)
     (occurrences_of_group others i)
     ≡ true) → pointwise same_matched_group groups others ≡ true
-same_found_everywhere [] [] signature found = refl
-same_found_everywhere [] (b ∷ others) signature found = signature
-same_found_everywhere (a ∷ groups) [] signature found = signature
-same_found_everywhere (a ∷ groups) (b ∷ others) signature found =
+same_occurrences_everywhere [] [] signature occurrences = refl
+same_occurrences_everywhere [] (b ∷ others) signature occurrences = signature
+same_occurrences_everywhere (a ∷ groups) [] signature occurrences = signature
+same_occurrences_everywhere (a ∷ groups) (b ∷ others) signature occurrences =
     let parts = and_parts (same_signature a.signature b.signature) _ signature in
     and_from (same_matched_group a b) _
-    (and_from (same_signature a.signature b.signature) _ parts.0 (found 0 (omega arith)))
-    (same_found_everywhere groups others parts.1 (λ i h. found (suc i) (omega arith)))
+    (and_from (same_signature a.signature b.signature) _ parts.0 (occurrences 0 (omega arith)))
+    (same_occurrences_everywhere groups others parts.1 (λ i h. occurrences (suc i) (omega arith)))

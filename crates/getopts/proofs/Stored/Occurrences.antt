@@ -26,51 +26,51 @@ use Rattle.getopts.proofs.Stored.Texts.{IsCharBoundary-append, slice_range-appen
 pub length-occurrences : (values : Text) (records : List OccurrenceRecord)
     → length (occurrences_in values records) ≡ length records
 length-occurrences values [] = refl
-length-occurrences values (held ∷ more) = ap suc (length-occurrences values more)
+length-occurrences values (stored ∷ more) = ap suc (length-occurrences values more)
 
 -- and that is of its group
-pub groups-occurrences : (values : Text) (records : List OccurrenceRecord)
-    → map (λ (o : Occurrence). o.mention.group) (occurrences_in values records)
+pub places-occurrences : (values : Text) (records : List OccurrenceRecord)
+    → map (λ (o : Occurrence). o.mention.place) (occurrences_in values records)
     ≡ map (λ (r : OccurrenceRecord). r.place) records
-groups-occurrences values [] = refl
-groups-occurrences values (held ∷ more) = ap (λ groups. held.place ∷ groups) (groups-occurrences values more)
+places-occurrences values [] = refl
+places-occurrences values (stored ∷ more) = ap (λ places. stored.place ∷ places) (places-occurrences values more)
 
 -- the occurrence of the record at a place
-occurrences-at : (values : Text) (records : List OccurrenceRecord) (place : ℕ)
-    → slice_get (occurrences_in values records) place
-    ≡ option_map (λ held. occurrence_in values held (slice_get records (suc place))) (slice_get records place)
-occurrences-at values [] place = refl
-occurrences-at values (held ∷ more) zero = refl
-occurrences-at values (held ∷ more) (suc place) = occurrences-at values more place
+occurrences-at : (values : Text) (records : List OccurrenceRecord) (index : ℕ)
+    → slice_get (occurrences_in values records) index
+    ≡ option_map (λ stored. occurrence_in values stored (slice_get records (suc index))) (slice_get records index)
+occurrences-at values [] index = refl
+occurrences-at values (stored ∷ more) zero = refl
+occurrences-at values (stored ∷ more) (suc index) = occurrences-at values more index
 
 -- a value ends between characters
-pub ends : (values : Text) (records : List OccurrenceRecord) (place : ℕ) → HaveStarts values records
-    → IsCharBoundary values (end_by values (slice_get records place))
-ends values [] place all = IsCharBoundary-end values
-ends values (held ∷ more) zero all = all.0
-ends values (held ∷ more) (suc place) all = ends values more place all.1
+pub ends : (values : Text) (records : List OccurrenceRecord) (index : ℕ) → HaveStarts values records
+    → IsCharBoundary values (end_by values (slice_get records index))
+ends values [] index all = IsCharBoundary-end values
+ends values (stored ∷ more) zero all = all.0
+ends values (stored ∷ more) (suc index) all = ends values more index all.1
 
 module _ (values : Text) (records : List OccurrenceRecord) (seen : List Occurrence)
-    (are : occurrences_in values records ≡ seen) (place : ℕ) (inside : place < length seen) where
+    (are : occurrences_in values records ≡ seen) (index : ℕ) (inside : index < length seen) where
   -- an occurrence of a line has a record
-  pub record_within : place < length records
+  pub record_within : index < length records
   record_within =
       omega (arith, inside, length-occurrences values records, ap (λ (found : List Occurrence). length found) are)
 
-  module _ (held : OccurrenceRecord) (is : held ≡ get_or records place held) where
-    held_at : slice_get records place ≡ Some held
-    held_at = slice_get-get_or records place held record_within ∙ ap Some (sym is)
+  module _ (stored : OccurrenceRecord) (is : stored ≡ get_or records index stored) where
+    stored_at : slice_get records index ≡ Some stored
+    stored_at = slice_get-get_or records index stored record_within ∙ ap Some (sym is)
 
     -- and is that of its record
-    pub occurrence-read : slice_get seen place ≡ Some (occurrence_in values held (slice_get records (place + 1)))
+    pub occurrence-read : slice_get seen index ≡ Some (occurrence_in values stored (slice_get records (index + 1)))
     occurrence-read =
-        let next : place + 1 ≡ suc place = omega arith in
-        rw (← are, next, occurrences-at values records place, held_at) refl
+        let next : index + 1 ≡ suc index = omega arith in
+        rw (← are, next, occurrences-at values records index, stored_at) refl
 
     -- whose value starts between characters
-    pub starts : HaveStarts values records → IsCharBoundary values (held.value / 2)
+    pub starts : HaveStarts values records → IsCharBoundary values (stored.value / 2)
     starts all =
-        Lists.AllByRecursion-at (λ r. IsCharBoundary values (r.value / 2)) records place held all held_at
+        Lists.AllByRecursion-at (λ r. IsCharBoundary values (r.value / 2)) records index stored all stored_at
 
 -- With more values:
 module _ (values more : Text) (utf8 : IsUtf8 more) where
@@ -82,66 +82,68 @@ module _ (values more : Text) (utf8 : IsUtf8 more) where
   HaveStarts-append records all = search (rules, Lists.AllByRecursion-follows, IsCharBoundary-append)
 
   -- a value that has ended is the same
-  value-append : (held next : OccurrenceRecord) → next.value / 2 ≤ length values
-      → value_in grown held.value (Some next) ≡ value_in values held.value (Some next)
-  value-append held next within = search (rules, slice_range-append)
+  value-append : (stored next : OccurrenceRecord) → next.value / 2 ≤ length values
+      → value_in grown stored.value (Some next) ≡ value_in values stored.value (Some next)
+  value-append stored next within = search (rules, slice_range-append)
 
   -- a record whose value starts among them is the last one
   module _ (added : OccurrenceRecord) (starts_at : added.value / 2 ≡ length values) where
-    value-last : (held : OccurrenceRecord) → value_in grown held.value (Some added) ≡ value_in values held.value None
-    value-last held = rw starts_at (search (rules, slice_range-append))
+    value-last : (stored : OccurrenceRecord)
+        → value_in grown stored.value (Some added) ≡ value_in values stored.value None
+    value-last stored = rw starts_at (search (rules, slice_range-append))
 
     pub occurrences-push : (records : List OccurrenceRecord) → HaveStarts values records
         → HaveStarts grown (records ++ added ∷ [])
         × (occurrences_in grown (records ++ added ∷ [])
         ≡ occurrences_in values records ++ occurrence_in grown added None ∷ [])
     occurrences-push [] all = grind (arith, common_steps, IsCharBoundary-append)
-    occurrences-push (held ∷ []) all = search (rules, IsCharBoundary-append, value-last, occurrences-push [] tt)
-    occurrences-push (held ∷ next ∷ records) all =
+    occurrences-push (stored ∷ []) all = search (rules, IsCharBoundary-append, value-last, occurrences-push [] tt)
+    occurrences-push (stored ∷ next ∷ records) all =
         search (rules, IsCharBoundary-append, value-append, occurrences-push (next ∷ records) all.1)
 
 -- an added value is at the end
-pub value-added : (values more : Text) (stored : ℕ) → stored / 2 ≡ length values → stored % 2 ≡ 1
-    → value_in (values ++ more) stored None ≡ Some more
-value-added values more stored starts given = search (rules, slice_range-added)
+pub value-added : (values more : Text) (number : ℕ) → number / 2 ≡ length values → number % 2 ≡ 1
+    → value_in (values ++ more) number None ≡ Some more
+value-added values more number starts given = search (rules, slice_range-added)
 
 module _ (occurrences : List Occurrence) (indices : List ℕ)
-    (all : AllByRecursion (λ place. place < length occurrences) indices) where
+    (all : AllByRecursion (λ index. index < length occurrences) indices) where
   -- the occurrences at these indices
-  abbrev founds : List GroupOccurrence
-  founds = occurrences_at_indices occurrences indices
+  abbrev at_indices : List GroupOccurrence
+  at_indices = occurrences_at_indices occurrences indices
 
   -- as many occurrences as indices
-  pub length-founds : length founds ≡ length indices
-  length-founds = length-map indices (λ place. without_group (get_or occurrences place no_occurrence))
+  pub length-at_indices : length at_indices ≡ length indices
+  length-at_indices = length-map indices (λ index. without_group (get_or occurrences index no_occurrence))
 
   -- an existing occurrence has its place
-  pub place_within : (seen : List GroupOccurrence) (i : ℕ) → founds ≡ seen → i < length seen → i < length indices
-  place_within seen i are within =
-      omega (arith, within, length-founds, ap (λ (fs : List GroupOccurrence). length fs) are)
+  pub index_within : (seen : List GroupOccurrence) (i : ℕ) → at_indices ≡ seen → i < length seen → i < length indices
+  index_within seen i are within =
+      omega (arith, within, length-at_indices, ap (λ (fs : List GroupOccurrence). length fs) are)
 
   -- the occurrence at one of the indices
-  pub founds-at : (i place : ℕ) → slice_get indices i ≡ Some place
-      → slice_get founds i ≡ option_map without_group (slice_get occurrences place)
-  founds-at i place at = search (rules, slice_get-map, slice_get-get_or, Lists.AllByRecursion-at)
+  pub at_indices-at : (i index : ℕ) → slice_get indices i ≡ Some index
+      → slice_get at_indices i ≡ option_map without_group (slice_get occurrences index)
+  at_indices-at i index at = search (rules, slice_get-map, slice_get-get_or, Lists.AllByRecursion-at)
 
 -- one more occurrence of a prefix: its value, and its position with its value
-module _ (founds : List GroupOccurrence) (i : ℕ) (found : GroupOccurrence)
-    (at : slice_get founds i ≡ Some found) where
-  pub values-more : values_of (take (i + 1) founds) ≡ values_of (take i founds) ++ values_of (found ∷ [])
-  values-more = ap values_of (Lists.take_more_at founds i found at)
-      ∙ filter_map-append (λ (found : GroupOccurrence). found.value) (take i founds) (found ∷ [])
+module _ (occurrences : List GroupOccurrence) (i : ℕ) (occurrence : GroupOccurrence)
+    (at : slice_get occurrences i ≡ Some occurrence) where
+  pub values-more : values_of (take (i + 1) occurrences) ≡ values_of (take i occurrences) ++ values_of (occurrence ∷ [])
+  values-more = ap values_of (Lists.take_more_at occurrences i occurrence at)
+      ∙ filter_map-append (λ (occurrence : GroupOccurrence). occurrence.value) (take i occurrences) (occurrence ∷ [])
 
-  pub pairs-more : pairs_of (take (i + 1) founds) ≡ pairs_of (take i founds) ++ pairs_of (found ∷ [])
-  pairs-more = ap pairs_of (Lists.take_more_at founds i found at)
-      ∙ filter_map-append pair_of (take i founds) (found ∷ [])
+  pub pairs-more : pairs_of (take (i + 1) occurrences) ≡ pairs_of (take i occurrences) ++ pairs_of (occurrence ∷ [])
+  pairs-more = ap pairs_of (Lists.take_more_at occurrences i occurrence at)
+      ∙ filter_map-append pair_of (take i occurrences) (occurrence ∷ [])
 
 -- with an occurrence that has a value, there are values
-pub value_given : (founds : List GroupOccurrence) (i : ℕ) (found : GroupOccurrence) (value : Text)
-    → slice_get founds i ≡ Some found → found.value ≡ Some value → values_of founds ≢ []
-value_given [] i found value at given none = cc at
-value_given (first ∷ founds) zero found value at given none = search rules
-value_given (first ∷ founds) (suc i) found value at given none = search (rules, value_given founds i found value)
+pub value_given : (occurrences : List GroupOccurrence) (i : ℕ) (occurrence : GroupOccurrence) (value : Text)
+    → slice_get occurrences i ≡ Some occurrence → occurrence.value ≡ Some value → values_of occurrences ≢ []
+value_given [] i occurrence value at given none = cc at
+value_given (first ∷ occurrences) zero occurrence value at given none = search rules
+value_given (first ∷ occurrences) (suc i) occurrence value at given none =
+    search (rules, value_given occurrences i occurrence value)
 
 -- two occurrences as they are read, compared like in the code
 abbrev pub same_read : Option (ℕ × Option (Bor Text)) → Option (ℕ × Option (Bor Text)) → Bool
@@ -149,17 +151,18 @@ same_read =
     option_eq (λ a b. a.0 == b.0 && option_eq
     (λ text other. pointwise ◌==◌ text.now other.now) a.1 b.1)
 
-module _ (founds others : List GroupOccurrence) (i : ℕ) (a b : Option (ℕ × Option (Bor Text)))
-    (is : option_map borrowed_occurrence a ≡ slice_get founds i)
+module _ (occurrences others : List GroupOccurrence) (i : ℕ) (a b : Option (ℕ × Option (Bor Text)))
+    (is : option_map borrowed_occurrence a ≡ slice_get occurrences i)
     (other_is : option_map borrowed_occurrence b ≡ slice_get others i) where
-  here : option_eq same_group_occurrence (slice_get founds i) (slice_get others i) ≡ same_read a b
+  here : option_eq same_group_occurrence (slice_get occurrences i) (slice_get others i) ≡ same_read a b
   here = (λ j. option_eq same_group_occurrence (sym is j) (sym other_is j)) ∙ (search rules)
 
   -- occurrences that read as different
-  pub founds-differ : same_read a b ≡ false → pointwise same_group_occurrence founds others ≡ false
-  founds-differ differ = Lists.pointwise-differ same_group_occurrence founds others i (here ∙ differ)
+  pub occurrences-differ : same_read a b ≡ false → pointwise same_group_occurrence occurrences others ≡ false
+  occurrences-differ differ = Lists.pointwise-differ same_group_occurrence occurrences others i (here ∙ differ)
 
   -- one more occurrence that reads as equal
-  pub founds-same : same_read a b ≡ true → pointwise same_group_occurrence (take i founds) (take i others) ≡ true
-      → pointwise same_group_occurrence (take (i + 1) founds) (take (i + 1) others) ≡ true
-  founds-same same before = search (rules, Lists.pointwise-take_more)
+  pub occurrences-same : same_read a b ≡ true
+      → pointwise same_group_occurrence (take i occurrences) (take i others) ≡ true
+      → pointwise same_group_occurrence (take (i + 1) occurrences) (take (i + 1) others) ≡ true
+  occurrences-same same before = search (rules, Lists.pointwise-take_more)

@@ -56,10 +56,10 @@ same_group_occurrence-decides a b = search (rules, Decides-like, Decides-and, De
 -- the comparison of two groups decides equality
 pub same_matched_group-decides : (a b : MatchedGroup) → Decides (same_matched_group a b) (a ≡ b)
 same_matched_group-decides a b = Decides-like (same_matched_group a b)
-    (λ h. λ i. record { signature = h.0 i; found = h.1 i })
-    (λ e. (ap (λ g. g.signature) e, ap (λ g. g.found) e))
+    (λ h. λ i. record { signature = h.0 i; occurrences = h.1 i })
+    (λ e. (ap (λ g. g.signature) e, ap (λ g. g.occurrences) e))
     (Decides-and _ _ (same_signature-decides _ _)
-    (pointwise_decides same_group_occurrence-decides a.found b.found))
+    (pointwise_decides same_group_occurrence-decides a.occurrences b.occurrences))
 
 -- the comparison of two matches decides equality
 pub same_matches-decides : (a b : Matched) → Decides (same_matches a b) (a ≡ b)

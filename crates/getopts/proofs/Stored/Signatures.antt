@@ -51,10 +51,10 @@ pub stored_at : (text : Text) (records : List SignatureRecord) (signatures : Lis
     → map (signature_in text) records ≡ signatures → place < length signatures
     → r ≡ get_or records place r
     → IsStored text r × (slice_get signatures place ≡ Some (signature_in text r))
-stored_at text records signatures place r held are within is =
+stored_at text records signatures place r stored are within is =
     let at = slice_get_read records _ place r refl
     (record_within text records signatures place are within) is in (
-      AllByRecursion-at (IsStored text) records place r held at,
+      AllByRecursion-at (IsStored text) records place r stored at,
       rw (← are) (slice_get-map (signature_in text) records place
           ∙ ap (option_map (signature_in text)) at),
     )
@@ -88,20 +88,20 @@ HaveNamesOfBytes-lawful (s ∷ more) lawful (suc place) = HaveNamesOfBytes-lawfu
 
 -- ---- one more
 
--- with more text, records are held as before, and one more is the last
+-- with more text, records are stored as before, and one more is the last
 pub signatures-push : (text more : Text) → IsUtf8 more → (records : List SignatureRecord)
     → AllByRecursion (IsStored text) records
     → (added : SignatureRecord) → IsStored (text ++ more) added
     → AllByRecursion (IsStored (text ++ more)) (records ++ added ∷ [])
     × (map (signature_in (text ++ more)) (records ++ added ∷ [])
     ≡ map (signature_in text) records ++ signature_in (text ++ more) added ∷ [])
-signatures-push text more utf8 records held added last =
+signatures-push text more utf8 records stored added last =
     each_pushed (IsStored text) (IsStored (text ++ more)) (signature_in text)
-    (signature_in (text ++ more)) (λ r held.
-    let stand = two-append text more utf8 (ends_of r) held.ends in
+    (signature_in (text ++ more)) (λ r stored.
+    let stand = two-append text more utf8 (ends_of r) stored.ends in
     let same : signature_in (text ++ more) r ≡ signature_in text r =
     ap (λ (names : Text × Text). signature_with r.kinds names.0 names.1) stand.are in
-    (search rules)) added _ last refl records held
+    (search rules)) added _ last refl records stored
 
 -- with more text, the two texts of each group are as before, and two more are the last
 pub twos-push : (text more : Text) → IsUtf8 more → (ends : List PairEnds)
@@ -109,10 +109,10 @@ pub twos-push : (text more : Text) → IsUtf8 more → (ends : List PairEnds)
     → IsPairAt (text ++ more) added two
     → AllByRecursion (AreEndsOf (text ++ more)) (ends ++ added ∷ [])
     × (map (pair_at (text ++ more)) (ends ++ added ∷ []) ≡ map (pair_at text) ends ++ two ∷ [])
-twos-push text more utf8 ends held added two last =
+twos-push text more utf8 ends stored added two last =
     each_pushed (AreEndsOf text) (AreEndsOf (text ++ more)) (pair_at text)
-    (pair_at (text ++ more)) (λ e held. let stand = two-append text more utf8 e held in
-    (stand.ends, stand.are)) added two last.ends last.are ends held
+    (pair_at (text ++ more)) (λ e stored. let stand = two-append text more utf8 e stored in
+    (stand.ends, stand.are)) added two last.ends last.are ends stored
 
 -- one more group has the texts after the others
 pub groups_with-push : (signature : Signature) (texts : Text × Text) (signatures : List Signature)
@@ -146,7 +146,7 @@ signatures_of-with (first ∷ signatures) [] as_many = absurd (omega (arith, as_
 signatures_of-with (first ∷ signatures) (two ∷ twos) as_many =
     search (rules, signatures_of-with signatures twos (omega (arith, as_many)))
 
--- the signatures that are held are those of the groups
+-- the stored signatures are those of the groups
 pub signatures_stored : (inside : Inside) (groups : List Group) → HoldGroups inside → groups_view inside ≡ groups
     → (inside.signatures ≡ signatures_of groups) × (length groups ≡ length inside.signatures)
 signatures_stored inside groups holds are =

@@ -42,13 +42,13 @@ abbrev HasPlainMain : List Group → ℕ → Type 0
 HasPlainMain groups place = holds_equals (main_at groups place) ≡ false
 
 -- the main name of the group at this place resolves to that group
-abbrev pub AnswersMain : List Group → ℕ → Type 0
-AnswersMain groups place = resolution (names_of groups) (main_at groups place) ≡ Some place
+abbrev pub MainResolves : List Group → ℕ → Type 0
+MainResolves groups place = resolution (names_of groups) (main_at groups place) ≡ Some place
 
 -- the main name of the group that a name resolves to, resolves to that group
-pub AnswersMain-resolution : (groups : List Group) (name : Text) (place : ℕ)
-    → resolution (names_of groups) name ≡ Some place → AnswersMain groups place
-AnswersMain-resolution groups name place resolves =
+pub MainResolves-resolution : (groups : List Group) (name : Text) (place : ℕ)
+    → resolution (names_of groups) name ≡ Some place → MainResolves groups place
+MainResolves-resolution groups name place resolves =
     let within = resolution_within (names_of groups) name place resolves in
     let there = slice_get-get_or (names_of groups) place
     (record { short = []; long = [] }) within in
@@ -57,7 +57,7 @@ AnswersMain-resolution groups name place resolves =
 
 -- the main name of such a group isn't empty
 main_at-filled : (groups : List Group) (place : ℕ) → AreLawfullyNamed groups
-    → AnswersMain groups place → main_at groups place ≢ []
+    → MainResolves groups place → main_at groups place ≢ []
 main_at-filled groups place lawful own empty =
     let no_name = resolution-nil (names_of groups)
     (AllByRecursion-map IsLawfullyNamed (λ group. group.signature.names) groups lawful) in
@@ -65,10 +65,10 @@ main_at-filled groups place lawful own empty =
 
 -- a mentioned group is there, and its kind may have the value
 abbrev pub FitsGroup : List Group → Mention → Type 0
-FitsGroup groups m = (kind : HasArg) × (kind_at groups m.group ≡ Some kind) × FitsKind kind m.value
+FitsGroup groups m = (kind : HasArg) × (kind_at groups m.place ≡ Some kind) × FitsKind kind m.value
 
 -- such a group is there
-pub FitsGroup-within : (groups : List Group) (m : Mention) → FitsGroup groups m → m.group < length groups
+pub FitsGroup-within : (groups : List Group) (m : Mention) → FitsGroup groups m → m.place < length groups
 FitsGroup-within groups m fits = search (rules, slice_get-map, slice_get_within, length-map)
 
 -- fitting content: each mentioned group is there, and its kind may have the value
@@ -77,7 +77,7 @@ IsFitting groups content = AllByRecursion (FitsGroup groups) content.mentions
 
 -- a mention as a valid item may have it
 record IsGood (groups : List Group) (m : Mention) : Type 0 where
-  own : AnswersMain groups m.group
+  own : MainResolves groups m.place
   fits : FitsGroup groups m
 
 -- the mention of a name that resolves to a group of this kind
@@ -92,7 +92,7 @@ IsGood-mention options name kind value signature fits =
       by_place place resolves there =
           let same : unwrap_or (resolution (names_of options.groups) name) 0 ≡ place =
           ap (λ o. unwrap_or o 0) resolves in
-          rw same (search (rules, AnswersMain-resolution))
+          rw same (search (rules, MainResolves-resolution))
 
 -- a valid argument gives a value that the kind may have
 FitsKind-long : (kind : HasArg) (argument : Argument) → FitsLong kind argument → FitsKind kind (value_of argument)
@@ -150,7 +150,7 @@ free_items-canonical groups (m ∷ ms) = free_items-canonical groups ms
 -- the canonical reading reads the canonical line
 IsReading-canonical : (options : Declared) (ms : List Mention) (frees : List Text)
     → AllByRecursion (IsGood options.groups) ms
-    → AllByRecursion (λ m. HasPlainMain options.groups m.group) ms
+    → AllByRecursion (λ m. HasPlainMain options.groups m.place) ms
     → IsReading (grammar_of options)
     (canonical_reading options.groups (record { mentions = ms; free = frees }))
     (canonical_line options.groups (record { mentions = ms; free = frees }))
@@ -168,7 +168,7 @@ content_of-canonical options content good = simp (mentions_of-items, mentions-ca
 
 -- the values of a group's occurrences, from the mentions
 abbrev pub values_at : ℕ → List Mention → List (Option Text)
-values_at place ms = map (λ (m : Mention). m.value) (filter (λ (m : Mention). m.group == place) ms)
+values_at place ms = map (λ (m : Mention). m.value) (filter (λ (m : Mention). m.place == place) ms)
 
 pub values-occurrences_mentioning : (place : ℕ) (os : List Occurrence)
     → each_value (occurrences_mentioning place os) ≡ values_at place (map (λ (o : Occurrence). o.mention) os)
@@ -215,7 +215,7 @@ pub IsSound-says : (options : Declared) (words : List Text) (content : Content)
     → Says options words content → IsSound options.groups content
 IsSound-says options words content says =
     rw says.content_is (AllByRecursion-follows (IsGood options.groups)
-    (λ m. AnswersMain options.groups m.group) (λ m good. good.own) _
+    (λ m. MainResolves options.groups m.place) (λ m good. good.own) _
     (IsGood-reading (with_setting options says.style says.long_only) says.reading says.reads.reads.items))
 
 -- the canonical line reads back in both styles and both modes
@@ -263,14 +263,14 @@ content_in groups [] = record { mentions = []; free = [] }
 content_in groups (word ∷ words) =
     let cut = cut_at_equals (drop 2 word) in
     let place = resolution (names_of groups) cut.0 in
-    let mention : Mention = record { group = unwrap_or place 0; value = cut.1 } in
+    let mention : Mention = record { place = unwrap_or place 0; value = cut.1 } in
     let others : Content = content_in groups words in
     if is_stop word then record { mentions = []; free = words }
     else record { mentions = mention ∷ others.mentions; free = others.free }
 
 -- a name without `=` can end in only one place, so the line determines the content
 content_in-canonical : (groups : List Group) (ms : List Mention) (frees : List Text) → AreLawfullyNamed groups
-    → AllByRecursion (λ m. AnswersMain groups m.group) ms → AllByRecursion (λ m. HasPlainMain groups m.group) ms
+    → AllByRecursion (λ m. MainResolves groups m.place) ms → AllByRecursion (λ m. HasPlainMain groups m.place) ms
     → content_in groups (map (canonical_word groups) ms ++ stop_word ∷ frees) ≡ record { mentions = ms; free = frees }
 content_in-canonical groups [] frees lawful own plain = refl
 content_in-canonical groups (m ∷ ms) frees lawful own plain =
@@ -315,7 +315,7 @@ OneLineOneContent-lawful options lawful words others content other
 
 -- if the main name contains `=`, no valid item with this one mention spells the canonical word
 pub HasNoItem-equals : (options : Declared) (m : Mention)
-    → holds_equals (main_at options.groups m.group) ≡ true → HasNoItem options m
+    → holds_equals (main_at options.groups m.place) ≡ true → HasNoItem options m
 HasNoItem-equals options m holds style long_only item lawful just same =
     grind (
       arith,
@@ -334,26 +334,26 @@ not_all : {X : Type 0} (p : X → Bool) (xs : List X) → list_all p xs ≡ fals
 not_all p [] fails = absurd (true≢false fails)
 not_all p (x ∷ xs) fails = elim (cases_Bool (p x)) [
   | inl passes ↦
-      let found = not_all p xs (rw passes at fails) in
-      (found.0, (suc found.1.0, omega (arith, found.1.1), found.1.2), found.2)
+      let failing = not_all p xs (rw passes at fails) in
+      (failing.0, (suc failing.1.0, omega (arith, failing.1.1), failing.1.2), failing.2)
   | inr here ↦ (x, (0, omega arith, refl), here)
 ]
 
 -- whether no mentioned group has a main name that contains `=`
 abbrev pub is_plain : List Group → List Mention → Bool
-is_plain groups mentions = list_all (λ m. not (holds_equals (main_at groups m.group))) mentions
+is_plain groups mentions = list_all (λ m. not (holds_equals (main_at groups m.place))) mentions
 
 -- if none has, they are plain
 pub is_plain-true : (groups : List Group) (mentions : List Mention)
-    → is_plain groups mentions ≡ true → AllByRecursion (λ m. HasPlainMain groups m.group) mentions
+    → is_plain groups mentions ≡ true → AllByRecursion (λ m. HasPlainMain groups m.place) mentions
 is_plain-true groups [] plain = tt
 is_plain-true groups (m ∷ ms) plain =
-    let parts = and_parts (not (holds_equals (main_at groups m.group)))
+    let parts = and_parts (not (holds_equals (main_at groups m.place)))
     (is_plain groups ms) plain in
-    (not-true (holds_equals (main_at groups m.group)) parts.0, is_plain-true groups ms parts.1)
+    (not-true (holds_equals (main_at groups m.place)) parts.0, is_plain-true groups ms parts.1)
 
 pub is_plain-from : (groups : List Group) (mentions : List Mention)
-    → AllByRecursion (λ m. HasPlainMain groups m.group) mentions → is_plain groups mentions ≡ true
+    → AllByRecursion (λ m. HasPlainMain groups m.place) mentions → is_plain groups mentions ≡ true
 is_plain-from groups [] plain = refl
 is_plain-from groups (m ∷ ms) plain = rw (plain.0) (is_plain-from groups ms plain.1)
 
@@ -361,5 +361,5 @@ is_plain-from groups (m ∷ ms) plain = rw (plain.0) (is_plain-from groups ms pl
 pub HasUnwritable-content : (options : Declared) (content : Content)
     → is_plain options.groups content.mentions ≡ false → HasUnwritable options content
 HasUnwritable-content options content some =
-    let found = not_all (λ m. not (holds_equals (main_at options.groups m.group))) _ some in
+    let failing = not_all (λ m. not (holds_equals (main_at options.groups m.place))) _ some in
     search (rules, HasNoItem-equals, not-false)

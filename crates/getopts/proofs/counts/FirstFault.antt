@@ -29,9 +29,9 @@ HaveFault-more group groups (Some fault) kept is = record {
 pub first_count_fault-is : (groups : List MatchedGroup) → HaveFault groups (first_count_fault groups)
 first_count_fault-is [] = tt
 first_count_fault-is (group ∷ groups) =
-    here (fits_count group.signature.occur (length group.found)) refl
+    here (fits_count group.signature.occur (length group.occurrences)) refl
     (first_count_fault-is groups) where
-      here : (fits : Bool) → fits_count group.signature.occur (length group.found) ≡ fits
+      here : (fits : Bool) → fits_count group.signature.occur (length group.occurrences) ≡ fits
           → HaveFault groups (first_count_fault groups) → HaveFault (group ∷ groups)
           (if fits then first_count_fault groups else Some (broken_count group))
       here true fits others = HaveFault-more group groups (first_count_fault groups) fits others

@@ -32,7 +32,7 @@ pub AllByRecursion-matched : (P : MatchedGroup → Type 0) (first : ℕ) (signat
     (occurrences : List Occurrence)
     → ((i : ℕ) (signature : Signature) → slice_get signatures i ≡ Some signature → P (record {
       signature = signature;
-      found = occurrences_mentioning (first + i) occurrences;
+      occurrences = occurrences_mentioning (first + i) occurrences;
     })) → AllByRecursion P (matched first signatures occurrences)
 AllByRecursion-matched P first [] occurrences each = tt
 AllByRecursion-matched P first (signature ∷ signatures) occurrences each = (

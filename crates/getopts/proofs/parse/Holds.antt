@@ -10,7 +10,7 @@ use Rattle.getopts.specs.Options.{Signature, Group, Declared, names_of, signatur
 use Rattle.getopts.specs.Reading.{Occurrence, spelled_all, occurrences_of, stop, FitsKind, free_words, IsReading}
 use Rattle.getopts.specs.Matches.{GroupOccurrence, Matched, MatchedGroup, occurrences_mentioning, matched, fits_count}
 use Rattle.getopts.specs.Matches.{KeepsCounts}
-use Rattle.getopts.specs.Accessors.{place_of, occurrences_of_name, occurrences_of_group, first_value}
+use Rattle.getopts.specs.Accessors.{opt_place, occurrences_of_name, occurrences_of_group, first_value}
 use Rattle.getopts.specs.Parse.{IsAccepted, HasReading, AreGroupsOf, HaveValuesByKind, FitOptions, FitOptionsAndCounts}
 use Rattle.getopts.specs.Parse.{EndsInTrailing, kind_at, IsDeclared}
 use Rattle.getopts.specs.Stored.Signatures.{kinds_of}
@@ -23,7 +23,7 @@ use Rattle.getopts.proofs.counts.Groups.{AllByRecursion-matched}
 use Rattle.getopts.specs.Reading.{Given, option, free_word, options_in, order_of_reading, Reading}
 use Rattle.getopts.proofs.Reading.Positions.{options_in-order}
 use Rattle.getopts.proofs.canon.Lines.{FitsGroup, FitsGroup-within, IsFitting-reading}
-use Rattle.getopts.proofs.Stored.Matches.{signatures-matched, found-matched, place_of-signatures}
+use Rattle.getopts.proofs.Stored.Matches.{signatures-matched, occurrences-matched, opt_place-signatures}
 use Rattle.getopts.proofs.Reading.Laws.{TrailingStartIsAfterStop_lem, HavePositionsInOrder-matched}
 use Rattle.getopts.proofs.Reading.Readings.{spelled_all-append}
 use Rattle.getopts.proofs.Stored.Signatures.{names-signatures_of, kind-signatures_of}
@@ -33,27 +33,27 @@ use Rattle.std.proofs.lemmas.Grind.{common_steps}
 
 -- each occurrence has a value or none, as this kind of argument requires
 abbrev HaveValuesFor : HasArg → List GroupOccurrence → Type 0
-HaveValuesFor kind founds = AllByRecursion (λ found. FitsKind kind found.value) founds
+HaveValuesFor kind occurrences = AllByRecursion (λ occurrence. FitsKind kind occurrence.value) occurrences
 
 -- a name resolves alike among groups and among the matched groups
-pub place_of-groups : (options : Declared) (groups : List MatchedGroup) → AreGroupsOf options groups
-    → (name : Text) → resolution (names_of options.groups) name ≡ place_of groups name
-place_of-groups options groups are name = search (rules, names-signatures_of, place_of-signatures)
+pub opt_place-groups : (options : Declared) (groups : List MatchedGroup) → AreGroupsOf options groups
+    → (name : Text) → resolution (names_of options.groups) name ≡ opt_place groups name
+opt_place-groups options groups are name = search (rules, names-signatures_of, opt_place-signatures)
 
 -- the occurrences of a name are those that mention the group that it resolves to
-pub found-named : {B : Type 0} (f : List GroupOccurrence → B) (g : ℕ → B) (options : Declared)
+pub occurrences-named : {B : Type 0} (f : List GroupOccurrence → B) (g : ℕ → B) (options : Declared)
     → (occurrences : List Occurrence)
     → ((place : ℕ) → f (occurrences_mentioning place occurrences) ≡ g place) → (name : Text)
     → f (occurrences_of_name (matched 0 (signatures_of options.groups) occurrences) name)
     ≡ option_map_or g (resolution (names_of options.groups) name) (f [])
-found-named f g options occurrences each name =
-    search (rules, place_of-groups, signatures-matched, resolution_within, found-matched, length-map, zero-add)
+occurrences-named f g options occurrences each name =
+    search (rules, opt_place-groups, signatures-matched, resolution_within, occurrences-matched, length-map, zero-add)
 
 -- A fact about each matched group, and what its signature says, holds for the group at a place.
 module _ {X : Type 0} (f : Signature → X) (P : X → List GroupOccurrence → Type 0) where
   at_place : (groups : List Group) (others : List MatchedGroup)
       → map (λ (group : MatchedGroup). group.signature) others ≡ signatures_of groups
-      → AllByRecursion (λ (group : MatchedGroup). P (f group.signature) group.found) others → (place : ℕ) (x : X)
+      → AllByRecursion (λ (group : MatchedGroup). P (f group.signature) group.occurrences) others → (place : ℕ) (x : X)
       → option_map (λ (group : Group). f group.signature) (slice_get groups place) ≡ Some x
       → P x (occurrences_of_group others place)
   at_place [] others are each place x there = cc there
@@ -65,24 +65,24 @@ module _ {X : Type 0} (f : Signature → X) (P : X → List GroupOccurrence → 
 
   -- and for the group that a name resolves to
   at_name : (options : Declared) (groups : List MatchedGroup) → AreGroupsOf options groups
-      → AllByRecursion (λ (group : MatchedGroup). P (f group.signature) group.found) groups
+      → AllByRecursion (λ (group : MatchedGroup). P (f group.signature) group.occurrences) groups
       → (name : Text) (x : X)
       → option_and_then (λ place. option_map (λ (group : Group). f group.signature)
       (slice_get options.groups place)) (resolution (names_of options.groups) name) ≡ Some x
       → P x (occurrences_of_name groups name)
-  at_name options groups are each name x is = search (rules, option_and_then_some, place_of-groups, at_place)
+  at_name options groups are each name x is = search (rules, option_and_then_some, opt_place-groups, at_place)
 
 module _ (options : Declared) (groups : List MatchedGroup) (are : AreGroupsOf options groups) where
   -- each option was given as often as its kind of occurrence allows
   counted-groups : KeepsCounts groups → (name : Text) (occur : Occur) → occur_of options.groups name ≡ Some occur
       → fits_count occur (length (occurrences_of_name groups name)) ≡ true
   counted-groups keeps = at_name (λ signature. signature.occur)
-      (λ occur found. fits_count occur (length found) ≡ true) options groups are keeps
+      (λ occur occurrences. fits_count occur (length occurrences) ≡ true) options groups are keeps
 
   -- occurrences that have values have a first one
-  first_there : (founds : List GroupOccurrence) → HaveValuesFor Yes founds → 0 < length founds
-      → IsSome (first_value founds)
-  first_there founds each some = search rules
+  first_there : (occurrences : List GroupOccurrence) → HaveValuesFor Yes occurrences → 0 < length occurrences
+      → IsSome (first_value occurrences)
+  first_there occurrences each some = search rules
 
   -- each option that needs an argument and was given has a value
   needed-groups : HaveValuesByKind groups → (name : Text) → kind_of options.groups name ≡ Some Yes
@@ -92,7 +92,7 @@ module _ (options : Declared) (groups : List MatchedGroup) (are : AreGroupsOf op
 
 -- an occurrence of a group of a kind
 FitsKind-place : (groups : List Group) (o : Occurrence) (place : ℕ) (kind : HasArg) → kind_at groups place ≡ Some kind
-    → FitsGroup groups o.mention → o.mention.group ≡ place → FitsKind kind o.mention.value
+    → FitsGroup groups o.mention → o.mention.place ≡ place → FitsKind kind o.mention.value
 FitsKind-place groups o place kind there fits here = search (rules, same_Some, kind_at)
 
 -- the occurrences of one group have values as its kind requires
@@ -117,7 +117,7 @@ module _ (options : Declared) (words : List Text) (matches : Matched)
       let each : AllByRecursion (λ o. FitsGroup options.groups o.mention) occurrences =
       search (rules, AllByRecursion-unmap) in
       subst HaveValuesByKind (sym groups_are)
-      (AllByRecursion-matched (λ group. HaveValuesFor group.signature.kind group.found) 0
+      (AllByRecursion-matched (λ group. HaveValuesFor group.signature.kind group.occurrences) 0
       (signatures_of options.groups) occurrences (λ i signature there. rw zero-add
       (HaveValuesFor-occurrences_mentioning options.groups i signature.kind
       (kind-signatures_of options.groups i (kinds_of signature)
@@ -133,7 +133,7 @@ module _ (options : Declared) (words : List Text) (matches : Matched)
         HaveValuesByKind-read,
         needed-groups,
         signatures-matched,
-        place_of-groups,
+        opt_place-groups,
       )
 
 -- accepted matches also keep the counts

@@ -11,7 +11,7 @@ use Rattle.getopts.specs.Reading.{Given, Reading, Occurrence, occurrences_of, or
 use Rattle.getopts.specs.Matches.{matched, matches_of, occurrences_mentioning}
 use Rattle.getopts.specs.Results.{made_of, accepted_reading, reading_or_error, with_counts_kept, unless_fault, written_line}
 use Rattle.getopts.specs.Results.{canonical_result, parse_in_order_result}
-use Rattle.getopts.specs.Stored.Index.{Held, count_given, count_in, first_wrong, indices_in, index_of}
+use Rattle.getopts.specs.Stored.Index.{Indexed, count_given, count_in, first_wrong, indices_in, index_of}
 use Rattle.getopts.specs.Stored.Scan.{GivesLine, order_content, reading_if}
 use Rattle.getopts.specs.declared.scan.Line.{Line}
 use Rattle.getopts.proofs.counts.Groups.{first_wrong-counts, first_wrong_matched}
@@ -19,14 +19,14 @@ use Rattle.getopts.proofs.Lists.{filter-map}
 use Rattle.getopts.proofs.Reading.Positions.{frees_in-order, options_in-order}
 use Rattle.getopts.proofs.Reading.Readings.{made_of-ok}
 
--- the outcome with its counts checked, by an index of its occurrences
-pub with_counts_kept-index : (options : Declared) {outcome : Result Reading Fault}
+-- the result with its counts checked, by an index of its occurrences
+pub with_counts_kept-index : (options : Declared) {result : Result Reading Fault}
     (reading : Reading) (found : List Occurrence) (index : ℕ → List ℕ) (fault : Option Fault)
-    → outcome ≡ Ok reading → found ≡ occurrences_of (grammar_of options) reading
+    → result ≡ Ok reading → found ≡ occurrences_of (grammar_of options) reading
     → index ≡ index_of (length (signatures_of options.groups)) found
     → first_wrong 0 (signatures_of options.groups) (count_in index) ≡ fault
-    → with_counts_kept options outcome ≡ unless_fault reading fault
-with_counts_kept-index options reading found index fault outcome_is found_are index_is first =
+    → with_counts_kept options result ≡ unless_fault reading fault
+with_counts_kept-index options reading found index fault result_is found_are index_is first =
     search (rules, first_wrong_matched)
 
 -- the number of a group's occurrences, from the order
@@ -35,21 +35,21 @@ pub count_given-order : (grammar : Grammar) (reading : Reading) (i : ℕ)
     ≡ length (occurrences_mentioning i (occurrences_of grammar reading))
 count_given-order grammar reading i = search (rules, options_in-order, filter-map, length-map)
 
--- the outcome with its counts checked, by its order
-with_counts_kept-order : (options : Declared) {outcome : Result Reading Fault}
-    (reading : Reading) (order : List Given) (fault : Option Fault) → outcome ≡ Ok reading
+-- the result with its counts checked, by its order
+with_counts_kept-order : (options : Declared) {result : Result Reading Fault}
+    (reading : Reading) (order : List Given) (fault : Option Fault) → result ≡ Ok reading
     → order ≡ order_of_reading (grammar_of options) reading
     → first_wrong 0 (signatures_of options.groups) (count_given order) ≡ fault
-    → with_counts_kept options outcome ≡ unless_fault reading fault
-with_counts_kept-order options reading order fault outcome_is order_is first =
+    → with_counts_kept options result ≡ unless_fault reading fault
+with_counts_kept-order options reading order fault result_is order_is first =
     search (rules, first_wrong-counts, count_given-order)
 
--- An order was made of the outcome.
-module _ (options : Declared) (outcome : Result Reading Fault) (order : List Given)
-    (made : made_of (order_of_reading (grammar_of options)) outcome ≡ Ok order) where
+-- An order was made of the result.
+module _ (options : Declared) (result : Result Reading Fault) (order : List Given)
+    (made : made_of (order_of_reading (grammar_of options)) result ≡ Ok order) where
   -- it keeps the counts
   pub order-kept : first_wrong 0 (signatures_of options.groups) (count_given order) ≡ None
-      → made_of (order_of_reading (grammar_of options)) (with_counts_kept options outcome) ≡ Ok order
+      → made_of (order_of_reading (grammar_of options)) (with_counts_kept options result) ≡ Ok order
   order-kept first =
       let gives = made_of-ok _ _ _ made in
       ap (made_of (order_of_reading (grammar_of options)))
@@ -58,35 +58,35 @@ module _ (options : Declared) (outcome : Result Reading Fault) (order : List Giv
 
   -- it breaks them
   pub order-broken : (fault : Fault) → first_wrong 0 (signatures_of options.groups) (count_given order) ≡ Some fault
-      → with_counts_kept options outcome ≡ Err fault
+      → with_counts_kept options result ≡ Err fault
   order-broken fault first =
       let gives = made_of-ok _ _ _ made in
       with_counts_kept-order options gives.0 order (Some fault) gives.1 (sym gives.2) first
 
-module _ (options : Declared) {outcome : Result Reading Fault} {line : Line}
-    (is : GivesLine (grammar_of options) outcome line) where
+module _ (options : Declared) {result : Result Reading Fault} {line : Line}
+    (is : GivesLine (grammar_of options) result line) where
   -- its matches
-  pub made_of-matches : made_of (matches_of options) outcome ≡ Ok (record {
+  pub made_of-matches : made_of (matches_of options) result ≡ Ok (record {
     groups = matched 0 (signatures_of options.groups) line.found;
     free = map string_bytes line.free.items;
     trailing_start = line.trailing_start;
   })
-  made_of-matches = rw (is.outcome_is, is.occurrences, is.free, is.trailing) refl
+  made_of-matches = rw (is.result_is, is.occurrences, is.free, is.trailing) refl
 
-  -- the outcome with its counts checked, by the index of the line
-  module _ (index : Held) (index_is : indices_in index ≡ index_of (length (signatures_of options.groups)) line.found)
+  -- the result with its counts checked, by the index of the line
+  module _ (index : Indexed) (index_is : indices_in index ≡ index_of (length (signatures_of options.groups)) line.found)
     where
       pub with_counts_kept-line : (fault : Option Fault)
           → first_wrong 0 (signatures_of options.groups) (count_in (indices_in index)) ≡ fault
-          → with_counts_kept options outcome ≡ unless_fault is.reading fault
+          → with_counts_kept options result ≡ unless_fault is.reading fault
       with_counts_kept-line fault first = search (rules, with_counts_kept-index)
 
       -- and, if it is accepted, it still gives the line
       pub GivesLine-kept : first_wrong 0 (signatures_of options.groups) (count_in (indices_in index)) ≡ None
-          → GivesLine (grammar_of options) (with_counts_kept options outcome) line
+          → GivesLine (grammar_of options) (with_counts_kept options result) line
       GivesLine-kept first = record {
         reading = is.reading;
-        outcome_is = with_counts_kept-line None first;
+        result_is = with_counts_kept-line None first;
         occurrences = is.occurrences;
         free = is.free;
         trailing = is.trailing;

@@ -44,7 +44,7 @@ module _ (grammar : Grammar) (words : List Text) (word : Text) (after : List Tex
 -- A command line whose last words were read up to a tail.
 module _ (grammar : Grammar) (whole words : List Text) (before : ℕ) (line : Line)
     (left : made_of (with_reading grammar 0 [] []) (read grammar whole) ≡ given_with grammar before line words) where
-  -- its outcome is a reading that gives the line, which ended with the tail
+  -- its result is a reading that gives the line, which ended with the tail
   pub GivesLine-ended : (found : List Spec.Occurrence) (frees : List Text) (at : ℕ) (last : List Text) (ended : Line)
       → given_with grammar before line (words ++ [])
       ≡ made_of (with_reading grammar at found frees) (read grammar (last ++ []))

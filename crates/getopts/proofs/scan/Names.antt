@@ -7,7 +7,8 @@ use Rattle.getopts.specs.Options.{Grammar}
 use Rattle.getopts.specs.Fail.{Fault, unrecognized_option}
 use Rattle.getopts.specs.Reading as Spec
 use Rattle.getopts.specs.Results.{made_of}
-use Rattle.getopts.specs.Step.{Step, takes, faults, byte_step, cluster_step, TakesOne, TakesName, takes_last, takes_flag}
+use Rattle.getopts.specs.Step.{Step, takes, faults, byte_step, cluster_step, TakesOne, TakesName, takes_last}
+use Rattle.getopts.specs.Step.{takes_flag}
 use Rattle.getopts.specs.Step.{chosen_end, chosen_step, first_char, Chooses}
 use Rattle.getopts.proofs.Reading.Steps.{byte_step-end, first_byte}
 use Rattle.getopts.proofs.scan.Items.{length-argument}
@@ -33,11 +34,11 @@ given_by-dashed grammar (Spec.cluster bytes end) free = refl
 
 module _ (grammar : Grammar) (at : ℕ) where
   -- an item with one option
-  item_taken : (item : Spec.Item) (place next : ℕ) (value : Option Text) (outcome : Result Spec.Reading Fault)
+  item_taken : (item : Spec.Item) (place next : ℕ) (value : Option Text) (result : Result Spec.Reading Fault)
       → at + Spec.word_count (item ∷ []) ≡ next → Spec.free_items (item ∷ []) ≡ []
-      → Spec.mentions grammar item ≡ record { group = place; value = value } ∷ []
-      → made_of (left_of grammar at) (with_items (item ∷ []) outcome)
-      ≡ made_of (λ reading. preceded at (Spec.option place value) (left_of grammar next reading)) outcome
+      → Spec.mentions grammar item ≡ record { place = place; value = value } ∷ []
+      → made_of (left_of grammar at) (with_items (item ∷ []) result)
+      ≡ made_of (λ reading. preceded at (Spec.option place value) (left_of grammar next reading)) result
   item_taken item place next value (Err fault) counted free mentioned = refl
   item_taken item place next value (Ok reading) counted free mentioned =
       rw (given_by-dashed grammar item free, mentioned, counted) refl
@@ -45,7 +46,8 @@ module _ (grammar : Grammar) (at : ℕ) where
   -- a word that gives one option
   one_taken : (said : Step) (place : ℕ) (value : Option Text) (after left more : List Text)
       → TakesOne grammar said after place value left
-      → made_of (left_of grammar at) (after_step said (read grammar (after ++ more)) (read grammar (drop 1 (after ++ more))))
+      → made_of (left_of grammar at)
+      (after_step said (read grammar (after ++ more)) (read grammar (drop 1 (after ++ more))))
       ≡ made_of (λ reading. preceded at (Spec.option place value)
       (left_of grammar (at + (1 + length after - length left)) reading)) (read grammar (left ++ more))
   one_taken said place value after left more takes_one =
@@ -57,12 +59,12 @@ module _ (grammar : Grammar) (at : ℕ) where
             (after_step said (read grammar (after ++ more)) (read grammar (drop 1 (after ++ more))))
             ≡ made_of (λ reading. preceded at (Spec.option place value)
             (left_of grammar (at + (1 + length after - length left)) reading)) (read grammar (left ++ more))
-        of_argument Spec.none is after_is counted = rw (is, after_is) (item_taken takes_one.item place _ value _
-            (omega (arith, counted)) takes_one.no_free takes_one.mentioned)
-        of_argument (Spec.attached text) is after_is counted = rw (is, after_is) (item_taken takes_one.item place _ value _
-            (omega (arith, counted)) takes_one.no_free takes_one.mentioned)
-        of_argument (Spec.separate word) is after_is counted = rw (is, after_is) (item_taken takes_one.item place _ value _
-            (omega (arith, counted)) takes_one.no_free takes_one.mentioned)
+        of_argument Spec.none is after_is counted = rw (is, after_is)
+            (item_taken takes_one.item place _ value _ (omega (arith, counted)) takes_one.no_free takes_one.mentioned)
+        of_argument (Spec.attached text) is after_is counted = rw (is, after_is)
+            (item_taken takes_one.item place _ value _ (omega (arith, counted)) takes_one.no_free takes_one.mentioned)
+        of_argument (Spec.separate word) is after_is counted = rw (is, after_is)
+            (item_taken takes_one.item place _ value _ (omega (arith, counted)) takes_one.no_free takes_one.mentioned)
 
   module _ (byte place : ℕ) (place_is : grammar.place (byte ∷ []) ≡ Some place)
       (one two : Result Spec.Reading Fault) where
@@ -110,7 +112,8 @@ module _ (grammar : Grammar) (at : ℕ) where
       → grammar.place (byte ∷ []) ≡ Some place
       → made_of (left_of grammar at) (read_names grammar (byte ∷ names) (words ++ more))
       ≡ made_of (λ reading. preceded at (Spec.option place None)
-      (left_of grammar (at + (1 + length words - words_left names words)) reading)) (read_names grammar names (words ++ more))
+      (left_of grammar (at + (1 + length words - words_left names words)) reading))
+      (read_names grammar names (words ++ more))
   unfolding cluster_step
   names_flag byte place [] words more flag place_is = rw flag
       (item_taken (Spec.cluster (byte ∷ []) Spec.flags) place _ None (read grammar (words ++ more))
@@ -120,9 +123,9 @@ module _ (grammar : Grammar) (at : ℕ) where
       rw (flag, here) (flag_before byte place place_is _ _ [] (c ∷ names) (words ++ more))
 
   -- a free word
-  free_taken : (word : Text) (next : ℕ) (outcome : Result Spec.Reading Fault) → at + 1 ≡ next
-      → made_of (left_of grammar at) (with_items (Spec.free word ∷ []) outcome)
-      ≡ made_of (λ reading. preceded at (Spec.free_word word) (left_of grammar next reading)) outcome
+  free_taken : (word : Text) (next : ℕ) (result : Result Spec.Reading Fault) → at + 1 ≡ next
+      → made_of (left_of grammar at) (with_items (Spec.free word ∷ []) result)
+      ≡ made_of (λ reading. preceded at (Spec.free_word word) (left_of grammar next reading)) result
   free_taken word next (Err fault) is = refl
   free_taken word next (Ok reading) is = rw is refl
 
@@ -160,7 +163,8 @@ module _ (grammar : Grammar) (after : List Text) where
   name_unknown (byte ∷ rest) filled unknown = first_kind grammar byte rest after None unknown
 
   pub name_flag : (names : Text) (place : ℕ) → names ≢ [] → grammar.place (slice_index names 0 ∷ []) ≡ Some place
-      → grammar.kind (slice_index names 0 ∷ []) ≡ Some No → TakesName grammar names after place None (drop 1 names) after
+      → grammar.kind (slice_index names 0 ∷ []) ≡ Some No
+      → TakesName grammar names after place None (drop 1 names) after
   name_flag [] place filled place_is flag = absurd (filled refl)
   name_flag (byte ∷ rest) place filled place_is flag = takes_flag byte refl flag place_is refl refl
 
@@ -203,7 +207,7 @@ pub first_name : (names : Text) → names ≢ [] → slice_range names 0 1 ≡ s
 first_name [] filled = absurd (filled refl)
 first_name (byte ∷ rest) filled = refl
 
--- the outcome of a line without its first word
+-- the result of a line without its first word
 read_both-second : (grammar : Grammar) (words : List Text) → (read_both grammar words).1 ≡ read grammar (drop 1 words)
 unfolding read read_both
 read_both-second grammar [] = refl
@@ -230,7 +234,8 @@ module _ (grammar : Grammar) (kept : ℕ) (words : List Text) (few : kept ≤ le
   names_fault names filled fault fails more may = names_more names filled more may ∙ rw fails refl
 
   -- the first of them
-  pub ReadsOne-name : (names : Text) → names ≢ [] → {place : ℕ} {value : Option Text} {names_left : Text} {left : List Text}
+  pub ReadsOne-name : (names : Text) → names ≢ []
+      → {place : ℕ} {value : Option Text} {names_left : Text} {left : List Text}
       → TakesName grammar names words place value names_left left
       → ReadsOne grammar kept (length words) names words names_left left (Spec.option place value)
   ReadsOne-name [] filled taken = absurd (filled refl)
@@ -256,7 +261,7 @@ module _ (grammar : Grammar) (kept : ℕ) (words : List Text) (few : kept ≤ le
 
   -- Words that begin with this one.
   module _ (word : Text) where
-    -- the outcome, by its step
+    -- the result, by its step
     read_after : (more : List Text) (said : Step) → step grammar word (words ++ more) ≡ said
         → read grammar (word ∷ (words ++ more))
         ≡ after_step said (read grammar (words ++ more)) (read grammar (drop 1 (words ++ more)))

@@ -18,7 +18,7 @@ order_placed placed = map (λ p. p.given) placed
 -- the occurrence of an option before others
 abbrev occurrence_before : ℕ → Spec.Given → List Spec.Occurrence → List Spec.Occurrence
 occurrence_before position (Spec.option place value) more =
-    Spec.at_position position (record { group = place; value = value }) ∷ more
+    Spec.at_position position (record { place = place; value = value }) ∷ more
 occurrence_before position (Spec.free_word word) more = more
 
 -- the occurrences of the options that were given
@@ -88,26 +88,26 @@ order_with order left =
     order ++ (order_placed left.placed ++ map Spec.free_word (Spec.tail_frees left.tail))
 
 -- equal values that are made of a reading
-made_of-same : {X : Type 0} (f k : Spec.Reading → X) (outcome : Result Spec.Reading Fault)
-    → ((reading : Spec.Reading) → f reading ≡ k reading) → made_of f outcome ≡ made_of k outcome
+made_of-same : {X : Type 0} (f k : Spec.Reading → X) (result : Result Spec.Reading Fault)
+    → ((reading : Spec.Reading) → f reading ≡ k reading) → made_of f result ≡ made_of k result
 made_of-same f k (Ok reading) same = ap Ok (same reading)
 made_of-same f k (Err fault) same = refl
 
 pub parts_of_reading : (grammar : Grammar) (at : ℕ) (found : List Spec.Occurrence) (frees : List Text)
-    (outcome : Result Spec.Reading Fault)
-    → made_of (with_reading grammar at found frees) outcome
-    ≡ made_of (λ reading. parts_with found frees (left_of grammar at reading)) outcome
-parts_of_reading grammar at found frees outcome = made_of-same _ _ outcome (λ reading.
+    (result : Result Spec.Reading Fault)
+    → made_of (with_reading grammar at found frees) result
+    ≡ made_of (λ reading. parts_with found frees (left_of grammar at reading)) result
+parts_of_reading grammar at found frees result = made_of-same _ _ result (λ reading.
     rw (
       occurrences_placed-after at grammar reading.items,
       order_placed-after at grammar reading.items,
       frees_in-items grammar reading.items,
     ) refl)
 
-pub order_of_left : (grammar : Grammar) (at : ℕ) (outcome : Result Spec.Reading Fault)
-    → made_of (Spec.order_of_reading grammar) outcome
-    ≡ made_of (λ reading. order_with [] (left_of grammar at reading)) outcome
-order_of_left grammar at outcome = made_of-same _ _ outcome (λ reading.
+pub order_of_left : (grammar : Grammar) (at : ℕ) (result : Result Spec.Reading Fault)
+    → made_of (Spec.order_of_reading grammar) result
+    ≡ made_of (λ reading. order_with [] (left_of grammar at reading)) result
+order_of_left grammar at result = made_of-same _ _ result (λ reading.
     rw (order_placed-after at grammar reading.items) refl)
 
 -- what is made of what was made
@@ -118,14 +118,14 @@ made_of-then {A} {B} h f k one two same = outer f one ∙ ap carried same ∙ sy
   carried (Ok a) = Ok (h a)
   carried (Err fault) = Err fault
 
-  outer : (f : Spec.Reading → A) (outcome : Result Spec.Reading Fault)
-      → made_of (λ r. h (f r)) outcome ≡ carried (made_of f outcome)
+  outer : (f : Spec.Reading → A) (result : Result Spec.Reading Fault)
+      → made_of (λ r. h (f r)) result ≡ carried (made_of f result)
   outer f (Ok reading) = refl
   outer f (Err fault) = refl
 
 -- an error of what is made
-pub made_of-fault : {X : Type 0} (f : Spec.Reading → X) (outcome : Result Spec.Reading Fault) (fault : Fault)
-    → made_of f outcome ≡ Err fault → outcome ≡ Err fault
+pub made_of-fault : {X : Type 0} (f : Spec.Reading → X) (result : Result Spec.Reading Fault) (fault : Fault)
+    → made_of f result ≡ Err fault → result ≡ Err fault
 made_of-fault f (Ok reading) fault is = cc is
 made_of-fault f (Err other) fault is = cc is
 
@@ -167,11 +167,13 @@ pub SoFar-next : {X : Type 0} {grammar : Grammar} {kept after total : ℕ} {name
     → ReadsOne grammar kept after names words names_new words_new given
     → ((left : Left) → make (preceded (total - (1 + after)) given left) ≡ make_new left)
     → SoFar grammar whole make_new total names_new words_new more
-SoFar-next {after = after} {total = total} {names_new = names_new} {words_new = words_new} {make = make} make_new more may few so_far reads same = record {
-  gives =
-      let later : total - (1 + after) + (1 + after - words_left names_new words_new) ≡ total - words_left names_new words_new =
-      omega (arith, few, reads.within) in
-      (rw (← reads.begins) at so_far.gives)
-      ∙ made_of-then make _ _ _ _ (reads.gives (total - (1 + after)) more may)
-      ∙ made_of-same _ _ _ (λ reading. rw later (same _));
-}
+SoFar-next {after = after} {total = total} {names_new = names_new} {words_new = words_new} {make = make} make_new more
+    may few so_far reads same = record {
+      gives =
+          let later : total - (1 + after) + (1 + after - words_left names_new words_new)
+          ≡ total - words_left names_new words_new =
+          omega (arith, few, reads.within) in
+          (rw (← reads.begins) at so_far.gives)
+          ∙ made_of-then make _ _ _ _ (reads.gives (total - (1 + after)) more may)
+          ∙ made_of-same _ _ _ (λ reading. rw later (same _));
+    }

@@ -26,15 +26,15 @@ groups_view inside =
 
 -- The groups have valid names, and each has a hint and a description in the text of all.
 pub record HoldGroups (inside : Inside) : Type 0 where
-  pub held : AllByRecursion (AreEndsOf (string_bytes inside.texts)) inside.ends.items
+  pub ends : AllByRecursion (AreEndsOf (string_bytes inside.texts)) inside.ends.items
   pub as_many : length inside.ends.items ≡ length inside.signatures
   pub lawful : AreLawfulSignatures inside.signatures
 
 abbrev pub group_view : GroupView → Group
-group_view held = record {
-  signature = signature_view held.signature;
-  hint = held.hint.now;
-  description = held.desc.now;
+group_view borrowed = record {
+  signature = signature_view borrowed.signature;
+  hint = borrowed.hint.now;
+  description = borrowed.desc.now;
 }
 
 abbrev pub same_group_view : GroupView → GroupView → Bool

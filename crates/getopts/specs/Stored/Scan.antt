@@ -31,8 +31,8 @@ pub record IsLawfulScanner (scanner : Scanner) : Type 0 where
   pub table : IsTableOf (names_of scanner.options.now.groups) scanner.table.now
 
 -- This is the place and this the kind of an option.
-pub record IsResolvedTo (group : Option ℕ) (takes : Option HasArg) (option : Resolved) : Type 0 where
-  pub place : group ≡ Some option.place
+pub record IsResolvedTo (name_place : Option ℕ) (takes : Option HasArg) (option : Resolved) : Type 0 where
+  pub place : name_place ≡ Some option.place
   pub kind : takes ≡ Some option.kind
 
 -- The word is read in this way.
@@ -48,11 +48,11 @@ abbrev pub reading_if : Bool → Declared → List Text → Result Reading Fault
 reading_if true options words = accepted_reading options words
 reading_if false options words = reading_or_error options words
 
--- The outcome is a reading, and the line is what it gives.
-pub record GivesLine (grammar : Grammar) (outcome : Result Reading Fault) (line : Line)
+-- The result is a reading, and the line is what it gives.
+pub record GivesLine (grammar : Grammar) (result : Result Reading Fault) (line : Line)
     : Type 0 where
   pub reading : Reading
-  pub outcome_is : outcome ≡ Ok reading
+  pub result_is : result ≡ Ok reading
   pub occurrences : line.found ≡ occurrences_of grammar reading
   pub free : map string_bytes line.free.items ≡ free_words reading
   pub trailing : line.trailing_start ≡ trailing_start reading
@@ -135,7 +135,7 @@ preceded position given left = record {
   tail = left.tail;
 }
 
--- the outcome of the names that are left in a cluster, and the words after it
+-- the result of the names that are left in a cluster, and the words after it
 abbrev pub read_names : Grammar → Text → List Text → Result Reading Fault
 read_names grammar [] words = read grammar words
 read_names grammar (byte ∷ names) words =
@@ -160,9 +160,9 @@ words_size (word ∷ words) = 1 + length word + words_size words
 abbrev pub size_left : Text → List Text → ℕ
 size_left names words = length names + words_size words
 
--- Of these names and words, this was read, and those are left. So many words follow the first of its
--- item. More words may follow, if some of these are kept for them.
--- What is left before gives this, and then what is left after.
+-- An option or a free word was read. `after` words follow the first word of its item. If some words
+-- are kept, more may follow.
+-- What is left before gives the option or free word, and then what is left after.
 pub record ReadsOne (grammar : Grammar) (kept after : ℕ) (names : Text) (words : List Text)
     (names_new : Text) (words_new : List Text) (given : Given) : Type 0 where
   pub gives : (at : ℕ) (more : List Text) → (kept ≡ 0 → more ≡ [])

@@ -18,7 +18,7 @@ use Rattle.getopts.specs.declared.signatures.SignatureView.{SignatureView}
 use Rattle.getopts.specs.declared.signatures.Signatures.TheInside.{Inside}
 
 abbrev pub names_view : NamesView → Names
-names_view held = record { short = held.short.now; long = held.long.now }
+names_view borrowed = record { short = borrowed.short.now; long = borrowed.long.now }
 
 abbrev pub signature_with : Kinds → Text → Text → Signature
 signature_with kinds short long = record {
@@ -83,7 +83,7 @@ abbrev pub HoldSignatures : Inside → Type 0
 HoldSignatures inside = AllByRecursion (IsStored (string_bytes inside.text)) inside.records.items
 
 abbrev pub signature_view : SignatureView → Signature
-signature_view held = signature_with held.kinds held.names.short.now held.names.long.now
+signature_view borrowed = signature_with borrowed.kinds borrowed.names.short.now borrowed.names.long.now
 
 abbrev pub same_signature_view : SignatureView → SignatureView → Bool
 same_signature_view = on signature_view same_signature

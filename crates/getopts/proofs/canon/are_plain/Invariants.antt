@@ -8,6 +8,6 @@ use Rattle.getopts.proofs.canon.are_plain.Given as goal
 
 abbrev pub invariant-loop-given : goal.invariant-loop-given
 invariant-loop-given l =
-    let plain = λ (m : Mention). not (holds_equals (main_at l.groups m.group)) in
+    let plain = λ (m : Mention). not (holds_equals (main_at l.groups m.place)) in
     list_all plain (options_in (map borrowed_given (drop l.given-index l.order)))
     ≡ list_all plain (options_in (map borrowed_given l.order))

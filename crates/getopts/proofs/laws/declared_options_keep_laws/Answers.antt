@@ -3,7 +3,7 @@ use Rattle.getopts.proofs.MainTheorem.SameContent.{OneContentHoldsSame_lem}
 use Rattle.getopts.proofs.parse.Parsed.{keeps_laws}
 use Rattle.getopts.proofs.MainTheorem.Theorem.{OneReading-options, AcceptedExactlyWhen-options}
 use Rattle.getopts.proofs.MainTheorem.Theorem.{RefusedExactlyWhen-options}
-use Rattle.getopts.proofs.canon.Answered.{KeepsLineLaws-lawful}
+use Rattle.getopts.proofs.canon.OneResult.{KeepsLineLaws-lawful}
 use Rattle.getopts.proofs.canon.Lines.{OneLineOneContent-lawful}
 use Rattle.getopts.proofs.laws.declared_options_keep_laws.Goals as goal
 

@@ -12,7 +12,7 @@ returns c =
     let lawful = AllByRecursion-map IsLawfullyNamed
     (λ group. group.signature.names) groups c.opt_place-place.ensures.lawful in
     record {
-      main_name = λ name place held resolved at. resolution-main_name names name place held resolved
+      main_name = λ name place own resolved at. resolution-main_name names name place own resolved
           at;
       one_byte = OneByteIsShort-lawful names lawful;
       empty = resolution-nil names lawful;

@@ -7,7 +7,7 @@ use Rattle.getopts.proofs.canon.Lines.{OneLineOneContent-lawful}
 use Rattle.getopts.proofs.parse.Parsed.{keeps_laws, text_names_here}
 use Rattle.getopts.proofs.MainTheorem.Theorem.{OneReading-options, AcceptedExactlyWhen-options}
 use Rattle.getopts.proofs.MainTheorem.Theorem.{RefusedExactlyWhen-options}
-use Rattle.getopts.proofs.canon.Answered.{KeepsLineLaws-lawful}
+use Rattle.getopts.proofs.canon.OneResult.{KeepsLineLaws-lawful}
 use Rattle.getopts.proofs.laws.one_reading_one_canonical_line.Goals as goal
 
 pub returns : goal.returns

@@ -17,7 +17,7 @@ loop-place-preserved c =
     c.loop-place-test.true
     c.index-rows-place.is c.occurrences_at.ensures.occurrences in
     let texts = λ (option : Given). AreTextValues option.entry.kind
-    (holds_all option.entry.frequency) option.found in (
+    (holds_all option.entry.frequency) option.occurrences in (
       c.in_ok-push_option.ensures.text
           ∙ simp (c.loop-place.invariant.0, more, flat_map-append, append-nil),
       rw more (every_append texts (given_from 0 (entries_of (take place rows)) held) _

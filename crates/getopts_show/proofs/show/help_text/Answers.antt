@@ -11,8 +11,8 @@ computed : usage_result program_options help_brief ≡ program_help
 unfolding usage_on_literals
 computed = refl
 
-both : {T E : Type 0} (answer : Result T E) (P Q : T → Type 0) → IfOk answer P → IfOk answer Q
-    → IfOk answer (λ value. P value × Q value)
+both : {T E : Type 0} (returned : Result T E) (P Q : T → Type 0) → IfOk returned P → IfOk returned Q
+    → IfOk returned (λ value. P value × Q value)
 both (Ok value) P Q one other = (one, other)
 both (Err error) P Q one other = tt
 

@@ -26,7 +26,7 @@ pair_there c =
 
 ends : (c : After-index-pair) → AreEndsOf (string_bytes c.self.inside.texts) c.index-pair.result.now
 ends c = AllByRecursion-at _ c.self.inside.ends.items c.args.place c.index-pair.result.now
-    c.self.invariant.held (pair_there c)
+    c.self.invariant.ends (pair_there c)
 
 pub first_at-requires : goal.first_at-requires
 first_at-requires c = rw c.deref.ensures (ends (goal.at.first_at-requires c).After-index-pair)

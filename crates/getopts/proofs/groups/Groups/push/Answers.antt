@@ -49,12 +49,12 @@ pushed c =
     (grind (arith, common_steps)) in
     rw (items c, text) (twos-push (string_bytes c.self.inside.texts) (c.args.hint.now
     ++ c.args.desc.now) (IsUtf8-append _ _ c.utf8.hint c.utf8.desc) c.self.inside.ends.items
-    c.self.invariant.held c.push_pair-pair.result (c.args.hint.now, c.args.desc.now)
+    c.self.invariant.ends c.push_pair-pair.result (c.args.hint.now, c.args.desc.now)
     (rw text at c.push_pair-pair.ensures.two))
 
 pub invariant_of-self-2 : goal.invariant_of-self-2
 invariant_of-self-2 c = record {
-  held = (pushed c).0;
+  ends = (pushed c).0;
   as_many = ap (λ (ends : List PairEnds). length ends) (items c)
       ∙ length-append c.self.inside.ends.items (c.push_pair-pair.result ∷ [])
       ∙ ap (λ n. n + 1) c.self.invariant.as_many

@@ -6,7 +6,7 @@ use Rattle.getopts.specs.Accessors.{occurrences_of_group}
 use Rattle.getopts.specs.Matches.{MatchedGroup}
 use Rattle.getopts.specs.Same.{same_signature, same_group_occurrence, same_matched_group}
 use Rattle.getopts.proofs.counts.Groups.{length-matched}
-use Rattle.getopts.proofs.Stored.Matches.{signatures-matched, same_found_everywhere}
+use Rattle.getopts.proofs.Stored.Matches.{signatures-matched, same_occurrences_everywhere}
 use Rattle.getopts.proofs.Stored.Same.{differ, same_group_occurrence-decides}
 use Rattle.getopts.proofs.Stored.Same.{same_matched_group-decides, same_signature-decides}
 use Rattle.getopts.proofs.matches.MatchedGroups.same.Goals as goal
@@ -39,13 +39,13 @@ returns-then-not-same c =
     sym (differ (pointwise same_matched_group) (pointwise same_group_occurrence)
     (pointwise_decides same_matched_group-decides) (pointwise_decides same_group_occurrence-decides)
     (λ groups. occurrences_of_group groups c.loop-place.place) c.args.self.now c.args.other.now
-    ((λ i. pointwise same_group_occurrence (sym c.occurrences_at.ensures i)
-    (sym c.occurrences_at-in-loop-place.ensures i))
+    ((λ i. pointwise same_group_occurrence (sym c.occurrences_of_group.ensures i)
+    (sym c.occurrences_of_group-in-loop-place.ensures i))
     ∙ sym c.same.ensures ∙ c.if-not-same.true))
 
 pub returns : goal.returns
 returns c =
     let before = (goal.at.returns c).After-ne in
-    sym (same_found_everywhere c.args.self.now c.args.other.now
+    sym (same_occurrences_everywhere c.args.self.now c.args.other.now
     (signatures before ∙ not-false _ (sym c.ne.ensures ∙ c.if-ne.false))
     (λ k h. c.loop-place.invariant k (omega (arith, h, as_many before))))

@@ -10,12 +10,12 @@ use Rattle.getopts.proofs.matches.Matches.opt_strs_pos.Goals as goal
 
 pub returns-clause-texts : goal.returns-clause-texts
 returns-clause-texts c =
-    let found : c.occurrences_of.result ≡ occurrences_of_name c.args.self.now.groups c.args.name.now =
-    c.occurrences_of.ensures
+    let occurrences : c.occurrences_of_name.result ≡ occurrences_of_name c.args.self.now.groups c.args.name.now =
+    c.occurrences_of_name.ensures
     ∙ ap (λ (matches : Matched). occurrences_of_name matches.groups c.args.name.now) c.self.view_is in
     IfOk-weaker _ _ _
     (λ (pairs : Vec (ℕ × String Global) Global) same.
     sym (map-map (λ (pair : ℕ × Text). pair.1) pair_view pairs.items)
-    ∙ ap (map (λ (pair : ℕ × Text). pair.1)) same ∙ texts_of_pairs c.occurrences_of.result
-    ∙ ap values_of found)
+    ∙ ap (map (λ (pair : ℕ × Text). pair.1)) same ∙ texts_of_pairs c.occurrences_of_name.result
+    ∙ ap values_of occurrences)
     c.pairs.ensures.pairs

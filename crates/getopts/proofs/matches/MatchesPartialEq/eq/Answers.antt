@@ -8,12 +8,12 @@ use Rattle.getopts.proofs.matches.MatchesPartialEq.eq.Goals as goal
 
 pub returns-then-same_words-clause-same : goal.returns-then-same_words-clause-same
 returns-then-same_words-clause-same c =
-    let answer : c.eq.result ≡ same_matches c.args.self.now c.args.other.now =
+    let result : c.eq.result ≡ same_matches c.args.self.now c.args.other.now =
     grind (arith, common_steps) in
-    Decides-at _ _ answer (same_matches-decides c.args.self.now c.args.other.now)
+    Decides-at _ _ result (same_matches-decides c.args.self.now c.args.other.now)
 
 pub returns-else-same_words-clause-same : goal.returns-else-same_words-clause-same
 returns-else-same_words-clause-same c =
-    let answer : c.if-same.value ≡ same_matches c.args.self.now c.args.other.now =
+    let result : c.if-same.value ≡ same_matches c.args.self.now c.args.other.now =
     grind (arith, common_steps) in
-    Decides-at _ _ answer (same_matches-decides c.args.self.now c.args.other.now)
+    Decides-at _ _ result (same_matches-decides c.args.self.now c.args.other.now)

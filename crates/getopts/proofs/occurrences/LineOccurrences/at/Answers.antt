@@ -8,8 +8,8 @@ use Rattle.getopts.specs.Stored.Occurrences.{value_in}
 use Rattle.getopts.proofs.Stored.Occurrences.{record_within, occurrence-read, starts, ends}
 use Rattle.getopts.proofs.occurrences.LineOccurrences.at.Goals as goal
 
-pub index-held-requires : goal.index-held-requires
-index-held-requires c =
+pub index-stored-requires : goal.index-stored-requires
+index-stored-requires c =
     let within = record_within _ c.self.inside.records.items _ c.self.view_is _ c.requires in
     omega (arith, within)
 
@@ -20,20 +20,20 @@ overflow_add-index c =
 
 pub value_from-requires-clause-start : goal.value_from-requires-clause-start
 value_from-requires-clause-start c = rw c.deref.ensures (starts _ c.self.inside.records.items _ c.self.view_is _
-    c.requires c.index-held.result.now c.index-held.ensures c.self.invariant)
+    c.requires c.index-stored.result.now c.index-stored.ensures c.self.invariant)
 
 pub value_from-requires-clause-end : goal.value_from-requires-clause-end
 value_from-requires-clause-end c =
-    rw (c.deref.ensures, c.deref-then-held-eq1.ensures.value) (ends _ c.self.inside.records.items _ c.self.invariant)
+    rw (c.deref.ensures, c.deref-then-stored-eq1.ensures.value) (ends _ c.self.inside.records.items _ c.self.invariant)
 
 pub returns : goal.returns
 returns c =
-    let value : option_copied c.if-held-eq1.result
-    ≡ value_in (string_bytes c.self.inside.values) c.index-held.result.now.value
+    let value : option_copied c.if-stored-eq1.result
+    ≡ value_in (string_bytes c.self.inside.values) c.index-stored.result.now.value
     (slice_get c.self.inside.records.items (c.args.index + 1)) =
-    elim c.if-held-eq1.branch [
-      | goal.then-held-eq1 w ↦ search (rules, cases_Bool)
-      | goal.else-held-eq1 w ↦ search (rules, cases_Bool)
+    elim c.if-stored-eq1.branch [
+      | goal.then-stored-eq1 w ↦ search (rules, cases_Bool)
+      | goal.else-stored-eq1 w ↦ search (rules, cases_Bool)
     ] in
     rw value (occurrence-read _ c.self.inside.records.items _ c.self.view_is _ c.requires
-    c.index-held.result.now c.index-held.ensures)
+    c.index-stored.result.now c.index-stored.ensures)

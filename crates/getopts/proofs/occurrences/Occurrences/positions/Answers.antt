@@ -7,6 +7,6 @@ use Rattle.getopts.proofs.occurrences.Occurrences.positions.Goals as goal
 
 pub loop-nth-preserved : goal.loop-nth-preserved
 loop-nth-preserved c =
-    let more = map-take_more (λ found. found.position) c.args.self.now c.loop-nth.nth
+    let more = map-take_more (λ occurrence. occurrence.position) c.args.self.now c.loop-nth.nth
     (borrowed_occurrence (c.at.result.position, c.at.result.value)) c.at.ensures in
     grind (arith, common_steps)

@@ -9,7 +9,7 @@ pub returns-clause-steps : goal.returns-clause-steps
 returns-clause-steps c =
     let all = c.self.inside.occurrences in
     let next = c.self.inside.next in
-    let found = borrowed_occurrence (c.at-occurrence.result.position, c.at-occurrence.result.value) in
+    let occurrence = borrowed_occurrence (c.at-occurrence.result.position, c.at-occurrence.result.value) in
     let at = c.at-occurrence.ensures in
-    rw (← c.self.view_is) (drop_more all next found (slice_get_within all next found at)
-    ∙ ap (λ first. first ∷ drop (next + 1) all) (get_or_from_slice_get all next found found at))
+    rw (← c.self.view_is) (drop_more all next occurrence (slice_get_within all next occurrence at)
+    ∙ ap (λ first. first ∷ drop (next + 1) all) (get_or_from_slice_get all next occurrence occurrence at))

@@ -9,14 +9,14 @@ pub returns-clause-written : goal.returns-clause-written
 returns-clause-written g c =
     let run = c.in_ok-words.ensures in
     IfOk-weaker c.canonical_words.result _ _
-    (λ answer found. IfSome_then answer found (λ line is. (run.0, run.1, run.2, is)))
+    (λ returned given. IfSome_then returned given (λ line is. (run.0, run.1, run.2, is)))
     (rw (c.deref.ensures.value ∙ run.3) at c.canonical_words.ensures.written)
 
 pub returns-clause-unwritable : goal.returns-clause-unwritable
 returns-clause-unwritable g c =
     let run = c.in_ok-words.ensures in
     IfOk-weaker c.canonical_words.result _ _
-    (λ answer. IfNone-weaker answer _ _ (λ is. (run.0, run.1, run.2, is)))
+    (λ returned. IfNone-weaker returned _ _ (λ is. (run.0, run.1, run.2, is)))
     (rw (c.deref.ensures.value ∙ run.3) at c.canonical_words.ensures.unwritable)
 
 pub returns-clause-refused : goal.returns-clause-refused

@@ -2,7 +2,7 @@
 use Rattle.std.proofs.Common.{◌∙◌, sym, refl, Ok, Some, None}
 use Rattle.getopts.proofs.MainTheorem.SameContent.{LinesReadAgain_lem}
 use Rattle.getopts.proofs.MainTheorem.Results.{HasResults-declared}
-use Rattle.getopts.proofs.canon.Answered.{KeepsLineLaws-lawful}
+use Rattle.getopts.proofs.canon.OneResult.{KeepsLineLaws-lawful}
 use Rattle.getopts.proofs.parse.Made.{canonical_result-order}
 use Rattle.getopts.proofs.options.Options.canonical_words.Goals as goal
 

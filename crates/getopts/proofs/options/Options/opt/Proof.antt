@@ -1,5 +1,5 @@
 -- `opt` lends its options to `add_group`, gets them back, and returns them, or gives them up.
-use Rattle.getopts.proofs.Chained.{◌≡◌, ℕ, List, [], ◌∷◌, refl, lit<, MutBor, inl, inr, proved, full_share, id⊢, SProp, emp, Fml, ftrue, flft, fres, fsep, Lfts, fact, fact_i, tables, yes, no, Is, valss, all_Typed, shows, Spells, RattleType, owns, MutRef, mut_vals, makes_shadow, plain, types_at, AllWithin, nothing, heard, peeks, StrRefOf, calls_at, lasts, Lasts, triple_of, framed, AllGo, Stays, walk_of, stay_dropped, Goes-dropped, Goes-spent_ref, ends_at, subst, Body, named, Val, vptr, vstruct, vcons, vnil, Ura, alloc_all, pass_all, free_all, look_at, get, through, sets, lands_as, env, get_tag, get_in, sets_last, ‵, raw, ◌⊛◌, some, later, at_ret, ◌$◌, ◌∵◌, !, qed, done, move, keep, drop, use0, use1, use2, use3, split, join, group, fsplit, fsplit3, pick, await, rewrite, suffices, any_q, Logic, live, vrt, in_variant, agg, whole, enter, of_opd, lit, addr, stop, fld, no_more, and_then, first, exec, returns, switches_on, Ok, Err, OnOk, OnErr, AllocError, UnchangedIfErr, AreLawful, Declared, Options, has_arg_laws, has_arg_row, occur_laws, occur_row, Returned, Added, Answer, added_values, unchanged_ok, unchanged_err, text_laws, Str, spells, tells, lawfuls}
+use Rattle.getopts.proofs.Chained.{◌≡◌, ℕ, List, [], ◌∷◌, refl, lit<, MutBor, inl, inr, proved, full_share, id⊢, SProp, emp, Fml, ftrue, flft, fres, fsep, Lfts, fact, fact_i, tables, yes, no, Is, valss, all_Typed, shows, Spells, RattleType, owns, MutRef, mut_vals, makes_shadow, plain, types_at, AllWithin, nothing, heard, peeks, StrRefOf, calls_at, lasts, Lasts, triple_of, framed, AllGo, Stays, walk_of, stay_dropped, Goes-dropped, Goes-spent_ref, ends_at, subst, Body, named, Val, vptr, vstruct, vcons, vnil, Ura, alloc_all, pass_all, free_all, look_at, get, through, sets, lands_as, env, get_tag, get_in, sets_last, ‵, raw, ◌⊛◌, some, later, at_ret, ◌$◌, ◌∵◌, !, qed, done, move, keep, drop, use0, use1, use2, use3, split, join, group, fsplit, fsplit3, pick, await, rewrite, suffices, any_q, Logic, live, vrt, in_variant, agg, whole, enter, of_opd, lit, addr, stop, fld, no_more, and_then, first, exec, returns, switches_on, Ok, Err, OnOk, OnErr, AllocError, UnchangedIfErr, AreLawful, Declared, Options, has_arg_laws, has_arg_row, occur_laws, occur_row, Returned, Added, AddedResult, added_values, unchanged_ok, unchanged_err, text_laws, Str, spells, tells, lawfuls}
 use Rattle.getopts.proofs.Chained.enums
 use Rattle.getopts.proofs.Chained.AE
 use Rattle.getopts.proofs.Chained.has_arg
@@ -60,7 +60,7 @@ opt_spec 𝓤 𝓛 𝓜 𝓡 wired =
     use0 𝓛 (raw (fact 𝓤 Lawful)) (fact_i 𝓤 Lawful (emp 𝓤) lawful) $ move ! (1 ∷ 0 ∷ []) $ use2 𝓛 (raw (G.pre z)) (id⊢ 𝓤 _) $
     calls_at ! (framed 𝓤 𝓛.H 𝓜 𝓣) G (met 𝓤 𝓛 𝓜 𝓡 (code.calls-getopts::options::Options::add_group 𝓡.env wired)) z
     (and_then ! (get ! refl) (and_then ! (get ! refl) (and_then ! (get ! refl) (and_then ! (get ! refl) (and_then ! (get ! refl) (and_then ! (get ! refl) (and_then ! (get ! refl) (no_more !)))))))) (λ v.
-    use1 𝓛 (later (some (λ (u : Answer). ((‵ (flft (α ∷ []) full_share) ⊛ ‵ toks) ⊛ ‵ (Added.own_val u (v ∷ []))) ⊛ some (λ (ws : Lasts g.ended z.0.0 z.0.3).
+    use1 𝓛 (later (some (λ (u : AddedResult). ((‵ (flft (α ∷ []) full_share) ⊛ ‵ toks) ⊛ ‵ (Added.own_val u (v ∷ []))) ⊛ some (λ (ws : Lasts g.ended z.0.0 z.0.3).
     ‵ (lasts g.ended z.0.0 z.0.3 ws) ⊛ raw (fact 𝓤 (OnOk u (ws.0 ≡ plus))) ⊛ raw (fact 𝓤 (OnErr u (ws.0 ≡ r.now))))))) (id⊢ 𝓤 _) $
     await ! tt $ pick ! (λ u. split ! $ split ! $ split ! $ lft_end ! tt $ move ! (2 ∷ []) $
     peeks ! Added (Is Added) (shows 𝓛 Added) u (v ∷ []) (λ is. drop ! $ move ! (2 ∷ []) $ pick ! (λ ws. split ! $ move ! (1 ∷ []) $ split ! $
@@ -84,7 +84,7 @@ opt_spec 𝓤 𝓛 𝓜 𝓡 wired =
           returns ! (look_at ! 0 refl) $ free_all ! refl $ keep ! (0 ∷ 1 ∷ 4 ∷ []) $
           suffices ! _ (ends_at 𝓛 f.ended stayed c y val (Ok r') (tt, (tt, (tt, (tt, (tt, (tt, (tt, tt))))))) (tt, (tt, (tt, (tt, (tt, (tt, (tt, tt)))))))) $
           use0 𝓛 (raw (fact 𝓤 Same)) (fact_i 𝓤 Same (emp 𝓤) refl) $
-          use0 𝓛 (raw (fact 𝓤 IsPlus)) (fact_i 𝓤 IsPlus (emp 𝓤) (subst (λ (w : Answer). OnOk w IsPlus) ok.1 added)) $
+          use0 𝓛 (raw (fact 𝓤 IsPlus)) (fact_i 𝓤 IsPlus (emp 𝓤) (subst (λ (w : AddedResult). OnOk w IsPlus) ok.1 added)) $
           use0 𝓛 (‵ (UnchangedIfErr {E = AllocError} r (Ok r'))) (unchanged_ok 𝓛 r ws.0) $ group ! 3 $
           -- [the ensures; the result; the token; the other tokens]
           nothing ! $ nothing ! $ nothing ! $ nothing ! $ nothing ! $ nothing ! $ nothing ! $ nothing ! $ group ! 8 $
@@ -97,7 +97,7 @@ opt_spec 𝓤 𝓛 𝓜 𝓡 wired =
           sets_last ! (agg ! (and_then ! (lit ! tt) (and_then ! (get ! refl) (no_more !)))) refl (tt, (record { fits = lit< tt }, (tt, tt))) $
           exec ! 𝓣.C 𝓣.Λ En (after 3 fn.body) (at_ret En Post) $ sets ! (of_opd ! (get ! refl)) refl (tt, (record { fits = lit< tt }, (tt, tt))) $
           fsplit3 ! $ move ! (1 ∷ []) $ use1 𝓛 (‵ (fres r.ghost_name (Options.coded.code ws.0))) (𝓛.names.obs-res r.ghost_name (Options.coded.code ws.0)) $
-          rewrite ! 0 (λ (d : Declared). ‵ (fres r.ghost_name (Options.coded.code d))) (subst (λ (w : Answer). OnErr w (ws.0 ≡ r.now)) err.1 unchanged) refl $
+          rewrite ! 0 (λ (d : Declared). ‵ (fres r.ghost_name (Options.coded.code d))) (subst (λ (w : AddedResult). OnErr w (ws.0 ≡ r.now)) err.1 unchanged) refl $
           use1 𝓛 (‵ (UnchangedIfErr {E = AllocError} r (Err (record {})))) (unchanged_err 𝓛 r (record {})) $
           use0 𝓛 (raw (fact 𝓤 (Unit {0}))) (fact_i 𝓤 (Unit {0}) (emp 𝓤) tt) $ use0 𝓛 (raw (fact 𝓤 (Unit {0}))) (fact_i 𝓤 (Unit {0}) (emp 𝓤) tt) $
           move ! (2 ∷ []) $ group ! 3 $

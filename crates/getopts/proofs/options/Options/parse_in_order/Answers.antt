@@ -19,12 +19,12 @@ use Rattle.getopts.proofs.parse.Made.{order-kept, order-broken}
 use Rattle.getopts.proofs.options.Options.parse_in_order.Goals as goal
 
 -- the error of `parse` rejects the words
-refused : {T : Type 0} (options : Declared) (words : List Text) (answer : Result T Fail) → MayBeDeclared options.groups
+refused : {T : Type 0} (options : Declared) (words : List Text) (result : Result T Fail) → MayBeDeclared options.groups
     → AreTexts words
-    → IfErr answer (λ fail. IsOutOfMemoryOr fail (λ fault. parse_result options words ≡ Err fault))
-    → IfErr answer (λ fail. IsOutOfMemoryOr fail (IsRefused options words))
-refused options words answer declared texts told =
-    IfErr-weaker answer _ _ (λ fail of. IsOutOfMemoryOr-weaker fail _ _ of
+    → IfErr result (λ fail. IsOutOfMemoryOr fail (λ fault. parse_result options words ≡ Err fault))
+    → IfErr result (λ fail. IsOutOfMemoryOr fail (IsRefused options words))
+refused options words result declared texts told =
+    IfErr-weaker result _ _ (λ fail of. IsOutOfMemoryOr-weaker fail _ _ of
     (λ fault is. is_refused options words fault is declared texts)) told
 
 pub scan_in_order-requires : goal.scan_in_order-requires

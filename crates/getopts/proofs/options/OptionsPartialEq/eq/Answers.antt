@@ -6,18 +6,18 @@ use Rattle.std.proofs.lemmas.Bool.Decides.{Decides-at}
 use Rattle.getopts.proofs.Stored.Same.{same_options-decides}
 use Rattle.getopts.proofs.options.OptionsPartialEq.eq.Goals as goal
 
-pub returns-then-eq-2-clause-answer : goal.returns-then-eq-2-clause-answer
-returns-then-eq-2-clause-answer c = grind (arith, common_steps)
+pub returns-then-eq-2-clause-result : goal.returns-then-eq-2-clause-result
+returns-then-eq-2-clause-result c = grind (arith, common_steps)
 
-pub returns-else-eq-2-clause-answer : goal.returns-else-eq-2-clause-answer
-returns-else-eq-2-clause-answer c = grind (arith, common_steps)
+pub returns-else-eq-2-clause-result : goal.returns-else-eq-2-clause-result
+returns-else-eq-2-clause-result c = grind (arith, common_steps)
 
 pub returns-then-eq-2-clause-same : goal.returns-then-eq-2-clause-same
 returns-then-eq-2-clause-same c =
-    Decides-at _ _ (returns-then-eq-2-clause-answer c)
+    Decides-at _ _ (returns-then-eq-2-clause-result c)
     (same_options-decides c.args.self.now c.args.other.now)
 
 pub returns-else-eq-2-clause-same : goal.returns-else-eq-2-clause-same
 returns-else-eq-2-clause-same c =
-    Decides-at _ _ (returns-else-eq-2-clause-answer c)
+    Decides-at _ _ (returns-else-eq-2-clause-result c)
     (same_options-decides c.args.self.now c.args.other.now)

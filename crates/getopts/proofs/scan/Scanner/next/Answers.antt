@@ -34,13 +34,15 @@ returns-in-Stop-clause-tail g c = λ whole.
 pub returns-in-Free-clause-some : goal.returns-in-Free-clause-some
 returns-in-Free-clause-some g c =
     let floating : c.args.self.now.options.now.style ≡ FloatingFrees = search rules in
-    rw (Names.empty_names _ (sym c.is_empty.ensures ∙ c.if-is_empty.true), ← length-map c.in-Some.after.now g.S.AsStr.text, c.in-Some.ensures.cases.0, c.as_str.ensures)
+    let none = Names.empty_names _ (sym c.is_empty.ensures ∙ c.if-is_empty.true) in
+    rw (none, ← length-map c.in-Some.after.now g.S.AsStr.text, c.in-Some.ensures.cases.0, c.as_str.ensures)
     (Names.ReadsOne-free (scanner_grammar c.args.self.now) _ _ (search (rules, length-map)) _
     (rw c.as_str.ensures at c.in-Free.ensures) floating)
 
 pub returns-in-Long-clause-some : goal.returns-in-Long-clause-some
 returns-in-Long-clause-some g c =
-    rw (Names.empty_names _ (sym c.is_empty.ensures ∙ c.if-is_empty.true), ← length-map c.in-Some.after.now g.S.AsStr.text, c.in-Some.ensures.cases.0)
+    let none = Names.empty_names _ (sym c.is_empty.ensures ∙ c.if-is_empty.true) in
+    rw (none, ← length-map c.in-Some.after.now g.S.AsStr.text, c.in-Some.ensures.cases.0)
     (Names.ReadsOne-long (scanner_grammar c.args.self.now) _ _ (search (rules, length-map)) _ c.in-Long.ensures.0 _
     (rw c.as_str.ensures at c.in-Long.ensures.1) (c.in_ok-taken-in-Long.ensures.ok c.in-Long.ensures.0))
 
@@ -56,21 +58,24 @@ pub returns-clause-some : goal.returns-clause-some
 returns-clause-some g c = elim c.if-is_empty.branch [
   | goal.then-is_empty+in-Some+in-Cluster w ↦
       let form = rw w.as_str.ensures at w.in-Cluster.ensures in
-      let few : c.args.steps.now.kept ≤ length (map g.S.AsStr.text w.in-Some.after.now) = search (rules, length-map) in
-      rw (Names.empty_names _ (sym c.is_empty.ensures ∙ w.if-is_empty.true), w.steps-is, ← length-map w.in-Some.after.now g.S.AsStr.text, w.in-Some.ensures.cases.0)
+      let few : c.args.steps.now.kept ≤ length (map g.S.AsStr.text w.in-Some.after.now) =
+      search (rules, length-map) in
+      let none = Names.empty_names _ (sym c.is_empty.ensures ∙ w.if-is_empty.true) in
+      rw (none, w.steps-is, ← length-map w.in-Some.after.now g.S.AsStr.text, w.in-Some.ensures.cases.0)
       (Names.ReadsOne-short (scanner_grammar c.args.self.now) _ _ few _ _ form
       (Names.ReadsOne-name (scanner_grammar c.args.self.now) _ _ few _ form.filled
       (rw w.steps-is at c.in_ok-taken.ensures.ok)))
   | goal.else-is_empty w ↦
       let filled : c.args.steps.now.names.now ≢ [] = search rules in
-      rw (w.steps-is, ← length-map c.args.steps.now.left.now g.S.AsStr.text) (Names.ReadsOne-name (scanner_grammar c.args.self.now) _ _
-      (c.requires.next filled) _ filled (rw w.steps-is at c.in_ok-taken.ensures.ok))
+      rw (w.steps-is, ← length-map c.args.steps.now.left.now g.S.AsStr.text)
+      (Names.ReadsOne-name (scanner_grammar c.args.self.now) _ _ (c.requires.next filled) _ filled (rw w.steps-is at c.in_ok-taken.ensures.ok))
 ]
 
 pub returns-in_err-taken-clause-err : goal.returns-in_err-taken-clause-err
 returns-in_err-taken-clause-err g c = elim c.if-is_empty.branch [
   | goal.then-is_empty+in-Some+in-Cluster w ↦
-      let few : c.args.steps.now.kept ≤ length (map g.S.AsStr.text w.in-Some.after.now) = search (rules, length-map) in
+      let few : c.args.steps.now.kept ≤ length (map g.S.AsStr.text w.in-Some.after.now) =
+      search (rules, length-map) in
       rw (Names.empty_names _ (sym c.is_empty.ensures ∙ w.if-is_empty.true), w.in-Some.ensures.cases.0)
       (IsOutOfMemoryOr-exit _ c.in_err-taken.field-0.0 _ _ c.from_residual-in_err-taken.ensures.1
       (rw w.steps-is at c.in_err-taken.ensures.err) (λ fault told.

@@ -12,18 +12,18 @@ index-requires c =
 
 pub returns-clause-keys : goal.returns-clause-keys
 returns-clause-keys c =
-    let held = stored_at _ c.self.inside.records.items _ _ c.index.result.now
+    let stored = stored_at _ c.self.inside.records.items _ _ c.index.result.now
     c.self.invariant c.self.view_is c.requires c.index.ensures in
-    rw (names_at-signature _ _ _ held.1) held.0.keys
+    rw (names_at-signature _ _ _ stored.1) stored.0.keys
 
 pub returns-clause-lawful : goal.returns-clause-lawful
 returns-clause-lawful c =
-    let held = stored_at _ c.self.inside.records.items _ _ c.index.result.now
+    let stored = stored_at _ c.self.inside.records.items _ _ c.index.result.now
     c.self.invariant c.self.view_is c.requires c.index.ensures in
-    rw (names_at-signature _ _ _ held.1) held.0.lawful.named
+    rw (names_at-signature _ _ _ stored.1) stored.0.lawful.named
 
 pub returns-clause-kinds : goal.returns-clause-kinds
 returns-clause-kinds c =
-    let held = stored_at _ c.self.inside.records.items _ _ c.index.result.now
+    let stored = stored_at _ c.self.inside.records.items _ _ c.index.result.now
     c.self.invariant c.self.view_is c.requires c.index.ensures in
-    sym (ap (option_map kinds_of) held.1)
+    sym (ap (option_map kinds_of) stored.1)

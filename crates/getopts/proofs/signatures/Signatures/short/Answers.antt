@@ -15,7 +15,7 @@ first_at-requires c =
 
 pub returns : goal.returns
 returns c =
-    let held = stored_at _ c.self.inside.records.items _ _ c.index.result.now
+    let stored = stored_at _ c.self.inside.records.items _ _ c.index.result.now
     c.self.invariant c.self.view_is c.requires c.index.ensures in
     let is = rw (c.ends.ensures, c.deref.ensures) at c.first_at.ensures in
-    rw (names_at-signature _ _ _ held.1) is
+    rw (names_at-signature _ _ _ stored.1) is

@@ -4,14 +4,14 @@ use Rattle.getopts.specs.Names.{IsLawfullyNamed}
 use Rattle.getopts.specs.Options.{Signature}
 use Rattle.getopts.specs.Matches.{MatchedGroup}
 use Rattle.getopts.proofs.Lists.{AllByRecursion-unmap}
-use Rattle.getopts.proofs.Stored.Matches.{signatures-matched, place_of-signatures}
-use Rattle.getopts.proofs.matches.MatchedGroups.place_of.Goals as goal
+use Rattle.getopts.proofs.Stored.Matches.{signatures-matched, opt_place-signatures}
+use Rattle.getopts.proofs.matches.MatchedGroups.opt_place.Goals as goal
 
 pub returns-clause-place : goal.returns-clause-place
 returns-clause-place c =
     rw (
       ← c.self.view_is,
-      ← place_of-signatures _ _ (signatures-matched 0 c.self.inside.signatures c.self.inside.found) c.args.name.now,
+      ← opt_place-signatures _ _ (signatures-matched 0 c.self.inside.signatures c.self.inside.found) c.args.name.now,
     ) c.resolve.ensures
 
 pub returns-clause-lawful : goal.returns-clause-lawful

@@ -9,8 +9,8 @@ use Rattle.getopts.specs.Reading.{equals_sign, holds_equals, Reading, IsScanFaul
 use Rattle.getopts.specs.Reading.{order_of_reading}
 use Rattle.getopts.specs.Matches.{Matched, matches_of, KeepsCounts}
 use Rattle.std.specs.Prelude.{MatchOption, MatchResult}
-use Rattle.getopts.specs.Parse.{Reads, IsAccepted, HasReading, HasNoReading, IsRefused, IsReadAnswer, IsAcceptedWith}
-use Rattle.getopts.specs.Parse.{IsWritten, IsUnwritable, IsParseAnswer, IsCanonicalAnswer, IsOrderAnswer, IsOrder}
+use Rattle.getopts.specs.Parse.{Reads, IsAccepted, HasReading, HasNoReading, IsRefused, IsReadResult, IsAcceptedWith}
+use Rattle.getopts.specs.Parse.{IsWritten, IsUnwritable, IsParseResult, IsCanonicalResult, IsOrderResult, IsOrder}
 use Rattle.getopts.specs.Parse.{KeepsLineLaws}
 use Rattle.getopts.specs.Canon.{Content, IsCountKeeping, IsPlain}
 use Rattle.getopts.proofs.canon.Lines.{HasCanonicalLine-says, Says-accepted}
@@ -20,17 +20,17 @@ use Rattle.getopts.proofs.parse.Parsed.{text_names_here}
 use Rattle.getopts.proofs.scan.Words.{holds_equals-none}
 
 -- a test that finds `=` exactly if it is there
-pub holds_equals-found : (text : Text) (found : Bool)
-    → (found ≡ true → (k : ℕ) × (k < length text) × (get_or text k 0 ≡ equals_sign))
-    → ((k : ℕ) → k < length text → get_or text k 0 ≡ equals_sign → found ≡ true) → found ≡ holds_equals text
-holds_equals-found text found there at = search (rules, list_any_at, holds_equals-none, true≢false)
+pub holds_equals-is : (text : Text) (holds : Bool)
+    → (holds ≡ true → (k : ℕ) × (k < length text) × (get_or text k 0 ≡ equals_sign))
+    → ((k : ℕ) → k < length text → get_or text k 0 ≡ equals_sign → holds ≡ true) → holds ≡ holds_equals text
+holds_equals-is text holds there at = search (rules, list_any_at, holds_equals-none, true≢false)
 
 -- words are accepted with the content of a reading that keeps the counts
 pub count_keeping : (options : Declared) (words : List Text) (content : Content)
     (is : IsAcceptedWith options words content) → IsCountKeeping options is.reading words
 count_keeping options words content is = search (rules, meets)
 
--- answered lines keep their laws
+-- the lines that `canonical` returns keep their laws
 pub KeepsLineLaws-lawful : (options : Declared) → MayBeDeclared options.groups → KeepsLineLaws options
 KeepsLineLaws-lawful options declared words line written =
     HasCanonicalLine-says options words written.content declared.named (text_names_here options declared)
@@ -40,7 +40,7 @@ KeepsLineLaws-lawful options declared words line written =
 -- two results are equal if values are, errors are, and no value has an error beside it
 only_result : {X : Type 0} {Is : X → Type 0} (No : Fault → Type 0) → ((x : X) (fault : Fault) → Is x → No fault → ⊥)
     → ((fault other : Fault) → No fault → No other → fault ≡ other) → ((x y : X) → Is x → Is y → x ≡ y)
-    → (answer other : Result X Fault) → MatchResult answer Is No → MatchResult other Is No → answer ≡ other
+    → (result other : Result X Fault) → MatchResult result Is No → MatchResult other Is No → result ≡ other
 only_result No apart only_no only (Ok x) (Ok y) is also = ap Ok (only x y is also)
 only_result No apart only_no only (Ok x) (Err fault) is refused = absurd (apart x fault is refused)
 only_result No apart only_no only (Err fault) (Ok x) refused is = absurd (apart x fault is refused)
@@ -87,34 +87,35 @@ module _ (options : Declared) (words : List Text) where
       )
 
   -- words have one error, and none if something was made of a reading that keeps the counts
-  pub only_answer : {X : Type 0} {Is : X → Type 0}
+  pub only_accepted : {X : Type 0} {Is : X → Type 0}
       → ((x : X) → Is x → (reading : Reading) × IsCountKeeping options reading words)
-      → ((x y : X) → Is x → Is y → x ≡ y) → (answer other : Result X Fault)
-      → MatchResult answer Is (IsRefused options words)
-      → MatchResult other Is (IsRefused options words) → answer ≡ other
-  only_answer {Is = Is} reading = only_result {Is = Is} (IsRefused options words)
+      → ((x y : X) → Is x → Is y → x ≡ y) → (result other : Result X Fault)
+      → MatchResult result Is (IsRefused options words)
+      → MatchResult other Is (IsRefused options words) → result ≡ other
+  only_accepted {Is = Is} reading = only_result {Is = Is} (IsRefused options words)
       (λ x fault is refused. let keeps = reading x is in not_refused keeps.0 fault keeps.1 refused)
       only_refusal
 
   -- words have one result of `parse`
-  pub only_parse_answer : (answer other : Result Matched Fault) → IsParseAnswer options words answer
-      → IsParseAnswer options words other → answer ≡ other
-  only_parse_answer = only_answer {Is = IsAccepted options words} (λ m is. (is.read.reading, keeps_accepted m is))
+  pub only_parse_result : (result other : Result Matched Fault) → IsParseResult options words result
+      → IsParseResult options words other → result ≡ other
+  only_parse_result = only_accepted {Is = IsAccepted options words} (λ m is. (is.read.reading, keeps_accepted m is))
       (λ m n is also. only_matches m n is.read also.read)
 
   -- words have one scan error, and none if they have a reading
   pub only_of_reading : {X : Type 0} {Is : X → Type 0}
       → ((x : X) → Is x → (reading : Reading) × Reads options words reading) → ((x y : X) → Is x → Is y → x ≡ y)
-      → (answer other : Result X Fault) → MatchResult answer Is (HasNoReading options words)
-      → MatchResult other Is (HasNoReading options words) → answer ≡ other
+      → (result other : Result X Fault) → MatchResult result Is (HasNoReading options words)
+      → MatchResult other Is (HasNoReading options words) → result ≡ other
   only_of_reading {Is = Is} reading = only_result {Is = Is} (HasNoReading options words)
       (λ x fault is none. let reads = reading x is in none.no_reading reads.0 reads.1)
       (λ fault other is also. (also.only fault).0 ((is.only fault).1 refl))
 
   -- words have one result of `parse_ignoring_counts`
-  pub only_read_answer : (answer other : Result Matched Fault) → IsReadAnswer options words answer
-      → IsReadAnswer options words other → answer ≡ other
-  only_read_answer = only_of_reading {Is = HasReading options words} (λ m has. (has.reading, reads_of m has)) only_matches
+  pub only_read_result : (result other : Result Matched Fault) → IsReadResult options words result
+      → IsReadResult options words other → result ≡ other
+  only_read_result = only_of_reading {Is = HasReading options words}
+      (λ m has. (has.reading, reads_of m has)) only_matches
 
   -- words are accepted with one content
   pub only_content : (content other : Content) → IsAcceptedWith options words content
@@ -126,9 +127,9 @@ module _ (options : Declared) (words : List Text) where
   only_line line other is is_other = cc (only_content is.content is_other.content is.accepted is_other.accepted)
 
   -- words have one result of `parse_in_order`
-  pub only_order_answer : (answer other : Result (List Given) Fault)
-      → IsOrderAnswer options words answer → IsOrderAnswer options words other → answer ≡ other
-  only_order_answer = only_answer {Is = IsOrder options words}
+  pub only_order_result : (result other : Result (List Given) Fault)
+      → IsOrderResult options words result → IsOrderResult options words other → result ≡ other
+  only_order_result = only_accepted {Is = IsOrder options words}
       (λ order is. (is.accepted.reading, count_keeping options words is.content is.accepted))
       (λ order other is also. is.order_is
       ∙ ap (order_of_reading (grammar_of options)) ((also.accepted.only is.accepted.reading).0
@@ -140,10 +141,10 @@ module _ (options : Declared) (words : List Text) where
       (only_content is.content is_other.content is.accepted is_other.accepted) is.plain)
 
   -- words have one result of `canonical`
-  pub only_canonical_answer : (answer other : Result (Option (List Text)) Fault)
-      → IsCanonicalAnswer options words answer → IsCanonicalAnswer options words other → answer ≡ other
-  only_canonical_answer =
-      only_answer {Is = λ written. MatchOption written (IsUnwritable options words) (IsWritten options words)}
+  pub only_canonical_result : (result other : Result (Option (List Text)) Fault)
+      → IsCanonicalResult options words result → IsCanonicalResult options words other → result ≡ other
+  only_canonical_result =
+      only_accepted {Is = λ written. MatchOption written (IsUnwritable options words) (IsWritten options words)}
       keeps only where
         keeps : (written : Option (List Text))
             → MatchOption written (IsUnwritable options words) (IsWritten options words)
