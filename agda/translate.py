@@ -1,6 +1,7 @@
 """Translates the clauses of the lemmas in laws.rt of crates/getopts, and the definitions that these
-and the proofs need, to Agda:
-translate.py CRATE STD OUT, with the folders of the crate, of Rattle's libraries, and of the output.
+and the proofs need, to Agda.
+
+usage: translate.py CRATE STD OUT     the folders of the crate, of Rattle's libraries, and of the output
 
 Only syntax and names change, token by token: `_` in a name becomes `-`, since Agda reads `_` as a
 place for an argument. Of each record, the constructor is `mk`, and projections begin with `$`.
@@ -11,6 +12,11 @@ import sys
 from collections import namedtuple
 from pathlib import Path
 
+if sys.argv[1:] in (["--help"], ["-h"]):
+    sys.exit(print(__doc__.strip()))
+if len(sys.argv) != 4:
+    print(__doc__.strip(), file=sys.stderr)
+    sys.exit(2)
 CRATE, STD, OUT = (Path(argument) for argument in sys.argv[1:4])
 
 # The parameters of the lemmas of laws.rt: here, and with what a proof assumes of them.
@@ -255,7 +261,8 @@ def statement():
     path, kept, laws, count = CRATE / "src/laws.rt", [], [], 0
     text = re.sub("//.*", "", path.read_text(encoding="utf-8"))
     lemmas = [*re.finditer(r"\bfn (\w+)(.*)\n((?s:.*?))^\{", text, re.M)]
-    if len(lemmas) != len(re.findall(r"\bfn\b", text)):
+    # A lemma in a block comment, or behind `cfg`, isn't one of the crate's.
+    if len(lemmas) != len(re.findall(r"\bfn\b", text)) or re.search(r"/\*|\bcfg\b", text):
         stop(path, 1, "can't read each lemma")
     for found in lemmas:
         line, clauses = text[:found.start()].count("\n") + 1, CLAUSE.findall(found[3])

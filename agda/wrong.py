@@ -1,5 +1,8 @@
-"""Wrong definitions, which Agda must reject at the lemma that they are for. `check.sh --wrong` runs
-this after it has checked all: wrong.py STD, with the folder of Rattle's libraries."""
+"""Tries wrong definitions, which Agda must reject at the lemma that they are for. `check.sh --wrong`
+runs this after it has checked all.
+
+usage: wrong.py STD     the folder of Rattle's libraries
+"""
 import re
 import shutil
 import subprocess
@@ -9,6 +12,11 @@ import time
 from concurrent.futures import ThreadPoolExecutor
 from pathlib import Path
 
+if sys.argv[1:] in (["--help"], ["-h"]):
+    sys.exit(print(__doc__.strip()))
+if len(sys.argv) != 2 or sys.argv[1].startswith("-"):
+    print(__doc__.strip(), file=sys.stderr)
+    sys.exit(2)
 AGDA = Path(__file__).resolve().parent
 # The clause that becomes false, what the definitions say instead, old text, new text, lemma.
 WRONG = [

@@ -1,55 +1,37 @@
 """The second prover: Agda proves the lemmas of laws.rt too, and rejects wrong definitions."""
 
-import hashlib
 import re
 import shutil
 from pathlib import Path
 
 import pytest
-from conftest import ROOT, answer, tracked
-from test_mutants import tokens
+from conftest import ROOT, answer
 
 CRATE = ROOT / "crates/getopts"
 LAWS = (CRATE / "src/laws.rt").read_text(encoding="utf-8")
-# For which files Agda has rejected all wrong definitions.
-TRIED = ROOT / "agda/tried.sha256"
-
-
-def checksum():
-    """A checksum of what decides about this: definitions, clauses, enums and the folder."""
-    texts = []
-    for path in map(ROOT.joinpath, sorted(tracked())):
-        name = str(path.relative_to(ROOT)).removeprefix("crates/getopts/")
-        if name.startswith("specs/") or name in ("src/laws.rt", "src/kinds.rt", "src/request.rt"):
-            texts.append(" ".join(tokens(path.read_text(encoding="utf-8"))))
-        elif name.startswith("agda/") and path != TRIED:
-            texts.append(path.read_text(encoding="utf-8"))
-    return hashlib.sha256("\n".join(texts).encode()).hexdigest() + "\n"
 
 
 @pytest.mark.full
 @pytest.mark.rt
-def test_theorems_are_proved_and_wrong_ones_rejected(request):
-    """The wrong definitions are tried before a release, and if what decides about them has changed."""
-    now, option = checksum(), request.config.getoption
-    words = ["--wrong"] * (option("--release") or not TRIED.exists() or TRIED.read_text() != now)
-    said, status = (it.decode() if isinstance(it, bytes) else it for it in answer(ROOT / "agda/check.sh", *words))
-    if "agda not found" in said and not option("--release"):
+def test_theorems_are_proved_and_wrong_ones_rejected():
+    said, status = (it.decode() if isinstance(it, bytes) else it for it in answer(ROOT / "agda/check.sh", "--wrong"))
+    if "agda not found" in said:
         pytest.skip(said.strip())
     lemmas = len(re.findall(r"^pub fn", LAWS, re.M))
     assert status == 0 and f"proves {LAWS.count('ensures ')} clauses of {lemmas} lemmas" in said, said
-    if words and option("--fix"):
-        TRIED.write_text(now)
 
 
 @pytest.mark.rt
 @pytest.mark.parametrize("old, new, why", [
     ("    ensures parse {", "    requires never { ⊥ }\n    ensures parse {", "can't read equal_input_equal_answers"),
     ("fn results_are_computed()", "fn results_are_computed<T>()", "can't read results_are_computed"),
-    ("HasResults", "ReturnsResult", "a lemma needs this, but Fail isn't translated")],
-    ids=["premise", "parameter", "type"])
+    ("HasResults", "ReturnsResult", "a lemma needs this, but Fail isn't translated"),
+    ("pub fn results", "/*\npub fn results", "can't read each lemma"),
+    ("pub fn results", "#[cfg(test)]\npub fn results", "can't read each lemma")],
+    ids=["premise", "parameter", "type", "comment", "cfg"])
 def test_untranslated_parts_of_lemmas(tmp_path, old, new, why):
-    """A lemma with a premise, with a type parameter, or about a type of Rust stops the translation."""
+    """A lemma with a premise, with a type parameter, about a type of Rust, or that isn't part of the crate stops the
+    translation."""
     for part in ("specs", "src"):
         shutil.copytree(CRATE / part, tmp_path / part)
     (tmp_path / "src/laws.rt").write_text(LAWS.replace(old, new), encoding="utf-8")

@@ -1,8 +1,6 @@
 """Mutants: each applies to the sources, and the body of each public function of getopts has one. `rt ci` tries those in
-a folder `must-fail`. Those in a folder `mutants` are tried here, before a release and if what they depend on changes."""
+a folder `must-fail`, and this file, before a release, those in a folder `mutants`."""
 
-import functools
-import hashlib
 import re
 import shutil
 from concurrent.futures import ThreadPoolExecutor
@@ -76,85 +74,6 @@ def test_public_functions_have_mutants():
     assert len(names) > 50 and not without, f"no mutant of their own: {without}"
 
 
-def tokens(text):
-    """The words of contracts or definitions, without comments, imports and layout."""
-    text = re.sub(r"^ *(pub |ghost )*use .*(\n[ }].*)*", "", text, flags=re.M)
-    found = re.findall(r'"(?:\\.|[^"\\])*"|(?://|--).*|[^\s(){},;\[\]|."]+|\S', text)
-    return [token for token in found if not token.startswith(("//", "--"))]
-
-
-@functools.cache
-def stated(path):
-    """What a file of `specs` defines or, of its types, a source states, by name; and what imported names stand for."""
-    text, found, imports = path.read_text(encoding="utf-8"), {}, {}
-    use = r"^ *(?:pub |ghost )*use Rattle\.(\w+)\.specs\.([\w.]+)\.\{(.*?)\}"
-    for crate, module, names in re.findall(use, text, re.M | re.S):
-        file = ROOT / f"crates/{crate}/specs/{module.replace('.', '/')}.antt"
-        imports |= {other or name: (file, name) for name, other in re.findall(r"([^\s,]+)(?: as ([^\s,]+))?", names)}
-    for part in re.split(r"\n\n+", text) if path.suffix == ".antt" else []:
-        code = re.sub(r"^ *--.*\n", "", part, flags=re.M)
-        head = re.match(r" *(?:(?:abbrev|unfoldable|pub|data|record) +)*([^\s(:]+) ?[:(]", code)
-        variants = re.findall(r"^  ([^\s:]+) :", code, re.M) if re.match(r"(pub )?data ", code) else []
-        found |= {name: found.get(name, "") + part for name in variants + ([head[1]] if head else [])}
-    if path.suffix == ".rt":
-        for it in re.finditer(r"^impl(?:<.*?>)? (?:[^\n]* for )?(\w+).*?^\}$", text, re.M | re.S):
-            found[it[1]] = found.get(it[1], "") + "".join(re.findall(r"^    ghost (?!use).*?;$", it[0], re.M | re.S))
-    return found, imports
-
-
-@functools.cache
-def origin(name, path):
-    """The file that states what a name in another file stands for, and its name there, if it is in this repository."""
-    found, imports = stated(path)
-    if name in imports:
-        file, name = imports[name]
-        return origin(name, file) if file.exists() else None
-    files = [path, *(sorted(ROOT.glob("crates/*/src/**/*.rt")) if path.suffix == ".rt" else [])]
-    return next(((file, name) for file in files if stated(file)[0].get(name)), None)
-
-
-def reached(text, path, found):
-    """Adds to `found` each definition on which a text in a file depends."""
-    for name in set(tokens(text)):
-        place = origin(name, path)
-        if place and place not in found:
-            file, name = place
-            found[place] = tokens(stated(file)[0][name])
-            reached(stated(file)[0][name], file, found)
-
-
-def contracts(mutant):
-    """A checksum of what decides whether a mutant is rejected: itself, the clauses of the functions that it changes, and
-    the definitions that these use."""
-    depends = {mutant: [mutant.read_text(encoding="utf-8")]}
-    for path, old, _ in changes(mutant):
-        text = path.read_text(encoding="utf-8")
-        functions = list(functions_in(text))
-        changed = [one for one in functions if one[0].start() <= text.find(old) < one[0].end()]
-        for it, impl, _ in changed or functions:
-            head = impl + it[0][: body_of(it)]
-            depends[path, head] = tokens(head)
-            reached(head, path, depends)
-    return hashlib.sha256("\n".join(sorted(" ".join(it) for it in depends.values())).encode()).hexdigest()
-
-
-def for_release(crate):
-    """The mutants of a crate that `rt ci` doesn't try, the checksums of what decides about them now, the file with the
-    checksums for which they were last tried, and those for which the two differ."""
-    mutants = sorted(it for it in MUTANTS if it.parts[-3:-1] == (crate, "mutants"))
-    now, file = {it.stem: contracts(it) for it in mutants}, ROOT / f"crates/{crate}/mutants/contracts.sha256"
-    tried = dict(reversed(line.split()) for line in file.read_text().splitlines()) if file.exists() else {}
-    return mutants, now, file, [it for it in mutants if tried.get(it.stem) != now[it.stem]]
-
-
-@pytest.mark.parametrize("crate", FOR_RELEASE)
-def test_mutants_were_tried(crate):
-    changed = [it.stem for it in for_release(crate)[3]]
-    if changed:
-        pytest.fail(f"These mutants of {crate} are new, or a contract or definition changed after they were tried: "
-                    f"{' '.join(changed)}. Run bash test.sh -k 'rejected[{crate}]' --release --fix", pytrace=False)
-
-
 def rejected(crate, mutants, copy):
     """How many of these mutants are rejected in a copy of the repository, and what `rt` prints."""
     copy_tree(copy)
@@ -177,18 +96,13 @@ def rejected(crate, mutants, copy):
 @pytest.mark.rt
 @pytest.mark.timeout(6 * 3600)
 @pytest.mark.parametrize("crate", FOR_RELEASE)
-def test_mutants_are_rejected(crate, tmp_path, request):
-    """Tries all, or with --fix those that have to be tried again, in copies with at most 25, side by side."""
-    mutants, now, file, changed = for_release(crate)
-    if fix := request.config.getoption("--fix"):
-        mutants = changed
+def test_mutants_are_rejected(crate, tmp_path):
+    """Tries them in copies with at most 25, side by side."""
+    mutants = [mutant for mutant in MUTANTS if mutant.parts[-3:-1] == (crate, "mutants")]
     lanes = -(-len(mutants) // 25)
     if crate != "getopts":
         # Proves the library, unless an earlier command did: `rt ci` leaves none that other commands use.
         run("nice", "rt", "check", cwd=ROOT / "crates/getopts_bytes")
-    with ThreadPoolExecutor(max(1, lanes)) as pool:
-        parts = [(crate, mutants[at::lanes], tmp_path / str(at)) for at in range(lanes)]
-        results = list(pool.map(rejected, *zip(*parts))) if parts else []
+    with ThreadPoolExecutor(lanes) as pool:
+        results = list(pool.map(rejected, *zip(*((crate, mutants[at::lanes], tmp_path / str(at)) for at in range(lanes)))))
     assert sum(count for count, _ in results) == len(mutants), "".join(said for _, said in results)
-    if fix:
-        file.write_text("".join(f"{checksum}  {name}\n" for name, checksum in now.items()))
