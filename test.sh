@@ -1,5 +1,5 @@
 #!/usr/bin/env bash
-# Tests this repository: proves every crate, tries its mutants and, at the same time, runs tests/ with pytest.
+# Tests this repository: proves every crate, tries the mutants in must-fail and, at the same time, runs tests/ with pytest.
 # usage: test.sh [--quick] [--no-install] [CRATE]
 #        test.sh [--quick] [--no-install] -k NAME [FLAG ..]
 #
@@ -7,12 +7,14 @@
 # there is only rustc 1.63, a newer Rust into ~/.cache/proved-getopts, since `rt ci` refuses a repository that contains
 # links. The first line of its output names all this. --no-install leaves it out.
 #
-# CRATE is a folder with the Rust crate getopts 0.2.24, to compare with. --quick proves nothing: programs run unproved,
-# tests of built programs run only if these exist, other targets are left out, and there are fewer random cases. Without
-# rt, --quick leaves out the tests that need it. -k runs only the tests that match NAME, and accepts pytest's flags.
+# CRATE is a folder with the Rust crate getopts 0.2.24, with which the library is then compared. --quick proves nothing:
+# programs run unproved, tests of built programs run only if these exist, other targets are left out, and there are fewer
+# random cases. Without rt, --quick also leaves out the tests that need it. -k runs only the tests that match NAME, and
+# accepts pytest's flags.
 set -uo pipefail
 unset CDPATH
 start=$SECONDS quick=() install=1
+stop() { echo "test.sh: $1" >&2; exit 2; }
 for flag; do
     case $flag in
     --help | -h) sed -n '2,/^[^#]/s/^# \{0,1\}//p' "$0"; exit ;;
@@ -22,7 +24,7 @@ for flag; do
     esac
     shift
 done
-stop() { echo "test.sh: $1" >&2; exit 2; }
+case ${1:-} in -k | [!-]* | '') ;; *) stop "usage: test.sh [--quick] [--no-install] [CRATE]" ;; esac
 # By XDG's rules, a relative path doesn't count.
 case ${XDG_CACHE_HOME:-} in /*) ;; *) unset XDG_CACHE_HOME ;; esac
 # Other users could put programs into a cache below /tmp.
@@ -132,4 +134,7 @@ fi
 [ ${#quick[@]} = 0 ] || echo "Nothing was proved: 'bash test.sh' proves everything."
 [ -z "$failed" ] || { echo "failed: ${failed#; }"; exit 1; }
 times >"$room/times"
-echo "all passed after $((SECONDS - start)) s; processor time, of this shell and its children:" && cat "$room/times"
+minutes=$(tr ms '  ' <"$room/times" | awk '{ sum += $1 + $3 + ($2 + $4) / 60 } END { printf "%.0f", sum }')
+unbuilt=$(awk -F '[][]' "/^SKIPPED .* isn't built/ { sum += \$2 } END { print sum }" "$room"/said.*)
+[ -z "$unbuilt" ] || unbuilt=", but $unbuilt tests were skipped: run 'rt ci' first, which builds the programs that they need"
+echo "all passed after $((SECONDS - start)) s ($minutes minutes of processor time)$unbuilt"

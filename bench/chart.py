@@ -16,7 +16,7 @@ LIBRARIES = {
     "clap": ("clap", "#c8553d", "M-4 0a4 4 0 1 0 8 0a4 4 0 1 0-8 0z"),
     "pico-args": ("pico-args", "#e0a030", "M-4-4h8v8h-8z"),
     "lexopt": ("lexopt", "#5079a8", "M0-5l5 9h-10z"),
-    "Rust crate": ("the Rust crate getopts", "#808080", "M-1.5-6h3v12h-3z"),
+    "Rust crate": ("the original", "#808080", "M-1.5-6h3v12h-3z"),
     "bindings/rust": ("proved-getopts", "#0b8e65", "M0-5l5 5l-5 5l-5-5z"),
 }
 STYLE = """text { font: 12px sans-serif; fill: #1f2328 } .middle { text-anchor: middle } .end { text-anchor: end }
@@ -71,7 +71,7 @@ def draw_jobs():
         parts += [text(215, y + 4, f"{job}: {options} options, {words:,} words", "end"), line(225, y, 700, y),
                   *(marker(place(ratios[job, column]), y, column) for column in LIBRARIES)]
     parts += [text(place(power), bottom + 16, f"{power:g}×", "middle") for power in powers]
-    parts.append(text(462, bottom + 36, "instructions, as a multiple of the Rust crate's (log scale; left is better)", "middle"))
+    parts.append(text(462, bottom + 36, "instructions, as a multiple of the original's (log scale; left is better)", "middle"))
     return picture("Instructions of seven jobs", 720, bottom + 46, parts)
 
 
@@ -102,5 +102,8 @@ def main(folder=bench.HERE):
 if __name__ == "__main__":
     if sys.argv[1:2] in (["--help"], ["-h"]):
         print(__doc__.strip())
+    elif len(sys.argv) > 2 or sys.argv[1:] and sys.argv[1].startswith("-"):
+        print(__doc__.strip(), file=sys.stderr)
+        sys.exit(2)
     else:
-        main(*sys.argv[1:2])
+        main(*sys.argv[1:])

@@ -5,10 +5,10 @@ usage: bindings/build.py [--check]
        bindings/build.py --rebuild [x86_64 | aarch64]..
 
 The program is proved with the libraries that `rt ci` left, or that `rt lib` makes now, and built for every processor from
-one proof. proved.sha256 records the program's version, and the checksums of the toolchain's logic, of the binaries and of
-their sources, without comments; what hasn't changed since isn't rebuilt. With --check, nothing is proved or built, and
-the status is 1 if anything is out of date. --rebuild proves the program, builds it elsewhere, and compares each byte with
-the binaries that are checked in; the status is 1 if one differs.
+one proof. proved.sha256 records what the binaries were built from: the program's version and checksums of the toolchain's
+logic, of the sources without their comments, and of the binaries themselves. If nothing of this has changed, nothing is
+rebuilt. With --check, nothing is proved or built, and the status is 1 if anything is out of date. --rebuild proves the
+program, builds it elsewhere, and compares each byte with the binaries that are checked in; the status is 1 if one differs.
 """
 
 import hashlib
@@ -143,7 +143,8 @@ def main(words):
         case [] | ["--check"]:
             shell(words == ["--check"])
         case _:
-            sys.exit(__doc__)
+            print(__doc__.strip(), file=sys.stderr)
+            sys.exit(2)
 
 
 if __name__ == "__main__":

@@ -26,7 +26,7 @@ def roles(occurrences, free):
         given = [f"{name} = {value}" if value else name for name, position, value in occurrences if position == at]
         before = [value for _, position, value in occurrences if position == at - 1 and value]
         if given:
-            found.append(("option", "option" if word.startswith("--") or len(word) == 2 else "cluster", given))
+            found.append(("option", "option" if word.startswith("--") else "cluster", given))
         elif word in before and not WORDS[at - 1].endswith(word):
             found.append(("argument", "argument", []))
         elif free[:1] == [word]:
@@ -62,7 +62,10 @@ def draw(answers):
 
 
 if __name__ == "__main__":
-    if sys.argv[1:]:
+    if sys.argv[1:] in (["--help"], ["-h"]):
         sys.exit(print(__doc__.strip()))
+    if sys.argv[1:]:
+        print(__doc__.strip(), file=sys.stderr)
+        sys.exit(2)
     done = subprocess.run(["rt", "try", "--", *WORDS], cwd=HERE.parent / "crates/getopts_show", stdout=subprocess.PIPE, check=True)
     (HERE / "reading.svg").write_text(draw(done.stdout.decode()))

@@ -39,8 +39,8 @@ MARGIN = " " * 7
 def pytest_addoption(parser):
     parser.addoption("--quick", action="store_true", help="fewer random cases, no other targets, no proofs")
     parser.addoption("--many", action="store_true", help="ten times as many random cases")
-    parser.addoption("--release", action="store_true", help="also try the mutants that rt ci leaves out")
-    parser.addoption("--fix", action="store_true", help="update figures, tables and contracts on the pages, and checksums of contracts")
+    parser.addoption("--release", action="store_true", help="also run the tests for a release, such as mutants")
+    parser.addoption("--fix", action="store_true", help="update figures, tables and contracts on the pages")
     parser.addoption("--getopts", help="a folder with the Rust crate getopts 0.2.24")
 
 

@@ -10,6 +10,7 @@ unset CDPATH
 case ${1:-} in --help | -h) sed -n '2,/^[^#]/s/^# \{0,1\}//p' "$0"; exit ;; esac
 cd "$(dirname "$0")/.."
 stop() { echo "tests/fresh.sh: $1" >&2; exit 2; }
+case $#${1:-} in 0 | 1[!-]*) ;; *) stop "usage: tests/fresh.sh [COMMAND]" ;; esac
 [ "$(id -u)" = 0 ] || stop "needs root, for chroot"
 command -v debootstrap >/dev/null || stop "debootstrap not found: apt-get install debootstrap"
 command -v rt >/dev/null || stop "rt not found: put the toolchain's bin folder on the path"

@@ -1,4 +1,7 @@
+#!/usr/bin/env python3
 """Cases of getopts_vectors: options, words and questions, as rows without answers.
+
+usage: tests/generate.py SEED COUNT     prints all short lines, and COUNT random cases
 
 The first cases have all lines of at most two of some words, for options with odd names. All others are random. Most of
 these add a few options, with odd and colliding names, parse a command line, and query the result. Others test long command
@@ -10,6 +13,7 @@ with longer names, were written by hand for what random ones seldom have, and an
 import copy
 import itertools
 import random
+import sys
 
 import model
 import texts
@@ -287,3 +291,13 @@ def rows(seed, count):
 
 def written(seed, count):
     return b"".join(model.line(*row) + b"\n" for row in rows(seed, count))
+
+
+if __name__ == "__main__":
+    if sys.argv[1:] in (["--help"], ["-h"]):
+        print(__doc__)
+    elif [word.isdecimal() for word in sys.argv[1:]] == [True, True]:
+        sys.stdout.buffer.write(written(*map(int, sys.argv[1:])))
+    else:
+        print("usage: tests/generate.py SEED COUNT", file=sys.stderr)
+        sys.exit(2)

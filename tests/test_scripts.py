@@ -1,4 +1,4 @@
-"""test.sh and bindings/release.sh, with stand-ins for programs that take long."""
+"""test.sh and bindings/release.sh, with stand-ins for programs that take long, and wrong uses of all scripts."""
 
 import contextlib
 import os
@@ -59,7 +59,7 @@ def test_failed_parts_are_reported(test_sh, fail, parts):
 
 def test_all_parts_are_run(test_sh, tmp_path):
     said, errors, calls = test_sh("--no-install", "crate")
-    assert re.search(r"\nall passed after \d+ s; ", said) and errors == "" and len(calls) == 3
+    assert re.search(r"\nall passed after \d+ s \(0 minutes of processor time\)\n$", said) and errors == "" and len(calls) == 3
     assert sum(f" --getopts={tmp_path}/crate -n 3 -m " in line for line in calls) == 2
     assert [line.partition(": status 0 ")[0] for line in re.findall("^== .*", said, re.M)] == [
         "== proofs", "== tests", "== tests of what is built"]
@@ -67,6 +67,13 @@ def test_all_parts_are_run(test_sh, tmp_path):
     assert "Nothing was proved" in said and "all passed" in said and len(calls) == 1 and "pytest tests" in calls[0]
     said, _, _ = test_sh("--no-install", "--quick", FAIL="pytest", status=1)
     assert said.splitlines()[-1] == "failed: tests"
+
+
+def test_skipped_tests_are_counted(test_sh, tmp_path):
+    script(tmp_path / "bin/python3", """#!/bin/sh
+[ "$1" = -c ] || printf 'SKIPPED [7] no gcc\nSKIPPED [2] a isn%st built: b\nSKIPPED [30] c isn%st built: d\n' "'" "'"\n""")
+    said, _, _ = test_sh("--no-install", "--quick")
+    assert re.search(r"\nall passed .*\), but 32 tests were skipped: run 'rt ci' first, .*\n$", said)
 
 
 def test_flags_reach_pytest(test_sh):
@@ -177,7 +184,8 @@ def clone(tmp_path_factory):
     (room / "bin").mkdir()
     script(room / "bin/rt", LOGS.format(name="$(sed 's/:.*//' crates.txt | xargs): rt", log=room / "log"))
     page = (clone / "CHANGELOG.md").read_text()
-    (clone / "CHANGELOG.md").write_text(re.sub("^## .*", f"## {VERSION}, 2026-11-28", page, count=1, flags=re.M))
+    for copy in ("CHANGELOG.md", "bindings/rust/CHANGELOG.md"):
+        (clone / copy).write_text(re.sub("^## .*", f"## {VERSION}, 2026-11-28", page, count=1, flags=re.M))
     commit_repository(clone)
     return clone
 
@@ -203,7 +211,7 @@ def release(clone, *words, status=0, **env):
 def test_files_of_a_release(clone):
     (clone / "tests/out/release").mkdir(parents=True)
     (clone / "tests/out/release/old").write_text("")
-    assert release(clone, VERSION) == ("", [*CHECKS, OF_KIT])
+    assert release(clone, VERSION, clone) == ("", [*CHECKS, OF_KIT])
     out, name = clone / "tests/out/release", f"getopts-{VERSION}"
     binaries = {f"getopts_shell-{VERSION}-{machine}": machine for machine in ("x86_64", "aarch64")}
     files = {f"{name}.tar.gz", f"{name}-kit.tar.gz", f"proved-getopts-{VERSION}.crate", *binaries}
@@ -223,13 +231,13 @@ def test_files_of_a_release(clone):
     assert packed["CHANGELOG.md"][1] == (clone / "CHANGELOG.md").read_bytes()
     settings = clone.parent / "settings"
     settings.write_text("[core]\nautocrlf = true\n[tar]\numask = 0077\n")
-    release(clone, VERSION, GIT_CONFIG_GLOBAL=str(settings))
+    release(clone, VERSION, clone, GIT_CONFIG_GLOBAL=str(settings))
     assert sums == (out / "SHA256SUMS").read_text()
 
 
 def test_release_runs_all_tests(clone, tmp_path):
     whole = [*CHECKS, f"test.sh {tmp_path}", "build.py --rebuild",
-             "test.sh -k rejected or theorem --release -n 3", "fresh.sh ", OF_KIT]
+             f"test.sh -k  -m release --release --getopts={tmp_path} -n 3", "fresh.sh ", OF_KIT]
     assert release(clone, VERSION, tmp_path, TESTED="")[1] == whole
     for at, call in enumerate(whole):
         calls = release(clone, VERSION, tmp_path, status=1, TESTED="", FAIL=call)[1]
@@ -238,10 +246,11 @@ def test_release_runs_all_tests(clone, tmp_path):
 
 def test_wrong_releases(clone):
     def error(version=VERSION):
-        return release(clone, version, status=1)[0]
+        return release(clone, version, clone, status=1)[0]
 
     assert error("9.9.9") == f"release.sh: CHANGELOG.md begins with '## {VERSION}, 2026-11-28', not '## 9.9.9, DATE'\n"
-    assert error("--tested") == error("") == "release.sh: usage: bindings/release.sh VERSION [CRATE]\n"
+    for words in [], [VERSION], ["--tested", clone]:
+        assert release(clone, *words, status=2) == ("usage: bindings/release.sh VERSION CRATE\n", [])
     (clone / "more").write_text("")
     assert error() == "release.sh: there are uncommitted changes: release a clean clone\n"
     (clone / "more").unlink()
@@ -254,3 +263,17 @@ def test_wrong_releases(clone):
         run("git", "-c", "user.name=a", "-c", "user.email=a@b", "commit", "-q", "-a", "-m", "a", cwd=clone)
         assert error() == f"release.sh: CHANGELOG.md begins with '{heading}', not '## {VERSION}, DATE'\n"
         run("git", "reset", "-q", "--hard", "HEAD~", cwd=clone)
+
+
+# ---- all scripts
+
+SCRIPTS = [name for name in tracked() if re.match(r"agda/\w+\.py$", name) or re.match(rb"#!.*(sh|python3)\n", (ROOT / name).read_bytes())]
+NEED_NONE = {"agda/check.sh", "bench/chart.py", "bindings/build.py", "bindings/rust/erase.py", "docs/reading.py", "test.sh", "tests/fresh.sh"}
+
+
+@pytest.mark.parametrize("name", [name for name in SCRIPTS if not re.match(r"\.ci/|bindings/shell/examples/", name)])
+def test_wrong_numbers_of_arguments(name, tmp_path):
+    """Too many arguments, and none if a script needs some: its usage on standard error, and status 2."""
+    for words in [["a"] * 9] + [[]] * (name not in NEED_NONE):
+        said, errors = run(*["python3"] * name.endswith(".py"), ROOT / name, *words, status=2, cwd=tmp_path)
+        assert said == "" and "usage: " in errors and not [*tmp_path.iterdir()]

@@ -1,7 +1,7 @@
 #!/bin/sh
 # Builds the library for C and C++ with cargo and installs it, or removes it:
 #
-#     bindings/c/install.sh [--uninstall] PREFIX
+# usage: bindings/c/install.sh [--uninstall] PREFIX
 #
 # - PREFIX/lib: libgetopts.a, also as libgetopts-static.a
 # - the shared library: on Linux, PREFIX/lib/libgetopts.so; for Windows with mingw's gcc for x86-64,
@@ -43,7 +43,8 @@ case ${1:-} in
 --uninstall) uninstall=yes; shift ;;
 esac
 if [ $# != 1 ] || [ -z "$1" ] || [ "${1#-}" != "$1" ]; then
-    fail "usage: bindings/c/install.sh [--uninstall] PREFIX"
+    echo "usage: bindings/c/install.sh [--uninstall] PREFIX" >&2
+    exit 2
 fi
 
 # absolute PATH: sets path to the absolute path, without slashes at its end. $(..) would remove line breaks there.

@@ -1,7 +1,7 @@
 #!/bin/sh
 # Installs the program for this machine's processor, or removes it:
 #
-#     bindings/shell/install.sh [--uninstall] PREFIX
+# usage: bindings/shell/install.sh [--uninstall] PREFIX
 #
 # - PREFIX/bin: getopts_shell
 # - PREFIX/share/man/man1: getopts_shell.1, generated from README.md
@@ -25,7 +25,7 @@ case ${1-} in
 esac
 [ $# = 1 ] || set -- ''
 case $1 in
-'' | -*) echo "usage: install.sh [--uninstall] PREFIX" >&2; exit 2 ;;
+'' | -*) echo "usage: bindings/shell/install.sh [--uninstall] PREFIX" >&2; exit 2 ;;
 /*) to=${DESTDIR-}$1 ;;
 *) to=${DESTDIR-}$PWD/$1 ;;
 esac

@@ -1,5 +1,8 @@
 #!/usr/bin/env python3
-"""Writes first inputs for a fuzzer: seeds.py shell|c FOLDER."""
+"""Writes first inputs for a fuzzer.
+
+usage: tests/fuzz/seeds.py shell|c FOLDER
+"""
 
 import sys
 from itertools import product
@@ -40,9 +43,10 @@ def seeds(target):
 
 
 if sys.argv[1:] in (["--help"], ["-h"]):
-    print(__doc__)
+    print(__doc__.strip())
     sys.exit()
 if len(sys.argv) != 3 or sys.argv[1] not in ("shell", "c"):
-    sys.exit("usage: tests/fuzz/seeds.py shell|c FOLDER")
+    print("usage: tests/fuzz/seeds.py shell|c FOLDER", file=sys.stderr)
+    sys.exit(2)
 for place, seed in enumerate(seeds(sys.argv[1])):
     (Path(sys.argv[2]) / f"seed{place:03}").write_bytes(seed)
