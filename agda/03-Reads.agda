@@ -58,10 +58,10 @@ module _ (g : Grammar) where
 
   long-form-step : ∀ d n a ws → MayPrecede (g .$long-only) d n → holds-equals n ≡ false
     → n ++ with-equals a ≢ []
-    → step g (long-word d n a) ws ≡ long-name-step g ((g .$kind) n) d n a ws
+    → step g (long-word d n a) ws ≡ long-name-step ((g .$kind) n) d n a ws
   long-form-step d n a ws p e filled =
     long-form d (n ++ with-equals a) ws (may-precede _ d n a p) filled
-    ∙ cong (λ (name , a) → long-name-step g ((g .$kind) name) d name a ws) (cut-whole n a e)
+    ∙ cong (λ (name , a) → long-name-step ((g .$kind) name) d name a ws) (cut-whole n a e)
 
   -- Words in short form ---------------------------------------------------------------------------
 
@@ -119,7 +119,7 @@ module _ (g : Grammar) where
     cong (λ s → after g s (argument-words a ++ more))
       (long-form-step d n (attached-argument a) _ p e
         (filled-left n λ { refl → None≢Some (sane .no-empty) r })
-      ∙ cong (λ k → long-name-step g k d n (attached-argument a) (argument-words a ++ more)) r
+      ∙ cong (λ k → long-name-step k d n (attached-argument a) (argument-words a ++ more)) r
       ∙ cong (chosen-step (long d n)) (long-chosen k n a more fits))
     ∙ taken g (long d n a) a more
   item-read (cluster bs flags) more sane (mk mode no-dash all filled) _ =
@@ -148,7 +148,7 @@ module _ (g : Grammar) where
   -- Words with an error ---------------------------------------------------------------------------
 
   long-fault : ∀ {w ws n a k} → (lf : IsLongForm g w n a) → (g .$kind) n ≡ k
-    → step g w ws ≡ long-name-step g k (lf .$dashes) n a ws
+    → step g w ws ≡ long-name-step k (lf .$dashes) n a ws
   long-fault {n = n} {a} (mk d p e refl filled) refl = long-form-step d n a _ p e
     λ empty → filled (cong (dash-text d ++_) empty ∙ ++-nil (dash-text d))
 

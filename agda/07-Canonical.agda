@@ -63,7 +63,7 @@ record Given-by (groups : List Group) (m : Mention) : Set where
     fits : FitsKind (group .$signature .$kind) (m .$value)
 
 mentioned : ∀ groups n k v → kind-of groups n ≡ Some k → FitsKind k v
-  → Given-by groups (mention-at (resolution (names-of groups) n) v)
+  → Given-by groups (mk (unwrap-or (resolution (names-of groups) n) 0) v)
 mentioned groups n k v e fits with resolution (names-of groups) n in r
 ... | Some p with slice-get groups p in at
 ...   | Some group with e
@@ -179,8 +179,10 @@ module _ (options : Declared) where
       kind given rewrite sound-mention groups m given | Given-by.at given = refl
 
   canonical-mention : ∀ m → Given-by groups m → mentions g (canonical-item groups m) ≡ m ∷ []
-  canonical-mention m@(mk _ None) given rewrite sound-mention groups m given = refl
-  canonical-mention m@(mk _ (Some v)) given rewrite sound-mention groups m given = refl
+  canonical-mention m@(mk _ None) given =
+    cong (λ p → mk (unwrap-or p 0) None ∷ []) (sound-mention groups m given)
+  canonical-mention m@(mk _ (Some v)) given =
+    cong (λ p → mk (unwrap-or p 0) (Some v) ∷ []) (sound-mention groups m given)
 
   canonical-reads : ∀ content → Each (Given-by groups) (content .$mentions) → IsPlain groups content
     → IsReading g (canonical-reading groups content) (canonical-line groups content)

@@ -176,7 +176,7 @@ module _ (g : Grammar) (sane : Sane g) where
       replaces : ∀ d n a a′ → (g .$kind) n ≡ Some Yes → value-of a ≡ value-of a′ → FitsLong Yes a′
         → IsLawfulItem g (long d n a) → Replaces g (long d n a) (long d n a′ ∷ [])
       replaces d n a a′ yes same fits (mk p e _) = mk (mk p e (Yes , yes , fits) , tt)
-        (cong (λ v → mention-at (long-place g n) v ∷ []) (sym same)) refl (long-dashed d n a′ yes)
+        (cong (λ v → mention-of g n v ∷ []) (sym same)) refl (long-dashed d n a′ yes)
         λ more _ → (λ ()) , tt
 
   dash-law : OneDashOrTwo g

@@ -1,10 +1,10 @@
 #!/usr/bin/env python3
 """Erases the contracts of a proved crate: what remains is the proved code, as Rust.
 
-    bindings/rust/erase.py [--check]
+usage: bindings/rust/erase.py [--check]
 
-Writes the Rust of each crate to its folder (see CRATES), and a README.md that says so. With --check it writes nothing;
-status 1 means that a folder is out of date. It needs `rustfmt` of Rust 1.85 or later.
+Writes the Rust of each crate to its folder (see CRATES), and a README.md that says so. With --check, it writes nothing,
+and the status is 1 if a folder is out of date. It needs `rustfmt` of Rust 1.85 or later.
 
 It parses a crate's tokens by this grammar, and rejects everything else, naming file, line and token. What is marked
 with * has no meaning at run time, and is deleted.
@@ -15,16 +15,18 @@ with * has no meaning at run time, and is deleted.
     struct    struct NAME generics { field.. }, with fields that may be ghost* NAME : { .. } ,
     impl      impl generics .. { member.. } | impl* .. Model for .. { member.. } | impl* Drop for .. { destructures it }
     member    attribute.. ( ghost* use .. ; | ghost* NAME = { .. } ; | const | type | function )
-    function  pub fn NAME generics ( .. ) -> .. clause.. { body }
+    function  pub fn NAME generics ( .. ) -> .. clause.. { body } | lemma*
+    lemma     pub fn NAME generics ( NAME : & .. ) clause.. { body }
     clause*   requires NAME { .. } | ensures NAME { .. }, without comments; either word may end in a star
     generics  < .. >, with Drop* among the bounds
     attribute #[derive(..)], with Drop* as the last name | #[tactic(..)]* | those in ATTRIBUTES
 
-A module of laws has no impl. It is left out, so rustc rejects code that uses it.
+A lemma returns nothing and changes nothing. Statements `NAME(..);` that call it are deleted, too, and its name in
+imports. A module of laws has no impl. It is left out, so rustc rejects code that uses anything else from it.
 
-In function bodies it knows no types. It rejects calls and names that aren't listed. KNOWN_CALLS, KNOWN_TYPE_CALLS and
-IMPORTS list those of Rust; each is trusted to do in Rust what its contract in Rattle says. It also rejects code that
-means something else in each language. Rattle's guides list such code, and `tests/eraser` has an example of each:
+In function bodies it knows no types, so it rejects calls and names that aren't listed. KNOWN_CALLS, KNOWN_TYPE_CALLS and
+IMPORTS list those of Rust, and each is trusted to do in Rust what its contract in Rattle says. It also rejects code that
+means something else in Rust than in Rattle. Rattle's guides list such code, and `tests/eraser` has an example of each:
 
     a range without an end, which in Rust goes past the last number; `S { a, ..v[1] }`, for which Rust evaluates `v[1]`;
     sizes of types; casts to `usize`, which lose bits on 32 bits; sorting by no order; fields whose names would change,
@@ -42,8 +44,8 @@ and bounds by `Index` need an import. `stringify!` isn't among the known calls, 
 edition 2021, Rattle follows 2024), nor whether a pattern of `self` drops it. Code that overflows only on 32 bits, or
 has another value there, such as `usize::MAX`, is tested, not proved.
 
-It hides lemmas that a library exports from the documentation. It renames by the tables below, and rejects sources that
-contain a new name. `same_tokens.py` checks the result, and shares neither code nor tables with this script.
+It renames by the tables below, and rejects sources that contain one of the new names. `same_tokens.py` checks the result,
+and shares neither code nor tables with this script.
 """
 
 import functools
@@ -82,7 +84,7 @@ for path in TOP.glob("crates/getopts/src/options.rt"):
 HOST = {f"std::{name}": f"crate::host::{name}" for name in ("alloc", "env", "io")} | {
     "resize": "try_resize", "trim_ascii": "trimmed_ascii", "str::from_utf8": "std::str::from_utf8",
     "format!": "text!", "write!": "add!", "writeln!": "add_line!", "fn main": "pub fn main",
-    "crate::": "super::", "getopts::": "crate::getopts::", "getopts_bytes::": "::getopts::bytes::",
+    "crate::": "super::", "getopts::": "::getopts::proved::", "getopts_bytes::": "::getopts::bytes::",
 }
 # For each crate: the folder for its Rust, the module that defines the replacements, and further names to replace.
 CRATES = {
@@ -157,7 +159,7 @@ class Eraser:
 
     def __init__(self, path):
         self.file, self.tokens = path.relative_to(TOP), tokens_of(path.read_text(encoding="utf-8"))
-        self.at, self.lemmas = 0, []
+        self.at, self.lemmas = 0, set()
 
     def stop(self, at, why):
         token = self.tokens[min(at, len(self.tokens) - 1)]
@@ -345,17 +347,18 @@ class Eraser:
             self.name()
             self.past(";")
         else:
-            self.function()
+            self.function(start)
 
-    def function(self):
-        """A function. It is a lemma if it is public, and neither returns nor changes anything."""
-        start, public = self.at, self.has(self.at - 1, "pub fn")
+    def function(self, item):
+        """A function. Deletes it if it is a lemma: it returns nothing, and has only shared references."""
         self.expect("fn")
+        name = self.text(self.at)
         self.name()
         self.generics()
+        start = self.at
         self.plain(["{", "requires", "ensures"])
-        if public and not {"mut", "-"} & {token.text for token in self.tokens[start : self.at]}:
-            self.lemmas.append(self.tokens[start - 1])
+        signature = [token.text for token in self.tokens[start : self.at]]
+        types = set(re.findall(r"(?<!:) : (?!:)(\S+)", " ".join(signature)))
         while self.text(self.at) in ("requires", "ensures"):
             start = self.at
             self.at += 1
@@ -365,6 +368,9 @@ class Eraser:
             self.logic()
             self.erase(start)
         self.body()
+        if types <= {"&"} and not {"mut", "self", "-"} & set(signature):
+            self.lemmas.add(name)
+            self.erase(item)
 
     def body(self):
         self.expect("{")
@@ -452,6 +458,32 @@ class Eraser:
             if before in set(",{") and after not in set(")}],"):
                 self.stop(at, "a record may not take fields from another")
 
+    def forget(self, lemmas):
+        """Deletes the names of lemmas in imports, and the statements that call them."""
+        imports = [at for at, token in enumerate(self.tokens) if token.text == "use"]
+        for at in reversed([at for at, token in enumerate(self.tokens) if token.text in lemmas]):
+            start = max((start for start in imports if start < at < self.after(start)), default=None)
+            if start is None:
+                self.forget_call(at)
+                continue
+            first = at - (self.text(at - 1) == ",")
+            self.delete(first, at + 1 + (first == at and self.text(at + 1) == ","))
+            self.at = self.after(start)
+            if self.has(self.at - 3, "{};") or self.has(self.at - 3, "::;"):
+                self.erase(start - self.has(start - 1, "pub use"))
+            elif self.has(self.at - 4, "{") and self.has(self.at - 2, "};"):
+                self.delete(self.at - 2, self.at - 1)
+                self.delete(self.at - 4, self.at - 3)
+
+    def forget_call(self, at):
+        """Deletes a statement that calls a lemma."""
+        end = self.close(at + 1) if self.text(at + 1) == "(" else at
+        arguments = "".join(token.text for token in self.tokens[at + 2 : end - 1])
+        if self.text(at - 1) not in ("{", "}", ";") or self.text(end) != ";" or not re.fullmatch(r"[\w.&,]*", arguments):
+            self.stop(at, "a lemma may only be called by a statement, for variables")
+        self.at = end + 1
+        self.erase(at)
+
     def calls(self, known, values, methods):
         """Rejects calls and names of functions that neither this repository defines nor the lists above have."""
         imported = 0
@@ -516,8 +548,6 @@ def defined(eraser):
 
 def rust_of(path, eraser, module, names):
     called = eraser.rename(names)
-    for token in eraser.lemmas if names is LIBRARY else []:
-        token.text = f"#[doc(hidden)]\n{token.text}"
     # Examples in comments are Rattle; Rust's doctests couldn't compile them.
     shown = functools.partial(re.sub, r"(//[/!] ```)\n((?:.*\n)*?.*//[/!] ```\n)", r"\1text\n\2")
     text = "".join(shown(token.lead) + token.text for token in eraser.tokens)
@@ -532,17 +562,19 @@ def rust_of(path, eraser, module, names):
 
 def sources():
     """The parsed files of each crate. Checks their calls against the names that all of them define."""
-    crates, known, values, methods = {}, set(CRATES), set(), set()
+    crates, lemmas, known, values, methods = {}, set(), set(CRATES), set(), set()
     for name in CRATES:
         paths = sorted((TOP / "crates" / name / "src").glob("*.rt"))
         files = {path: Eraser(path).read() for path in paths}
-        for eraser in files.values():
-            names, held, called = defined(eraser)
-            known, values, methods = known | names, values | held, methods | called
         crates[name] = {path: eraser for path, eraser in files.items() if path.stem != "laws"}
-    for files in crates.values():
-        for eraser in files.values():
-            eraser.calls(known, values, methods)
+        lemmas |= {lemma for eraser in files.values() for lemma in eraser.lemmas}
+    erasers = [eraser for files in crates.values() for eraser in files.values()]
+    for eraser in erasers:
+        eraser.forget(lemmas)
+        names, held, called = defined(eraser)
+        known, values, methods = known | names, values | held, methods | called
+    for eraser in erasers:
+        eraser.calls(known, values, methods)
     return crates
 
 

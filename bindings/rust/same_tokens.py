@@ -1,11 +1,12 @@
 #!/usr/bin/env python3
 """Checks that erased Rust is its source without whole constructs, independently of `erase.py`.
 
-    bindings/rust/same_tokens.py SOURCE FOLDER
+usage: bindings/rust/same_tokens.py SOURCE FOLDER
 
 FOLDER/X.rs has to have the tokens of SOURCE/X.rt in the same order, except for the renames below and for constructs
-without meaning at run time: each begins with a pattern in `WHOLE`, and extends to the end given there. Comments, white
-space and a comma before a closing bracket are ignored. This script doesn't look for code that Rattle and Rust interpret
+without meaning at run time: each begins with a pattern in `WHOLE`, and extends to the end given there. Lemmas, which
+have no result and no parameter but `&`, their calls and imports are left out. Comments, white space and a comma before a
+closing bracket are ignored. This script doesn't look for code that Rattle and Rust interpret
 differently: `erase.py` rejects it.
 """
 
@@ -33,12 +34,40 @@ PATHS |= {"std ::": "core ::", "str :: from_utf8": "core :: str :: from_utf8"}
 HOST = {"resize": "try_resize", "trim_ascii": "trimmed_ascii", "str :: from_utf8": "std :: str :: from_utf8"}
 HOST |= {"format !": "text !", "write !": "add !", "writeln !": "add_line !", "fn main": "pub fn main"}
 HOST |= {f"std :: {name}": f"crate :: host :: {name}" for name in ("alloc", "env", "io")} | {"crate ::": "super ::"}
-HOST |= {"getopts ::": "crate :: getopts ::", "getopts_bytes ::": ":: getopts :: bytes ::"}
+HOST |= {"getopts ::": ":: getopts :: proved ::", "getopts_bytes ::": ":: getopts :: bytes ::"}
 TOKEN = r"""//.*|b?r"[^"]*"|b?r#"[\s\S]*?"#|b?"(?:\\[\s\S]|[^"\\])*"|b?'(?:\\.[^']*|[^\\'])'|'\w+|\w+|::|\S"""
+
+
+LEMMA = r"(?:pub (?:\( crate \) )?)?fn (\w+) (?:< [^()]*? > )?\( (?:\w+ : & (?!mut )[^:()]*)*\) (?=requires|ensures|{)"
 
 
 def tokens(path):
     return [word for word in re.findall(TOKEN, path.read_text(encoding="utf-8")) if word[:2] != "//"]
+
+
+def lemmas_in(source):
+    """The names of lemmas in a crate and in those that it may use."""
+    paths = Path(source).resolve().parents[1].glob("*/src/*.rt")
+    return "|".join({name for path in paths for name in re.findall(LEMMA, " ".join(tokens(path)))}) or "-"
+
+
+def without_lemmas(source, lemmas):
+    """The tokens of a source without lemmas."""
+    text = " ".join(word.replace(" ", "\0") for word in source)
+    while found := re.search(LEMMA, text):
+        at, ahead = 0, text[found.end() :].split(" ")
+        while ahead[at] != "{":
+            at = end_of(ahead, at, "}")
+        text = " ".join([text[: found.start()], *ahead[end_of(ahead, at, "}") :]])
+    text = re.sub(rf"(?<=[{{}};] )({lemmas}) \( [\w.&, ]*\) ;", "", text)
+
+    def used(item):
+        item = re.sub(rf"(?<=[{{,:] )({lemmas}) ,? ?(?=[\w}};])", "", item[0])
+        item = re.sub(r"{ (\w+ )?(, )?}", r"\1", item)
+        return "" if item.endswith(":: ;") else item
+
+    text = re.sub(r"\b(pub )?use [^;]*;", used, text)
+    return [word.replace("\0", " ") for word in text.split(" ") if word]
 
 
 def end_of(source, at, end):
@@ -85,8 +114,7 @@ def main(source, folder):
     adding = r"pub fn \w+(?= \( [^()]* \) - > Result < & mut Options , AllocError >)"
     for found in re.findall(adding, " ".join(tokens(options))) if options.exists() else []:
         names[found] = "# [ track_caller ] " + found
-    # A library's functions that return and change nothing are lemmas, hidden from the documentation.
-    lemma = r"pub fn \w+(?= (?:< [^()]*? > )?\( (?:(?!\bmut\b)[^()])*\) (?:requires|ensures|{))"
+    lemmas = lemmas_in(source)
     imports = f"use crate :: {'fallible' if library else 'host'} :: * ;".split()
     paths = sorted(Path(folder).glob("*.rs"))
     there = {path.stem for path in Path(source).glob("*.rt")} - {"lib", "main", "laws"} | {"mod"}
@@ -94,9 +122,8 @@ def main(source, folder):
     for path in paths:
         of = path.with_suffix(".rt").name if path.stem != "mod" else "main.rt"
         of = Path(source) / of if (Path(source) / of).exists() else Path(source) / "lib.rt"
-        tokens_there = tokens(of)
-        hidden = {found: "# [ doc ( hidden ) ] " + found for found in re.findall(lemma, " ".join(tokens_there)) if library}
-        at = differs(tokens_there, tokens(path), {**names, **hidden}, imports)
+        tokens_there = without_lemmas(tokens(of), lemmas)
+        at = differs(tokens_there, tokens(path), names, imports)
         if at is not None:
             wrong += 1
             print(f"{path}: differs from its source at '{' '.join(tokens_there[at : at + 8])}'")
@@ -106,4 +133,7 @@ def main(source, folder):
 if __name__ == "__main__":
     if len(sys.argv) == 3:
         sys.exit(main(*sys.argv[1:]))
-    sys.exit(print(__doc__.strip()) if sys.argv[1:] in (["--help"], ["-h"]) else __doc__)
+    if sys.argv[1:] in (["--help"], ["-h"]):
+        sys.exit(print(__doc__.strip()))
+    print(__doc__.strip(), file=sys.stderr)
+    sys.exit(2)

@@ -8,7 +8,7 @@ use crate::{AllocResult, Error, OK, Status, status_of};
 use library::alloc::Global;
 use library::bytes::push_bytes;
 use library::fallible::{String, TryList, TryText, Vec};
-use library::proved::{Fail, HasArg, Matches, Options};
+use library::proved::{Fail, HasArg, Matches, OptGroup, Options};
 
 /// A `struct getopts`.
 pub struct Getopts {
@@ -55,7 +55,7 @@ impl Getopts {
     /// Whether an option of the table, if it is valid, has this name.
     pub fn declares(&self, name: Option<&[u8]>) -> bool {
         let valid = self.table.wrong.is_none() && name.map_or(false, |name| !name.is_empty());
-        let mut names = self.options.declared().flat_map(|(names, ..)| names);
+        let mut names = self.declared().flat_map(|it| [it.short_name, it.long_name]);
         valid && names.any(|other| Some(other.as_bytes()) == name)
     }
 
@@ -120,7 +120,8 @@ impl Getopts {
         let is_missing = |place: &usize| matches.occurrences_at(*place).is_empty();
         let missing = self.table.needed().find(is_missing);
         if let Some(place) = missing.filter(|place| *place < first) {
-            let [short, long] = self.options.declared().nth(place).map_or([""; 2], |(it, ..)| it);
+            let [short, long] =
+                self.options.get(place).map_or([""; 2], |it| [it.short_name, it.long_name]);
             let main = if long.is_empty() { short } else { long };
             return Err(Fail::OptionMissing(String::copy_of(Global, main)?));
         }
@@ -200,20 +201,25 @@ impl Getopts {
         Some(text)
     }
 
+    fn declared(&self) -> impl Iterator<Item = OptGroup<'_>> {
+        (0..self.options.len()).filter_map(|place| self.options.get(place))
+    }
+
     /// The usage line of a program. Removes the brackets of the options that are `needed`, which
     /// the library takes for optional ones.
     pub fn short_usage(&self, program: &str) -> AllocResult<String> {
         let mut line = self.options.short_usage(Global, program)?;
         let mut at = "Usage: ".len() + program.len();
-        for (place, ([short, long], hint, hasarg, occur)) in self.options.declared().enumerate() {
+        for (place, it) in self.declared().enumerate() {
+            let (short, long) = (it.short_name, it.long_name);
             let name = if short.is_empty() { "--".len() + long.len() } else { "-s".len() };
-            let argument = match hasarg {
+            let argument = match it.hasarg {
                 HasArg::No => 0,
-                HasArg::Yes => " ".len() + hint.len(),
-                HasArg::Maybe => " []".len() + hint.len(),
+                HasArg::Yes => " ".len() + it.hint.len(),
+                HasArg::Maybe => " []".len() + it.hint.len(),
             };
             let start = at + " ".len();
-            at = start + name + argument + [0, "[]".len(), "[]..".len()][occur as usize];
+            at = start + name + argument + [0, "[]".len(), "[]..".len()][it.occur as usize];
             if self.table.needed().any(|needed| needed == place) {
                 line.remove(at - "]..".len());
                 line.remove(start);

@@ -4,34 +4,7 @@
 #![allow(dead_code)]
 
 use crate::proved::matches::MatchedGroups;
-use crate::{HasArg, Occur, proved};
-
-/// A declared option.
-#[derive(Debug)]
-pub struct OptGroup<'a> {
-    short_name: &'a str,
-    long_name: &'a str,
-    hint: &'a str,
-    desc: &'a str,
-    hasarg: HasArg,
-    occur: Occur,
-}
-
-pub fn groups_of(options: &proved::Options) -> Vec<OptGroup<'_>> {
-    let groups = options.groups();
-    let shown = |place| {
-        let group = groups.get(place);
-        OptGroup {
-            short_name: group.signature.names.short,
-            long_name: group.signature.names.long,
-            hint: group.hint,
-            desc: group.desc,
-            hasarg: group.signature.kinds.kind,
-            occur: group.signature.kinds.occur,
-        }
-    };
-    (0..groups.len()).map(shown).collect()
-}
+use crate::{HasArg, Occur};
 
 /// An option in matches: named by its long name, with the short name as an alias, or else by its
 /// short name.

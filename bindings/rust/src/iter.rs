@@ -1,10 +1,131 @@
-//! Iterators over the occurrences of an option, and over their values.
+//! Iterators over a command line, over the occurrences of an option, and over their values.
 
+use crate::alloc::Global;
+use crate::fail::granted;
 use crate::proved::matches::MatchedGroups;
+use crate::proved::{self, Unread, free_words};
+use crate::{Fail, Given};
 use std::ffi::{OsStr, OsString};
 use std::fmt;
 use std::iter::FusedIterator;
 use std::ops::Range;
+
+/// Iterates over the options and positional arguments of a command line. [`Options::read`] returns
+/// it.
+///
+/// Its items are those that [`Options::parse_in_order`] returns or, if a word can't be read, the
+/// items before it and the error, after which there are no more. Words are read when an item is
+/// asked for, so a program may stop anywhere, and use the [`rest`](Self::rest) in another way.
+///
+/// [`Options::read`]: crate::Options::read
+/// [`Options::parse_in_order`]: crate::Options::parse_in_order
+///
+/// ```
+/// use getopts::Given;
+///
+/// let mut options = getopts::Options::new();
+/// options.optflag("v", "verbose", "say more").optopt("o", "", "write to NAME", "NAME");
+/// let words = ["-vofile", "in.txt", "--", "-x"];
+/// for given in options.read(&words) {
+///     match given.unwrap() {
+///         Given::Option { long: "verbose", .. } => {}
+///         Given::Option { value, .. } => assert_eq!(value, Some("file")),
+///         Given::Free(word) => assert!(["in.txt", "-x"].contains(&word)),
+///     }
+/// }
+/// ```
+#[derive(Debug)]
+pub struct Reader<'o, 'w, S> {
+    options: &'o proved::Options,
+    proved: proved::Reader<'o>,
+    unread: Unread<'w, S>,
+    state: State,
+}
+
+#[derive(Debug)]
+enum State {
+    /// Options may follow.
+    Options,
+    /// Only free words follow.
+    Free,
+    /// A word couldn't be read.
+    Failed,
+}
+
+impl<'o, 'w, S: AsRef<str>> Reader<'o, 'w, S> {
+    pub(crate) fn of(options: &'o proved::Options, words: &'w [S]) -> Reader<'o, 'w, S> {
+        let proved = granted(options.reader(Global));
+        Reader { options, proved, unread: Unread::new(words), state: State::Options }
+    }
+
+    /// The words that weren't read yet, as they were given. After an error, they are the words that
+    /// were left before it.
+    ///
+    /// If a word combines options, it counts as read when its first option is. Unless more of its
+    /// options are left, the next item begins in the first of these words.
+    ///
+    /// ```
+    /// let mut options = getopts::Options::new();
+    /// options.optflag("v", "", "say more");
+    /// let mut reader = options.read(&["-v", "run", "--", "-x"]);
+    /// assert_eq!(reader.nth(1), Some(Ok(getopts::Given::Free("run"))));
+    /// assert_eq!(reader.rest(), ["--", "-x"]);
+    /// ```
+    #[inline]
+    pub fn rest(&self) -> &'w [S] {
+        self.unread.words
+    }
+
+    /// Takes the next word as it was given, if the closure returns true for it. At the end, or if
+    /// options are left of a word that combines some, returns `None` without calling the closure.
+    ///
+    /// ```
+    /// let mut options = getopts::Options::new();
+    /// options.optopt("x", "exec", "run PROGRAM with the words up to `;`", "PROGRAM");
+    /// let mut reader = options.read(&["-x", "rm", "-f", ";", "in.txt"]);
+    /// assert!(reader.next().unwrap().is_ok());
+    /// assert_eq!(reader.next_word_if(|word| word != ";"), Some("-f"));
+    /// assert_eq!(reader.next_word_if(|word| word != ";"), None);
+    /// assert_eq!(reader.rest(), [";", "in.txt"]);
+    /// ```
+    #[inline]
+    pub fn next_word_if(&mut self, take: impl FnOnce(&str) -> bool) -> Option<&'w str> {
+        let (word, others) = self.unread.words.split_first()?;
+        if !self.unread.names.is_empty() || !take(word.as_ref()) {
+            return None;
+        }
+        self.unread.words = others;
+        Some(word.as_ref())
+    }
+}
+
+impl<'o, 'w, S: AsRef<str>> Iterator for Reader<'o, 'w, S> {
+    type Item = Result<Given<'o, &'w str>, Fail>;
+
+    #[inline]
+    fn next(&mut self) -> Option<Self::Item> {
+        match self.state {
+            State::Options => match self.proved.next(Global, &mut self.unread) {
+                Ok(Some(given)) => return Some(Ok(Given::of(self.options, given, |text| text))),
+                Ok(None) => {
+                    self.unread.words = free_words(self.unread.words);
+                    self.state = State::Free;
+                }
+                Err(fail) => {
+                    self.state = State::Failed;
+                    return Some(Err(Fail::of(fail)));
+                }
+            },
+            State::Free => {}
+            State::Failed => return None,
+        }
+        let (word, others) = self.unread.words.split_first()?;
+        self.unread.words = others;
+        Some(Ok(Given::Free(word.as_ref())))
+    }
+}
+
+impl<S: AsRef<str>> FusedIterator for Reader<'_, '_, S> {}
 
 /// Iterates over the positions and values of an option's occurrences. [`Matches::occurrences`]
 /// returns it.

@@ -1,7 +1,8 @@
 //! A formally verified command-line option parser, with the types and methods of the crate
 //! `getopts` 0.2.24.
 //!
-//! A program declares its options, parses its arguments, and queries the matches:
+//! A program declares its options, parses its arguments, and then asks the matches for what was
+//! given:
 //!
 #![cfg_attr(feature = "std", doc = "```")]
 #![cfg_attr(not(feature = "std"), doc = "```ignore")]
@@ -36,20 +37,21 @@
 #![cfg_attr(
     feature = "std",
     doc = "
-`parse` rejects arguments that aren't UTF-8, and [`parse_os`](Options::parse_os) accepts them;
-`std::env::args()` would panic. Below, a *word* is an element of the command line, such as
-`-ofile`.
+The program passes `args_os()`, because `std::env::args()` would panic if an argument isn't UTF-8.
+`parse` rejects such an argument, and [`parse_os`](Options::parse_os) accepts it. Below, a *word* is
+an element of the command line, such as `-ofile`, and a *free word* a positional argument.
 
-`parse` also rejects `join --help` if a required option is missing. To print help anyway, use
+If a required option is missing, `parse` rejects even `join --help`. To print help anyway, use
 [`parse_ignoring_counts`](Options::parse_ignoring_counts). If the order of options and positional
-arguments matters, use [`parse_in_order`](Options::parse_in_order).
+arguments matters, use [`parse_in_order`](Options::parse_in_order) or, to decide while reading how
+to read on, [`read`](Options::read).
 "
 )]
 //!
 //! # Subcommands
 //!
-//! Stop at the first positional argument, which is the subcommand, and parse the words after it
-//! with the subcommand's options:
+//! If options stop at the first positional argument, this is the subcommand, and the words after it
+//! can be parsed with the subcommand's options:
 //!
 #![cfg_attr(feature = "std", doc = "```")]
 #![cfg_attr(not(feature = "std"), doc = "```ignore")]
@@ -77,37 +79,40 @@ arguments matters, use [`parse_in_order`](Options::parse_in_order).
 //!
 //! # Negative numbers
 //!
-//! `-5` is read as the short option `5`, so users write `--` before it. A program can insert `--`
-//! before the first negative number that is no option, and no option's argument:
+//! Unless it is the argument of the option before it, `-5` is read as the short option `5`, so that
+//! users write `--` before it. A program that reads in a loop can take such words as they are:
 //!
 #![cfg_attr(feature = "std", doc = "```")]
 #![cfg_attr(not(feature = "std"), doc = "```ignore")]
-//! use getopts::{Fail, Options};
+//! use getopts::{Fail, Given, Options};
 //!
-//! fn parse(options: &Options, mut words: Vec<&str>) -> getopts::Result {
-//!     let is_negative = |word: &str| word.starts_with('-') && word.parse::<f64>().is_ok();
-//!     let is_unknown = |line: &[&str]| {
-//!         matches!(options.parse_ignoring_counts(line), Err(Fail::UnrecognizedOption(_)))
-//!     };
-//!     let mut places = 0..words.len();
-//!     if let Some(at) = places.find(|&at| is_negative(words[at]) && is_unknown(&words[..=at])) {
-//!         words.insert(at, "--");
+//! /// Reads `sum [-s TEXT] NUMBER..`.
+//! fn read<'w>(words: &'w [&str]) -> Result<(&'w str, Vec<&'w str>), Fail> {
+//!     let mut options = Options::new();
+//!     options.optopt("s", "separator", "print this between the numbers", "TEXT");
+//!     let (mut reader, mut separator, mut numbers) = (options.read(words), " ", Vec::new());
+//!     loop {
+//!         if let Some(number) = reader.next_word_if(|word| word.parse::<f64>().is_ok()) {
+//!             numbers.push(number);
+//!             continue;
+//!         }
+//!         match reader.next().transpose()? {
+//!             Some(Given::Option { value, .. }) => separator = value.unwrap(),
+//!             Some(Given::Free(word)) => numbers.push(word),
+//!             None => return Ok((separator, numbers)),
+//!         }
 //!     }
-//!     options.parse(words)
 //! }
-//! let mut options = Options::new();
-//! options.optopt("s", "separator", "print this between the numbers", "TEXT");
-//! let matches = parse(&options, vec!["-s", "-1", "-5", "5"]).unwrap();
-//! assert_eq!(matches.value("s"), Some("-1"));
-//! assert_eq!(matches.free, ["-5", "5"]);
+//! assert_eq!(read(&["-s", "-1", "-5", "5"]).unwrap(), ("-1", vec!["-5", "5"]));
 //! ```
 //!
 //! # The proved source
 //!
-//! The feature `proved` makes the proved source public: the modules `proved`, `alloc` and
-//! `fallible`. The methods of `proved` take an allocator, and return an error if an allocation
-//! fails. Invalid names panic when they are added, and names that weren't declared count as not
-//! given. What is public but not documented here may change in any version.
+//! The other methods of this crate are written by hand on top of proved source, and end the process
+//! if an allocation fails. The feature `proved` makes this source public, as the modules `proved`,
+//! `alloc` and `fallible`. The methods of `proved` take an allocator, and return an error if an
+//! allocation fails. Invalid names panic when they are added, and names that weren't declared count
+//! as not given. What is public but not documented here may change in any version.
 //!
 //! ```
 //! # #[cfg(feature = "proved")] {
@@ -124,7 +129,8 @@ arguments matters, use [`parse_in_order`](Options::parse_in_order).
 //! # }
 //! ```
 //!
-//! `README.md` lists differences from the crate `getopts`, and describes what is proved.
+//! `README.md` lists the differences from the crate `getopts`, and says which methods only call
+//! proved source, and which do more.
 #![cfg_attr(not(feature = "std"), no_std)]
 #![cfg_attr(docsrs, feature(doc_cfg))]
 #![forbid(unsafe_code)]
@@ -183,7 +189,7 @@ pub use os::bytes_of;
 pub use os::{OsGetError, OsMatches};
 // With the feature `proved`, they would otherwise be documented only as re-exports.
 #[doc(inline)]
-pub use proved::{HasArg, Occur, ParsingStyle};
+pub use proved::{HasArg, Occur, OptGroup, ParsingStyle};
 
 /// Tests the examples in the README.
 #[cfg(all(doctest, feature = "std", feature = "proved"))]

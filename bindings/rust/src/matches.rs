@@ -26,9 +26,9 @@ use std::str::FromStr;
 /// ```
 ///
 /// # Panics
-/// Methods panic if no option has the given name, except [`opt_defined`](Self::opt_defined) and
-/// [`opts_present`](Self::opts_present). Methods that stop at the first match ignore the names
-/// after it.
+/// Methods panic if no option has the given name, with a message such as `No option 'zzz' defined`,
+/// except [`opt_defined`](Self::opt_defined) and [`opts_present`](Self::opts_present). Methods that
+/// stop at the first match ignore the names after it.
 pub struct Matches {
     /// The positional arguments (*free words*), in command-line order.
     pub free: Vec<String>,
@@ -109,8 +109,8 @@ impl Matches {
         shown.field("free", free).field("args_end", &self.free_trailing_start()).finish()
     }
 
-    /// Borrows the value of an option's first occurrence. Not in the crate getopts. To copy it, use
-    /// [`opt_str`](Self::opt_str).
+    /// Borrows the value of an option's first occurrence. To copy it, use
+    /// [`opt_str`](Self::opt_str). Not in the crate getopts.
     ///
     /// ```
     /// let mut options = getopts::Options::new();
@@ -122,8 +122,8 @@ impl Matches {
         self.given(name).first_value()
     }
 
-    /// Borrows the values of an option's occurrences, in command-line order. Not in the crate
-    /// getopts. To copy them, use [`opt_strs`](Self::opt_strs).
+    /// Borrows the values of those occurrences of an option that have one, in command-line order.
+    /// To copy them, use [`opt_strs`](Self::opt_strs). Not in the crate getopts.
     ///
     /// ```
     /// let mut options = getopts::Options::new();
@@ -189,8 +189,8 @@ impl Matches {
         self.given(name).len()
     }
 
-    /// The position of each occurrence of an option: the index of its word. Words that are values
-    /// count, too.
+    /// The position of each occurrence of an option, which is the index of its word. Words that are
+    /// values count, too, unlike in the crate getopts.
     ///
     /// ```
     /// let mut options = getopts::Options::new();
@@ -273,7 +273,8 @@ impl Matches {
         None
     }
 
-    /// The values of an option's occurrences, in command-line order.
+    /// The values of those occurrences of an option that have one, in command-line order. With
+    /// optional arguments, there may be fewer than [`opt_count`](Self::opt_count).
     ///
     /// ```
     /// let mut options = getopts::Options::new();

@@ -1,5 +1,5 @@
 //! Checks the names of options: the proved source requires valid ones, and a program may pass any.
-//! Also lists declared options.
+//! Also checks counts.
 
 use crate::alloc::AllocError;
 use crate::proved::{HasArg, Occur, Options, names_lawful};
@@ -29,26 +29,24 @@ impl Options {
         }
         self.add_valid_group(short_name, long_name, desc, hint, hasarg, occur)
     }
+}
 
-    /// The options in order of declaration: the short and the long name of each, its hint, whether
-    /// it takes an argument, and how often it may occur. Allocates nothing. Not in Rattle.
+#[cfg(feature = "proved")]
+impl crate::proved::Matches {
+    /// The error of the first option, in order of declaration, that is missing or was given too
+    /// often. Not in Rattle.
     ///
     /// ```
-    /// use getopts::{HasArg, Occur, proved::Options};
-    /// let mut options = Options::new(getopts::alloc::Global);
-    /// options.optopt("o", "output", "set the output file", "FILE").unwrap();
-    /// let only = options.declared().next().unwrap();
-    /// assert_eq!(only, (["o", "output"], "FILE", HasArg::Yes, Occur::Optional));
+    /// use getopts::proved::{Fail, Options};
+    /// let alloc = getopts::alloc::Global;
+    /// let mut options = Options::new(alloc);
+    /// options.reqopt("o", "output", "set the output file", "FILE").unwrap();
+    /// let matches = options.parse_ignoring_counts(alloc, &["in.txt"]).unwrap();
+    /// assert_eq!(matches.count_error(), Some(Fail::OptionMissing("output".into())));
     /// ```
-    #[cfg(feature = "proved")]
     #[doc(hidden)]
-    pub fn declared(&self) -> impl Iterator<Item = ([&str; 2], &str, HasArg, Occur)> {
-        let groups = self.groups();
-        (0..groups.len()).map(move |place| {
-            let group = groups.get(place);
-            let (names, kinds) = (group.signature.names, group.signature.kinds);
-            ([names.short, names.long], group.hint, kinds.kind, kinds.occur)
-        })
+    pub fn count_error(&self) -> Option<crate::proved::Fail> {
+        self.check_all(crate::alloc::Global).err()
     }
 }
 

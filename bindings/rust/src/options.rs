@@ -1,12 +1,12 @@
 //! The options that a program declares.
 
 use crate::alloc::Global;
-use crate::debug::groups_of;
 use crate::fail::granted;
 use crate::fallible::TryClone;
+use crate::iter::Reader;
 use crate::proved::scan::{Line, Scanner};
 use crate::proved::table::Table;
-use crate::{Fail, HasArg, Matches, Occur, ParsingStyle, Result, proved};
+use crate::{Fail, HasArg, Matches, Occur, OptGroup, ParsingStyle, Result, proved};
 use std::collections::HashSet;
 use std::ffi::OsStr;
 use std::fmt;
@@ -50,7 +50,7 @@ impl Clone for Options {
 impl fmt::Debug for Options {
     fn fmt(&self, f: &mut fmt::Formatter<'_>) -> fmt::Result {
         f.debug_struct("Options")
-            .field("grps", &groups_of(&self.proved))
+            .field("grps", &self.iter().collect::<Vec<_>>())
             .field("parsing_style", &self.proved.style())
             .field("long_only", &self.proved.is_long_only())
             .finish()
@@ -58,7 +58,8 @@ impl fmt::Debug for Options {
 }
 
 /// An option or a positional argument, as [`Options::parse_in_order`] returns them. Texts are
-/// `OsString` if [`parse_os_in_order`](Options::parse_os_in_order) returned it.
+/// `OsString` if [`parse_os_in_order`](Options::parse_os_in_order) returned it, and `&str` if
+/// [`read`](Options::read) did.
 ///
 /// ```
 /// use getopts::{Given, Options};
@@ -91,6 +92,23 @@ pub enum Given<'o, T = String> {
 }
 
 impl<'o, T> Given<'o, T> {
+    /// The same with the names of the option, and with converted texts.
+    #[inline]
+    pub(crate) fn of<'w>(
+        options: &'o proved::Options,
+        given: proved::Given<'w>,
+        convert: impl Fn(&'w str) -> T,
+    ) -> Given<'o, T> {
+        match given {
+            proved::Given::Option { place, value } => {
+                let names = options.groups().signatures().names(place);
+                let value = value.map(convert);
+                Given::Option { short: names.short, long: names.long, value }
+            }
+            proved::Given::Free(word) => Given::Free(convert(word)),
+        }
+    }
+
     /// The same with another text.
     pub(crate) fn map<U>(self, convert: impl Fn(T) -> U) -> Given<'o, U> {
         match self {
@@ -342,11 +360,11 @@ impl Options {
         if words.size_hint().0 > MANY && size_of::<C::Item>() <= SMALL {
             return self.parse_many(words);
         }
-        self.read(words, parse_texts)
+        self.with_texts(words, parse_texts)
     }
 
     /// Parses a command line of many words: reads the items of some words, and drops these before
-    /// it takes more. From `--` or, if options stop there, the first free word on, keeps them all.
+    /// it takes more.
     #[inline(never)]
     fn parse_many<A: AsRef<OsStr>>(&self, mut words: impl Iterator<Item = A>) -> Result {
         let table = granted(Table::of(Global, self.proved.signatures()));
@@ -365,17 +383,20 @@ impl Options {
                 }
                 count += 1;
             }
-            let used = scan_texts(scanner, &texts, before, &mut line).map_err(|fail| {
-                // A word that isn't UTF-8 is reported first.
-                let other = words.find(|word| A::as_ref(word).to_str().is_none());
-                other.map_or(fail, |word| not_text(A::as_ref(&word)))
-            })?;
+            let used = scan_texts(scanner, &texts, before, &mut line)
+                .map_err(|fail| first_fail(fail, &mut words))?;
             before += used;
             kept = FEW - used;
             if kept > 1 {
-                let ask = |texts: &[&str]| parse_rest(&self.proved, table, line, before, texts);
-                let otherwise = |_: &[&str], word: &OsStr, _| Err(not_text(word));
-                return read_list(&texts[used..], words, OsStr::to_str, ask, otherwise);
+                // The options ended, so all words that follow are free.
+                let mut matches = parse_rest(&self.proved, table, line, before, &texts[used..])
+                    .map_err(|fail| first_fail(fail, &mut words))?;
+                matches.free.reserve(words.size_hint().0.min(MOST / size_of::<String>()));
+                for word in words {
+                    let text = word.as_ref().to_str().ok_or_else(|| not_text(word.as_ref()))?;
+                    matches.free.push(text.to_string());
+                }
+                return Ok(matches);
             }
             items.swap(0, FEW - 1);
         }
@@ -410,7 +431,7 @@ impl Options {
     where
         C::Item: AsRef<OsStr>,
     {
-        self.read(args, read_texts)
+        self.with_texts(args, read_texts)
     }
 
     /// Parses a command line like [`parse`](Self::parse), and returns its options and positional
@@ -445,11 +466,50 @@ impl Options {
     where
         C::Item: AsRef<OsStr>,
     {
-        self.read(args, texts_in_order)
+        self.with_texts(args, texts_in_order)
+    }
+
+    /// Reads a command line in a loop of yours, one option or positional argument at a time. Not in
+    /// the crate getopts.
+    ///
+    /// Use it if you decide while reading what the next words mean: to pass the words after a
+    /// command to it, to take an argument that looks like an option ([`Reader::next_word_if`]), or
+    /// to print help even if an error follows. Otherwise, use [`parse`](Self::parse) or
+    /// [`parse_in_order`](Self::parse_in_order).
+    ///
+    /// ```
+    /// use getopts::{Fail, Given, Options};
+    ///
+    /// /// Reads `launch [-C DIR] COMMAND [WORD]..`.
+    /// fn launch(words: &[&str]) -> Result<String, Fail> {
+    ///     let mut options = Options::new();
+    ///     options.optflag("h", "help", "print this help").optopt("C", "", "run it in DIR", "DIR");
+    ///     let (mut reader, mut dir) = (options.read(words), ".");
+    ///     while let Some(given) = reader.next() {
+    ///         match given? {
+    ///             Given::Option { short: "C", value, .. } => dir = value.unwrap(),
+    ///             Given::Option { .. } => return Ok(options.usage("Usage: launch COMMAND")),
+    ///             Given::Free(name) => return Ok(format!("{dir}: {name} {:?}", reader.rest())),
+    ///         }
+    ///     }
+    ///     Ok("no command".to_string())
+    /// }
+    /// assert_eq!(launch(&["-C", "src", "make", "-j", "4"]).unwrap(), r#"src: make ["-j", "4"]"#);
+    /// assert!(launch(&["--help", "--unknown"]).unwrap().starts_with("Usage: launch COMMAND"));
+    /// ```
+    ///
+    /// For a program's own arguments, collect `args_os().skip(1).map(OsString::into_string)` into a
+    /// `Result<Vec<String>, OsString>`. Its error is the first argument that isn't UTF-8.
+    ///
+    /// # Errors
+    /// If a word can't be read, the last item is an `ArgumentMissing`, `UnrecognizedOption` or
+    /// `UnexpectedArgument` (see [`Fail`]). Nothing checks how often options occur.
+    pub fn read<'o, 'w, S: AsRef<str>>(&'o self, words: &'w [S]) -> Reader<'o, 'w, S> {
+        Reader::of(&self.proved, words)
     }
 
     /// Calls `ask` with the proved options and the words. Rejects the first word that isn't UTF-8.
-    fn read<'o, T>(
+    fn with_texts<'o, T>(
         &'o self,
         args: impl IntoIterator<Item = impl AsRef<OsStr>>,
         ask: impl Fn(&'o proved::Options, &[&str]) -> std::result::Result<T, Fail>,
@@ -484,7 +544,24 @@ impl Options {
     where
         C::Item: AsRef<OsStr>,
     {
-        self.read(args, canonical_texts)
+        self.with_texts(args, canonical_texts)
+    }
+
+    /// Iterates over the declared options, in order of declaration. Not in the crate getopts.
+    ///
+    /// Use it to print what help texts don't contain, such as a manual page: `examples/manual.rs`
+    /// prints one.
+    ///
+    /// ```
+    /// use getopts::HasArg;
+    ///
+    /// let mut options = getopts::Options::new();
+    /// options.optflag("h", "help", "print this help").optopt("o", "output", "", "NAME");
+    /// let flags = options.iter().filter(|group| group.hasarg == HasArg::No);
+    /// assert!(flags.map(|group| group.long_name).eq(["help"]));
+    /// ```
+    pub fn iter(&self) -> impl DoubleEndedIterator<Item = OptGroup<'_>> {
+        (0..self.proved.len()).filter_map(|place| self.proved.get(place))
     }
 
     /// Returns the first name, in order of declaration, that an earlier option has, too, or `None`
@@ -497,10 +574,9 @@ impl Options {
     /// assert_eq!(options.repeated_name(), Some("o"));
     /// ```
     pub fn repeated_name(&self) -> Option<&str> {
-        let (signatures, mut seen) = (self.proved.signatures(), HashSet::new());
-        let names = (0..signatures.len()).map(|place| signatures.names(place));
-        let names = names.flat_map(|names| [names.short, names.long]);
-        names.filter(|name| !name.is_empty()).find(|name| !seen.insert(*name))
+        let (names, mut seen) =
+            (self.iter().map(|it| [it.short_name, it.long_name]), HashSet::new());
+        names.flatten().find(|name| !name.is_empty() && !seen.insert(*name))
     }
 
     /// Returns a usage line with all options.
@@ -573,6 +649,13 @@ impl Options {
     }
 }
 
+/// The error of a line if parsing failed before these words, of which one that isn't UTF-8 is
+/// reported first.
+fn first_fail<A: AsRef<OsStr>>(fail: Fail, words: &mut impl Iterator<Item = A>) -> Fail {
+    let other = words.find(|word| word.as_ref().to_str().is_none());
+    other.map_or(fail, |word| not_text(word.as_ref()))
+}
+
 /// The error of a word that isn't UTF-8.
 pub(crate) fn not_text(word: &OsStr) -> Fail {
     Fail::UnrecognizedOption(format!("{word:?}"))
@@ -614,15 +697,7 @@ pub(crate) fn texts_in_order<'o>(
     words: &[&str],
 ) -> std::result::Result<Vec<Given<'o>>, Fail> {
     let order = options.parse_in_order(Global, words).map_err(Fail::of)?;
-    let given = order.iter().map(|given| match *given {
-        proved::Given::Option { place, value } => {
-            let names = options.groups().signatures().names(place);
-            let value = value.map(String::from);
-            Given::Option { short: names.short, long: names.long, value }
-        }
-        proved::Given::Free(word) => Given::Free(word.into()),
-    });
-    Ok(given.collect())
+    Ok(order.iter().map(|given| Given::of(options, *given, String::from)).collect())
 }
 
 fn canonical_texts(

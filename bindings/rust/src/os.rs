@@ -106,7 +106,7 @@ impl Options {
     where
         C::Item: AsRef<OsStr>,
     {
-        self.read_os(args, parse_texts, OsMatches::of)
+        self.with_os_texts(args, parse_texts, OsMatches::of)
     }
 
     /// Parses a command line like [`parse_os`](Self::parse_os), but doesn't check how often options
@@ -125,7 +125,7 @@ impl Options {
     where
         C::Item: AsRef<OsStr>,
     {
-        self.read_os(args, read_texts, OsMatches::of)
+        self.with_os_texts(args, read_texts, OsMatches::of)
     }
 
     /// Parses a command line like [`parse_os`](Self::parse_os), and returns its options and
@@ -153,7 +153,7 @@ impl Options {
     where
         C::Item: AsRef<OsStr>,
     {
-        self.read_os(args, texts_in_order, |given, marked| {
+        self.with_os_texts(args, texts_in_order, |given, marked| {
             let word = |text: String| if marked { os_of(&text) } else { text.into() };
             given.into_iter().map(|given| given.map(word)).collect()
         })
@@ -161,7 +161,7 @@ impl Options {
 
     /// Calls `ask` with the proved options and the words, and `of` with its result and whether a
     /// word wasn't text.
-    fn read_os<'o, T, U>(
+    fn with_os_texts<'o, T, U>(
         &'o self,
         args: impl IntoIterator<Item = impl AsRef<OsStr>>,
         ask: impl Fn(&'o proved::Options, &[&str]) -> Result<T, Fail>,
@@ -246,8 +246,8 @@ impl OsMatches {
         self.matches.opt_count(name)
     }
 
-    /// The position of each occurrence of an option: the index of its word. Words that are values
-    /// count, too.
+    /// The position of each occurrence of an option, which is the index of its word. Words that are
+    /// values count, too, unlike in the crate getopts.
     ///
     /// ```
     /// let mut options = getopts::Options::new();
@@ -273,7 +273,7 @@ impl OsMatches {
         self.occurrences(name).next()?.1
     }
 
-    /// The values of an option's occurrences, in command-line order.
+    /// The values of those occurrences of an option that have one, in command-line order.
     ///
     /// ```
     /// let mut options = getopts::Options::new();

@@ -186,6 +186,7 @@ fn parse_reports_every_failed_allocation() {
         reports_failures(&options, |o| o.parse_unless(Global, &WORDS[1..], "v"));
         reports_failures(&options, |o| o.parse_request(Global, &WORDS));
         reports_failures(&options, |o| o.canonical(Global, WORDS.iter().copied()));
+        assert!(fail_each_of(&options, |o| o.reader(Global).map(drop)) > 1);
     }
     let many = ["-vofile", "free"].repeat(2000);
     let floating = options(0).parse_ignoring_counts(Global, &many).unwrap();

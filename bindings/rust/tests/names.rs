@@ -172,7 +172,7 @@ mod of_the_proved_source {
     use super::*;
     use getopts::alloc::Global;
     use getopts::proved::wrap::each_split_within;
-    use getopts::proved::{HasArg, Occur, Options, Request, names_lawful};
+    use getopts::proved::{HasArg, Occur, Options, Request, Unread, names_lawful};
     use std::cell::Cell;
 
     /// Options with a required option `o`, and the names in `VALID`.
@@ -259,6 +259,7 @@ mod of_the_proved_source {
     #[test]
     fn odd_arguments_never_panic() {
         let options = options();
+        let reader = options.reader(Global).unwrap();
         for count in 0..50 {
             for first in 0..7 {
                 let words: Vec<_> =
@@ -266,6 +267,10 @@ mod of_the_proved_source {
                 let _ = options.parse_ignoring_counts(Global, &words);
                 let _ = options.canonical_words(Global, &words);
                 let _ = options.parse_in_order(Global, &words);
+                let mut unread = Unread { words: &words, names: "oé" };
+                while let Ok(Some(_)) = reader.next(Global, &mut unread) {}
+                #[cfg(feature = "std")]
+                getopts::Options::new().read(&words).for_each(drop);
             }
         }
         assert!(options.parse(Global, Promising).is_err());

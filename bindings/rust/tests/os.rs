@@ -315,12 +315,13 @@ fn reading_in_parts_changes_no_result() {
             (state >> 33) % below
         };
         let rare = [7, 9, 11, words.len() as u64][random(4) as usize];
-        let line: Vec<_> = (0..random(60))
-            .map(|_| match random(20) {
-                0 => &words[random(rare) as usize],
-                _ => &words[random(7) as usize],
-            })
-            .collect();
+        // `o` is given twice, and the options may end there.
+        let start = [&[][..], &[7, 0, 7, 0], &[7, 0, 7, 0, 8]][random(3) as usize];
+        let mut line: Vec<_> = start.iter().map(|at| &words[*at]).collect();
+        line.extend((0..random(60)).map(|_| match random(20) {
+            0 => &words[random(rare) as usize],
+            _ => &words[random(7) as usize],
+        }));
         let style =
             [ParsingStyle::FloatingFrees, ParsingStyle::StopAtFirstFree][random(2) as usize];
         options.parsing_style(style).long_only(random(4) == 0);

@@ -6,13 +6,6 @@
 
 mod host;
 
-/// The library, with an empty function in place of the lemma that the program cites.
-mod getopts {
-    pub use ::getopts::proved::*;
-
-    pub fn names_resolve(_options: &Options) {}
-}
-
 #[allow(unused, clippy::all)]
 mod program;
 

@@ -17,3 +17,4 @@ pub mod MainTheorem
 pub mod OnLiterals
 pub mod Examples
 pub mod Chained
+pub mod InLoops

@@ -17,7 +17,12 @@ pub IsOutOfMemoryOr-one : (fail : Fail) (fault : Fault) (Q : Fault → Type 0) �
     → Q fault → IsOutOfMemoryOr fail Q
 IsOutOfMemoryOr-one fail fault Q tells holds = search (rules, IsOutOfMemoryOr-weaker)
 
--- and so has the error that the exit of a `?` returns
+-- what is true of a `Fail` is true of the error that the exit of a `?` returns
+pub IfErr-exit : {T : Type 0} (result : Result T Fail) (fail : Fail) (P : Fail → Type 0)
+    → IsErrAnd result (λ other. other ≡ fail) → P fail → IfErr result P
+IfErr-exit result fail P exit holds = search (rules, err_from_is_err_and)
+
+-- so this error has all properties that follow
 pub IsOutOfMemoryOr-exit : {T : Type 0} (result : Result T Fail) (fail : Fail)
     (P Q : Fault → Type 0) → IsErrAnd result (λ other. other ≡ fail) → IsOutOfMemoryOr fail P
     → ((fault : Fault) → P fault → Q fault) → IfErr result (λ fail. IsOutOfMemoryOr fail Q)

@@ -1,4 +1,4 @@
--- What the accessors of matches return, in terms of the groups in the matches.
+-- What the accessors of options and matches return, in terms of their groups.
 use Rattle.std.specs.Prelude.{◌≡◌, ℕ, Bool, List, [], ◌∷◌, map, length, nat_lt, IsSome, Option}
 use Rattle.std.specs.Prelude.{Some, None, MatchOption, IsSomeAnd, Result, Ok, slice_get, unwrap_or}
 use Rattle.std.specs.Prelude.{drop, take}
@@ -11,7 +11,9 @@ use Rattle.std.specs.declared.string.String.{String}
 use Rattle.std.specs.declared.alloc.Global.{Global}
 use Rattle.getopts.specs.Names.{Text, Names, IsLawfullyNamed, resolution}
 use Rattle.getopts.specs.Matches.{GroupOccurrence, Matched, MatchedGroup}
+use Rattle.getopts.specs.Options.{Group}
 use Rattle.getopts.specs.Reading.{Given, option, free_word}
+use Rattle.getopts.specs.declared.groups.OptGroup.{OptGroup}
 use Rattle.getopts.specs.declared.scan.Given as Borrowed
 use Rattle.getopts.specs.declared.scan.Given.TheVariants as borrowed
 
@@ -49,6 +51,17 @@ borrowed_occurrence pair = record { position = pair.0; value = option_copied pai
 abbrev pub borrowed_given : Borrowed.Given → Given
 borrowed_given (borrowed.Option place value) = option place (option_copied value)
 borrowed_given (borrowed.Free word) = free_word word.now
+
+abbrev pub borrowed_group : OptGroup → Group
+borrowed_group group = record {
+  signature = record {
+    names = record { short = group.short_name.now; long = group.long_name.now };
+    kind = group.hasarg;
+    occur = group.occur;
+  };
+  hint = group.hint.now;
+  description = group.desc.now;
+}
 
 abbrev pub pair_view : ℕ × String Global → ℕ × Text
 pair_view pair = (pair.0, string_bytes pair.1)

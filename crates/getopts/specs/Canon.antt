@@ -83,9 +83,7 @@ pub record ReadsBack (options : Declared) (content : Content) : Type 0 where
       (canonical_line options.groups content)
   pub same : content_of options (canonical_reading options.groups content) ≡ content
 
--- The line reads back in both styles and both modes, and says no other content. No other sound and
--- plain content has this line.
--- These are the laws of the canonical line of a plain content.
+-- The canonical line of this content reads back, says nothing else, and is no other content's.
 pub record HasCanonicalLine (options : Declared) (content : Content) : Type 0 where
   pub sound : IsSound options.groups content
   pub reads_back : (style : ParsingStyle) (long_only : Bool)

@@ -19,6 +19,7 @@ pub mod Accessors
 pub mod Canon
 pub mod Parse
 pub mod Results
+pub mod Reader
 pub mod Theorem
 pub mod Same
 pub mod Wrap

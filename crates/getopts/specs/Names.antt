@@ -49,8 +49,7 @@ is_alias name names =
 abbrev pub main_place : List Names → Text → Option ℕ
 main_place groups name = position (is_main name) groups
 
--- If no group has this main name, the main name of the first group with this alias is looked up.
--- the place of the group that a name resolves to
+-- the place of the group that a name resolves to: as a main name or, if it is none, as an alias
 abbrev pub resolution : List Names → Text → Option ℕ
 resolution groups name = option_or (main_place groups name)
     (option_and_then (λ declarer. main_place groups (main_name declarer))

@@ -88,12 +88,3 @@ grammar_of options = record {
   style = options.style;
   long_only = options.long_only;
 }
-
--- Names in long form mean what they mean in a cluster. To give them another meaning, change only
--- this, `long_kind` and `unknown_long`.
--- the place of the group that a name in long form means
-abbrev pub long_place : Grammar → Text → Option ℕ
-long_place grammar name = grammar.place name
-
-abbrev pub long_kind : Grammar → Text → Option HasArg
-long_kind grammar name = grammar.kind name

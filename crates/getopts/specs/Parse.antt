@@ -155,8 +155,7 @@ abbrev pub IsOrderResult : Declared → List Text → Result (List Given) Fault 
 IsOrderResult options words result =
     MatchResult result (IsOrder options words) (IsRefused options words)
 
--- If the flag is given, the counts aren't checked.
--- This is the result of `parse_unless`.
+-- This is the result of `parse_unless`, which checks the counts unless the flag is given.
 abbrev pub IsUnlessResult : Declared → Text → List Text → Result (Option Matched) Fault → Type 0
 IsUnlessResult options flag words (Ok None) = Gives options words flag
 IsUnlessResult options flag words (Ok (Some matches)) =
@@ -164,8 +163,7 @@ IsUnlessResult options flag words (Ok (Some matches)) =
 IsUnlessResult options flag words (Err fault) =
     ¬ (Gives options words flag) × IsRefused options words fault
 
--- If help or the version is requested, the counts aren't checked.
--- This is the result of `parse_request`.
+-- This is the result of `parse_request`, which checks the counts unless there is a request.
 abbrev pub IsRequestResult : Declared → List Text → Result (Request Matched) Fault → Type 0
 IsRequestResult options words (Ok Help) = Gives options words (codes "help")
 IsRequestResult options words (Ok Version) =

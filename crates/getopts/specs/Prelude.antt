@@ -9,10 +9,12 @@ pub use Rattle.getopts.specs.Fail.{argument_missing, unrecognized_option, option
 pub use Rattle.getopts.specs.Fail.{option_duplicated, unexpected_argument}
 pub use Rattle.getopts.specs.Matches.{Matched}
 pub use Rattle.getopts.specs.Accessors.{IsDefined, IsParsedAs, IsParsedOr, first_value, first_value_or}
-pub use Rattle.getopts.specs.Accessors.{borrowed_given, occurrences_of_name}
+pub use Rattle.getopts.specs.Accessors.{borrowed_given, borrowed_group, occurrences_of_name}
 pub use Rattle.getopts.specs.Accessors.{free_before_trailing, is_present, trailing_words, values_of}
 pub use Rattle.getopts.specs.Reading.{Given, option, free_word}
-pub use Rattle.getopts.specs.Results.{parse_in_order_result, parse_result, parse_request_result}
+pub use Rattle.getopts.specs.Reader.{IsNextFault, IsReadTo, left_in, size_of, tail_of}
+pub use Rattle.getopts.specs.Results.{order_or_error, parse_in_order_result, parse_result, parse_request_result}
 pub use Rattle.getopts.specs.Results.{parse_unless_result}
 pub use Rattle.getopts.specs.Parse.{IfParsed, EndsInTrailing, FitOptions, FitOptionsAndCounts}
-pub use Rattle.getopts.specs.Parse.{ReturnsResult}
+pub use Rattle.getopts.specs.Parse.{EndsInFreeWords, ReturnsResult}
+pub use Rattle.getopts.specs.UsageResults.{usage_result}

@@ -6,7 +6,7 @@ use Rattle.std.specs.Char.{IsScalar}
 use Rattle.std.specs.List.{AllByRecursion, list_any}
 use Rattle.std.specs.Option.{option_map_or, unwrap_or}
 use Rattle.getopts.specs.Names.{Text}
-use Rattle.getopts.specs.Options.{Grammar, long_kind, long_place}
+use Rattle.getopts.specs.Options.{Grammar}
 use Rattle.getopts.specs.Fail.{Fault, argument_missing, unrecognized_option, unexpected_argument}
 use Rattle.getopts.specs.declared.kinds.HasArg.{HasArg}
 use Rattle.getopts.specs.declared.kinds.HasArg.TheVariants.{Yes, No, Maybe}
@@ -135,7 +135,7 @@ pub record IsLawfulLong (grammar : Grammar) (dashes : Dashes) (name : Text) (arg
     : Type 0 where
   pub before : MayPrecede grammar.long_only dashes name
   pub cut_once : holds_equals name ≡ false
-  pub resolves : (kind : HasArg) × (long_kind grammar name ≡ Some kind) × FitsLong kind argument
+  pub resolves : (kind : HasArg) × (grammar.kind name ≡ Some kind) × FitsLong kind argument
 
 -- The cluster is valid.
 pub record IsLawfulCluster (grammar : Grammar) (bytes : List ℕ) (end : End) : Type 0 where
@@ -204,12 +204,10 @@ pub record Mention : Type 0 where
   pub place : ℕ
   pub value : Option Text
 
--- Every name in a valid item resolves, so the 0 is never used.
-abbrev pub mention_at : Option ℕ → Option Text → Mention
-mention_at place value = record { place = unwrap_or place 0; value = value }
-
+-- a mention of the option that a name means; in a valid item there is one, so the 0 isn't used
 abbrev pub mention_of : Grammar → Text → Option Text → Mention
-mention_of grammar name value = mention_at (grammar.place name) value
+mention_of grammar name value =
+    record { place = unwrap_or (grammar.place name) 0; value = value }
 
 abbrev pub end_mentions : Grammar → End → List Mention
 end_mentions grammar flags = []
@@ -219,7 +217,7 @@ end_mentions grammar (ends_in option argument) =
 abbrev pub mentions : Grammar → Item → List Mention
 mentions grammar (free word) = []
 mentions grammar (long dashes name argument) =
-    mention_at (long_place grammar name) (value_of argument) ∷ []
+    mention_of grammar name (value_of argument) ∷ []
 mentions grammar (cluster bytes end) =
     map (λ byte. mention_of grammar (byte ∷ []) None) bytes ++ end_mentions grammar end
 
@@ -309,14 +307,10 @@ pub record HasAfterFlags (grammar : Grammar) (word text : Text) : Type 0 where
   pub second : begins_with_dash (bytes ++ text) ≡ false
   pub each : AllByRecursion (IsFlag grammar) bytes
 
--- the error of a name in long form that doesn't resolve
-abbrev pub unknown_long : Grammar → Text → Fault
-unknown_long grammar name = unrecognized_option name
-
 -- The word has this error if these words follow it.
 pub data IsFaultAt (grammar : Grammar) (word : Text) (after : List Text) : Fault → Type 0 where
   unknown_name : (name : Text) (argument : Option Text) → IsLongForm grammar word name argument
-      → long_kind grammar name ≡ None → IsFaultAt grammar word after (unknown_long grammar name)
+      → grammar.kind name ≡ None → IsFaultAt grammar word after (unrecognized_option name)
   unknown_byte : (byte : ℕ) (more : Text) → byte < 128 → HasAfterFlags grammar word (byte ∷ more)
       → grammar.kind (byte ∷ []) ≡ None
       → IsFaultAt grammar word after (unrecognized_option (byte ∷ []))
@@ -326,10 +320,10 @@ pub data IsFaultAt (grammar : Grammar) (word : Text) (after : List Text) : Fault
       → HasAfterFlags grammar word (encode_utf8 character ++ more)
       → IsFaultAt grammar word after (unrecognized_option (encode_utf8 character))
   unwanted_argument : (name argument : Text) → IsLongForm grammar word name (Some argument)
-      → long_kind grammar name ≡ Some No → IsFaultAt grammar word after (unexpected_argument name)
+      → grammar.kind name ≡ Some No → IsFaultAt grammar word after (unexpected_argument name)
   -- in long form, an option of kind `Yes` without an argument at the end of the command line
   long_unfinished : (name : Text) → IsLongForm grammar word name None
-      → long_kind grammar name ≡ Some Yes → after ≡ []
+      → grammar.kind name ≡ Some Yes → after ≡ []
       → IsFaultAt grammar word after (argument_missing name)
   -- in short form, after flags, a last option of kind `Yes` at the end of the command line
   short_unfinished : (option : ℕ) → HasAfterFlags grammar word (option ∷ [])

@@ -7,7 +7,7 @@ use Rattle.std.specs.List.{AllByRecursion, filter, flat_map, last_or, zip}
 use Rattle.std.specs.Option.{option_map_or}
 use Rattle.std.specs.List.Sorted.{IsNonDecreasingBy}
 use Rattle.getopts.specs.Names.{Text}
-use Rattle.getopts.specs.Options.{Grammar, long_kind}
+use Rattle.getopts.specs.Options.{Grammar}
 use Rattle.getopts.specs.Reading.{begins_with_dash, Argument, attached, separate, Dashes, End, flags}
 use Rattle.getopts.specs.Reading.{ends_in, Item, long, cluster, end_text, item_words, spelled_all}
 use Rattle.getopts.specs.Reading.{is_bare, Tail, line_end, stop, tail_words, Reading, IsReading}
@@ -36,8 +36,7 @@ one_higher_after position other = if nat_le other position then other else other
 abbrev pub AreHigherAfter : ℕ → List ℕ → List ℕ → Type 0
 AreHigherAfter position old new = new ≡ map (one_higher_after position) old
 
--- `Alike` relates the new positions to the old ones.
--- The new reading gives the same mentions, free words and trailing start as the old one.
+-- Both readings give the same, except that `Alike` relates the old positions to the new ones.
 pub record ReadsAlike (grammar : Grammar) (Alike : List ℕ → List ℕ → Type 0) (old new : Reading)
     : Type 0 where
   pub reads : IsReading grammar new (spelled_words new)
@@ -46,16 +45,14 @@ pub record ReadsAlike (grammar : Grammar) (Alike : List ℕ → List ℕ → Typ
   pub trailing : trailing_start new ≡ trailing_start old
   pub positions : Alike (positions_in grammar old) (positions_in grammar new)
 
--- `Alike` also gets the position of the item.
--- In every reading, the others may replace the item.
+-- In every reading, the others may replace the item; `Alike` also gets the item's position.
 abbrev pub Respells : Grammar → Item → List Item → (ℕ → List ℕ → List ℕ → Type 0) → Type 0
 Respells grammar item others Alike = (front back : List Item) (tail : Tail) (words : List Text)
     → IsReading grammar (reading_of front (item ∷ []) back tail) words
     → ReadsAlike grammar (Alike (word_count front))
     (reading_of front (item ∷ []) back tail) (reading_of front others back tail)
 
--- Positions of later items are one higher with the longer item.
--- Either item may replace the other.
+-- Either item may replace the other; with the longer one, later positions are one higher.
 pub record AreOneWordApart (grammar : Grammar) (shorter longer : Item) : Type 0 where
   pub to_longer : Respells grammar shorter (longer ∷ []) AreHigherAfter
   pub to_shorter : Respells grammar longer (shorter ∷ [])
@@ -64,11 +61,10 @@ pub record AreOneWordApart (grammar : Grammar) (shorter longer : Item) : Type 0 
 -- If the kind is `Yes`, `--name=argument` and `--name argument` read alike, except for positions.
 pub record LongAttachedOrSeparate (grammar : Grammar) : Type 0 where
   pub either : (dashes : Dashes) (name argument : Text)
-      → long_kind grammar name ≡ Some Yes
+      → grammar.kind name ≡ Some Yes
       → AreOneWordApart grammar
       (long dashes name (attached argument)) (long dashes name (separate argument))
 
--- An empty argument can't be attached. Flags may precede `x` in its word.
 -- If the kind is `Yes`, `-xargument` and `-x argument` read alike, except for positions.
 pub record ShortAttachedOrSeparate (grammar : Grammar) : Type 0 where
   pub either : (bytes : List ℕ) (option : ℕ) (argument : Text)
@@ -77,8 +73,7 @@ pub record ShortAttachedOrSeparate (grammar : Grammar) : Type 0 where
       → AreOneWordApart grammar (cluster bytes (ends_in option (attached argument)))
       (cluster bytes (ends_in option (separate argument)))
 
--- The text `s` isn't empty and doesn't begin with `-`.
--- If `x` is a flag, `-xs` and `-x -s` read alike, except for positions.
+-- For a flag `x` and a cluster `-s`, `-xs` and `-x -s` read alike, except for positions.
 pub record ClusterSplits (grammar : Grammar) : Type 0 where
   pub after_flag : (flag : ℕ) (bytes : List ℕ) (end : End)
       → bytes ++ end_text end ≢ []
@@ -86,8 +81,7 @@ pub record ClusterSplits (grammar : Grammar) : Type 0 where
       → Respells grammar (cluster (flag ∷ bytes) end)
       (cluster (flag ∷ []) flags ∷ cluster bytes end ∷ []) (λ position old new. ⊤)
 
--- The name doesn't begin with `-`.
--- In long-only mode, `-name` and `--name` read alike, with the same positions.
+-- In long-only mode, `-name` and `--name` give the same, unless the name begins with `-`.
 pub record OneDashOrTwo (grammar : Grammar) : Type 0 where
   pub other_dashes : (dashes other : Dashes) (name : Text) (argument : Argument)
       → grammar.long_only ≡ true
@@ -106,10 +100,7 @@ pub record HasContentOfBoth (grammar : Grammar) (first second whole : Reading) :
   pub mentions : mentions_of grammar whole ≡ mentions_of grammar first ++ mentions_of grammar second
   pub free : free_words whole ≡ free_words first ++ free_words second
 
--- The reading of the first line has no stop and no rest, and doesn't end in a bare cluster. Joined,
--- the two readings are a reading of the joined lines. Every reading of these has the content of
--- both.
--- Two command lines can be joined, in both styles.
+-- Two lines can be joined, unless the first has a stop or a rest, or ends in a bare cluster.
 pub record LinesCompose (grammar : Grammar) : Type 0 where
   pub of_both : (first second : Reading) (words more : List Text)
       → IsReading grammar first words

@@ -111,6 +111,11 @@ canonical_result options words =
     made_of (λ reading. written_line options.groups (content_of options reading))
     (accepted_reading options words)
 
+-- the options and free words of a line in order, with counts not checked, or its error
+abbrev pub order_or_error : Declared → List Text → Result (List Given) Fault
+order_or_error options words =
+    made_of (order_of_reading (grammar_of options)) (reading_or_error options words)
+
 abbrev pub parse_in_order_result : Declared → List Text → Result (List Given) Fault
 parse_in_order_result options words =
     made_of (order_of_reading (grammar_of options)) (accepted_reading options words)

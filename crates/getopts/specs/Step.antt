@@ -1,23 +1,21 @@
 -- One step of reading: what the first word of a command line gives, with the words after it.
 -- Clauses of `scan` say that the code takes these steps, and lemmas show that they agree with
 -- `Reading`.
-use Rattle.std.specs.Prelude.{◌≡◌, ◌≢◌, ◌==◌, ℕ, ◌+◌, List, [], ◌∷◌, ◌++◌, length, Option}
+use Rattle.std.specs.Prelude.{◌≡◌, ◌≢◌, ◌==◌, ℕ, List, [], ◌∷◌, ◌++◌, Option}
 use Rattle.std.specs.Prelude.{Some, None, Result, Ok, Err, if◌then◌else◌, false, encode_utf8}
 use Rattle.std.specs.Option.{option_map_or}
 use Rattle.std.specs.Str.{chars}
 use Rattle.getopts.specs.Names.{Text}
-use Rattle.getopts.specs.Options.{Grammar, long_kind}
+use Rattle.getopts.specs.Options.{Grammar}
 use Rattle.getopts.specs.Fail.{Fault, argument_missing, unrecognized_option, unexpected_argument}
 use Rattle.getopts.specs.Reading.{dash, begins_with_dash, equals_sign, is_dashed, Argument, none}
 use Rattle.getopts.specs.Reading.{attached, separate, Dashes, dash_text, flags, ends_in, Item, long, cluster}
-use Rattle.getopts.specs.Reading.{value_of, argument_words, MayPrecede, free_items, Tail, unknown_long}
-use Rattle.getopts.specs.Reading.{mentions, word_count, IsFlag}
+use Rattle.getopts.specs.Reading.{value_of, argument_words, MayPrecede, free_items, Tail}
+use Rattle.getopts.specs.Reading.{mentions, IsFlag}
 use Rattle.getopts.specs.declared.kinds.HasArg.{HasArg}
 use Rattle.getopts.specs.declared.kinds.HasArg.TheVariants.{Yes, No, Maybe}
 
--- A step ends the line with a tail; takes an item, and says whether the argument of its last option
--- is the next word; or is an error.
--- one step of reading
+-- one step of reading: the line's tail, an item with the argument of its last option, or an error
 pub data Step : Type 0 where
   ends : Tail → Step
   takes : Item → Argument → Step
@@ -27,14 +25,12 @@ pub data Step : Type 0 where
 abbrev pub with_equals : Option Text → Text
 with_equals argument = option_map_or (λ text. equals_sign ∷ text) argument []
 
--- These dashes may precede this text, which isn't empty.
--- The word is in long form: its dashes, and this text.
+-- The word is in long form: dashes, and this text, which isn't empty and which they may precede.
 pub record IsInLongForm (grammar : Grammar) (dashes : Dashes) (word text : Text) : Type 0 where
   pub before : MayPrecede grammar.long_only dashes text
   pub word_is : word ≡ dash_text dashes ++ text
   pub filled : word ≢ dash_text dashes
 
--- The mode is ordinary. The text isn't empty, and doesn't begin with `-`.
 -- The word is in short form: `-`, and this text.
 pub record IsShortForm (grammar : Grammar) (word text : Text) : Type 0 where
   pub ordinary : grammar.long_only ≡ false
@@ -42,8 +38,7 @@ pub record IsShortForm (grammar : Grammar) (word text : Text) : Type 0 where
   pub filled : text ≢ []
   pub second : begins_with_dash text ≡ false
 
--- The argument depends on the one attached to the option, and on the words after the option's.
--- the argument of an option in long form, or its error
+-- the argument of an option in long form, by the attached one and the next words, or its error
 abbrev pub chosen_long : HasArg → Text → Option Text → List Text → Result Argument Fault
 chosen_long No name None after = Ok none
 chosen_long No name (Some argument) after = Err (unexpected_argument name)
@@ -53,8 +48,7 @@ chosen_long Yes name (Some argument) after = Ok (attached argument)
 chosen_long Maybe name None after = Ok none
 chosen_long Maybe name (Some argument) after = Ok (attached argument)
 
--- The argument depends on the rest of the option's word, and on the words after it.
--- the argument of an option that ends a cluster, or its error
+-- the argument of an option that ends a cluster, by its word's rest and later words, or its error
 abbrev pub chosen_end : HasArg → Text → Text → List Text → Result Argument Fault
 chosen_end kind name (byte ∷ text) after = Ok (attached (byte ∷ text))
 chosen_end No name [] after = Ok none
@@ -69,9 +63,9 @@ chosen_step item (Ok argument) = takes (item argument) argument
 chosen_step item (Err fault) = faults fault
 
 -- the step of a name in long form, by its kind and the argument attached to it
-abbrev pub long_name_step : Grammar → Option HasArg → Dashes → Text → Option Text → List Text → Step
-long_name_step grammar None dashes name argument after = faults (unknown_long grammar name)
-long_name_step grammar (Some kind) dashes name argument after =
+abbrev pub long_name_step : Option HasArg → Dashes → Text → Option Text → List Text → Step
+long_name_step None dashes name argument after = faults (unrecognized_option name)
+long_name_step (Some kind) dashes name argument after =
     chosen_step (λ a. long dashes name a) (chosen_long kind name argument after)
 
 -- a text in long form, split at its first `=`: the name, and the argument attached to it
@@ -84,7 +78,7 @@ cut_at_equals (c ∷ text) = if c == equals_sign then ([], Some text)
 abbrev pub long_step : Grammar → Dashes → Text → List Text → Step
 long_step grammar dashes text after =
     let cut = cut_at_equals text in
-    long_name_step grammar (long_kind grammar cut.0) dashes cut.0 cut.1 after
+    long_name_step (grammar.kind cut.0) dashes cut.0 cut.1 after
 
 -- the first character of a text
 abbrev pub first_char : Text → Text
@@ -122,7 +116,6 @@ pub record TakesOne (grammar : Grammar) (step : Step) (after : List Text) (place
   pub argument : Argument
   pub step_is : step ≡ takes item argument
   pub after_is : after ≡ argument_words argument ++ left
-  pub counted : word_count (item ∷ []) ≡ 1 + length (argument_words argument)
   pub no_free : free_items (item ∷ []) ≡ []
   pub mentioned : mentions grammar item ≡ record { place = place; value = value } ∷ []
 
@@ -130,8 +123,9 @@ pub record TakesOne (grammar : Grammar) (step : Step) (after : List Text) (place
 pub data TakesName (grammar : Grammar) (names : Text) (after : List Text) (place : ℕ)
     (value : Option Text) (names_left : Text) (left : List Text) : Type 0 where
   -- it ends the cluster
-  takes_last : names_left ≡ []
-      → TakesOne grammar (cluster_step grammar [] names after) after place value left
+  takes_last : (byte : ℕ) (text : Text) (kind : HasArg) → names ≡ byte ∷ text → names_left ≡ []
+      → grammar.place (byte ∷ []) ≡ Some place → kind ≢ No → grammar.kind (byte ∷ []) ≡ Some kind
+      → Chooses (chosen_end kind (byte ∷ []) text after) after value left
       → TakesName grammar names after place value names_left left
   -- it is a flag
   takes_flag : (byte : ℕ) → names ≡ byte ∷ names_left → IsFlag grammar byte

@@ -16,16 +16,14 @@ use Rattle.getopts.specs.declared.kinds.ParsingStyle.{ParsingStyle}
 abbrev pub OneReading : Declared → Type 0
 OneReading options = (words : List Text) → AtMostOne (Reads options words)
 
--- The matches are what that reading gives.
--- Words are accepted if and only if they have a reading that keeps the counts.
+-- Words are accepted if and only if a reading keeps the counts; the matches are what it gives.
 abbrev pub AcceptedExactlyWhen : Declared → Type 0
 AcceptedExactlyWhen options = (words : List Text) (matches : Matched)
     → IsAccepted options words matches
     ↔ ((reading : Reading) × IsCountKeeping options reading words
     × (matches ≡ matches_of options reading))
 
--- The error is a scan error of the words, or the count error of a reading.
--- Words are rejected if and only if they have no reading that keeps the counts.
+-- Words are rejected, by a scan error or a count error, if and only if no reading keeps the counts.
 abbrev pub RefusedExactlyWhen : Declared → Type 0
 RefusedExactlyWhen options = (words : List Text) (fault : Fault)
     → IsRefused options words fault
@@ -67,8 +65,7 @@ LinesReadAgain options = (words line : List Text) (matches : Matched) → IsWrit
     → HasReading options words matches → (style : ParsingStyle) (long_only : Bool)
     → ReadAgain (with_setting options style long_only) line matches
 
--- The styles and modes in which the two contents are said may differ.
--- Two plain contents have equal canonical lines if and only if they are equal.
+-- Plain contents, in any style and mode, are equal if and only if their canonical lines are.
 abbrev pub OneLineOneContent : Declared → Type 0
 OneLineOneContent options = (words others : List Text) (content other : Content)
     → Says options words content → IsPlain options.groups content

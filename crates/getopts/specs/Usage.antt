@@ -51,7 +51,7 @@ short_usage_text options program =
 abbrev pub any_short : List Group → Bool
 any_short groups = list_any (λ group. not (is_empty group.signature.names.short)) groups
 
--- Spaces replace a missing short name if another group has one, so that long names are aligned.
+-- a group's short name in its row or, if it has none and another group does, as many spaces
 abbrev pub short_part : Bool → Names → Text
 short_part among_shorts names =
     if is_empty names.short

@@ -65,8 +65,7 @@ words_of line =
     map encode_utf8_all
     (filter (λ piece. nat_lt 0 (length piece)) (slice_split is_whitespace (chars line)))
 
--- `IsBroken` says how the words of a line may be broken into runs.
--- The description breaks into these rows.
+-- The description breaks into these rows; `IsBroken` says how a line's words may break into runs.
 pub record BreaksInto (IsBroken : List Text → List Run → Type 0) (desc : Text)
     (rows : List Text) : Type 0 where
   pub breakings : List (List Run)

@@ -15,6 +15,7 @@ ghost use Rattle.getopts.specs.Stored.Scan.{order_content};
 
 use crate::fail::Fail;
 use crate::groups::Groups;
+use crate::laws::names_resolve;
 use crate::options::Options;
 use crate::parse::words_from;
 use crate::scan::{Given, are_texts};
@@ -172,6 +173,7 @@ impl Options {
         ensures read_again { OnOk result (LinesReadAgain self.now) }
     {
         are_texts(words);
+        names_resolve(self);
         let order = self.parse_in_order(alloc, words)?;
         let groups = self.groups();
         if are_plain(groups, &order) {

@@ -1,6 +1,6 @@
 //! Whether options occur as often as they may.
 
-ghost use Rattle.std.specs.Prelude.{◌≡◌, ◌<◌, ◌+◌, ℕ, length, get_or, map, drop};
+ghost use Rattle.std.specs.Prelude.{◌≡◌, ◌<◌, ℕ, length, get_or, map};
 ghost use Rattle.std.specs.Prelude.{replicate, Some, None, IfErr, OnOk};
 ghost use Rattle.getopts.specs.Accessors.{borrowed_given};
 ghost use Rattle.getopts.specs.Fail.{IsOutOfMemoryOr};
@@ -49,7 +49,10 @@ pub(crate) fn check_order(
     let mut counts = vec![in alloc; 0; room]?;
     count_options(&mut counts, order);
     for place in 0..room {
-        check_count(alloc, signatures, place, counts[place])?;
+        let count = counts[place];
+        if !fits_count(signatures.record(place).kinds.occur, count) {
+            return Err(count_fault(alloc, signatures.main(place), count));
+        }
     }
     Ok(())
 }
@@ -66,28 +69,6 @@ fn count_options(counts: &mut [usize], order: &[Given])
                 counts[*place] += 1;
             }
         }
-    }
-}
-
-#[inline(always)]
-fn check_count(
-    alloc: Global,
-    signatures: &Signatures,
-    place: usize,
-    count: usize,
-) -> Result<(), Fail>
-    requires { place < length signatures.now }
-    ensures ok { OnOk result ((counts : ℕ → ℕ) → count ≡ counts place
-        → first_wrong place (drop place signatures.now) counts
-        ≡ first_wrong (place + 1) (drop (place + 1) signatures.now) counts) }
-    ensures err { IfErr result (λ fail. IsOutOfMemoryOr fail
-        (λ fault. (counts : ℕ → ℕ) → count ≡ counts place
-        → first_wrong place (drop place signatures.now) counts ≡ Some fault)) }
-{
-    if fits_count(signatures.record(place).kinds.occur, count) {
-        Ok(())
-    } else {
-        Err(count_fault(alloc, signatures.main(place), count))
     }
 }
 

@@ -9,29 +9,50 @@ ghost use Rattle.getopts.specs.Options.{MayBeDeclared, group_of, signatures_of};
 ghost use Rattle.getopts.specs.Canon.{main_at};
 ghost use Rattle.getopts.specs.Stored.Signatures.{AreLawfulSignatures};
 
-use crate::kinds::Kinds;
+use crate::kinds::{HasArg, Kinds, Occur};
 use crate::pairs::{FIRST_TEXT, PairEnds, first_at, push_pair, second_at};
-use crate::signatures::{FIRST_GROUPS, SignatureView, Signatures};
+use crate::signatures::{FIRST_GROUPS, Signatures};
 use std::alloc::{AllocError, Global};
 use std::marker::Model;
 
-#[derive(Clone, Copy)]
-pub(crate) struct GroupView<'g> {
-    pub signature: SignatureView<'g>,
-    pub hint: &'g str,
-    pub desc: &'g str,
+/// A declared option, as `Options::get` returns it.
+///
+/// The fields are what was passed to `opt` or a similar method. The Rust crate has no such public
+/// type.
+#[derive(Debug, Clone, Copy)]
+pub struct OptGroup<'o> {
+    /// Its short name, or `""` if it has none.
+    pub short_name: &'o str,
+    /// Its long name, or `""` if it has none.
+    pub long_name: &'o str,
+    /// What help texts show in place of its argument.
+    pub hint: &'o str,
+    /// Its description in help texts.
+    pub desc: &'o str,
+    /// Whether it takes an argument.
+    pub hasarg: HasArg,
+    /// How often it may occur.
+    pub occur: Occur,
 }
 
-impl<'g> PartialEq for GroupView<'g> {
-    ghost use Rattle.getopts.specs.Stored.Groups.{same_group_view};
+impl<'o> PartialEq for OptGroup<'o> {
+    ghost use Rattle.getopts.specs.Stored.Groups.{same_borrowed_group};
 
-    ghost eq = { same_group_view };
+    ghost eq = { same_borrowed_group };
 
     ghost laws = { Prim.search (comparing, rules) depth 12 };
 
-    fn eq(&self, other: &GroupView<'g>) -> bool {
-        self.signature == other.signature && self.hint == other.hint && self.desc == other.desc
+    /// Whether all fields are equal.
+    fn eq(&self, other: &OptGroup<'o>) -> bool {
+        (self.short_name == other.short_name
+            && self.long_name == other.long_name
+            && (self.hasarg == other.hasarg && self.occur == other.occur))
+            && (self.hint == other.hint && self.desc == other.desc)
     }
+}
+
+impl<'o> Eq for OptGroup<'o> {
+    ghost laws = { Prim.search (comparing, rules) depth 12 };
 }
 
 /// Groups with valid names. `texts` has the hints and descriptions of all groups, and `ends` says
@@ -66,7 +87,7 @@ impl Model for Groups {
 }
 
 impl Groups {
-    ghost use Rattle.getopts.specs.Stored.Groups.{group_view};
+    ghost use Rattle.getopts.specs.Accessors.{borrowed_group};
 
     /// Allocates nothing.
     pub(crate) fn new(alloc: Global) -> Groups
@@ -100,15 +121,19 @@ impl Groups {
         self.signatures.main(place)
     }
 
-    pub(crate) fn get(&self, place: usize) -> GroupView<'_>
+    pub(crate) fn get(&self, place: usize) -> OptGroup<'_>
         requires { place < length self.now }
-        ensures { Some (group_view result) ≡ slice_get self.now place }
+        ensures { Some (borrowed_group result) ≡ slice_get self.now place }
     {
+        let signature = self.signatures.get(place);
         let pair = self.ends[place];
-        GroupView {
-            signature: self.signatures.get(place),
+        OptGroup {
+            short_name: signature.names.short,
+            long_name: signature.names.long,
             hint: first_at(&self.texts, pair),
             desc: second_at(&self.texts, pair),
+            hasarg: signature.kinds.kind,
+            occur: signature.kinds.occur,
         }
     }
 

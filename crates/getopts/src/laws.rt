@@ -66,8 +66,7 @@ pub fn one_reading_one_canonical_line(options: &Options)
     ensures sound { (words : List Text) (content : Content)
         → Says options.now words content → IsSound options.now.groups content }
 {
-    // Called for its clause `declared`.
-    let _signatures = options.signatures();
+    names_resolve(options);
 }
 
 /// Laws of all options that may be declared. This is a lemma for proofs, which does nothing.
@@ -105,8 +104,8 @@ pub fn names_resolve(options: &Options)
     // The premise of `declared_options_keep_laws`.
     ensures declared { MayBeDeclared options.now.groups }
 {
-    // Called for its clause `declared`.
-    let _signatures = options.signatures();
+    // For its clause `declared`.
+    options.signatures();
 }
 
 /// The three facts of `names_resolve`, about the names in the matches. This is a lemma for
@@ -116,8 +115,8 @@ pub fn held_names_resolve(matches: &Matches)
     ensures one_byte { OneByteIsShort (held_names matches.now.groups) }
     ensures empty { EmptyResolvesNot (held_names matches.now.groups) }
 {
-    // Called for its clause `lawful`.
-    let _place = matches.opt_place("");
+    // For its clause `lawful`.
+    matches.opt_place("");
 }
 
 /// Equal input gives equal results: for given options and words, there is at most one result of

@@ -1,6 +1,8 @@
 //! Options: the groups that a caller declares, a parsing style and a mode.
 
-ghost use Rattle.std.specs.Prelude.{◌≡◌, ◌↔◌, [], false, IfOk, IsTrue, OnOk, OnErr};
+ghost use Rattle.std.specs.Prelude.{◌≡◌, ◌↔◌, [], false, IfOk, IsTrue, OnOk, OnErr, length, slice_get};
+ghost use Rattle.std.specs.Option.{option_map};
+ghost use Rattle.getopts.specs.Accessors.{borrowed_group};
 ghost use Rattle.std.specs.Borrow.{sem};
 ghost use Rattle.std.specs.Cmp.Rules.{comparing};
 ghost use Rattle.std.proofs.Common.{rules};
@@ -9,7 +11,7 @@ ghost use Rattle.getopts.specs.Stored.Signatures.{AreLawfulSignatures};
 ghost use Rattle.getopts.specs.Borrows.{UnchangedIfErr};
 ghost use Rattle.getopts.specs.Options.{group_of, with_group, signatures_of, MayBeDeclared};
 
-use crate::groups::Groups;
+use crate::groups::{Groups, OptGroup};
 use crate::kinds::HasArg::{Maybe, No, Yes};
 use crate::kinds::Occur::{Multi, Optional, Req};
 use crate::kinds::{HasArg, Kinds, Occur, ParsingStyle};
@@ -120,6 +122,44 @@ impl Options {
     {
         self.long_only = long_only;
         self
+    }
+}
+
+// What was declared.
+impl Options {
+    /// Returns how many options were declared.
+    ///
+    /// Places, as in `Given` and from `opt_place`, are below this number. Allocates nothing. The
+    /// Rust crate has no such method.
+    pub fn len(&self) -> usize
+        ensures count { result ≡ length self.now.groups }
+    {
+        self.groups.len()
+    }
+
+    /// Returns the declared option at a place, its index in the order of declaration, or `None` if
+    /// fewer options were declared.
+    ///
+    /// Use it to name an option that a `Reader` or `parse_in_order` returned by its place, or to
+    /// print what help texts don't contain, such as a manual page:
+    ///
+    /// ```
+    /// for place in 0..options.len() {
+    ///     if let Some(option) = options.get(place) {
+    ///         writeln!(out, "--{}: {}", option.long_name, option.desc)?;
+    ///     }
+    /// }
+    /// ```
+    ///
+    /// Allocates nothing. The Rust crate has no such method.
+    pub fn get(&self, place: usize) -> Option<OptGroup<'_>>
+        ensures group { option_map borrowed_group result ≡ slice_get self.now.groups place }
+    {
+        if place < self.groups.len() {
+            Some(self.groups.get(place))
+        } else {
+            None
+        }
     }
 }
 
@@ -309,11 +349,8 @@ impl Options {
     }
 
     pub(crate) fn groups(&self) -> &Groups
-        ensures groups { result.now ≡ self.now.groups }
-        ensures declared { MayBeDeclared self.now.groups }
+        ensures { result.now ≡ self.now.groups }
     {
-        // Called only for its clause `declared`.
-        self.signatures();
         &self.groups
     }
 

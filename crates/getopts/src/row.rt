@@ -4,12 +4,9 @@ ghost use Rattle.std.specs.Prelude.{◌≡◌, ◌++◌, string_bytes, IfOk, OnO
 ghost use Rattle.getopts.specs.Wrap.{width_of};
 ghost use Rattle.getopts.specs.Usage.{has_columns, head, long_part, padding, short_part};
 ghost use Rattle.getopts.specs.UsageResults.{usage_row_in};
-ghost use Rattle.getopts.specs.Stored.Signatures.{names_view};
-ghost use Rattle.getopts.specs.Stored.Groups.{group_view};
+ghost use Rattle.getopts.specs.Accessors.{borrowed_group};
 
-use crate::groups::GroupView;
-use crate::names::NamesView;
-use crate::signatures::SignatureView;
+use crate::groups::OptGroup;
 use crate::texts::{MARGIN, push_argument, push_joined};
 use crate::wrap::each_split_within;
 use std::alloc::{AllocError, Global};
@@ -33,10 +30,10 @@ const ROW_ROOM: usize = 80;
 pub(crate) fn row_of(
     alloc: Global,
     layout: Layout,
-    group: GroupView<'_>,
+    group: OptGroup<'_>,
 ) -> Result<String, AllocError>
     ensures { IfOk result (λ row. string_bytes row
-        ≡ usage_row_in layout.columns layout.long_only layout.any_short (group_view group.entry)) }
+        ≡ usage_row_in layout.columns layout.long_only layout.any_short (borrowed_group group.entry)) }
 {
     let mut row = String::with_capacity(alloc, ROW_ROOM)?;
     push_head(&mut row, layout, group)?;
@@ -47,33 +44,32 @@ pub(crate) fn row_of(
     Ok(row)
 }
 
-fn push_head(text: &mut String, layout: Layout, group: GroupView<'_>) -> Result<(), AllocError>
+fn push_head(text: &mut String, layout: Layout, group: OptGroup<'_>) -> Result<(), AllocError>
     ensures { OnOk result (string_bytes text.new ≡ string_bytes text.old
-        ++ head layout.long_only layout.any_short (group_view group.entry)) }
+        ++ head layout.long_only layout.any_short (borrowed_group group.entry)) }
 {
     text.push_str("    ")?;
-    let SignatureView { names, kinds } = group.signature;
-    let wide = has_columns(names.long);
-    push_short(text, layout, names, wide)?;
-    push_long(text, layout, names.long, wide)?;
-    push_argument(text, kinds.kind, group.hint)
+    let wide = has_columns(group.long_name);
+    push_short(text, layout, group, wide)?;
+    push_long(text, layout, group.long_name, wide)?;
+    push_argument(text, group.hasarg, group.hint)
 }
 
 fn push_short(
     text: &mut String,
     layout: Layout,
-    names: NamesView<'_>,
+    group: OptGroup<'_>,
     wide: bool,
 ) -> Result<(), AllocError>
-    requires { wide ≡ has_columns names.long.now }
+    requires { wide ≡ has_columns group.long_name.now }
     ensures { OnOk result (string_bytes text.new ≡ string_bytes text.old
-        ++ short_part layout.any_short (names_view names.entry)) }
+        ++ short_part layout.any_short (borrowed_group group.entry).signature.names) }
 {
-    if names.short.is_empty() {
+    if group.short_name.is_empty() {
         text.push_str(if layout.any_short { "    " } else { "" })
     } else {
         text.push('-')?;
-        text.push_str(names.short)?;
+        text.push_str(group.short_name)?;
         text.push_str(if wide { ", " } else { " " })
     }
 }

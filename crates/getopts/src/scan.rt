@@ -1,17 +1,18 @@
 //! Reading a command line, one option or free word at a time.
 
-ghost use Rattle.std.specs.Prelude.{◌≡◌, ◌≢◌, ◌<◌, ◌≤◌, ◌+◌, ◌-◌, ◌^◌, ◌∷◌, ◌++◌, [], List, MatchOption};
+ghost use Rattle.std.specs.Prelude.{◌≡◌, ◌≢◌, ◌<◌, ◌≤◌, ◌+◌, ◌-◌, ◌^◌, ◌∷◌, ◌++◌, [], List, ℕ, MatchOption};
 ghost use Rattle.std.specs.Prelude.{OnOk, IfOk, IfErr, IfSome, IfNone, IsSomeAnd, Some, None, Ok, Err, false, length};
-ghost use Rattle.std.specs.Prelude.{map, drop, if◌then◌else◌, ◌==◌};
+ghost use Rattle.std.specs.Prelude.{map};
 ghost use Rattle.std.specs.String.{string_bytes};
 ghost use Rattle.std.specs.Option.{option_copied};
 ghost use Rattle.getopts.specs.Reading.{Dashes, dash, holds_equals, is_dashed, free_word, tail_frees};
-ghost use Rattle.getopts.specs.Stored.Scan.{tail_of};
+ghost use Rattle.getopts.specs.Reader.{IsNextFault, tail_of};
 ghost use Rattle.getopts.specs.Accessors.{borrowed_given};
 ghost use Rattle.getopts.specs.Fail.{IsOutOfMemoryOr};
 ghost use Rattle.std.specs.Str.{IsUtf8};
 ghost use Rattle.getopts.specs.Names.{AreTexts, Text};
-ghost use Rattle.getopts.specs.Step.{with_equals, first_char, chosen_end, Chooses, cluster_step, faults};
+ghost use Rattle.getopts.specs.Step.{with_equals, first_char, chosen_long, chosen_end, Chooses};
+ghost use Rattle.getopts.specs.Step.{cluster_step, faults};
 
 use crate::fail::Fail;
 use crate::kinds::{HasArg, ParsingStyle};
@@ -28,18 +29,13 @@ pub(crate) const FIRST_ROOM: usize = 32;
 /// How many words are looked at to judge how many of a longer line's words are dashed.
 const SAMPLE: usize = 1024;
 
-/// A lemma for proofs: a `&str` is UTF-8. Compiles to nothing in an optimized build.
-fn is_text(word: &str)
-    ensures { IsUtf8 word.now }
-{}
-
 /// A lemma for proofs: each word is UTF-8, as its type says. Compiles to nothing in an optimized
 /// build.
 pub fn are_texts<S: AsStr>(words: &[S])
     ensures texts { AreTexts (map S.text words.now) }
 {
     for word in words {
-        is_text(word.as_str());
+        word.as_str();
     }
 }
 
@@ -84,7 +80,7 @@ impl Line {
         self.found.shrink();
         self.trailing_start = None;
         match words.first() {
-            Some(word) if is_dashed(word.as_str()) => {
+            Some(word) if word.as_str() == "--" => {
                 let after = &words[1..];
                 self.trailing_start = (!after.is_empty()).then_some(self.free.len());
                 push_copies(alloc, &mut self.free, after)
@@ -95,7 +91,7 @@ impl Line {
     }
 }
 
-/// An option or a free word in a command line, as `parse_in_order` returns them.
+/// An option or a free word in a command line, as `parse_in_order` and `Reader::next` return them.
 #[derive(Clone, Copy, Debug, PartialEq, Eq)]
 pub enum Given<'w> {
     /// An option.
@@ -206,12 +202,13 @@ fn push_free_words<'w, S: AsStr>(
     Ok(())
 }
 
-/// The free words of a tail, which consists of the words that aren't read as items.
-fn tail_words<S: AsStr>(left: &[S]) -> &[S]
-    ensures { map S.text result.now ≡ tail_frees (tail_of (map S.text left.now)) }
+/// Returns the free words among the words that `Reader::next` leaves when it returns `None`: all of
+/// them, except a first `--`.
+pub fn free_words<S: AsStr>(left: &[S]) -> &[S]
+    ensures words { map S.text result.now ≡ tail_frees (tail_of (map S.text left.now)) }
 {
     match left.first() {
-        Some(word) if is_dashed(word.as_str()) => &left[1..],
+        Some(word) if word.as_str() == "--" => &left[1..],
         _ => left,
     }
 }
@@ -282,19 +279,36 @@ fn first_character(text: &str) -> &str
     }
 }
 
-/// The words after an argument that uses none or one of them.
+/// The argument of an option in long form: `attached` follows the `=` in its word, and `after` is
+/// the words after that.
 #[inline(always)]
-fn words_after<S>(words: &[S], used: usize) -> &[S]
-    ensures { result.now ≡ (if used == 0 then words.now else drop 1 words.now) }
+fn long_argument<'w, S: AsStr>(
+    alloc: Global,
+    kind: HasArg,
+    name: &str,
+    attached: Option<&'w str>,
+    after: &'w [S],
+) -> Result<Argument<'w, S>, Fail>
+    ensures ok { let after = map S.text after.now in IfOk result (λ argument.
+        Chooses (chosen_long kind name.now (option_copied attached.entry) after) after
+        (option_copied argument.value) (map S.text argument.left.now)) }
+    ensures err { IfErr result (λ fail. IsOutOfMemoryOr fail (λ fault.
+        chosen_long kind name.now (option_copied attached.entry) (map S.text after.now) ≡ Err fault)) }
 {
-    match words.split_first() {
-        Some((_, others)) if used != 0 => others,
-        _ => words,
-    }
+    let (value, left) = match (kind, attached) {
+        (HasArg::No, Some(_)) => return Err(Fail::unexpected_argument(alloc, name)),
+        (HasArg::Yes, None) => match after {
+            [word, others @ ..] => (Some(word.as_str()), others),
+            [] => return Err(Fail::argument_missing(alloc, name)),
+        },
+        _ => (attached, after),
+    };
+    Ok(Argument { value, left })
 }
 
 /// The argument of an option of kind `Yes` or `Maybe` in a cluster: `rest` is the rest of the
-/// cluster's word, `after` the words after it.
+/// cluster's word, and `after` is the words after that.
+#[inline(always)]
 fn last_argument<'w, S: AsStr>(
     alloc: Global,
     kind: HasArg,
@@ -303,22 +317,21 @@ fn last_argument<'w, S: AsStr>(
     after: &'w [S],
 ) -> Result<Argument<'w, S>, Fail>
     requires { kind ≢ HasArg.No }
-    ensures ok { let after = map S.text after.now in IfOk result (λ end.
+    ensures ok { let after = map S.text after.now in IfOk result (λ argument.
         Chooses (chosen_end kind name.now rest.now after) after
-        (option_copied end.value) (map S.text end.left.now)) }
+        (option_copied argument.value) (map S.text argument.left.now)) }
     ensures err { IfErr result (λ fail. IsOutOfMemoryOr fail (λ fault.
         chosen_end kind name.now rest.now (map S.text after.now) ≡ Err fault)) }
 {
-    let (value, used) = match after.first() {
-        _ if !rest.is_empty() => (Some(rest), 0),
-        Some(word) if kind == HasArg::Yes || !is_dashed(word.as_str()) => (Some(word.as_str()), 1),
-        None if kind == HasArg::Yes => return Err(Fail::argument_missing(alloc, name)),
-        _ => (None, 0),
+    let (value, left) = match after {
+        _ if !rest.is_empty() => (Some(rest), after),
+        [word, others @ ..] if kind == HasArg::Yes || !is_dashed(word.as_str()) => {
+            (Some(word.as_str()), others)
+        }
+        [] if kind == HasArg::Yes => return Err(Fail::argument_missing(alloc, name)),
+        _ => (None, after),
     };
-    Ok(Argument {
-        value,
-        left: words_after(after, used),
-    })
+    Ok(Argument { value, left })
 }
 
 impl<'o> Scanner<'o> {
@@ -327,7 +340,7 @@ impl<'o> Scanner<'o> {
     ghost use Rattle.getopts.specs.Stored.Scan.{HasShape, given_with};
     ghost use Rattle.getopts.specs.Reading.{order_of_reading};
     ghost use Rattle.getopts.specs.Results.{made_of, read};
-    ghost use Rattle.getopts.specs.Stored.Scan.{IsNext, ReadsOne, read_names};
+    ghost use Rattle.getopts.specs.Stored.Scan.{IsNext, ReadsOne};
 
     /// The option that a name resolves to.
     #[inline(always)]
@@ -361,26 +374,17 @@ impl<'o> Scanner<'o> {
             IfErr result (λ fail. (dashes : Dashes) → IsOutOfMemoryOr fail (λ fault.
             long_step grammar dashes text.now (map S.text after.now) ≡ faults fault)) }
     {
-        let (name, argument) = name_and_argument(text);
+        let (name, attached) = name_and_argument(text);
         let option = match self.option(name) {
             Some(option) => option,
             None => return Err(Fail::unrecognized_option(alloc, name)),
         };
-        let (value, used) = match (option.kind, argument) {
-            (HasArg::No, None) => (None, 0),
-            (HasArg::No, Some(_)) => return Err(Fail::unexpected_argument(alloc, name)),
-            (HasArg::Yes, None) => match after.first() {
-                Some(word) => (Some(word.as_str()), 1),
-                None => return Err(Fail::argument_missing(alloc, name)),
-            },
-            (HasArg::Yes, Some(value)) => (Some(value), 0),
-            (HasArg::Maybe, argument) => (argument, 0),
-        };
+        let argument = long_argument(alloc, option.kind, name, attached, after)?;
         Ok(Taken {
             place: option.place,
-            value,
+            value: argument.value,
             names: "",
-            left: words_after(after, used),
+            left: argument.left,
         })
     }
 
@@ -399,8 +403,9 @@ impl<'o> Scanner<'o> {
             TakesName (scanner_grammar self.now) names.now (map S.text after.now)
             taken.place (option_copied taken.value) taken.names.now (map S.text taken.left.now)) }
         ensures err { let grammar = scanner_grammar self.now in
-            IfErr result (λ fail. IsOutOfMemoryOr fail (λ fault.
-            cluster_step grammar [] names.now (map S.text after.now) ≡ faults fault)) }
+            IfErr result (λ fail. IsOutOfMemoryOr fail (λ fault. (bytes : List ℕ)
+            → cluster_step grammar bytes names.now (map S.text after.now) ≡ faults fault)) }
+        ensures text { IsUtf8 names.now }
     {
         if !names.as_bytes()[0].is_ascii() {
             let name = first_character(names);
@@ -468,17 +473,17 @@ impl<'o> Scanner<'o> {
             steps.old.names.now (map S.text steps.old.left.now)
             steps.new.names.now (map S.text steps.new.left.now) (borrowed_given given))) }
         ensures none { IfOk result (λ given. IfNone given
-            ((steps.old.names.now ≡ []) × (steps.new.left.now ≡ steps.old.left.now))) }
+            ((steps.old.names.now ≡ []) × (steps.new.left.now ≡ steps.old.left.now)
+            × (steps.new.names.now ≡ []))) }
         ensures tail { IfOk result (λ given. IfNone given
             ((length steps.old.left.now ≤ steps.old.kept → steps.old.kept ≡ 0)
             → let left = map S.text steps.old.left.now in
             read (scanner_grammar self.now) left
             ≡ Ok (record { items = []; tail = tail_of left }))) }
-        ensures err { let grammar = scanner_grammar self.now in
+        ensures err { let left = map S.text steps.old.left.now in
             IfErr result (λ fail. IsOutOfMemoryOr fail (λ fault. (more : List Text)
-            → (steps.old.kept ≡ 0 → more ≡ [])
-            → read_names grammar steps.old.names.now (map S.text steps.old.left.now ++ more)
-            ≡ Err fault)) }
+            → (steps.old.kept ≡ 0 → more ≡ []) → IsNextFault (scanner_grammar self.now)
+            (record { names = steps.old.names.now; words = left ++ more }) fault)) }
     {
         if steps.names.is_empty() {
             let (word, after) = match steps.left.split_first() {
@@ -590,7 +595,7 @@ impl<'o> Scanner<'o> {
         'items: while let Some(given) = self.next(alloc, &mut steps)? {
             order.push(given)?;
         }
-        push_free_words(&mut order, tail_words(steps.left))?;
+        push_free_words(&mut order, free_words(steps.left))?;
         Ok(order)
     }
 }

@@ -62,11 +62,12 @@ impl PartialEq for SignatureRecord {
 
     ghost laws = { Prim.search (comparing, rules) depth 12 };
 
+    /// In one text, two short names with the same ends are equal.
     #[inline(always)]
     fn eq(&self, other: &SignatureRecord) -> bool {
         self.long == other.long
             && self.end == other.end
-            && self.short == other.short
+            && self.short.is_some() == other.short.is_some()
             && self.kinds == other.kinds
     }
 }

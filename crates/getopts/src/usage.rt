@@ -2,8 +2,7 @@
 
 ghost use Rattle.std.specs.Prelude.{◌≡◌, ◌++◌, List, [], codes, map, string_bytes, IfOk, IsOk, OnOk};
 ghost use Rattle.std.specs.Iterator.{YieldsFirstBy, item_count};
-ghost use Rattle.getopts.specs.Stored.Signatures.{names_view};
-ghost use Rattle.getopts.specs.Stored.Groups.{group_view};
+ghost use Rattle.getopts.specs.Accessors.{borrowed_group};
 ghost use Rattle.getopts.specs.Names.{Text};
 ghost use Rattle.getopts.specs.Only.{IsTheOnly};
 ghost use Rattle.getopts.specs.Usage.{AreUsageRows, AreUsageRowsIn, IsUsageText, IsUsageTextIn};
@@ -11,12 +10,10 @@ ghost use Rattle.getopts.specs.Usage.{any_short, option_name, option_text, short
 ghost use Rattle.getopts.specs.Wrap.{joined};
 ghost use Rattle.getopts.specs.UsageResults.{usage_in_result, usage_result, usage_rows_in_result, usage_rows_result};
 
-use crate::groups::GroupView;
+use crate::groups::OptGroup;
 use crate::kinds::{HasArg, Occur};
-use crate::names::NamesView;
 use crate::options::Options;
 use crate::row::{Layout, row_of};
-use crate::signatures::SignatureView;
 use crate::texts::{MARGIN, push_argument, push_joined};
 use std::alloc::{AllocError, Global};
 use std::marker::Model;
@@ -243,7 +240,7 @@ impl Options {
         let groups = self.groups();
         let mut any_short = false;
         for place in 0..groups.len() {
-            any_short |= !groups.get(place).signature.names.short.is_empty();
+            any_short |= !groups.get(place).short_name.is_empty();
         }
         Layout {
             long_only: self.is_long_only(),
@@ -253,34 +250,33 @@ impl Options {
     }
 }
 
-fn push_option(text: &mut String, group: GroupView<'_>) -> Result<(), AllocError>
+fn push_option(text: &mut String, group: OptGroup<'_>) -> Result<(), AllocError>
     ensures { OnOk result (string_bytes text.new ≡ string_bytes text.old
-        ++ option_text (group_view group.entry)) }
+        ++ option_text (borrowed_group group.entry)) }
 {
-    let SignatureView { names, kinds } = group.signature;
-    let (before, after) = match kinds.occur {
+    let (before, after) = match group.occur {
         Occur::Req => ("", ""),
         Occur::Optional => ("[", "]"),
         Occur::Multi => ("[", "].."),
     };
     text.push_str(before)?;
-    push_name(text, names)?;
-    if kinds.kind != HasArg::No {
+    push_name(text, group)?;
+    if group.hasarg != HasArg::No {
         text.push(' ')?;
     }
-    push_argument(text, kinds.kind, group.hint)?;
+    push_argument(text, group.hasarg, group.hint)?;
     text.push_str(after)
 }
 
-fn push_name(text: &mut String, names: NamesView<'_>) -> Result<(), AllocError>
+fn push_name(text: &mut String, group: OptGroup<'_>) -> Result<(), AllocError>
     ensures { OnOk result (string_bytes text.new ≡ string_bytes text.old
-        ++ option_name (names_view names.entry)) }
+        ++ option_name (borrowed_group group.entry).signature.names) }
 {
-    if names.short.is_empty() {
+    if group.short_name.is_empty() {
         text.push_str("--")?;
-        text.push_str(names.long)
+        text.push_str(group.long_name)
     } else {
         text.push('-')?;
-        text.push_str(names.short)
+        text.push_str(group.short_name)
     }
 }

@@ -13,8 +13,7 @@ pub record StaysPlain (text : List ℕ) : Type 0 where
   pub as_text : text_of text ≡ text
   pub as_bytes : bytes_of text ≡ text
 
--- If the text of a word is split into this front and this back, each is the text of a part of the
--- word.
+-- The word consists of two parts, whose texts are this front and this back.
 pub record AreCutAlike (word front back : List ℕ) : Type 0 where
   pub first : List ℕ
   pub second : List ℕ

@@ -9,8 +9,7 @@ use Rattle.std.specs.Str.{chars, continuation_len, is_utf8}
 abbrev pub AreBytes : List ℕ → Type 0
 AreBytes word = AllByRecursion (λ byte. byte < 256) word
 
--- The last 128 characters, U+10FF80 to U+10FFFF, are marks: each represents a byte from 128 to 255
--- that isn't part of a text.
+-- the mark of a byte from 128 to 255 that isn't part of a text: one of the last 128 characters
 abbrev pub mark_of : ℕ → ℕ
 mark_of byte = 0x10_FF00 + byte
 
@@ -25,8 +24,7 @@ is_plain bytes = is_utf8 bytes && not (list_any is_mark (chars bytes))
 abbrev pub begins_char : ℕ → List ℕ → Bool
 begins_char byte bytes = is_plain (take (suc (continuation_len byte)) (byte ∷ bytes))
 
--- The text of the rest of a word, when the current character still has n bytes to come: characters
--- other than marks stay, and every other byte becomes its mark.
+-- the text of a word's rest, whose first n bytes belong to a character that began before
 abbrev pub text_from : ℕ → List ℕ → List ℕ
 text_from n [] = []
 text_from zero (byte ∷ bytes) = if begins_char byte bytes then byte ∷ text_from (continuation_len byte) bytes

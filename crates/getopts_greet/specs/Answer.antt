@@ -23,8 +23,6 @@ asked_text Help = greeter_help
 asked_text Version = greeter_version
 asked_text (Parsed greeting) = greeting_text greeting
 
--- The status is 0 if the command line asks for something, and 2 if it is rejected. Out of memory
--- has neither a text nor a status.
 -- This is the text and the status for what a command line asks for, or for why it asks for nothing.
 abbrev pub IsAnswerOf : Result (Request Greeting) Refusal → Text → ℕ → Type 0
 IsAnswerOf (Ok asked) text status = (text ≡ asked_text asked) × (status ≡ 0)

@@ -49,7 +49,6 @@ pub record IsGreetingOf (matches : Matched) (greeting : Greeting) : Type 0 where
   pub times : IsParsedAs {E = ParseIntError} (ParsesUnsigned 32 10)
       (first_value (occurrences_of_name matches.groups (codes "times"))) (Ok greeting.times)
 
--- Out of memory says nothing about the matches.
 -- This is the greeting that matches ask for, or why there is none: a number that can't be read.
 abbrev pub IsGreetingOrError : Matched → Result Greeting Refusal → Type 0
 IsGreetingOrError matches (Err OutOfMemory) = ⊤
@@ -58,8 +57,6 @@ IsGreetingOrError matches (Err (Number error)) = IsParsedAs {T = ℕ} (ParsesUns
 IsGreetingOrError matches (Err (Line fail)) = ⊥
 IsGreetingOrError matches (Ok greeting) = IsGreetingOf matches greeting
 
--- A command line asks for nothing if it has an error, or a number that can't be read. Out of memory
--- says nothing about the command line.
 -- This is what a command line asks for, or why it asks for nothing.
 abbrev pub IsAskedOrError : Result (Request Matched) Fault → Result (Request Greeting) Refusal
     → Type 0

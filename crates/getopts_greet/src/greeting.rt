@@ -5,7 +5,7 @@ ghost use Rattle.std.specs.Str.Parse.{ParsesUnsigned};
 ghost use Rattle.std.specs.String.{string_bytes};
 ghost use Rattle.getopts.specs.Prelude.{FitOptionsAndCounts, IsDefined, IsParsedAs, Matched};
 ghost use Rattle.getopts.specs.Prelude.{first_value, occurrences_of_name, parse_request_result};
-ghost use Rattle.getopts.specs.UsageResults.{usage_result};
+ghost use Rattle.getopts.specs.Prelude.{usage_result};
 ghost use Rattle.getopts.specs.declared.request.Request.TheVariants.{Help, Parsed};
 ghost use Rattle.getopts_greet.specs.Greeting.{IsAskedOrError, IsGreetingOrError, greeter_help};
 ghost use Rattle.getopts_greet.specs.Greeting.{greeter_options, refusal_of};

@@ -53,10 +53,7 @@ abbrev pub takes_argument : HasArg → Bool
 takes_argument No = false
 takes_argument kind = true
 
--- The dashes and the name are a *form*. If the form begins with the word, the form is offered with
--- the description. If the word begins with the form and `=`, and the option can take a value there
--- (`valued`), files are offered for the value.
--- the completions for a name after its dashes, if there is such a name
+-- the completions of a word by a name after its dashes or, after the name's `=`, by its value
 abbrev pub name_line : Text → Bool → Text → Text → Text → Text
 name_line word valued dashes name description =
     if is_empty name then []
@@ -65,9 +62,7 @@ name_line word valued dashes name description =
     else (if valued && starts_with nat_eq word (dashes ++ (name ++ codes "="))
     then codes "value\n" else []))
 
--- An option is offered by its long name after two dashes, in long-only mode also after one, and by
--- its short name.
--- the completions for an option
+-- the completions of a word by an option's names: the long one, also after one dash if long-only
 abbrev pub option_lines : Bool → Text → Entry → Text
 option_lines long_only word entry =
     name_line word (takes_argument entry.kind) (codes "--") entry.names.long entry.description
@@ -81,8 +76,7 @@ abbrev pub options_lines : List MatchedGroup → Bool → Text → List Entry �
 options_lines groups long_only word entries =
     flat_map (option_lines long_only word) (filter (may_come groups) entries)
 
--- Options are offered if the word begins with `-` and an option may follow, and otherwise files.
--- the completions at a word, after these words
+-- the completions at a word: options if it begins with `-` and one may follow, otherwise files
 abbrev pub offer : Declared → List Entry → List Text → Text → Text
 offer options entries before word =
     option_map_or (λ groups. options_lines groups options.long_only word entries)
@@ -91,8 +85,7 @@ offer options entries before word =
 
 -- ---- the code for a shell
 
--- Quotes and backslashes are written outside the quotes, after a backslash.
--- a byte of a word in quotes, as bash, zsh and fish read it
+-- a byte of a word in quotes, as bash, zsh and fish read it: `'` and `\` are outside the quotes
 abbrev pub stub_byte : ℕ → Text
 stub_byte byte = if byte == backslash then codes "'\\\\'" else quoted_byte byte
 
@@ -100,9 +93,7 @@ stub_byte byte = if byte == backslash then codes "'\\\\'" else quoted_byte byte
 abbrev pub stub_quoted : Text → Text
 stub_quoted word = codes "'" ++ (flat_map stub_byte word ++ codes "'")
 
--- In zsh, the first line names the script, in case the code is a file in `$fpath`. It is left out
--- if the name might break the line.
--- the first line of the code for a shell
+-- the first line of the code for a shell: for zsh's `$fpath`, the script's name, if it is plain
 abbrev pub first_line : Text → Text → Text
 first_line shell name = if bytes_eq shell (codes "zsh") && is_long_name name
     then codes "#compdef " ++ (name ++ codes "\n") else []

@@ -188,8 +188,7 @@ read_options script = options_in script.asked (groups_as false script.entries)
 abbrev pub shown_options : Script → Declared
 shown_options script = options_in script.asked (groups_as true script.entries)
 
--- The separator precedes the first text only if `begun` says that other texts precede it.
--- the texts in order, each after the separator
+-- the texts in order, each after the separator; the first only if others precede it (`begun`)
 abbrev pub continued : Bool → Text → List Text → Text
 continued begun separator texts =
     if begun then flat_map (λ text. separator ++ text) texts else joined separator texts
@@ -219,8 +218,7 @@ IsOperandRow operand row =
     × IsDescriptionRows (description_columns usual_columns) operand.description description
     × (row ≡ operand_head operand.item ++ joined next_row description)
 
--- what precedes the options in a help: the text at its top; then, if there are operands, an empty
--- line, a line `Arguments:`, and the rows of the operands
+-- what precedes the options in a help: the text at its top and, if there are any, operands' rows
 abbrev pub help_front : Text → List Text → Text
 help_front brief [] = brief
 help_front brief rows = brief ++ (codes "\n\nArguments:\n" ++ joined (codes "\n") rows)
@@ -244,8 +242,7 @@ pub data OperandFault : Type 0 where
   missing : Text → OperandFault
   unexpected : Text → OperandFault
 
--- Each word is the next operand. From a repeatable operand on, all words belong to it.
--- the error of free words for these operands, if they have one; it names an operand without dots
+-- the error of free words for these operands; from a repeatable operand on, all words belong to it
 abbrev pub operand_fault : List Operand → List Text → Option OperandFault
 operand_fault [] [] = None
 operand_fault [] (word ∷ words) = Some (unexpected word)
@@ -266,8 +263,7 @@ operand_fault_line name (missing operand) =
 operand_fault_line name (unexpected word) =
     name ++ (codes ": Unexpected operand: '" ++ (word ++ codes "'\n"))
 
--- A shell reads this text in quotes as one word, the text, and the bytes of the quoted text as the
--- text's bytes.
+-- A shell reads the text in quotes as one word, the text, and the quoted text's bytes as its bytes.
 pub record IsOneWord (text : Text) : Type 0 where
   pub shell : shell_words (quoted text) ≡ Some (text ∷ [])
   pub bytes : shell_words (bytes_of (quoted text)) ≡ Some (bytes_of text ∷ [])
@@ -316,10 +312,7 @@ abbrev pub asked_fault : Asked → List Entry → Option VariableFault
 asked_fault asked entries = option_map_or (λ prefix. prefix_fault prefix entries) asked.variables
     (if asked.arrays then Some arrays_only else None)
 
--- A shell that runs the line's code then has the line's words. The line is accepted in both styles
--- and both modes with the content of the words, and says nothing else. Its first word `--` is the
--- stop.
--- These are the facts about a canonical line.
+-- This is the canonical line of the words: a shell can set it, and its first word `--` is the stop.
 pub record IsCanonicalLineOf (options : Declared) (words line : List Text) : Type 0 where
   pub shell : SetsWords line
   pub written : IsWritten options words line
@@ -349,8 +342,7 @@ AnswersOffer script shell words answer = MatchOption (functions shell)
     ≡ done (offer (read_options script) script.entries (take (length words - 1) words)
     (last_word words)))
 
--- The values are UTF-8, so a shell that runs the bytes of the code holds their bytes.
--- These are the facts about code that sets variables for options and free words.
+-- The answer is code that sets variables for these options and free words, whose values are UTF-8.
 pub record IsVariablesCode (script : Script) (prefix : Text) (options : List Given)
     (free : List Text)
     (answer : Answer) : Type 0 where
@@ -359,8 +351,7 @@ pub record IsVariablesCode (script : Script) (prefix : Text) (options : List Giv
   pub free_values : AreTexts free
   pub answer_is : answer ≡ done (variables_code prefix script.asked.arrays options free)
 
--- The answer is the option's line, or variables as if only this option had been given.
--- This is the answer to words that give an option that stands alone.
+-- This is the answer to an option that stands alone: its line, or variables for it alone.
 abbrev pub AnswersAlone : Script → Entry → Answer → Type 0
 AnswersAlone script entry answer = MatchOption script.asked.variables
     (SetsWords (alone_line entry) × (answer ≡ done (line_code (alone_line entry))))
@@ -380,9 +371,7 @@ AnswersAccepted script words matches answer = MatchOption script.asked.variables
     (λ prefix. IsVariablesCode script prefix (given_from 0 script.entries matches.groups) matches.free
     answer)
 
--- The answer is the first error of an option, or else of the free words. If there is none, the
--- words are accepted.
--- This is the answer to words with their counts checked.
+-- This is the answer to words with their counts checked, of options and then of free words.
 abbrev pub AnswersCounted : Script → List Text → Answer → Type 0
 AnswersCounted script words answer = MatchResult (parse_result (read_options script) words)
     (λ matches. MatchOption (free_fault script.operands matches.free)
@@ -395,8 +384,6 @@ abbrev pub PrintsHelp : Script → Answer → Type 0
 PrintsHelp script answer = (help : Text) × IsHelp script help × IsOneWord help
     × (answer ≡ done (help_code help))
 
--- If the words ask for help, the answer is code that prints it. Otherwise, if they give options
--- that stand alone, it is the answer for the first of these in the table.
 -- This is the answer to words with these matches, whatever their counts.
 abbrev pub AnswersRead : Script → List Text → Matched → Answer → Type 0
 AnswersRead script words matches answer = MatchBool (asks_help script.entries matches)
@@ -417,7 +404,6 @@ AnswersScript script words answer = MatchBool script.asked.usage
     (MatchOption script.asked.complete_words (AnswersWords script words answer)
     (λ shell. AnswersOffer script shell words answer))
 
--- The answer is a completion script, the error of the variables, or the answer for the script.
 -- This is the answer if the table declares the script's entries and operands.
 abbrev pub AnswersDeclared : Script → Text → List Text → Answer → Type 0
 AnswersDeclared script table words answer = MatchOption script.asked.complete
@@ -425,7 +411,6 @@ AnswersDeclared script table words answer = MatchOption script.asked.complete
     (AnswersScript script words answer) (λ fault. answer ≡ misused (variable_fault_line fault)))
     (λ shell. answer ≡ completion_answer script.asked shell script.name table)
 
--- The answer is the error of the table, or the answer for what the table declares.
 -- This is the answer to a script's name, its table and its words.
 pub data AnswersTable (asked : Asked) (name table : Text) (words : List Text) (answer : Answer)
     : Type 0 where
@@ -440,8 +425,7 @@ pub data AnswersTable (asked : Asked) (name table : Text) (words : List Text) (a
       }) table words answer
       → AnswersTable asked name table words answer
 
--- the error for a word in place of the table: an option that follows the name, a word of the script
--- because its table was left out, or the front of a table without quotes
+-- the error for a word in place of the table: an option, a script's word, or a part of the table
 abbrev pub no_table : Text → Answer
 no_table word = misused (codes "getopts_shell: '" ++ (word
     ++ codes "' isn't a table: write options of getopts_shell before NAME, and the table after it, in quotes (a table such as -v needs a line break)\n"))
@@ -464,7 +448,6 @@ sets_nothing own = is_given own (codes "variables")
 abbrev pub no_code : Answer
 no_code = misused (codes "getopts_shell: --variables can't be given with --help, --version, --usage, --complete or --complete-words; if NAME may begin with '-', write '--' before it\n")
 
--- The answer is an error, the program's help, its version, or what the words ask for.
 -- This is the answer to the program's own words, which have these matches.
 abbrev pub AnswersOwn : Matched → Answer → Type 0
 AnswersOwn own answer = MatchBool (sets_nothing own) (answer ≡ no_code)
@@ -485,10 +468,7 @@ OneAnswer = (words : List Text) (answer other : Answer) → IsAnswer words answe
 
 -- ---- statuses
 
--- The status is 0 if text was written for the script, 2 if its words were rejected, 3 if an
--- allocation failed, 4 if writing or flushing failed, and 5 if the script called the program
--- incorrectly.
--- This is one of the program's statuses.
+-- The status is 0 (text), 2 (rejected), 3 (out of memory), 4 (writing failed) or 5 (misused).
 abbrev pub IsStatus : ℕ → Type 0
 IsStatus status = (status ≤ 5) × (status ≢ 1)
 

@@ -14,22 +14,22 @@ apostrophe = 39
 abbrev pub backslash : ℕ
 backslash = 92
 
--- Outside quotes, the shell is within a word or between words; in quotes, and after a backslash, it
--- is within a word. `unsaid` means that this model doesn't say how the shell goes on.
 -- what a shell has read of a text: the complete words, and where in the text it is
 pub data Progress : Type 0 where
+  -- within a word, or between words
   outside : List Text → Option Text → Progress
+  -- within a word, in quotes
   quoting : List Text → Text → Progress
+  -- within a word, after a backslash
   escaping : List Text → Text → Progress
+  -- this model doesn't say how the shell goes on
   unsaid : Progress
 
 -- the complete words, if the word that is being read ends
 abbrev pub done : List Text → Option Text → List Text
 done words word = words ++ option_to_list word
 
--- A space or a tab separates words, `'..'` is literal, and `\` makes the next byte literal unless
--- it is a line end. Other bytes outside quotes aren't modelled.
--- the progress after one more byte of a command
+-- the progress after one more byte of a command; most bytes outside quotes aren't modelled
 abbrev pub read_byte : Progress → ℕ → Progress
 read_byte (outside words word) byte =
     if byte == apostrophe then quoting words (unwrap_or word [])

@@ -48,8 +48,7 @@ after byte text = after_first (λ other. other == byte) text
 abbrev pub unopened : Text → Text
 unopened text = if slice_index text 0 == open_bracket then drop 1 text else text
 
--- whether a text is a word instead of a table: it begins with a dash, and contains no space, tab or
--- line end
+-- whether a text is a word instead of a table: a dash comes first, and no space, tab or line end
 abbrev pub is_word : Text → Bool
 is_word text = begins_with_dash text && not (holds 32 text || (holds 9 text || holds 10 text))
 
@@ -132,8 +131,7 @@ end_means end =
     else (if bytes_eq end (codes "!") then Some Alone
     else (if bytes_eq end (codes "..") || bytes_eq end (codes "...") then Some All else None))
 
--- An option without brackets has to occur once. After `[` and `]`, the end says how often.
--- The text has this inside, and brackets that mean this occurrence.
+-- The text has this inside, in brackets or without, which say how often an option may occur.
 pub data IsBracketed (text inside : Text) : Frequency → Type 0 where
   bare : text ≡ inside → slice_index text 0 ≢ open_bracket → IsBracketed text inside Once
   bracketed : (end : Text) (frequency : Frequency) → text ≡ codes "[" ++ (inside ++ (codes "]" ++ end))
@@ -184,8 +182,7 @@ has_dots text = not (holds 46 text)
 abbrev pub operand_name : Text → Text
 operand_name item = before close_bracket (unopened (before 46 item))
 
--- whether an item is an operand: a name that begins with a capital letter, in brackets if it is
--- optional, with two or three dots if it may be repeated
+-- whether an item is an operand: a name that begins with a capital, perhaps with brackets and dots
 abbrev pub is_operand : Text → Bool
 is_operand item = begins_capital (unopened item)
     && (list_all is_operand_byte (operand_name item)
@@ -203,8 +200,7 @@ is_needed operand = not (slice_index operand.item 0 == open_bracket)
 abbrev pub may_repeat : Operand → Bool
 may_repeat operand = holds 46 operand.item
 
--- an entry of a table: the number of its line, the names and kind of its option, how often that may
--- occur, the hint, and the description
+-- an entry of a table: the number of its line, and what this line says about an option
 pub record Entry : Type 0 where
   pub line : ℕ
   pub names : Names
@@ -213,8 +209,7 @@ pub record Entry : Type 0 where
   pub hint : Text
   pub description : Text
 
--- In a help, an option whose last value counts may occur once.
--- how often words may give an option, or how often a help says they may
+-- how often words may give an option or, if `shown`, how often a help says that they may
 abbrev pub occurrence_of : Bool → Frequency → Occur
 occurrence_of shown Once = Req
 occurrence_of shown All = Multi
@@ -261,8 +256,7 @@ abbrev pub begins_end : Text → Bool
 begins_end text =
     slice_index text 0 == 33 || (slice_index text 0 == 46 && slice_index text 1 == 46)
 
--- whether a text begins like a part of an item: with `[`, a dash, the end of an item, or an operand
--- before a space or a tab
+-- whether a text begins like a part of an item: with `[`, a dash, an item's end, or an operand
 abbrev pub begins_item : Text → Bool
 begins_item text = slice_index text 0 == open_bracket || (slice_index text 0 == 45
     || (begins_end text || is_operand (before 9 (before 32 text))))
@@ -453,24 +447,23 @@ reason_of item = option_map_or (λ reason. reason.1) (find (λ reason. reason.0)
 
 -- ---- errors
 
--- an error in a table: the number of a line, and its item, a name, or its operand and the earlier
--- one that it can't follow
+-- an error in a table: a line's number, and its item, a name, or its operand and an earlier one
 pub data TableFault : Type 0 where
   no_option : ℕ → Text → TableFault
   name_twice : ℕ → Text → TableFault
   late_operand : ℕ → Operand → Operand → TableFault
 
--- The earlier lines declare these entries and operands. This line is neither empty, a comment, an
--- option nor an operand (`none`); or an option with a name that they declare (`twice`); or an
--- operand that can't follow one of theirs (`late`).
--- This is the error of the line with this number.
+-- This is the error of the line with this number, after lines with these entries and operands.
 pub data IsLineFault (number : ℕ) (entries : List Entry) (operands : List Operand) (line : Text)
     : TableFault → Type 0 where
+  -- it is neither empty, a comment, an option nor an operand
   none : ((declared : Option Entry) → ¬ (Declares number line declared))
       → IsLineFault number entries operands line (no_option number (item_of line))
+  -- it is an option with a name that they declare
   twice : (entry : Entry) (name : Text) → DeclaresEntry number line entry
       → name_again entries entry ≡ Some name
       → IsLineFault number entries operands line (name_twice number name)
+  -- it is an operand that can't follow one of theirs
   late : (operand earlier : Operand) → operand_at line ≡ Some operand
       → conflicting_operand operands operand ≡ Some earlier
       → IsLineFault number entries operands line (late_operand number operand earlier)

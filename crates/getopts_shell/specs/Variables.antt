@@ -45,29 +45,26 @@ abbrev pub is_variable : Text → Bool
 is_variable [] = false
 is_variable (byte ∷ more) = not (is_ascii_digit byte) && list_all is_variable_byte (byte ∷ more)
 
--- what precedes the words of an array that is assigned to NAME: `${NAME+}` adds no word, but keeps
--- the Korn shell from taking a first word such as `typeset` for a command
+-- what precedes an array's words: `${NAME+}` adds none, but ksh then takes none for a command
 abbrev pub array_front : Text → Text
 array_front name = codes "(${" ++ (name ++ codes "+} ")
 
--- The value is the one word that a shell reads in `''` followed by the code, or the words of an
--- array.
 -- NAME is unset, and `NAME=` and this code assign this value to it.
 pub data Assigns (name : Text) : Text → Value → Type 0 where
+  -- the one word that a shell reads in `''` followed by the code
   one_word : (code word : Text) → shell_words (codes "''" ++ code) ≡ Some (word ∷ [])
       → Assigns name code (one word)
+  -- the words of an array
   array_words : (code : Text) (words : List Text) → shell_words code ≡ Some words
       → Assigns name (array_front name ++ (code ++ codes ")")) (many words)
 
--- The shell reads the whole command: line ends in the command are in quotes, and no quotes stay
--- open. Other commands aren't modelled, nor is `NAME=` if NAME is set: an array would keep its
--- other elements.
--- A shell that held `before` holds this after the command.
+-- A shell that held `before` holds this after the whole command; other commands aren't modelled.
 pub data RunsCommand (before : Shell) : Text → Shell → Type 0 where
   sets : (code : Text) (words : List Text) → shell_words code ≡ Some words
       → RunsCommand before (codes "\\set -- " ++ code) (record before { words = words })
   unsets : (name : Text) → is_variable name ≡ true
       → RunsCommand before (codes "\\unset -v " ++ name) (with_variable before name None)
+  -- only to an unset NAME: an array would keep its other elements
   assigns : (name code : Text) (value : Value) → is_variable name ≡ true
       → before.value name ≡ None → Assigns name code value
       → RunsCommand before (name ++ (codes "=" ++ code)) (with_variable before name (Some value))
@@ -80,8 +77,7 @@ pub data RunsText : Shell → Text → Shell → Type 0 where
   command_line : (before next after : Shell) (command more : Text) → RunsCommand before command next
       → RunsText next more after → RunsText before (command ++ (codes "\n" ++ more)) after
 
--- The same is true of the text without its last line end, which `$(..)` removes.
--- A shell that held `before` and runs the text holds `after`.
+-- A shell that held `before` and runs the text, with or without its last line end, holds `after`.
 pub record Runs (before : Shell) (text : Text) (after : Shell) : Type 0 where
   pub whole : RunsText before text after
   pub cut : Text
@@ -107,20 +103,22 @@ abbrev pub with_same_variable : Text → List Entry → Entry → Option Entry
 with_same_variable prefix before entry =
     find (λ other. bytes_eq (variable_of prefix other) (variable_of prefix entry)) before
 
--- whether a variable may be one that shells or other programs use, such as `IFS`: it has no prefix,
--- and its name has more than one byte, but no small letter
+-- whether a variable may be a shell's, such as `IFS`: no prefix, several bytes, no small letter
 abbrev pub is_shell_variable : Text → Text → Bool
 is_shell_variable prefix name =
     is_empty prefix && (nat_lt 1 (length name) && not (list_any is_ascii_lowercase name))
 
--- an error about variables: arrays without variables; a prefix that can't begin a variable; or, in
--- the line with this number, a name that makes no variable, makes that of a shell, or makes that of
--- an earlier name, which comes first
+-- an error about variables, some with the number of a line
 pub data VariableFault : Type 0 where
+  -- arrays without variables
   arrays_only : VariableFault
+  -- a prefix that can't begin a variable
   no_prefix : Text → VariableFault
+  -- a name that makes no variable
   no_variable : ℕ → Text → VariableFault
+  -- a name that makes a shell's variable
   shell_variable : ℕ → Text → VariableFault
+  -- an earlier name, and a name that makes the same variable
   variable_twice : ℕ → Text → Text → VariableFault
 
 -- the error of an entry after others, if it has one
@@ -204,8 +202,7 @@ all_values arrays occurrences =
 abbrev pub count_text : ℕ → Text
 count_text count = if count == 0 then [] else decimal count
 
--- what a variable holds: how often the option was given if it takes no argument, all values, or
--- the last value if there is one
+-- what an option's variable holds: how often it was given, all its values, or the last one
 abbrev pub variable_value : Bool → HasArg → Bool → List GroupOccurrence → Option Value
 variable_value arrays No all occurrences = Some (one (count_text (length occurrences)))
 variable_value arrays kind true occurrences = Some (all_values arrays occurrences)
@@ -216,8 +213,7 @@ abbrev pub own_value : Bool → Given → Option Value
 own_value arrays option =
     variable_value arrays option.entry.kind (holds_all option.entry.frequency) option.occurrences
 
--- a shell that holds these options: the variable of each has its value or none, all others are
--- unchanged, and the words are the free words
+-- a shell in which these options' variables have their values, and the words are the free words
 abbrev pub with_options : Text → Bool → List Given → List Text → Shell → Shell
 with_options prefix arrays options free shell = record (fold
     (λ so_far option. with_variable so_far (variable_of prefix option.entry) (own_value arrays option))
@@ -272,9 +268,7 @@ pub record SetsWords (words : List Text) : Type 0 where
   pub bytes : (before : Shell)
       → Runs before (bytes_of (line_code words)) (record before { words = map bytes_of words })
 
--- Each option has a variable of its own, and the words in a text of values are these values. If the
--- values are UTF-8, a shell that runs the bytes of the code holds the bytes of everything.
--- A shell that runs the code for options and free words holds these.
+-- A shell that runs the code for options and free words, or the code's bytes, holds these.
 pub record SetsVariables (prefix : Text) (arrays : Bool) (options : List Given) (free : List Text)
     : Type 0 where
   pub own : HaveOwnVariables prefix (map (λ option. option.entry) options)

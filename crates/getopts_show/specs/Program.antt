@@ -105,30 +105,24 @@ program_help =
 abbrev pub IsHelpText : Text → Type 0
 IsHelpText text = IsTheOnly (IsUsageText program_options help_brief) text × (text ≡ program_help)
 
--- The output is the program's help if the words ask for it, and otherwise the text of the reading's
--- matches and content.
--- This is the output for accepted words with this reading.
+-- This is the output for accepted words with this reading: the help, if they ask for it (`true`).
 abbrev pub IsReadingText : Bool → Reading → Text → Type 0
 IsReadingText true reading text = IsHelpText text
 IsReadingText false reading text = text
     ≡ matches_text (matches_of program_options reading) ++ content_text (content_of program_options reading)
 
--- A reading has its output and status 0; an error has its line and status 2.
 -- These are the output and the status for this result.
 abbrev pub IsResultText : Result Reading Fault → Text → ℕ → Type 0
 IsResultText (Ok reading) text status =
     IsReadingText (asks_help (matches_of program_options reading)) reading text × (status ≡ 0)
 IsResultText (Err fault) text status = (text ≡ fault_line fault) × (status ≡ 2)
 
--- The words have only one result: their reading that keeps the counts, or their first error.
--- These are the output and the status for the words.
+-- These are the output and the status for the only result of the words.
 abbrev pub IsProgramText : List Text → Text → ℕ → Type 0
 IsProgramText words text status = (result : Result Reading Fault)
     × IsTheOnly (IsLineOf program_options words) result × IsResultText result text status
 
--- The status is 0 if help, or the meaning of accepted words, was shown; 2 if the error of rejected
--- words was shown; 3 if an allocation failed; and 4 if writing or flushing failed.
--- This is one of the program's statuses.
+-- The status is 0 or 2 for a line (`IsDone`), 3 if an allocation failed, or 4 if writing failed.
 abbrev pub IsStatus : ℕ → Type 0
 IsStatus status = (status ≡ 0) ⊎ (status ≡ 2) ⊎ (status ≡ 3) ⊎ (status ≡ 4)
 

@@ -34,7 +34,6 @@ abbrev pub IsWithin : ℕ → ℕ → Text → ℕ → Type 0
 IsWithin low high text number =
     ParsesUnsigned {E = ParseIntError} 32 10 text (Ok number) × (low ≤ number) × (number ≤ high)
 
--- The error contains the option, the text and the bounds.
 -- This is the number that an option's value is, or the default, or an error.
 abbrev pub IsNumberOrError : Text → ℕ → ℕ → ℕ → Option Text → Result ℕ Refusal → Type 0
 IsNumberOrError option low high default text (Err refusal.OutOfMemory) = ⊤
@@ -52,7 +51,6 @@ color_named word =
     else (if bytes_eq word (codes "always") then Some Always
     else (if bytes_eq word (codes "never") then Some Never else None))
 
--- The error contains the option and the text.
 -- This is the choice that a word names, or `auto` if there is none, or an error.
 abbrev pub IsColorOrError : Text → Option Text → Result Color Refusal → Type 0
 IsColorOrError option text (Err refusal.OutOfMemory) = ⊤
@@ -71,7 +69,6 @@ cut text = if nat_lt (position_or_len (λ b. b == 61) text) (length text)
 abbrev pub pair_view : Pair → Text × Text
 pair_view pair = (string_bytes pair.key, string_bytes pair.value)
 
--- The error contains the option and the text.
 -- This is the pair that a text is, or an error.
 abbrev pub IsPairOrError : Text → Text → Result Pair Refusal → Type 0
 IsPairOrError option text (Err refusal.OutOfMemory) = ⊤
@@ -85,8 +82,7 @@ abbrev pub first_uncut : List Text → Option Text
 first_uncut [] = None
 first_uncut (text ∷ texts) = option_map_or (λ pair. first_uncut texts) (cut text) (Some text)
 
--- The error contains the option and the first text that isn't a pair.
--- These are the pairs that texts are, or an error.
+-- These are the pairs that texts are, or an error with the first text that isn't a pair.
 abbrev pub ArePairsOrError : Text → List Text → Result (Vec Pair Global) Refusal → Type 0
 ArePairsOrError option texts (Err refusal.OutOfMemory) = ⊤
 ArePairsOrError option texts (Ok pairs) =
@@ -118,8 +114,6 @@ abbrev pub refusal_of : Fail → Refusal
 refusal_of fail.OutOfMemory = refusal.OutOfMemory
 refusal_of fail = refusal.Line fail
 
--- A command line sets nothing if it has an error; otherwise, if its number is out of bounds;
--- otherwise, if its colour isn't one of the choices; otherwise, if a text isn't a pair.
 -- This is what a command line sets, or why it sets nothing.
 abbrev pub IsSettingsOrError : Result Matched Fault → Result Settings Refusal → Type 0
 IsSettingsOrError line (Err refusal.OutOfMemory) = ⊤

@@ -89,8 +89,6 @@ IsLogOrError (Ok None) (Ok None) = ⊤
 IsLogOrError (Ok (Some matches)) (Ok (Some log)) = IsLogOf matches log
 IsLogOrError asked result = ⊥
 
--- There is no subcommand if its own words have an error, or its name is unknown. `Line` and
--- `NoCommand` are errors of the words before it.
 -- This is the subcommand of this name, with what its own words ask for, or why there is none.
 abbrev pub IsCommandOrError : Text → List Text → Result Command Refusal → Type 0
 IsCommandOrError name words (Err refusal.OutOfMemory) = ⊤
@@ -106,8 +104,7 @@ IsCommandOrError name words (Err error) =
     ((name ≡ codes "add") × IsAddOrError (parse_unless_help add_options words) (Err error))
     ⊎ ((name ≡ codes "log") × IsLogOrError (parse_unless_help log_options words) (Err error))
 
--- The first free word is the subcommand's name, and the others are its own words.
--- This is what matches with these free words run.
+-- This is what matches with these free words run: a subcommand's name, and its own words.
 abbrev pub IsRunOf : Matched → List Text → Result Run Refusal → Type 0
 IsRunOf global free (Err refusal.OutOfMemory) = ⊤
 IsRunOf global [] (Err refusal.NoCommand) = ⊤

@@ -106,7 +106,6 @@ pub record IsJobOf (matches : Matched) (job : Job) : Type 0 where
 abbrev pub names_none : Matched → Bool
 names_none matches = length matches.free == 0
 
--- There is no job if the command line has an error or names no input.
 -- This is the job for a command line's result, or why there is none.
 abbrev pub IsJobOrError : Result Matched Fault → Result Job Refusal → Type 0
 IsJobOrError line (Err OutOfMemory) = ⊤

@@ -1,7 +1,9 @@
+pub mod Archive
 pub mod Checked
 pub mod Command
 pub mod Cut
 pub mod Driver
+pub mod Launcher
 pub mod Linker
 pub mod Logged
 pub mod Loudness

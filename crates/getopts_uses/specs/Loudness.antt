@@ -32,8 +32,7 @@ report_options = record {
 abbrev pub loudness_at : ℕ → Option Loudness
 loudness_at place = if place == 0 then Some Quiet else (if place == 1 then Some Verbose else None)
 
--- The last of the two flags wins.
--- how much output options in this order ask for, if it was `loudness` before
+-- how much output an order asks for, if it was `loudness` before: the last of the flags wins
 abbrev pub after : Loudness → List Given → Loudness
 after loudness [] = loudness
 after loudness (option place value ∷ order) = after (unwrap_or (loudness_at place) loudness) order
@@ -52,7 +51,6 @@ pub record IsReportOf (matches : Matched) (loudness : Loudness) (report : Report
       ≡ first_value (occurrences_of_name matches.groups (codes "output"))
   pub files : map string_bytes report.files.items ≡ matches.free
 
--- The order is that in which options and free words were typed.
 -- This is what a command line asks for, or its error.
 abbrev pub IsAskedOrError : Result (Request Matched) Fault → Result (List Given) Fault
     → Result (Request Report) Fail → Type 0

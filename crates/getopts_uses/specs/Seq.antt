@@ -1,14 +1,12 @@
--- The options of `seq`, where they end, and the operands, which may be negative numbers.
-use Rattle.std.specs.Prelude.{◌≡◌, ◌-◌, ◌==◌, ◌&&◌, ◌||◌, ℕ, if◌then◌else◌, nat_lt, List, [], ◌∷◌, Bool}
-use Rattle.std.specs.Prelude.{codes, drop, length, map, take, Option, Result, Ok, Err}
+-- The options of `seq`, and its operands, which may be negative numbers.
+use Rattle.std.specs.Prelude.{◌≡◌, ◌++◌, ◌==◌, ◌&&◌, ◌||◌, ℕ, if◌then◌else◌, nat_lt, List, [], ◌∷◌, Bool, true, false}
+use Rattle.std.specs.Prelude.{codes, length, map, Option, None, Result, Ok, Err, unwrap_or}
 use Rattle.std.specs.List.{slice_get, slice_index}
-use Rattle.std.specs.Option.{option_map}
-use Rattle.std.specs.Result.{result_map_both}
-use Rattle.std.specs.String.{string_bytes}
-use Rattle.getopts.specs.Prelude.{Declared, Fault, IsOutOfMemoryOr, Matched, Text, is_present}
-use Rattle.getopts.specs.Prelude.{occurrences_of_name, optflagmulti, optmulti, options_of}
-use Rattle.getopts.specs.Prelude.{parse_result, values_of}
-use Rattle.getopts.specs.declared.fail.Fail.{Fail}
+use Rattle.std.specs.Option.{option_copied}
+use Rattle.getopts.specs.Options.{Grammar, grammar_of}
+use Rattle.getopts.specs.Prelude.{Declared, Fault, Given, IsNextFault, IsReadTo, Text, free_word}
+use Rattle.getopts.specs.Prelude.{optflagmulti, option, options_of, optmulti, order_or_error}
+use Rattle.getopts.specs.Reader.{Left}
 use Rattle.getopts.specs.declared.kinds.ParsingStyle.TheVariants.{StopAtFirstFree}
 use Rattle.getopts_uses.specs.declared.seq.Seq.{Seq}
 
@@ -20,50 +18,64 @@ seq_options = record (options_of (
     ∷ optflagmulti (codes "w") (codes "equal-width") (codes "print leading zeros")
     ∷ [])) { style = StopAtFirstFree }
 
--- The bytes are `-`, `.`, and from `0` (48) to `9` (57).
--- whether a word begins like a negative number: `-`, then a digit or `.`
+abbrev pub seq_grammar : Grammar
+seq_grammar = grammar_of seq_options
+
+-- whether a word begins like a negative number: `-` (45), and a digit (48 to 57) or `.` (46)
 abbrev pub is_negative : Text → Bool
 is_negative word = (slice_index word 0 == 45)
     && ((slice_index word 1 == 46) || (nat_lt 47 (slice_index word 1) && nat_lt (slice_index word 1) 58))
 
--- a word, or `0` if it begins like a negative number: like `0`, such a number is an operand or an
--- option's value
-abbrev pub stand_in : Text → Text
-stand_in word = if is_negative word then codes "0" else word
+-- whether the next word begins like a negative number, and no names of a cluster are left
+abbrev pub is_at_number : Left → Bool
+is_at_number left = (length left.names == 0) && is_negative (unwrap_or (slice_get left.words 0) [])
 
--- Under `StopAtFirstFree`, the free words are the last words.
--- how many words precede the operands, or the error of the words
-abbrev pub operands_start : List Text → Result ℕ Fault
-operands_start words = result_map_both (λ matches. length words - length matches.free) (λ fault. fault)
-    (parse_result seq_options (map stand_in words))
+-- The options and operands of a command line, in order, or its error.
+pub data IsLine (line : List Text) : Result (List Given) Fault → Type 0 where
+  -- a negative number is where an option could begin: with it, the operands begin
+  negative : (given : List Given) (left : Left) → IsReadTo seq_grammar line given left
+      → is_at_number left ≡ true → IsLine line (Ok (given ++ map free_word left.words))
+  -- no word is an error
+  whole : (order : List Given) → order_or_error seq_options line ≡ Ok order → IsLine line (Ok order)
+  -- the first word that is an error isn't such a number
+  refused : (given : List Given) (left : Left) (fault : Fault) → IsReadTo seq_grammar line given left
+      → is_at_number left ≡ false → IsNextFault seq_grammar left fault → IsLine line (Err fault)
 
--- the matches, with these operands
-abbrev pub with_operands : List Text → Result Matched Fault → Result (Matched × List Text) Fault
-with_operands operands = result_map_both (λ matches. (matches, operands)) (λ fault. fault)
+-- what a command line asks for
+pub record Asked : Type 0 where
+  pub format : Option Text
+  pub separator : Option Text
+  pub equal_width : Bool
+  pub operands : List Text
 
--- words divided where the operands start: the matches of the words before, and the operands
-abbrev pub divided : List Text → Result ℕ Fault → Result (Matched × List Text) Fault
-divided words (Err fault) = Err fault
-divided words (Ok start) = with_operands (drop start words) (parse_result seq_options (take start words))
+-- what it asks for, as it is stored
+abbrev pub asked_view : {S : Type 0} → (S → Text) → Seq S → Asked
+asked_view text seq = record {
+  format = option_copied seq.format;
+  separator = option_copied seq.separator;
+  equal_width = seq.equal_width;
+  operands = map text seq.operands.now;
+}
 
--- the matches of the options of a command line, and its operands
-abbrev pub line_of : List Text → Result (Matched × List Text) Fault
-line_of words = divided words (operands_start words)
+-- what is asked for after the option at a place, with its value
+abbrev pub with_option : ℕ → Option Text → Asked → Asked
+with_option place value asked = if place == 0 then record asked { format = value }
+    else (if place == 1 then record asked { separator = value } else record asked { equal_width = true })
 
--- the last value of an option, if it is given
-abbrev pub last_value : Matched → Text → Option Text
-last_value matches name = slice_get (values_of (occurrences_of_name matches.groups name))
-    (length (values_of (occurrences_of_name matches.groups name)) - 1)
+-- The last value of an option wins.
+-- what is asked for after these options and operands
+abbrev pub asked_after : List Given → Asked → Asked
+asked_after [] asked = asked
+asked_after (option place value ∷ order) asked = asked_after order (with_option place value asked)
+asked_after (free_word word ∷ order) asked =
+    asked_after order (record asked { operands = asked.operands ++ word ∷ [] })
 
--- The matches and these operands ask for this.
-pub record IsSeqOf (matches : Matched) (words : List Text) (seq : Seq) : Type 0 where
-  pub format : option_map string_bytes seq.format ≡ last_value matches (codes "format")
-  pub separator : option_map string_bytes seq.separator ≡ last_value matches (codes "separator")
-  pub equal_width : seq.equal_width ≡ is_present matches.groups (codes "equal-width")
-  pub operands : map string_bytes seq.operands.items ≡ words
+-- what options and operands ask for
+abbrev pub asked_by : List Given → Asked
+asked_by order =
+    asked_after order (record { format = None; separator = None; equal_width = false; operands = [] })
 
--- This is what a command line asks for, or its error.
-abbrev pub IsSeqOrError : Result (Matched × List Text) Fault → Result Seq Fail → Type 0
-IsSeqOrError line (Err fail) = IsOutOfMemoryOr fail (λ fault. line ≡ Err fault)
-IsSeqOrError (Ok (matches, operands)) (Ok seq) = IsSeqOf matches operands seq
-IsSeqOrError (Err fault) (Ok seq) = ⊥
+-- A command line asks for this.
+abbrev pub AsksFor : {S : Type 0} → (S → Text) → List Text → Seq S → Type 0
+AsksFor text line seq =
+    (order : List Given) × IsLine line (Ok order) × (asked_view text seq ≡ asked_by order)

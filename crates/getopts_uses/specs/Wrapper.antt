@@ -14,8 +14,7 @@ wrapper_options = record {
   long_only = false;
 }
 
--- If no word follows `--`, nothing is passed on.
--- The words are accepted, and those after `--` are passed on.
+-- The words are accepted, and those after `--`, if there are any, are passed on.
 pub record HandsOn (words handed : List Text) : Type 0 where
   pub matches : Matched
   pub accepted : parse_result wrapper_options words ≡ Ok matches

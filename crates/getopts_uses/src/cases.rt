@@ -3,10 +3,12 @@
 ghost use Rattle.std.specs.Prelude.{IfOk, codes};
 ghost use Rattle.getopts.specs.Prelude.{Declares};
 
+use crate::archive::read_entries;
 use crate::checked::read_settings;
 use crate::cut::read_cut;
 use crate::flag::says_more;
 use crate::join::join;
+use crate::launcher::read_launch;
 use crate::lists::{any_given, count_of, place_named};
 use crate::logged::{read_and_log, read_build};
 use crate::loudness::read_report;
@@ -52,6 +54,8 @@ fn push_caller(
     match caller {
         "logged" => push(text, read_and_log(alloc, words)),
         "replayed" => push_replayed(alloc, text, words),
+        "archive" => push(text, read_entries(alloc, words)),
+        "launcher" => push(text, read_launch(alloc, words)),
         "checked" => push(text, read_settings(alloc, words)),
         "cut" => push_cut(alloc, text, words),
         "join" => push_joined(alloc, text, words),

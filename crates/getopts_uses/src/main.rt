@@ -5,12 +5,14 @@
 //! the expected output is in `stdout`.
 #![tactic(auto)]
 
+mod archive;
 mod cases;
 mod checked;
 mod cut;
 mod driver;
 mod flag;
 mod join;
+mod launcher;
 mod linker;
 mod lists;
 mod logged;

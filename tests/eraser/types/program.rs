@@ -11,11 +11,6 @@ pub mod process {
     impl From<u8> for ExitCode { fn from(_: u8) -> ExitCode { loop {} } }
 }
 
-pub mod getopts {
-    pub use ::getopts::proved::*;
-    pub fn names_resolve(_: &Options) {}
-}
-
 pub mod host {
     pub use self::alloc::{AllocError, Global};
     pub use ::getopts::fallible::*;

@@ -67,11 +67,6 @@ mod host {
     }
 }
 
-mod getopts {
-    pub use ::getopts::proved::*;
-    pub fn names_resolve(_options: &Options) {}
-}
-
 #[allow(unused, clippy::all)]
 #[rustfmt::skip]
 #[path = "../../../bindings/shell/src/program/mod.rs"]

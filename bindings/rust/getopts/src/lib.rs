@@ -6,7 +6,8 @@
 // another package sets the feature `proved` of `proved-getopts`, the program would also get modules
 // such as `alloc` and `bytes`, whose names may mean crates.
 pub use ::getopts::{
-    Fail, Given, HasArg, Matches, Occur, Options, OsGetError, OsMatches, ParsingStyle, Result,
+    Fail, Given, HasArg, Matches, Occur, OptGroup, Options, OsGetError, OsMatches, ParsingStyle,
+    Result,
 };
 #[cfg(feature = "proved")]
 pub use ::getopts::{alloc, fallible, proved};

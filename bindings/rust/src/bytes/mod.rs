@@ -19,20 +19,6 @@ const FIRST: u32 = 0x10_FF80;
 /// The difference between a mark and its byte.
 const ADDED: u32 = 0x10_FF00;
 
-/// Converting a word to text and back gives the word: a lemma for proofs; does nothing.
-#[doc(hidden)]
-pub fn words_come_back() {}
-
-/// UTF-8 without marks is unchanged by both conversions: a lemma for proofs; does nothing.
-#[doc(hidden)]
-pub fn plain_texts_stay() {}
-
-/// An ASCII byte stays in place: the text of a word is the text of the part before the byte, the
-/// byte, and the text of the part after it. If the text of a word is split between characters, each
-/// part is the text of a part of the word. A lemma for proofs; does nothing.
-#[doc(hidden)]
-pub fn words_are_cut_as_texts() {}
-
 /// Bytes as a text, if they are UTF-8 without marks.
 pub fn plain_text(bytes: &[u8]) -> Option<&str> {
     match core::str::from_utf8(bytes) {

@@ -7,7 +7,7 @@ use super::fail::Fail;
 use super::groups::Groups;
 use super::options::Options;
 use super::parse::words_from;
-use super::scan::{Given, are_texts};
+use super::scan::Given;
 use crate::alloc::{AllocError, Global};
 use crate::convert::AsStr;
 
@@ -112,7 +112,6 @@ impl Options {
         alloc: Global,
         words: &[S],
     ) -> Result<Option<Vec<String>>, Fail> {
-        are_texts(words);
         let order = self.parse_in_order(alloc, words)?;
         let groups = self.groups();
         if are_plain(groups, &order) {

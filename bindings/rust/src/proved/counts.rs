@@ -36,7 +36,10 @@ pub(crate) fn check_order(
     let mut counts = Vec::filled(alloc, 0, room)?;
     count_options(&mut counts, order);
     for place in 0..room {
-        check_count(alloc, signatures, place, counts[place])?;
+        let count = counts[place];
+        if !fits_count(signatures.record(place).kinds.occur, count) {
+            return Err(count_fault(alloc, signatures.main(place), count));
+        }
     }
     Ok(())
 }
@@ -48,20 +51,6 @@ fn count_options(counts: &mut [usize], order: &[Given]) {
                 counts[*place] += 1;
             }
         }
-    }
-}
-
-#[inline(always)]
-fn check_count(
-    alloc: Global,
-    signatures: &Signatures,
-    place: usize,
-    count: usize,
-) -> Result<(), Fail> {
-    if fits_count(signatures.record(place).kinds.occur, count) {
-        Ok(())
-    } else {
-        Err(count_fault(alloc, signatures.main(place), count))
     }
 }
 

@@ -3,23 +3,42 @@
 
 use crate::fallible::*;
 
-use super::kinds::Kinds;
+use super::kinds::{HasArg, Kinds, Occur};
 use super::pairs::{FIRST_TEXT, PairEnds, first_at, push_pair, second_at};
-use super::signatures::{FIRST_GROUPS, SignatureView, Signatures};
+use super::signatures::{FIRST_GROUPS, Signatures};
 use crate::alloc::{AllocError, Global};
 
-#[derive(Clone, Copy)]
-pub(crate) struct GroupView<'g> {
-    pub signature: SignatureView<'g>,
-    pub hint: &'g str,
-    pub desc: &'g str,
+/// A declared option, as `Options::get` returns it.
+///
+/// The fields are what was passed to `opt` or a similar method. The Rust crate has no such public
+/// type.
+#[derive(Debug, Clone, Copy)]
+pub struct OptGroup<'o> {
+    /// Its short name, or `""` if it has none.
+    pub short_name: &'o str,
+    /// Its long name, or `""` if it has none.
+    pub long_name: &'o str,
+    /// What help texts show in place of its argument.
+    pub hint: &'o str,
+    /// Its description in help texts.
+    pub desc: &'o str,
+    /// Whether it takes an argument.
+    pub hasarg: HasArg,
+    /// How often it may occur.
+    pub occur: Occur,
 }
 
-impl<'g> PartialEq for GroupView<'g> {
-    fn eq(&self, other: &GroupView<'g>) -> bool {
-        self.signature == other.signature && self.hint == other.hint && self.desc == other.desc
+impl<'o> PartialEq for OptGroup<'o> {
+    /// Whether all fields are equal.
+    fn eq(&self, other: &OptGroup<'o>) -> bool {
+        (self.short_name == other.short_name
+            && self.long_name == other.long_name
+            && (self.hasarg == other.hasarg && self.occur == other.occur))
+            && (self.hint == other.hint && self.desc == other.desc)
     }
 }
+
+impl<'o> Eq for OptGroup<'o> {}
 
 /// Groups with valid names. `texts` has the hints and descriptions of all groups, and `ends` says
 /// where they are.
@@ -52,12 +71,16 @@ impl Groups {
         self.signatures.main(place)
     }
 
-    pub(crate) fn get(&self, place: usize) -> GroupView<'_> {
+    pub(crate) fn get(&self, place: usize) -> OptGroup<'_> {
+        let signature = self.signatures.get(place);
         let pair = self.ends[place];
-        GroupView {
-            signature: self.signatures.get(place),
+        OptGroup {
+            short_name: signature.names.short,
+            long_name: signature.names.long,
             hint: first_at(&self.texts, pair),
             desc: second_at(&self.texts, pair),
+            hasarg: signature.kinds.kind,
+            occur: signature.kinds.occur,
         }
     }
 

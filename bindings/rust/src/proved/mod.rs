@@ -39,6 +39,7 @@ mod accessors;
 mod canon;
 pub(crate) mod matches;
 mod parse;
+mod reader;
 mod request;
 
 // Help texts.
@@ -48,16 +49,16 @@ mod usage;
 pub mod wrap;
 
 pub use fail::Fail;
+pub use groups::OptGroup;
 pub use kinds::{HasArg, Occur, ParsingStyle};
 pub use matches::Matches;
 pub use names::names_lawful;
 pub use occurrences::{Occurrences, OccurrencesIter};
 pub use options::Options;
+pub use reader::{Reader, Unread};
 pub use request::Request;
-pub use scan::Given;
+pub use scan::{Given, free_words};
 pub use usage::UsageRows;
 
 /// What `parse` returns: the matches of an accepted command line, or why it was rejected.
 pub type Result = core::result::Result<Matches, Fail>;
-
-pub use scan::are_texts;

@@ -3,7 +3,7 @@
 
 use crate::fallible::*;
 
-use super::groups::Groups;
+use super::groups::{Groups, OptGroup};
 use super::kinds::HasArg::{Maybe, No, Yes};
 use super::kinds::Occur::{Multi, Optional, Req};
 use super::kinds::{HasArg, Kinds, Occur, ParsingStyle};
@@ -75,6 +75,40 @@ impl Options {
     pub fn long_only(&mut self, long_only: bool) -> &mut Options {
         self.long_only = long_only;
         self
+    }
+}
+
+// What was declared.
+impl Options {
+    /// Returns how many options were declared.
+    ///
+    /// Places, as in `Given` and from `opt_place`, are below this number. Allocates nothing. The
+    /// Rust crate has no such method.
+    pub fn len(&self) -> usize {
+        self.groups.len()
+    }
+
+    /// Returns the declared option at a place, its index in the order of declaration, or `None` if
+    /// fewer options were declared.
+    ///
+    /// Use it to name an option that a `Reader` or `parse_in_order` returned by its place, or to
+    /// print what help texts don't contain, such as a manual page:
+    ///
+    /// ```text
+    /// for place in 0..options.len() {
+    ///     if let Some(option) = options.get(place) {
+    ///         writeln!(out, "--{}: {}", option.long_name, option.desc)?;
+    ///     }
+    /// }
+    /// ```
+    ///
+    /// Allocates nothing. The Rust crate has no such method.
+    pub fn get(&self, place: usize) -> Option<OptGroup<'_>> {
+        if place < self.groups.len() {
+            Some(self.groups.get(place))
+        } else {
+            None
+        }
     }
 }
 
@@ -216,8 +250,6 @@ impl Options {
     }
 
     pub(crate) fn groups(&self) -> &Groups {
-        // Called only for its clause `declared`.
-        self.signatures();
         &self.groups
     }
 

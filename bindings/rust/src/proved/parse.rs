@@ -8,7 +8,7 @@ use super::fail::Fail;
 use super::index::Index;
 use super::matches::Matches;
 use super::options::Options;
-use super::scan::{FIRST_ROOM, Given, Line, Scanner, are_texts};
+use super::scan::{FIRST_ROOM, Given, Line, Scanner};
 use super::table::Table;
 use crate::alloc::{AllocError, Global};
 use crate::convert::AsStr;
@@ -68,7 +68,6 @@ impl Options {
         alloc: Global,
         words: &'w [S],
     ) -> Result<Vec<Given<'w>>, Fail> {
-        are_texts(words);
         let signatures = self.signatures();
         let table = Table::of(alloc, signatures)?;
         let scanner = Scanner {
@@ -88,7 +87,6 @@ impl Options {
         words: &[S],
         counted: bool,
     ) -> super::Result {
-        are_texts(words);
         let table = Table::of(alloc, self.signatures())?;
         let line = Line::for_words(alloc, words, self.style())?;
         self.read_rest(alloc, table, line, 0, words, counted)

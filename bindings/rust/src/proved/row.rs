@@ -3,9 +3,7 @@
 
 use crate::fallible::*;
 
-use super::groups::GroupView;
-use super::names::NamesView;
-use super::signatures::SignatureView;
+use super::groups::OptGroup;
 use super::texts::{MARGIN, push_argument, push_joined};
 use super::wrap::each_split_within;
 use crate::alloc::{AllocError, Global};
@@ -29,7 +27,7 @@ const ROW_ROOM: usize = 80;
 pub(crate) fn row_of(
     alloc: Global,
     layout: Layout,
-    group: GroupView<'_>,
+    group: OptGroup<'_>,
 ) -> Result<String, AllocError> {
     let mut row = String::of_capacity(alloc, ROW_ROOM)?;
     push_head(&mut row, layout, group)?;
@@ -40,26 +38,25 @@ pub(crate) fn row_of(
     Ok(row)
 }
 
-fn push_head(text: &mut String, layout: Layout, group: GroupView<'_>) -> Result<(), AllocError> {
+fn push_head(text: &mut String, layout: Layout, group: OptGroup<'_>) -> Result<(), AllocError> {
     text.try_push_str("    ")?;
-    let SignatureView { names, kinds } = group.signature;
-    let wide = has_columns(names.long);
-    push_short(text, layout, names, wide)?;
-    push_long(text, layout, names.long, wide)?;
-    push_argument(text, kinds.kind, group.hint)
+    let wide = has_columns(group.long_name);
+    push_short(text, layout, group, wide)?;
+    push_long(text, layout, group.long_name, wide)?;
+    push_argument(text, group.hasarg, group.hint)
 }
 
 fn push_short(
     text: &mut String,
     layout: Layout,
-    names: NamesView<'_>,
+    group: OptGroup<'_>,
     wide: bool,
 ) -> Result<(), AllocError> {
-    if names.short.is_empty() {
+    if group.short_name.is_empty() {
         text.try_push_str(if layout.any_short { "    " } else { "" })
     } else {
         text.try_push('-')?;
-        text.try_push_str(names.short)?;
+        text.try_push_str(group.short_name)?;
         text.try_push_str(if wide { ", " } else { " " })
     }
 }

@@ -18,18 +18,6 @@ pub(crate) const FIRST_ROOM: usize = 32;
 /// How many words are looked at to judge how many of a longer line's words are dashed.
 const SAMPLE: usize = 1024;
 
-/// A lemma for proofs: a `&str` is UTF-8. Compiles to nothing in an optimized build.
-fn is_text(word: &str) {}
-
-/// A lemma for proofs: each word is UTF-8, as its type says. Compiles to nothing in an optimized
-/// build.
-#[doc(hidden)]
-pub fn are_texts<S: AsStr>(words: &[S]) {
-    for word in words {
-        is_text(word.as_str());
-    }
-}
-
 /// What a command line contains: its options in order, its free words, and the index of the first
 /// free word after `--`.
 pub(crate) struct Line {
@@ -62,7 +50,7 @@ impl Line {
         self.found.shrink();
         self.trailing_start = None;
         match words.first() {
-            Some(word) if is_dashed(word.as_str()) => {
+            Some(word) if word.as_str() == "--" => {
                 let after = &words[1..];
                 self.trailing_start = (!after.is_empty()).then_some(self.free.len());
                 push_copies(alloc, &mut self.free, after)
@@ -73,7 +61,7 @@ impl Line {
     }
 }
 
-/// An option or a free word in a command line, as `parse_in_order` returns them.
+/// An option or a free word in a command line, as `parse_in_order` and `Reader::next` return them.
 #[derive(Clone, Copy, Debug, PartialEq, Eq)]
 pub enum Given<'w> {
     /// An option.
@@ -172,10 +160,11 @@ fn push_free_words<'w, S: AsStr>(
     Ok(())
 }
 
-/// The free words of a tail, which consists of the words that aren't read as items.
-fn tail_words<S: AsStr>(left: &[S]) -> &[S] {
+/// Returns the free words among the words that `Reader::next` leaves when it returns `None`: all of
+/// them, except a first `--`.
+pub fn free_words<S: AsStr>(left: &[S]) -> &[S] {
     match left.first() {
-        Some(word) if is_dashed(word.as_str()) => &left[1..],
+        Some(word) if word.as_str() == "--" => &left[1..],
         _ => left,
     }
 }
@@ -236,17 +225,30 @@ fn first_character(text: &str) -> &str {
     }
 }
 
-/// The words after an argument that uses none or one of them.
+/// The argument of an option in long form: `attached` follows the `=` in its word, and `after` is
+/// the words after that.
 #[inline(always)]
-fn words_after<S>(words: &[S], used: usize) -> &[S] {
-    match words.split_first() {
-        Some((_, others)) if used != 0 => others,
-        _ => words,
-    }
+fn long_argument<'w, S: AsStr>(
+    alloc: Global,
+    kind: HasArg,
+    name: &str,
+    attached: Option<&'w str>,
+    after: &'w [S],
+) -> Result<Argument<'w, S>, Fail> {
+    let (value, left) = match (kind, attached) {
+        (HasArg::No, Some(_)) => return Err(Fail::unexpected_argument(alloc, name)),
+        (HasArg::Yes, None) => match after {
+            [word, others @ ..] => (Some(word.as_str()), others),
+            [] => return Err(Fail::argument_missing(alloc, name)),
+        },
+        _ => (attached, after),
+    };
+    Ok(Argument { value, left })
 }
 
 /// The argument of an option of kind `Yes` or `Maybe` in a cluster: `rest` is the rest of the
-/// cluster's word, `after` the words after it.
+/// cluster's word, and `after` is the words after that.
+#[inline(always)]
 fn last_argument<'w, S: AsStr>(
     alloc: Global,
     kind: HasArg,
@@ -254,16 +256,15 @@ fn last_argument<'w, S: AsStr>(
     rest: &'w str,
     after: &'w [S],
 ) -> Result<Argument<'w, S>, Fail> {
-    let (value, used) = match after.first() {
-        _ if !rest.is_empty() => (Some(rest), 0),
-        Some(word) if kind == HasArg::Yes || !is_dashed(word.as_str()) => (Some(word.as_str()), 1),
-        None if kind == HasArg::Yes => return Err(Fail::argument_missing(alloc, name)),
-        _ => (None, 0),
+    let (value, left) = match after {
+        _ if !rest.is_empty() => (Some(rest), after),
+        [word, others @ ..] if kind == HasArg::Yes || !is_dashed(word.as_str()) => {
+            (Some(word.as_str()), others)
+        }
+        [] if kind == HasArg::Yes => return Err(Fail::argument_missing(alloc, name)),
+        _ => (None, after),
     };
-    Ok(Argument {
-        value,
-        left: words_after(after, used),
-    })
+    Ok(Argument { value, left })
 }
 
 impl<'o> Scanner<'o> {
@@ -285,26 +286,17 @@ impl<'o> Scanner<'o> {
         text: &'w str,
         after: &'w [S],
     ) -> Result<Taken<'w, S>, Fail> {
-        let (name, argument) = name_and_argument(text);
+        let (name, attached) = name_and_argument(text);
         let option = match self.option(name) {
             Some(option) => option,
             None => return Err(Fail::unrecognized_option(alloc, name)),
         };
-        let (value, used) = match (option.kind, argument) {
-            (HasArg::No, None) => (None, 0),
-            (HasArg::No, Some(_)) => return Err(Fail::unexpected_argument(alloc, name)),
-            (HasArg::Yes, None) => match after.first() {
-                Some(word) => (Some(word.as_str()), 1),
-                None => return Err(Fail::argument_missing(alloc, name)),
-            },
-            (HasArg::Yes, Some(value)) => (Some(value), 0),
-            (HasArg::Maybe, argument) => (argument, 0),
-        };
+        let argument = long_argument(alloc, option.kind, name, attached, after)?;
         Ok(Taken {
             place: option.place,
-            value,
+            value: argument.value,
             names: "",
-            left: words_after(after, used),
+            left: argument.left,
         })
     }
 
@@ -457,7 +449,7 @@ impl<'o> Scanner<'o> {
         'items: while let Some(given) = self.next(alloc, &mut steps)? {
             order.try_push(given)?;
         }
-        push_free_words(&mut order, tail_words(steps.left))?;
+        push_free_words(&mut order, free_words(steps.left))?;
         Ok(order)
     }
 }

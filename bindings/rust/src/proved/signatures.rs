@@ -41,11 +41,12 @@ pub(crate) struct SignatureRecord {
 }
 
 impl PartialEq for SignatureRecord {
+    /// In one text, two short names with the same ends are equal.
     #[inline(always)]
     fn eq(&self, other: &SignatureRecord) -> bool {
         self.long == other.long
             && self.end == other.end
-            && self.short == other.short
+            && self.short.is_some() == other.short.is_some()
             && self.kinds == other.kinds
     }
 }

@@ -3,12 +3,10 @@
 
 use crate::fallible::*;
 
-use super::groups::GroupView;
+use super::groups::OptGroup;
 use super::kinds::{HasArg, Occur};
-use super::names::NamesView;
 use super::options::Options;
 use super::row::{Layout, row_of};
-use super::signatures::SignatureView;
 use super::texts::{MARGIN, push_argument, push_joined};
 use crate::alloc::{AllocError, Global};
 use crate::heap::vec;
@@ -179,7 +177,7 @@ impl Options {
         let groups = self.groups();
         let mut any_short = false;
         for place in 0..groups.len() {
-            any_short |= !groups.get(place).signature.names.short.is_empty();
+            any_short |= !groups.get(place).short_name.is_empty();
         }
         Layout {
             long_only: self.is_long_only(),
@@ -189,28 +187,27 @@ impl Options {
     }
 }
 
-fn push_option(text: &mut String, group: GroupView<'_>) -> Result<(), AllocError> {
-    let SignatureView { names, kinds } = group.signature;
-    let (before, after) = match kinds.occur {
+fn push_option(text: &mut String, group: OptGroup<'_>) -> Result<(), AllocError> {
+    let (before, after) = match group.occur {
         Occur::Req => ("", ""),
         Occur::Optional => ("[", "]"),
         Occur::Multi => ("[", "].."),
     };
     text.try_push_str(before)?;
-    push_name(text, names)?;
-    if kinds.kind != HasArg::No {
+    push_name(text, group)?;
+    if group.hasarg != HasArg::No {
         text.try_push(' ')?;
     }
-    push_argument(text, kinds.kind, group.hint)?;
+    push_argument(text, group.hasarg, group.hint)?;
     text.try_push_str(after)
 }
 
-fn push_name(text: &mut String, names: NamesView<'_>) -> Result<(), AllocError> {
-    if names.short.is_empty() {
+fn push_name(text: &mut String, group: OptGroup<'_>) -> Result<(), AllocError> {
+    if group.short_name.is_empty() {
         text.try_push_str("--")?;
-        text.try_push_str(names.long)
+        text.try_push_str(group.long_name)
     } else {
         text.try_push('-')?;
-        text.try_push_str(names.short)
+        text.try_push_str(group.short_name)
     }
 }

@@ -12,7 +12,7 @@ use super::row::{Frequency, Row};
 use super::script::{Asked, Script};
 use super::table::{Table, declared_in, is_word};
 use super::variables::{VariableError, alone_code, variable_error, variables_code};
-use crate::getopts::{Fail, Matches, Occur, Options, ParsingStyle, names_resolve};
+use ::getopts::proved::{Fail, Matches, Occur, Options, ParsingStyle};
 use ::getopts::bytes::push_bytes;
 use crate::host::alloc::{AllocError, Global};
 use crate::host::io;
@@ -603,7 +603,6 @@ fn variables_answer(
 
 /// The canonical line of words, or their first error.
 fn line_answer(alloc: Global, script: Script<'_>, words: &[String]) -> Result<Outcome, AllocError> {
-    names_resolve(script.options);
     match script.options.canonical_words(alloc, words) {
         Ok(Some(line)) => Ok(Outcome::done(line_code(alloc, &line)?)),
         Ok(None) => unreachable!(),

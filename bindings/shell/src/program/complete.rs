@@ -8,7 +8,7 @@ use super::given::{may_come, takes_argument};
 use super::item::is_long_name;
 use super::quote::{push_parting, push_replaced};
 use super::row::Row;
-use crate::getopts::{Fail, Matches, Options, names_resolve};
+use ::getopts::proved::{Fail, Matches, Options};
 use crate::host::alloc::{AllocError, Global};
 
 /// Completes words in bash: reads the words up to the cursor, asks the program, and shows
@@ -183,7 +183,6 @@ fn matches_before_option(
     options: &Options,
     before: &[String],
 ) -> Result<Option<Matches>, AllocError> {
-    names_resolve(options);
     let words = with_stop(alloc, before)?;
     let found = read_words(alloc, options, &words)?;
     match found {

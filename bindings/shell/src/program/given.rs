@@ -4,7 +4,7 @@
 use crate::host::*;
 
 use super::row::{Frequency, Row};
-use crate::getopts::{HasArg, Matches};
+use ::getopts::proved::{HasArg, Matches};
 
 /// The main name of an option.
 pub(crate) fn main_name<'t>(row: Row<'t>) -> &'t str {

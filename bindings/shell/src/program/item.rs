@@ -4,7 +4,7 @@
 use crate::host::*;
 
 use super::row::{Frequency, Row};
-use crate::getopts::{HasArg, names_lawful};
+use ::getopts::proved::{HasArg, names_lawful};
 
 /// The option that an item declares, with the number of its line and its description, if the item
 /// is an option.

@@ -7,7 +7,7 @@ use super::item::reason_of;
 use super::operand::{Operand, OperandError, may_repeat};
 use super::table::TableError;
 use super::variables::VariableError;
-use crate::getopts::Fail;
+use ::getopts::proved::Fail;
 use crate::host::alloc::{AllocError, Global};
 
 /// The line for an error, after a name.

@@ -5,7 +5,7 @@ use crate::host::*;
 
 use super::item::{begins_capital, cut_at, unopened};
 use super::quote::{push_joined, push_parting};
-use crate::getopts::wrap::each_split_within;
+use ::getopts::proved::wrap::each_split_within;
 use crate::host::alloc::{AllocError, Global};
 
 /// An operand that a line of a table declares.

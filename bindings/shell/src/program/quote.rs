@@ -5,11 +5,6 @@ use crate::host::*;
 
 use crate::host::alloc::AllocError;
 
-/// A lemma for proofs, which does nothing: a shell reads words in quotes as the same words, even
-/// words of any bytes that were encoded as text and written as bytes. Different words are quoted
-/// differently.
-pub fn words_come_back() {}
-
 /// Appends a text, with another text in place of each occurrence of an ASCII character.
 pub(crate) fn push_replaced(
     text: &mut String,

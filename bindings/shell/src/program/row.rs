@@ -3,7 +3,7 @@
 
 use crate::host::*;
 
-use crate::getopts::HasArg;
+use ::getopts::proved::HasArg;
 
 /// How often an option may occur, and which of its values count.
 #[derive(Clone, Copy)]

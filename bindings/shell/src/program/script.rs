@@ -5,7 +5,7 @@ use crate::host::*;
 
 use super::table::Table;
 use super::variables::Variables;
-use crate::getopts::Options;
+use ::getopts::proved::Options;
 
 /// What the program's own words ask for.
 pub(crate) struct Asked {

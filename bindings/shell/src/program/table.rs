@@ -26,9 +26,6 @@ pub(crate) enum TableError<'t> {
     OutOfMemory,
 }
 
-/// A table declares at most one list of options. This is a lemma for proofs, which does nothing.
-pub fn one_table_one_list() {}
-
 /// Whether a text is a word instead of a table: it begins with a dash, and contains no blank.
 pub(crate) fn is_word(text: &str) -> bool {
     let bytes = text.as_bytes();

@@ -7,7 +7,7 @@ use crate::host::*;
 use super::given::main_name;
 use super::quote::{push_line, push_parting, push_quoted, push_replaced};
 use super::row::{Frequency, Row};
-use crate::getopts::{HasArg, Matches, Occurrences};
+use ::getopts::proved::{HasArg, Matches, Occurrences};
 use crate::host::alloc::{AllocError, Global};
 
 /// How options become variables: the prefix of their names, and whether arrays hold values.
@@ -44,10 +44,6 @@ pub(crate) enum VariableError<'t> {
     /// main names of the earlier one and of this one.
     VariableTwice(usize, &'t str, &'t str),
 }
-
-/// A lemma for proofs, which does nothing: a shell that runs the code then has the options' values
-/// in its variables.
-pub fn code_sets_variables() {}
 
 /// The code that sets a variable for each option of a table, and then the script's words to the
 /// free words.

@@ -10,7 +10,7 @@ use Rattle.std.proofs.lemmas.List.{append-nil, append_assoc, length-append}
 use Rattle.std.proofs.lemmas.Grind.{flat_map-append, common_steps}
 use Rattle.std.proofs.lemmas.List.Sorted.{IsNonDecreasingBy-from_all_adjacent}
 use Rattle.getopts.specs.Names.{Text}
-use Rattle.getopts.specs.Options.{Signature, Grammar, long_kind}
+use Rattle.getopts.specs.Options.{Signature, Grammar}
 use Rattle.getopts.specs.Reading.{item_words, tail_words, Occurrence, at_position, word_count, ends_in, free_items}
 use Rattle.getopts.specs.Reading.{tail_frees, free_words, begins_with_dash, spelled_all, occurrences_after, Argument}
 use Rattle.getopts.specs.Reading.{IsLawfulEnd, IsLawfulLong, IsLawfulItem, end_text, FitsLong, line_end, IsReading}
@@ -148,7 +148,7 @@ FitInPlace-long grammar dashes other name argument new_argument back more lawful
 
 -- a valid long item of kind Yes stays valid with another argument that Yes may have
 IsLawfulLong-yes : (grammar : Grammar) (dashes : Dashes) (name : Text)
-    (argument new_argument : Argument) → long_kind grammar name ≡ Some Yes → FitsLong Yes new_argument
+    (argument new_argument : Argument) → grammar.kind name ≡ Some Yes → FitsLong Yes new_argument
     → IsLawfulLong grammar dashes name argument → IsLawfulLong grammar dashes name new_argument
 IsLawfulLong-yes grammar dashes name argument new_argument kind fits lawful = search rules
 

@@ -41,14 +41,14 @@ pub mentions_of-items : (grammar : Grammar) (reading : Reading)
 mentions_of-items grammar reading = mention-occurrences_after 0 grammar reading.items
 
 -- the options and free words in two orders
-options_in-append : (order more : List Given)
+pub options_in-append : (order more : List Given)
     → options_in (order ++ more) ≡ options_in order ++ options_in more
 options_in-append [] more = refl
 options_in-append (option place value ∷ order) more =
     ap (λ told. record { place = place; value = value } ∷ told) (options_in-append order more)
 options_in-append (free_word word ∷ order) more = options_in-append order more
 
-frees_in-append : (order more : List Given)
+pub frees_in-append : (order more : List Given)
     → frees_in (order ++ more) ≡ frees_in order ++ frees_in more
 frees_in-append [] more = refl
 frees_in-append (option place value ∷ order) more = frees_in-append order more
@@ -56,7 +56,7 @@ frees_in-append (free_word word ∷ order) more =
     ap (λ words. word ∷ words) (frees_in-append order more)
 
 -- in an order of options
-options_in-options : (told : List Mention) → options_in (map given_option told) ≡ told
+pub options_in-options : (told : List Mention) → options_in (map given_option told) ≡ told
 options_in-options [] = refl
 options_in-options (m ∷ told) = ap (λ told. m ∷ told) (options_in-options told)
 
@@ -75,7 +75,7 @@ frees_in-frees [] = refl
 frees_in-frees (word ∷ words) = ap (λ words. word ∷ words) (frees_in-frees words)
 
 -- in what an item gives
-options_in-given_by : (grammar : Grammar) (item : Item)
+pub options_in-given_by : (grammar : Grammar) (item : Item)
     → options_in (given_by grammar item) ≡ mentions grammar item
 options_in-given_by grammar (free word) = refl
 options_in-given_by grammar (long dashes name argument) = refl
@@ -90,7 +90,7 @@ frees_in-given_by grammar (cluster bytes end) =
     frees_in-options (mentions grammar (cluster bytes end))
 
 -- in what items give
-options_in-items : (grammar : Grammar) (items : List Item)
+pub options_in-items : (grammar : Grammar) (items : List Item)
     → options_in (order_of_items grammar items) ≡ flat_map (mentions grammar) items
 options_in-items grammar [] = refl
 options_in-items grammar (item ∷ items) =
@@ -130,11 +130,21 @@ frees_in-order grammar reading =
     )
 
 -- items one after the other give one order after the other
-order_of_items-append : (grammar : Grammar) (items others : List Item)
+pub order_of_items-append : (grammar : Grammar) (items others : List Item)
     → order_of_items grammar (items ++ others) ≡ order_of_items grammar items ++ order_of_items grammar others
 order_of_items-append grammar [] others = refl
 order_of_items-append grammar (item ∷ items) others =
     simp (append_assoc, order_of_items-append grammar items others)
+
+-- and so do their occurrences
+pub occurrences_after-append : (grammar : Grammar) (items others : List Item) (before : ℕ)
+    → occurrences_after before grammar (items ++ others)
+    ≡ occurrences_after before grammar items ++ occurrences_after (before + word_count items) grammar others
+occurrences_after-append grammar [] others before = rw add-zero refl
+occurrences_after-append grammar (item ∷ items) others before =
+    let next = before + word_count (item ∷ []) in
+    let count : before + word_count (item ∷ items) ≡ next + word_count items = omega (arith, word_count-cons item items) in
+    rw (count, occurrences_after-append grammar items others next) (simp append_assoc)
 
 -- an item that mentions something gives options
 given_by-mentioned : (grammar : Grammar) (at : ℕ) (item : Item) (occurrence : Occurrence)

@@ -2,7 +2,7 @@
 -- don't use it.
 use Rattle.std.proofs.Common.{◌≡◌, ◌⊎◌, ℕ, ◌<◌, List, [], ◌∷◌, ◌++◌, None}
 use Rattle.getopts.specs.Names.{Text}
-use Rattle.getopts.specs.Options.{Grammar, long_kind}
+use Rattle.getopts.specs.Options.{Grammar}
 use Rattle.getopts.specs.Reading.{Item, item_words}
 pub use Rattle.getopts.specs.Results.{free_step, two_dashes_step, one_dash_step, with_items}
 pub use Rattle.getopts.specs.Results.{after_step}
@@ -14,5 +14,5 @@ spelled item more = item_words item ++ more
 
 -- Names are texts: the empty name in long form means no group, nor does a byte that isn't ASCII.
 pub record HasTextNames (grammar : Grammar) : Type 0 where
-  pub empty : long_kind grammar [] ≡ None
+  pub empty : grammar.kind [] ≡ None
   pub ascii : (byte : ℕ) → byte < 128 ⊎ (grammar.kind (byte ∷ []) ≡ None)

@@ -10,7 +10,7 @@ use Rattle.std.proofs.lemmas.List.{length-append}
 use Rattle.std.proofs.lemmas.Str.{encode_ascii, length-encode, len_utf8_bounds}
 use Rattle.std.proofs.Math.Utf8.{low_scalar}
 use Rattle.getopts.specs.Names.{Text}
-use Rattle.getopts.specs.Options.{Grammar, long_kind}
+use Rattle.getopts.specs.Options.{Grammar}
 use Rattle.getopts.specs.Fail.{Fault, unrecognized_option}
 use Rattle.getopts.specs.Reading.{dash, Dashes, flags, ends_in, cluster, FitsEnd, IsFlag, is_bare, is_dashed}
 use Rattle.getopts.specs.Reading.{stop_word, long_word, tail_words, IsLongForm, holds_equals, one, argument_words}
@@ -62,14 +62,14 @@ module _ (grammar : Grammar) (dashes : Dashes) (word name : Text)
   -- an argument that its kind may have
   takes_long : (kind : HasArg) (argument : Argument) (more : List Text)
       → IsInLongForm grammar dashes word (name ++ with_equals (attached_argument argument))
-      → long_kind grammar name ≡ Some kind → FitsLong kind argument
+      → grammar.kind name ≡ Some kind → FitsLong kind argument
       → IsSoundStep grammar word (argument_words argument ++ more) (takes (long dashes name argument) argument)
   takes_long kind argument more form resolved fits = search (rules, before_front, false≢true)
 
   -- each kind, and an unknown name
   long_name_sound : (kind : Option HasArg) (argument : Option Text) (more : List Text)
-      → IsInLongForm grammar dashes word (name ++ with_equals argument) → long_kind grammar name ≡ kind
-      → IsSoundStep grammar word more (long_name_step grammar kind dashes name argument more)
+      → IsInLongForm grammar dashes word (name ++ with_equals argument) → grammar.kind name ≡ kind
+      → IsSoundStep grammar word more (long_name_step kind dashes name argument more)
   long_name_sound None argument more form resolved = λ utf8. unknown_name name argument (long_form argument form) resolved
   long_name_sound (Some No) None more form resolved = takes_long No none more form resolved tt
   long_name_sound (Some No) (Some argument) more form resolved =
@@ -230,9 +230,9 @@ step_sound grammar named (first ∷ second ∷ text) more = elim (cases_Bool (fi
 -- a text in long form, by its name, its kind and its attached argument
 pub long_step_cut : (grammar : Grammar) (dashes : Dashes) (name : Text) (argument : Option Text)
     (more : List Text) (kind : Option HasArg) → holds_equals name ≡ false
-    → long_kind grammar name ≡ kind
+    → grammar.kind name ≡ kind
     → long_step grammar dashes (name ++ with_equals argument) more
-    ≡ long_name_step grammar kind dashes name argument more
+    ≡ long_name_step kind dashes name argument more
 long_step_cut grammar dashes name argument more kind plain resolved = search (rules, Texts.cut_at_equals-append)
 
 -- dashes that may precede a name may precede it and its argument
@@ -243,15 +243,15 @@ before_more long_only dashes name argument before = search (rules, Texts.begins_
 -- the step of a word in long form, by its name, its kind and its attached argument
 pub long_form_step : (grammar : Grammar) (word name : Text) (argument : Option Text)
     (more : List Text) (kind : Option HasArg) (form : IsLongForm grammar word name argument)
-    → long_kind grammar name ≡ kind
-    → step grammar word more ≡ long_name_step grammar kind form.dashes name argument more
+    → grammar.kind name ≡ kind
+    → step grammar word more ≡ long_name_step kind form.dashes name argument more
 long_form_step grammar word name argument more kind form resolved =
-    search (rules, step_long, before_more, long_step_cut)
+    search (rules, step_long, before_more, long_step_cut grammar form.dashes)
 
 -- So `--` is only the stop: if the empty name resolved, it would be a long item, too.
 -- the word of a name that resolves is longer than its dashes
 resolved_word : (grammar : Grammar) → HasTextNames grammar → (dashes : Dashes) (name : Text) (argument : Option Text)
-    (kind : HasArg) → long_kind grammar name ≡ Some kind → long_word dashes name argument ≢ dash_text dashes
+    (kind : HasArg) → grammar.kind name ≡ Some kind → long_word dashes name argument ≢ dash_text dashes
 resolved_word grammar named dashes [] argument kind resolved = search rules
 resolved_word grammar named one (c ∷ name) argument kind resolved = λ e. cc e
 resolved_word grammar named two (c ∷ name) argument kind resolved = λ e. cc e
@@ -380,7 +380,7 @@ filled-character : (bytes : List ℕ) (c : ℕ) (text : Text) → bytes ++ (enco
 filled-character bytes c text nil = search (rules, length-append {A = ℕ}, length-encode c, len_utf8_bounds c)
 
 -- a word with a text after flags is in short form
-short_of : (grammar : Grammar) (word text : Text) (has : HasAfterFlags grammar word text)
+pub short_of : (grammar : Grammar) (word text : Text) (has : HasAfterFlags grammar word text)
     → has.bytes ++ text ≢ [] → IsShortForm grammar word (has.bytes ++ text)
 short_of grammar word text has filled = search rules
 

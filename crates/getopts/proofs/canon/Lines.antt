@@ -76,9 +76,9 @@ abbrev pub IsFitting : List Group → Content → Type 0
 IsFitting groups content = AllByRecursion (FitsGroup groups) content.mentions
 
 -- a mention as a valid item may have it
-record IsGood (groups : List Group) (m : Mention) : Type 0 where
+pub record IsGood (groups : List Group) (m : Mention) : Type 0 where
   own : MainResolves groups m.place
-  fits : FitsGroup groups m
+  pub fits : FitsGroup groups m
 
 -- the mention of a name that resolves to a group of this kind
 IsGood-mention : (options : Declared) (name : Text) (kind : HasArg) (value : Option Text)
@@ -102,7 +102,7 @@ FitsKind-end : (kind : HasArg) (argument : Argument) → FitsEnd kind argument �
 FitsKind-end kind argument fits = search rules
 
 -- the mentions of flags, of a valid item and of valid items
-IsGood-flags : (options : Declared) (names : List ℕ) → AllByRecursion (IsFlag (grammar_of options)) names
+pub IsGood-flags : (options : Declared) (names : List ℕ) → AllByRecursion (IsFlag (grammar_of options)) names
     → AllByRecursion (IsGood options.groups) (map (λ name. mention_of (grammar_of options) (name ∷ []) None) names)
 IsGood-flags options names each = search (rules, AllByRecursion-map, AllByRecursion-follows, IsGood-mention)
 
@@ -114,13 +114,13 @@ IsGood-item options (cluster names flags) lawful = search (rules, every_append, 
 IsGood-item options (cluster names (ends_in option argument)) lawful =
     search (rules, every_append, IsGood-flags, IsGood-mention, FitsKind-end)
 
-IsGood-items : (options : Declared) (items : List Item) → AllByRecursion (IsLawfulItem (grammar_of options)) items
+pub IsGood-items : (options : Declared) (items : List Item) → AllByRecursion (IsLawfulItem (grammar_of options)) items
     → AllByRecursion (IsGood options.groups) (flat_map (mentions (grammar_of options)) items)
 IsGood-items options [] lawful = tt
 IsGood-items options (item ∷ items) lawful =
     search (rules, every_append, IsGood-item, IsGood-items options items lawful.1)
 
-IsGood-reading : (options : Declared) (reading : Reading)
+pub IsGood-reading : (options : Declared) (reading : Reading)
     → AllByRecursion (IsLawfulItem (grammar_of options)) reading.items
     → AllByRecursion (IsGood options.groups) (mentions_of (grammar_of options) reading)
 IsGood-reading options reading lawful = search (rules, mentions_of-items, IsGood-items)

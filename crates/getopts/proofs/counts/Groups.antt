@@ -1,11 +1,12 @@
 -- Matched groups: what holds for each, and their counts.
-use Rattle.std.proofs.Common.{ap, ◌≡◌, ◌<◌, ◌+◌, ℕ, zero, suc, rules, List, [], ◌∷◌, length, drop, slice_get, Some}
+use Rattle.std.proofs.Common.{◌∙◌, ap, ◌≡◌, ◌<◌, ◌+◌, ℕ, zero, suc, rules, List, [], ◌∷◌, length, drop, slice_get, Some}
 use Rattle.std.proofs.Common.{option_map, refl, arith, add-zero}
-use Rattle.std.specs.Prelude.{if◌then◌else◌}
+use Rattle.std.specs.Prelude.{if◌then◌else◌, true, false}
 use Rattle.std.specs.List.{AllByRecursion}
 use Rattle.std.proofs.lemmas.Bool.{lt-ltb}
 use Rattle.std.proofs.lemmas.List.{length-map}
-use Rattle.getopts.specs.Names.{main_name}
+use Rattle.getopts.specs.Fail.{IsOutOfMemoryOr}
+use Rattle.getopts.specs.Names.{Text, main_name}
 use Rattle.getopts.specs.Options.{Signature}
 use Rattle.getopts.specs.Reading.{Occurrence}
 use Rattle.getopts.specs.Matches.{MatchedGroup, occurrences_mentioning, matched, fits_count, count_fault}
@@ -13,8 +14,10 @@ use Rattle.getopts.specs.Results.{first_count_fault}
 use Rattle.getopts.specs.Stored.Index.{index_of, count_in, first_wrong}
 use Rattle.getopts.specs.Stored.Names.{names_at}
 use Rattle.getopts.specs.Stored.Signatures.{kinds_of, names_in}
+use Rattle.getopts.specs.declared.fail.Fail.{Fail}
 use Rattle.getopts.specs.declared.kinds.Kinds.{Kinds}
 use Rattle.getopts.proofs.Stored.Index.{length-indices_of}
+use Rattle.getopts.proofs.Weaker.{IsOutOfMemoryOr-weaker}
 
 -- the number of a group's occurrences, from the index
 pub length-occurrences_mentioning : (count : ℕ) (occurrences : List Occurrence) (i : ℕ) → i < count
@@ -53,6 +56,22 @@ first_wrong-at [] i place kinds count there = cc there
 first_wrong-at (signature ∷ signatures) zero place kinds count there = search rules
 first_wrong-at (signature ∷ signatures) (suc i) place kinds count there =
     search (rules, first_wrong-at signatures i place kinds count there)
+
+module _ (signatures : List Signature) (place : ℕ) (kinds : Kinds) (count : ℕ → ℕ) (given : ℕ)
+    (there : Some kinds ≡ option_map kinds_of (slice_get signatures place)) (same : given ≡ count place)
+    (until : first_wrong 0 signatures count ≡ first_wrong place (drop place signatures) count) where
+  -- a group that keeps its count isn't the first wrong one
+  pub first_wrong-kept : fits_count kinds.occur given ≡ true
+      → first_wrong 0 signatures count ≡ first_wrong (place + 1) (drop (place + 1) signatures) count
+  first_wrong-kept fits = until ∙ first_wrong-at signatures place place kinds count there ∙ rw (← same, fits) refl
+
+  -- a group that breaks its count is
+  pub first_wrong-broken : (main : Text) (fail : Fail) → fits_count kinds.occur given ≡ false
+      → main ≡ main_name (names_at (names_in signatures) place)
+      → IsOutOfMemoryOr fail (λ fault. fault ≡ count_fault main given)
+      → IsOutOfMemoryOr fail (λ fault. first_wrong 0 signatures count ≡ Some fault)
+  first_wrong-broken main fail breaks main_is told = IsOutOfMemoryOr-weaker fail _ _ told (λ fault is.
+      until ∙ first_wrong-at signatures place place kinds count there ∙ rw (← same, breaks, ← main_is, is) refl)
 
 -- by the number of each group's occurrences, it is the error of the matched groups
 pub first_wrong-counts : (place : ℕ) (signatures : List Signature) (occurrences : List Occurrence)

@@ -1,7 +1,7 @@
 -- What accepted matches say about the declared names.
-use Rattle.std.proofs.Common.{◌≡◌, ◌<◌, ℕ, zero, suc, true, List, [], rules, ◌∷◌, drop, length, map, slice_get}
+use Rattle.std.proofs.Common.{◌≡◌, ◌<◌, ℕ, zero, suc, true, List, [], rules, ◌∷◌, ◌++◌, drop, length, map, slice_get}
 use Rattle.std.proofs.Common.{Option, Some, None, IfSome, IsSome, refl, ap, sym, subst, ◌∙◌, arith, zero-add}
-use Rattle.std.specs.List.{AllByRecursion}
+use Rattle.std.specs.List.{AllByRecursion, flat_map}
 use Rattle.std.specs.Option.{option_and_then, option_map, option_map_or}
 use Rattle.std.proofs.lemmas.Bool.{eqb-true}
 use Rattle.std.proofs.lemmas.Option.{option_and_then_some, same_Some}
@@ -20,16 +20,18 @@ use Rattle.getopts.specs.declared.kinds.Occur.{Occur}
 use Rattle.getopts.specs.declared.kinds.Occur.TheVariants.{Req}
 use Rattle.getopts.proofs.Lists.{AllByRecursion-filter, AllByRecursion-map, AllByRecursion-unmap}
 use Rattle.getopts.proofs.counts.Groups.{AllByRecursion-matched}
-use Rattle.getopts.specs.Reading.{Given, option, free_word, options_in, order_of_reading, Reading}
-use Rattle.getopts.proofs.Reading.Positions.{options_in-order}
-use Rattle.getopts.proofs.canon.Lines.{FitsGroup, FitsGroup-within, IsFitting-reading}
+use Rattle.getopts.specs.Reading.{Given, option, free_word, Item, mentions, options_in, order_of_reading, Reading}
+use Rattle.getopts.proofs.Reading.Positions.{options_in-order, options_in-items}
+use Rattle.std.proofs.Permutation.{every_append}
+use Rattle.getopts.specs.Reader.{AreReadTo, IsReadTo, Left, between_words, within_word}
+use Rattle.getopts.proofs.canon.Lines.{FitsGroup, FitsGroup-within, IsFitting-reading, IsGood, IsGood-flags, IsGood-items, IsGood-reading}
 use Rattle.getopts.proofs.Stored.Matches.{signatures-matched, occurrences-matched, opt_place-signatures}
 use Rattle.getopts.proofs.Reading.Laws.{TrailingStartIsAfterStop_lem, HavePositionsInOrder-matched}
 use Rattle.getopts.proofs.Reading.Readings.{spelled_all-append}
 use Rattle.getopts.proofs.Stored.Signatures.{names-signatures_of, kind-signatures_of}
 use Rattle.getopts.proofs.table.Names.{resolution_within}
 use Rattle.std.proofs.lemmas.List.{length-map}
-use Rattle.std.proofs.lemmas.Grind.{common_steps}
+use Rattle.std.proofs.lemmas.Grind.{common_steps, flat_map-append}
 
 -- each occurrence has a value or none, as this kind of argument requires
 abbrev HaveValuesFor : HasArg → List GroupOccurrence → Type 0
@@ -172,16 +174,39 @@ EndsInTrailing-read options words matches has = here matches.trailing_start refl
 
 -- an order with only options that fit gives only what is declared
 IsDeclared-options : (groups : List Group) (order : List Given)
-    → AllByRecursion (FitsGroup groups) (options_in order) → AllByRecursion (IsDeclared groups) order
+    → AllByRecursion (IsGood groups) (options_in order) → AllByRecursion (IsDeclared groups) order
 IsDeclared-options groups [] fit = fit
 IsDeclared-options groups (option place value ∷ order) fit =
-    ((FitsGroup-within groups _ fit.0, rw fit.0.1 fit.0.2), IsDeclared-options groups order fit.1)
+    let group = fit.0.fits in
+    ((FitsGroup-within groups _ group, rw group.1 group.2), IsDeclared-options groups order fit.1)
 IsDeclared-options groups (free_word word ∷ order) fit = (tt, IsDeclared-options groups order fit)
 
 -- so does the order of a reading
 pub IsDeclared-order : (options : Declared) (reading : Reading) (words : List Text)
     → IsReading (grammar_of options) reading words
     → AllByRecursion (IsDeclared options.groups) (order_of_reading (grammar_of options) reading)
-IsDeclared-order options reading words reads =
-    IsDeclared-options options.groups _ (rw (options_in-order (grammar_of options) reading)
-    (IsFitting-reading options reading words reads))
+IsDeclared-order options reading words reads = search (rules, IsDeclared-options, options_in-order, IsGood-reading)
+
+-- so does what was read of a line
+IsGood-read : (options : Declared) {line : List Text} {items : List Item} {names : Text} {words : List Text}
+    → AreReadTo (grammar_of options) line items names words
+    → AllByRecursion (IsGood options.groups) (flat_map (mentions (grammar_of options)) items)
+IsGood-read options {items = items} (between_words none read_to) = IsGood-items options items read_to.lawful
+IsGood-read options (within_word before word filled has begun items_are read_to) =
+    search (
+      rules,
+      every_append,
+      flat_map-append,
+      IsGood-items options before read_to.lawful,
+      IsGood-flags options has.bytes has.each,
+    )
+
+pub IsDeclared-last : (options : Declared) (before : List Given) (given : Given) {line : List Text} {left : Left}
+    → IsReadTo (grammar_of options) line (before ++ given ∷ []) left
+    → IsDeclared options.groups given
+IsDeclared-last options before given read_to = last before (rw read_to.given_is (IsDeclared-options options.groups _
+    (rw (options_in-items (grammar_of options) read_to.items) (IsGood-read options read_to.read)))) where
+      last : (before : List Given) → AllByRecursion (IsDeclared options.groups) (before ++ given ∷ [])
+          → IsDeclared options.groups given
+      last [] each = each.0
+      last (first ∷ before) each = last before each.1

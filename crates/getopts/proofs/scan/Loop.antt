@@ -6,9 +6,11 @@ use Rattle.getopts.specs.Names.{Text}
 use Rattle.getopts.specs.Options.{Grammar}
 use Rattle.getopts.specs.Fail.{Fault}
 use Rattle.getopts.specs.Reading as Spec
+use Rattle.std.specs.Str.{bytes_eq}
+use Rattle.getopts.specs.Reader.{tail_of}
 use Rattle.getopts.specs.Results.{made_of}
 use Rattle.getopts.specs.Step.{long_step, cluster_step, IsInLongForm}
-use Rattle.getopts.specs.Stored.Scan.{with_tail, with_reading, given_with, tail_of, GivesLine, parts_of}
+use Rattle.getopts.specs.Stored.Scan.{with_tail, with_reading, given_with, GivesLine, parts_of}
 use Rattle.getopts.specs.declared.scan.Line.{Line}
 use Rattle.getopts.specs.declared.kinds.ParsingStyle.TheVariants.{StopAtFirstFree}
 use Rattle.getopts.proofs.Reading.Reader.{step, read}
@@ -28,17 +30,21 @@ module _ (grammar : Grammar) (after more : List Text) (enough : after ≡ [] →
       → step grammar word (after ++ more) ≡ long_step grammar dashes text after
   step_long-more dashes word text form = search (rules, step_long grammar dashes word text (after ++ more) form)
 
+-- a word that isn't dashed isn't the stop
+plain-stop : (word : Text) → Spec.is_dashed word ≡ false → bytes_eq word Spec.stop_word ≡ false
+plain-stop word plain = search rules
+
 -- A line that begins with this word.
 module _ (grammar : Grammar) (words : List Text) (word : Text) (after : List Text)
     (left : words ≡ word ∷ after) where
   -- the rest, from a free word on
   pub read-rest : Spec.is_dashed word ≡ false → grammar.style ≡ StopAtFirstFree
-      → read grammar words ≡ Ok (record { items = []; tail = Spec.rest words })
-  read-rest plain stops = search (rules, read_step, step_free)
+      → read grammar words ≡ Ok (record { items = []; tail = tail_of words })
+  read-rest plain stops = search (rules, read_step, step_free, plain-stop word plain)
 
   -- the stop, and the words after it
   pub read-stop : word ≡ Spec.stop_word
-      → read grammar words ≡ Ok (record { items = []; tail = Spec.stop after })
+      → read grammar words ≡ Ok (record { items = []; tail = tail_of words })
   read-stop stops = search (rules, read_step, step_stop)
 
 -- A command line whose last words were read up to a tail.

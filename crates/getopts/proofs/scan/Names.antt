@@ -1,29 +1,35 @@
 -- A line that is read one option or free word at a time: a name in long form, a name of a cluster,
 -- and a free word.
 use Rattle.std.proofs.Common.{Err, ◌≡◌, ◌≢◌, ◌+◌, ◌-◌, ◌<◌, ◌≤◌, ℕ, List, [], ◌∷◌, ◌++◌, length, rules, drop, refl}
-use Rattle.std.proofs.Common.{◌∙◌, ap, false, Ok, Option, Some, None, Result, arith}
+use Rattle.std.proofs.Common.{◌∙◌, ap, sym, Ok, Option, Some, None, arith, ◌==◌, true, false, map, append_assoc}
+use Rattle.std.proofs.Common.{slice_index, slice_range, length-append}
+use Rattle.std.proofs.lemmas.List.{append-nil, map-append}
+use Rattle.std.proofs.Math.Seq.{drop-append_seam}
+use Rattle.std.proofs.Permutation.{every_append}
+use Rattle.std.specs.List.{AllByRecursion}
+use Rattle.std.specs.Str.{IsUtf8}
 use Rattle.getopts.specs.Names.{Text}
 use Rattle.getopts.specs.Options.{Grammar}
 use Rattle.getopts.specs.Fail.{Fault, unrecognized_option}
 use Rattle.getopts.specs.Reading as Spec
+use Rattle.getopts.specs.Reading.{spelled_all}
+use Rattle.getopts.specs.Reader.{AreRead, AreReadTo, IsReadTo, Left, between_words, within_word, words_size}
+use Rattle.getopts.specs.Reader.{IsNextFault, in_next, in_this}
 use Rattle.getopts.specs.Results.{made_of}
-use Rattle.getopts.specs.Step.{Step, takes, faults, byte_step, cluster_step, TakesOne, TakesName, takes_last}
-use Rattle.getopts.specs.Step.{takes_flag}
-use Rattle.getopts.specs.Step.{chosen_end, chosen_step, first_char, Chooses}
-use Rattle.getopts.proofs.Reading.Steps.{byte_step-end, first_byte}
-use Rattle.getopts.proofs.scan.Items.{length-argument}
-use Rattle.std.proofs.Common.{slice_index, slice_range}
-use Rattle.getopts.specs.Stored.Scan.{left_of, preceded, read_names, words_left, ReadsOne}
+use Rattle.getopts.specs.Step.{takes, faults, byte_step, cluster_step, TakesOne, TakesName, takes_last, takes_flag}
+use Rattle.getopts.specs.Step.{chosen_end, chosen_step, first_char, Chooses, long_step, IsInLongForm, IsShortForm}
+use Rattle.getopts.specs.Stored.Scan.{HasOneMore, ReadsOne, words_left}
 use Rattle.getopts.specs.declared.kinds.HasArg.{HasArg}
-use Rattle.getopts.specs.declared.kinds.HasArg.TheVariants.{No, Yes, Maybe}
-use Rattle.getopts.proofs.Reading.Reader.{step, with_items, after_step, read_both, read}
-use Rattle.getopts.proofs.scan.Loop.{cluster_step-more, step_long-more}
-use Rattle.getopts.proofs.Reading.Readings.{read_step, read_item}
-use Rattle.getopts.proofs.Reading.Steps as Steps
-use Rattle.getopts.specs.Step.{long_step, IsInLongForm, IsShortForm}
-use Rattle.getopts.specs.Stored.Scan.{words_size}
+use Rattle.getopts.specs.declared.kinds.HasArg.TheVariants.{No}
 use Rattle.getopts.specs.declared.kinds.ParsingStyle.TheVariants.{FloatingFrees}
-use Rattle.std.proofs.Common.{◌==◌, true, map}
+use Rattle.getopts.proofs.Lists.{filled-append}
+use Rattle.getopts.proofs.Reading.Reader.{HasTextNames, step, read}
+use Rattle.getopts.proofs.Reading.Readings.{read_step, items_read, spelled_all-joined}
+use Rattle.getopts.proofs.Reading.Positions.{order_of_items-append, occurrences_after-append, length-spelled_all}
+use Rattle.getopts.proofs.Reading.Positions.{options_in-append, options_in-options, options_in-given_by}
+use Rattle.getopts.proofs.Reading.Steps as Steps
+use Rattle.getopts.proofs.Reading.Texts as Texts
+use Rattle.getopts.proofs.scan.Loop.{cluster_step-more, step_long-more}
 
 -- what a dashed item gives
 given_by-dashed : (grammar : Grammar) (item : Spec.Item) → Spec.free_items (item ∷ []) ≡ []
@@ -32,135 +38,24 @@ given_by-dashed grammar (Spec.free word) free = cc free
 given_by-dashed grammar (Spec.long dashes name argument) free = refl
 given_by-dashed grammar (Spec.cluster bytes end) free = refl
 
-module _ (grammar : Grammar) (at : ℕ) where
-  -- an item with one option
-  item_taken : (item : Spec.Item) (place next : ℕ) (value : Option Text) (result : Result Spec.Reading Fault)
-      → at + Spec.word_count (item ∷ []) ≡ next → Spec.free_items (item ∷ []) ≡ []
-      → Spec.mentions grammar item ≡ record { place = place; value = value } ∷ []
-      → made_of (left_of grammar at) (with_items (item ∷ []) result)
-      ≡ made_of (λ reading. preceded at (Spec.option place value) (left_of grammar next reading)) result
-  item_taken item place next value (Err fault) counted free mentioned = refl
-  item_taken item place next value (Ok reading) counted free mentioned =
-      rw (given_by-dashed grammar item free, mentioned, counted) refl
-
-  -- a word that gives one option
-  one_taken : (said : Step) (place : ℕ) (value : Option Text) (after left more : List Text)
-      → TakesOne grammar said after place value left
-      → made_of (left_of grammar at)
-      (after_step said (read grammar (after ++ more)) (read grammar (drop 1 (after ++ more))))
-      ≡ made_of (λ reading. preceded at (Spec.option place value)
-      (left_of grammar (at + (1 + length after - length left)) reading)) (read grammar (left ++ more))
-  one_taken said place value after left more takes_one =
-      of_argument takes_one.argument takes_one.step_is takes_one.after_is takes_one.counted where
-        of_argument : (argument : Spec.Argument) → said ≡ takes takes_one.item argument
-            → after ≡ Spec.argument_words argument ++ left
-            → Spec.word_count (takes_one.item ∷ []) ≡ 1 + length (Spec.argument_words argument)
-            → made_of (left_of grammar at)
-            (after_step said (read grammar (after ++ more)) (read grammar (drop 1 (after ++ more))))
-            ≡ made_of (λ reading. preceded at (Spec.option place value)
-            (left_of grammar (at + (1 + length after - length left)) reading)) (read grammar (left ++ more))
-        of_argument Spec.none is after_is counted = rw (is, after_is)
-            (item_taken takes_one.item place _ value _ (omega (arith, counted)) takes_one.no_free takes_one.mentioned)
-        of_argument (Spec.attached text) is after_is counted = rw (is, after_is)
-            (item_taken takes_one.item place _ value _ (omega (arith, counted)) takes_one.no_free takes_one.mentioned)
-        of_argument (Spec.separate word) is after_is counted = rw (is, after_is)
-            (item_taken takes_one.item place _ value _ (omega (arith, counted)) takes_one.no_free takes_one.mentioned)
-
-  module _ (byte place : ℕ) (place_is : grammar.place (byte ∷ []) ≡ Some place)
-      (one two : Result Spec.Reading Fault) where
-    -- a flag in front of a cluster
-    flag_takes : (bytes : List ℕ) (end : Spec.End) (argument : Spec.Argument)
-        → made_of (left_of grammar at)
-        (after_step (takes (Spec.cluster (byte ∷ bytes) end) argument) one two)
-        ≡ made_of (λ reading. preceded at (Spec.option place None) (left_of grammar at reading))
-        (after_step (takes (Spec.cluster bytes end) argument) one two)
-    flag_takes bytes end argument = search (rules, with_items)
-
-    flag_chosen : (bytes : List ℕ) (c : ℕ) (chosen : Result Spec.Argument Fault)
-        → made_of (left_of grammar at)
-        (after_step (chosen_step (λ a. Spec.cluster (byte ∷ bytes) (Spec.ends_in c a)) chosen) one two)
-        ≡ made_of (λ reading. preceded at (Spec.option place None) (left_of grammar at reading))
-        (after_step (chosen_step (λ a. Spec.cluster bytes (Spec.ends_in c a)) chosen) one two)
-    flag_chosen bytes c (Err fault) = refl
-    flag_chosen bytes c (Ok argument) = flag_takes bytes (Spec.ends_in c argument) argument
-
-    flag_byte : (kind : Option HasArg) (bytes : List ℕ) (c : ℕ) (text : Text) (words : List Text) (more others : Step)
-        → made_of (left_of grammar at) (after_step more one two)
-        ≡ made_of (λ reading. preceded at (Spec.option place None) (left_of grammar at reading))
-        (after_step others one two)
-        → made_of (left_of grammar at) (after_step (byte_step kind (byte ∷ bytes) c text words more) one two)
-        ≡ made_of (λ reading. preceded at (Spec.option place None) (left_of grammar at reading))
-        (after_step (byte_step kind bytes c text words others) one two)
-    flag_byte None bytes c text words more others same = refl
-    flag_byte (Some No) bytes c text words more others same = same
-    flag_byte (Some Yes) bytes c text words more others same =
-        flag_chosen bytes c (chosen_end Yes (c ∷ []) text words)
-    flag_byte (Some Maybe) bytes c text words more others same =
-        flag_chosen bytes c (chosen_end Maybe (c ∷ []) text words)
-
-    flag_before : (bytes : List ℕ) (text : Text) (words : List Text)
-        → made_of (left_of grammar at) (after_step (cluster_step grammar (byte ∷ bytes) text words) one two)
-        ≡ made_of (λ reading. preceded at (Spec.option place None) (left_of grammar at reading))
-        (after_step (cluster_step grammar bytes text words) one two)
-    unfolding cluster_step
-    flag_before bytes [] words = flag_takes bytes Spec.flags Spec.none
-    flag_before bytes (c ∷ text) words =
-        flag_byte (grammar.kind (c ∷ [])) bytes c text words _ _ (flag_before (bytes ++ c ∷ []) text words)
-
-  -- a flag, and the names that are left in its cluster
-  names_flag : (byte place : ℕ) (names : Text) (words more : List Text) → Spec.IsFlag grammar byte
-      → grammar.place (byte ∷ []) ≡ Some place
-      → made_of (left_of grammar at) (read_names grammar (byte ∷ names) (words ++ more))
-      ≡ made_of (λ reading. preceded at (Spec.option place None)
-      (left_of grammar (at + (1 + length words - words_left names words)) reading))
-      (read_names grammar names (words ++ more))
-  unfolding cluster_step
-  names_flag byte place [] words more flag place_is = rw flag
-      (item_taken (Spec.cluster (byte ∷ []) Spec.flags) place _ None (read grammar (words ++ more))
-      (omega arith) refl (rw place_is refl))
-  names_flag byte place (c ∷ names) words more flag place_is =
-      let here : at + (1 + length words - (1 + length words)) ≡ at = omega arith in
-      rw (flag, here) (flag_before byte place place_is _ _ [] (c ∷ names) (words ++ more))
-
-  -- a free word
-  free_taken : (word : Text) (next : ℕ) (result : Result Spec.Reading Fault) → at + 1 ≡ next
-      → made_of (left_of grammar at) (with_items (Spec.free word ∷ []) result)
-      ≡ made_of (λ reading. preceded at (Spec.free_word word) (left_of grammar next reading)) result
-  free_taken word next (Err fault) is = refl
-  free_taken word next (Ok reading) is = rw is refl
-
 -- words, and those that are left after an argument
 words_size-left : (words left : List Text) → words_size left ≤ words_size (words ++ left)
 words_size-left [] left = omega arith
 words_size-left (word ∷ words) left = omega (arith, words_size-left words left)
 
 -- The first of the names that are left in a cluster, by its kind.
-module _ (grammar : Grammar) (byte : ℕ) (rest : Text) (after : List Text) where
-  first_kind : (kind : Option HasArg) → grammar.kind (byte ∷ []) ≡ kind
-      → cluster_step grammar [] (byte ∷ rest) after
-      ≡ byte_step kind [] byte rest after (cluster_step grammar (byte ∷ []) rest after)
-  unfolding cluster_step
-  first_kind kind is = rw is refl
-
-  -- an option that ends the cluster
-  TakesOne-ends : (place : ℕ) (kind : HasArg) (value : Option Text) (left : List Text)
-      → grammar.place (byte ∷ []) ≡ Some place → kind ≢ No → grammar.kind (byte ∷ []) ≡ Some kind
-      → Chooses (chosen_end kind (byte ∷ []) rest after) after value left
-      → TakesOne grammar (cluster_step grammar [] (byte ∷ rest) after) after place value left
-  TakesOne-ends place kind value left place_is other kind_is chooses =
-      search (
-        rules,
-        first_kind (Some kind) kind_is,
-        byte_step-end kind [] byte rest after (cluster_step grammar (byte ∷ []) rest after) other,
-        length-argument [] chooses.argument,
-      )
+first_kind : (grammar : Grammar) (bytes : List ℕ) (byte : ℕ) (rest : Text) (after : List Text) (kind : Option HasArg)
+    → grammar.kind (byte ∷ []) ≡ kind → cluster_step grammar bytes (byte ∷ rest) after
+    ≡ byte_step kind bytes byte rest after (cluster_step grammar (bytes ++ byte ∷ []) rest after)
+unfolding cluster_step
+first_kind grammar bytes byte rest after kind is = rw is refl
 
 -- The same of names that aren't empty.
 module _ (grammar : Grammar) (after : List Text) where
   pub name_unknown : (names : Text) → names ≢ [] → grammar.kind (slice_index names 0 ∷ []) ≡ None
-      → cluster_step grammar [] names after ≡ faults (unrecognized_option (first_char names))
-  name_unknown [] filled unknown = absurd (filled refl)
-  name_unknown (byte ∷ rest) filled unknown = first_kind grammar byte rest after None unknown
+      → (bytes : List ℕ) → cluster_step grammar bytes names after ≡ faults (unrecognized_option (first_char names))
+  name_unknown [] filled unknown bytes = absurd (filled refl)
+  name_unknown (byte ∷ rest) filled unknown bytes = first_kind grammar bytes byte rest after None unknown
 
   pub name_flag : (names : Text) (place : ℕ) → names ≢ [] → grammar.place (slice_index names 0 ∷ []) ≡ Some place
       → grammar.kind (slice_index names 0 ∷ []) ≡ Some No
@@ -175,22 +70,22 @@ module _ (grammar : Grammar) (after : List Text) where
       → TakesName grammar names after place value [] left
   name_last [] place kind value left filled place_is other kind_is chooses = absurd (filled refl)
   name_last (byte ∷ rest) place kind value left filled place_is other kind_is chooses =
-      takes_last refl (TakesOne-ends grammar byte rest after place kind value left place_is other kind_is chooses)
+      takes_last byte rest kind refl refl place_is other kind_is chooses
 
   pub name_error : (names : Text) (kind : HasArg) (fault : Fault) → names ≢ [] → kind ≢ No
       → grammar.kind (slice_index names 0 ∷ []) ≡ Some kind
       → chosen_end kind (slice_index names 0 ∷ []) (drop 1 names) after ≡ Err fault
-      → cluster_step grammar [] names after ≡ faults fault
-  name_error [] kind fault filled other kind_is told = absurd (filled refl)
-  name_error (byte ∷ rest) kind fault filled other kind_is told =
-      first_kind grammar byte rest after (Some kind) kind_is
-      ∙ byte_step-end kind [] byte rest after (cluster_step grammar (byte ∷ []) rest after) other
-      ∙ ap (chosen_step (λ a. Spec.cluster [] (Spec.ends_in byte a))) told
+      → (bytes : List ℕ) → cluster_step grammar bytes names after ≡ faults fault
+  name_error [] kind fault filled other kind_is told bytes = absurd (filled refl)
+  name_error (byte ∷ rest) kind fault filled other kind_is told bytes =
+      first_kind grammar bytes byte rest after (Some kind) kind_is
+      ∙ Steps.byte_step-end kind bytes byte rest after (cluster_step grammar (bytes ++ byte ∷ []) rest after) other
+      ∙ ap (chosen_step (λ a. Spec.cluster bytes (Spec.ends_in byte a))) told
 
 -- a first byte of ASCII is the first character
 pub name_first : (names : Text) → names ≢ [] → slice_index names 0 < 128 → first_char names ≡ slice_index names 0 ∷ []
 name_first [] filled ascii = absurd (filled refl)
-name_first (byte ∷ rest) filled ascii = first_byte byte rest ascii
+name_first (byte ∷ rest) filled ascii = Steps.first_byte byte rest ascii
 
 -- names of no length
 pub empty_names : (names : Text) → (length names == 0) ≡ true → names ≡ []
@@ -207,126 +102,323 @@ pub first_name : (names : Text) → names ≢ [] → slice_range names 0 1 ≡ s
 first_name [] filled = absurd (filled refl)
 first_name (byte ∷ rest) filled = refl
 
--- the result of a line without its first word
-read_both-second : (grammar : Grammar) (words : List Text) → (read_both grammar words).1 ≡ read grammar (drop 1 words)
-unfolding read read_both
-read_both-second grammar [] = refl
-read_both-second grammar (word ∷ words) = refl
+-- items that are well followed still are with one more item
+followed-item : (items : List Spec.Item) (item : Spec.Item) (left : List Text)
+    → Spec.AreWellFollowed items (Spec.item_words item ++ left)
+    → (Spec.is_bare item ≡ true → Spec.EndsOrIsDashed left) → Spec.AreWellFollowed (items ++ item ∷ []) left
+followed-item [] item left followed ends = (ends, tt)
+followed-item (first ∷ items) item left followed ends =
+    search (rules, spelled_all-joined items (item ∷ []) left, followed-item items item left followed.1 ends)
+
+-- one more item
+AreRead-item : {grammar : Grammar} {line : List Text} {items : List Spec.Item} {words : List Text} (item : Spec.Item)
+    (left : List Text) → AreRead grammar line items words → Steps.BeginsWith grammar words item left
+    → AreRead grammar line (items ++ item ∷ []) left
+AreRead-item {grammar} {line} {items} item left read_to begins =
+    search (rules, spelled_all-joined, every_append, followed-item)
+
+-- between words, no word is half read
+pub AreRead-between : {grammar : Grammar} {line : List Text} {items : List Spec.Item} {names : Text}
+    {words : List Text} → names ≡ [] → AreReadTo grammar line items names words → AreRead grammar line items words
+AreRead-between empty (between_words none read) = read
+AreRead-between empty (within_word before word filled has begun items_are read) = absurd (filled empty)
+
+-- one option or free word more, from an item in place of one that gave less
+HasOneMore-item : {grammar : Grammar} {line : List Text} {before items : List Spec.Item} {word : Text}
+    {words left : List Text} {names : Text} {position : ℕ} {given : Spec.Given} (item : Spec.Item)
+    (part : List Spec.Given) → AreRead grammar line before (word ∷ words)
+    → position ≡ length line - (1 + length words) → Spec.given_by grammar item ≡ part ++ given ∷ []
+    → Spec.order_of_items grammar items ≡ Spec.order_of_items grammar before ++ part
+    → ((at : ℕ) → Spec.occurrences_after at grammar items ≡ Spec.occurrences_after at grammar before
+    ++ map (Spec.at_position (at + Spec.word_count before)) (Spec.options_in part))
+    → AreReadTo grammar line (before ++ item ∷ []) names left
+    → HasOneMore grammar line items position given names left
+HasOneMore-item {grammar} {line} {before} {items} {word} {words} {position = position} {given = given} item part read_to
+    position_is gives order occurrences longer =
+    let here : position ≡ Spec.word_count before =
+    omega (arith, ap length read_to.spells, length-spelled_all before (word ∷ words)) in
+    let mentions : Spec.mentions grammar item ≡ Spec.options_in part ++ Spec.options_in (given ∷ []) =
+    sym (options_in-given_by grammar item) ∙ ap Spec.options_in gives ∙ options_in-append part (given ∷ []) in record {
+      all = before ++ item ∷ [];
+      read = longer;
+      order = search (rules, order_of_items-append, append_assoc);
+      occurrences = λ at.
+          search (rules, occurrences_after-append grammar before (item ∷ []) at, map-append, append_assoc);
+    }
+
+-- These names are left in the word after some items, perhaps after flags. The items and the flags
+-- gave what these items give.
+record IsInWord (grammar : Grammar) (line : List Text) (items : List Spec.Item) (names : Text) (words : List Text)
+    : Type 0 where
+  before : List Spec.Item
+  word : Text
+  has : Spec.HasAfterFlags grammar word names
+  read_to : AreRead grammar line before (word ∷ words)
+  order : Spec.order_of_items grammar items ≡ Spec.order_of_items grammar before
+      ++ Spec.given_by grammar (Spec.cluster has.bytes Spec.flags)
+  occurrences : (at : ℕ) → Spec.occurrences_after at grammar items ≡ Spec.occurrences_after at grammar before
+      ++ map (Spec.at_position (at + Spec.word_count before))
+      (Spec.options_in (Spec.given_by grammar (Spec.cluster has.bytes Spec.flags)))
+
+-- a word in short form, before its first name
+abbrev unflagged : {grammar : Grammar} {word names : Text} → IsShortForm grammar word names
+    → Spec.HasAfterFlags grammar word names
+unflagged form =
+    record { bytes = []; ordinary = form.ordinary; word_is = form.word_is; second = form.second; each = tt }
+
+module _ {grammar : Grammar} {line words : List Text} {items : List Spec.Item} {names : Text} where
+  -- after a flag
+  IsInWord-within : names ≢ [] → AreReadTo grammar line items names words → IsInWord grammar line items names words
+  IsInWord-within filled (between_words none read_to) = absurd (filled none)
+  IsInWord-within filled (within_word before word other has begun items_are read_to) = record {
+    before = before;
+    word = word;
+    has = has;
+    read_to = read_to;
+    order = search (rules, order_of_items-append);
+    occurrences = λ at. search (rules, occurrences_after-append, options_in-options);
+  }
+
+  -- when a cluster begins
+  IsInWord-begins : {word : Text} → IsShortForm grammar word names → AreReadTo grammar line items [] (word ∷ words)
+      → IsInWord grammar line items names words
+  IsInWord-begins {word} form read_to = record {
+    before = items;
+    word = word;
+    has = unflagged form;
+    read_to = AreRead-between refl read_to;
+    order = sym (append-nil _);
+    occurrences = λ at. sym (append-nil _);
+  }
+
+-- A line, and its words after the one that is being read.
+module _ {grammar : Grammar} (named : HasTextNames grammar) (line words : List Text) where
+  -- an error of this word is an error of the line
+  line_fault : {items : List Spec.Item} {word : Text} (fault : Fault) → AreRead grammar line items (word ∷ words)
+      → Spec.IsFaultAt grammar word words fault → read grammar line ≡ Err fault
+  line_fault {items} {word} fault read_to at =
+      search (rules, items_read, read_step, Steps.fault_step grammar named word words fault at)
+
+  -- one more item
+  AreReadTo-item : {before : List Spec.Item} {word : Text} (item : Spec.Item) (argument : Spec.Argument)
+      {left : List Text} → AreRead grammar line before (word ∷ words) → step grammar word words ≡ takes item argument
+      → words ≡ Spec.argument_words argument ++ left → AreReadTo grammar line (before ++ item ∷ []) [] left
+  AreReadTo-item {word = word} item argument {left} read_to is after_is =
+      let sound = rw is at (Steps.step_sound grammar named word words) in
+      let same : sound.0 ≡ left = search (
+        rules,
+        drop-append_seam (Spec.argument_words argument) sound.0,
+        drop-append_seam (Spec.argument_words argument) left,
+      ) in
+      between_words refl (AreRead-item item left read_to (rw same at sound.2))
+
+  module _ {position : ℕ} (here : position ≡ length line - (1 + length words)) {items : List Spec.Item} where
+    -- a word that gives one option or free word
+    HasOneMore-word : (word : Text) (item : Spec.Item) (argument : Spec.Argument) {given : Spec.Given} {left : List Text}
+        → step grammar word words ≡ takes item argument → words ≡ Spec.argument_words argument ++ left
+        → Spec.given_by grammar item ≡ given ∷ [] → AreReadTo grammar line items [] (word ∷ words)
+        → HasOneMore grammar line items position given [] left
+    HasOneMore-word word item argument is after_is gives read_to =
+        let read = AreRead-between refl read_to in
+        HasOneMore-item item [] read here gives (sym (append-nil _)) (λ at. sym (append-nil _))
+        (AreReadTo-item item argument read is after_is)
+
+    -- a flag in a cluster
+    HasOneMore-flag : (byte place : ℕ) (names : Text) → Spec.IsFlag grammar byte → grammar.place (byte ∷ []) ≡ Some place
+        → IsInWord grammar line items (byte ∷ names) words
+        → HasOneMore grammar line items position (Spec.option place None) names words
+    unfolding cluster_step
+    HasOneMore-flag byte place names flag place_is inside =
+        HasOneMore-item (Spec.cluster (inside.has.bytes ++ byte ∷ []) Spec.flags)
+        (Spec.given_by grammar (Spec.cluster inside.has.bytes Spec.flags)) inside.read_to here
+        (search (rules, map-append)) inside.order inside.occurrences (more names inside.has) where
+          more : (names : Text) (has : Spec.HasAfterFlags grammar inside.word (byte ∷ names)) → AreReadTo grammar line
+              (inside.before ++ Spec.cluster (has.bytes ++ byte ∷ []) Spec.flags ∷ []) names words
+          more [] has =
+              let form = Steps.short_of grammar inside.word (byte ∷ []) has (filled-append has.bytes byte []) in
+              AreReadTo-item (Spec.cluster (has.bytes ++ byte ∷ []) Spec.flags) Spec.none inside.read_to
+              (Steps.short_step_byte grammar inside.word has.bytes byte [] words (Some No) form has.each flag) refl
+          more (c ∷ names) has = within_word inside.before inside.word (λ e. cc e) (record {
+            bytes = has.bytes ++ byte ∷ [];
+            ordinary = has.ordinary;
+            word_is = search (rules, append_assoc);
+            second = search (rules, append_assoc);
+            each = every_append (Spec.IsFlag grammar) has.bytes (byte ∷ []) has.each (flag, tt);
+          }) (filled-append has.bytes byte []) refl inside.read_to
+
+    -- the last option in a cluster
+    HasOneMore-last : (byte place : ℕ) (text : Text) (kind : HasArg) {value : Option Text} {left : List Text}
+        → grammar.place (byte ∷ []) ≡ Some place → kind ≢ No → grammar.kind (byte ∷ []) ≡ Some kind
+        → Chooses (chosen_end kind (byte ∷ []) text words) words value left
+        → IsInWord grammar line items (byte ∷ text) words
+        → HasOneMore grammar line items position (Spec.option place value) [] left
+    HasOneMore-last byte place text kind place_is other kind_is chooses inside =
+        let has = inside.has in
+        let form = Steps.short_of grammar inside.word (byte ∷ text) has (filled-append has.bytes byte text) in
+        let item = Spec.cluster has.bytes (Spec.ends_in byte chooses.argument) in
+        HasOneMore-item item (Spec.given_by grammar (Spec.cluster has.bytes Spec.flags)) inside.read_to here
+        (search (rules, map-append)) inside.order inside.occurrences
+        (AreReadTo-item item chooses.argument inside.read_to (search (
+          rules,
+          Steps.short_step_byte grammar inside.word has.bytes byte text words (Some kind) form has.each kind_is,
+        )) chooses.after_is)
+
+-- flags before a text of UTF-8
+IsUtf8-flags : {grammar : Grammar} → HasTextNames grammar → (bytes : List ℕ) (names : Text)
+    → AllByRecursion (Spec.IsFlag grammar) bytes → IsUtf8 names → IsUtf8 (bytes ++ names)
+IsUtf8-flags named [] names each utf8 = utf8
+IsUtf8-flags named (byte ∷ bytes) names each utf8 =
+    let ascii : byte < 128 = search rules in
+    Texts.IsUtf8-ascii byte (bytes ++ names) ascii (IsUtf8-flags named bytes names each.1 utf8)
 
 -- Words, some of which are kept for those that follow.
-module _ (grammar : Grammar) (kept : ℕ) (words : List Text) (few : kept ≤ length words) where
+module _ {grammar : Grammar} (named : HasTextNames grammar) (kept : ℕ) (words : List Text) (few : kept ≤ length words) where
   -- after the last word, none follow
   enough : (more : List Text) → (kept ≡ 0 → more ≡ []) → words ≡ [] → more ≡ []
   enough more may none = may (omega (arith, few, ap length none))
 
-  -- the step of names that are left doesn't depend on the words after the next
-  names_more : (names : Text) → names ≢ [] → (more : List Text) → (kept ≡ 0 → more ≡ [])
-      → read_names grammar names (words ++ more)
-      ≡ after_step (cluster_step grammar [] names words) (read grammar (words ++ more))
-      (read grammar (drop 1 (words ++ more)))
-  names_more [] filled more may = absurd (filled refl)
-  names_more (byte ∷ rest) filled more may =
-      rw (cluster_step-more grammar words more (enough more may) [] (byte ∷ rest)) refl
+  -- the words after the one that is being read
+  here : (line more : List Text) → length line - (1 + length words + length more) ≡ length line - (1 + length (words ++ more))
+  here line more = omega (arith, length-append words more)
 
-  -- their error
-  pub names_fault : (names : Text) → names ≢ [] → (fault : Fault) → cluster_step grammar [] names words ≡ faults fault
-      → (more : List Text) → (kept ≡ 0 → more ≡ []) → read_names grammar names (words ++ more) ≡ Err fault
-  names_fault names filled fault fails more may = names_more names filled more may ∙ rw fails refl
+  -- an argument doesn't depend on the words after the next
+  Chooses-more : (kind : HasArg) (name text : Text) (more : List Text) → (kept ≡ 0 → more ≡ [])
+      → {value : Option Text} {left : List Text} → Chooses (chosen_end kind name text words) words value left
+      → Chooses (chosen_end kind name text (words ++ more)) (words ++ more) value (left ++ more)
+  Chooses-more kind name text more may {value} {left} chooses = search rules
 
-  -- the first of them
-  pub ReadsOne-name : (names : Text) → names ≢ []
+  -- the first name of a cluster
+  ReadsOne-name : {names_old : Text} {words_old : List Text} (names : Text) → ((line more : List Text)
+      (items : List Spec.Item) → AreReadTo grammar line items names_old (words_old ++ more)
+      → IsInWord grammar line items names (words ++ more))
+      → 1 + length words ≡ words_left names_old words_old
+      → length names + words_size words ≤ length names_old + words_size words_old
       → {place : ℕ} {value : Option Text} {names_left : Text} {left : List Text}
       → TakesName grammar names words place value names_left left
-      → ReadsOne grammar kept (length words) names words names_left left (Spec.option place value)
-  ReadsOne-name [] filled taken = absurd (filled refl)
-  ReadsOne-name (byte ∷ rest) filled {place} {value} {names_left} {left} (takes_last none takes_one) = rw none (record {
-    gives = λ at more may. ap (made_of (left_of grammar at)) (names_more (byte ∷ rest) filled more may)
-        ∙ one_taken grammar at _ place value words left more takes_one;
-    begins = refl;
-    within = search (rules, takes_one.after_is);
-    less = rw takes_one.after_is (omega (arith, words_size-left (Spec.argument_words takes_one.argument) left));
-    next = λ filled. absurd (filled refl);
-  })
-  ReadsOne-name (byte ∷ rest) filled {place} {value} {names_left} (takes_flag b names_are flag place_is value_is left_is) =
-      rw (left_is, value_is, names_are) (record {
-        gives = λ at more may. names_flag grammar at b place names_left words more flag place_is;
-        begins = refl;
-        within = within names_left;
-        less = omega arith;
+      → ReadsOne grammar kept (length words) names_old words_old names_left left (Spec.option place value)
+  ReadsOne-name names inside begins less {place} {value} {names_left} {left}
+      (takes_last byte rest kind names_are none place_is other kind_is chooses) = rw none (record {
+        reads = λ line more items may read_to. HasOneMore-last named line (words ++ more) (here line more) byte place rest kind
+            place_is other kind_is (Chooses-more kind (byte ∷ []) rest more may chooses) (rw names_are at inside line more items read_to);
+        begins = begins;
+        less = omega (
+          arith,
+          less,
+          ap length names_are,
+          ap words_size chooses.after_is,
+          words_size-left (Spec.argument_words chooses.argument) left,
+        );
+        free = tt;
+        next = λ filled. absurd (filled refl);
+      })
+  ReadsOne-name names inside begins less {place} {value} {names_left}
+      (takes_flag byte names_are flag place_is value_is left_is) = rw (left_is, value_is) (record {
+        reads = λ line more items may read_to. HasOneMore-flag named line (words ++ more) (here line more) byte place
+            names_left flag place_is (rw names_are at inside line more items read_to);
+        begins = begins;
+        less = omega (arith, less, ap length names_are);
+        free = tt;
         next = λ filled. few;
-      }) where
-        within : (names : Text) → words_left names words ≤ 1 + length words
-        within [] = omega arith
-        within (byte ∷ names) = omega arith
+      })
 
   -- Words that begin with this one.
   module _ (word : Text) where
-    -- the result, by its step
-    read_after : (more : List Text) (said : Step) → step grammar word (words ++ more) ≡ said
-        → read grammar (word ∷ (words ++ more))
-        ≡ after_step said (read grammar (words ++ more)) (read grammar (drop 1 (words ++ more)))
-    unfolding read
-    read_after more said is = read_step grammar word (words ++ more) said is
-        ∙ ap (after_step said (read grammar (words ++ more))) (read_both-second grammar (words ++ more))
-
     -- it is free
     pub ReadsOne-free : Spec.is_dashed word ≡ false → grammar.style ≡ FloatingFrees
         → ReadsOne grammar kept (length words) [] (word ∷ words) [] words (Spec.free_word word)
     ReadsOne-free plain floating = record {
-      gives = λ at more may. rw (read_item grammar word (words ++ more) (Spec.free word) Spec.none
-          (Steps.step_free grammar word (words ++ more) plain ∙ rw floating refl))
-          (free_taken grammar at word _ _ (omega arith));
+      reads = λ line more items may read_to. HasOneMore-word named line (words ++ more) (here line more) word
+          (Spec.free word) Spec.none (Steps.step_free grammar word (words ++ more) plain ∙ rw floating refl) refl refl read_to;
       begins = search rules;
-      within = omega arith;
       less = omega arith;
+      free = (floating, refl, refl);
       next = λ filled. absurd (filled refl);
     }
 
     -- it is in long form
-    module _ (dashes : Spec.Dashes) (long : Text) (form : IsInLongForm grammar dashes word long) where
-      long_said : (more : List Text) → (kept ≡ 0 → more ≡ []) → read grammar (word ∷ (words ++ more))
-          ≡ after_step (long_step grammar dashes long words) (read grammar (words ++ more))
-          (read grammar (drop 1 (words ++ more)))
-      long_said more may = read_after more _ (step_long-more grammar words more (enough more may) dashes word long form)
-
-      pub ReadsOne-long : {place : ℕ} {value : Option Text} {left : List Text}
-          → TakesOne grammar (long_step grammar dashes long words) words place value left
-          → ReadsOne grammar kept (length words) [] (word ∷ words) [] left (Spec.option place value)
-      ReadsOne-long {place} {value} {left} takes_one = record {
-        gives = λ at more may. rw (long_said more may) (one_taken grammar at _ place value words left more takes_one);
-        begins = search rules;
-        within = search (rules, takes_one.after_is);
-        less = rw takes_one.after_is (omega (arith, words_size-left (Spec.argument_words takes_one.argument) left));
-        next = λ filled. absurd (filled refl);
-      }
-
-      pub long_fault : (fault : Fault) → long_step grammar dashes long words ≡ faults fault
-          → (more : List Text) → (kept ≡ 0 → more ≡ []) → read grammar (word ∷ (words ++ more)) ≡ Err fault
-      long_fault fault fails more may = long_said more may ∙ rw fails refl
+    pub ReadsOne-long : (dashes : Spec.Dashes) (long : Text) → IsInLongForm grammar dashes word long
+        → {place : ℕ} {value : Option Text} {left : List Text}
+        → TakesOne grammar (long_step grammar dashes long words) words place value left
+        → ReadsOne grammar kept (length words) [] (word ∷ words) [] left (Spec.option place value)
+    ReadsOne-long dashes long form {left = left} takes_one = record {
+      reads = λ line more items may read_to.
+          HasOneMore-word named line (words ++ more) (here line more) word takes_one.item takes_one.argument
+          (step_long-more grammar words more (enough more may) dashes word long form ∙ takes_one.step_is)
+          (ap (λ words. words ++ more) takes_one.after_is ∙ append_assoc (Spec.argument_words takes_one.argument) left more)
+          (given_by-dashed grammar takes_one.item takes_one.no_free ∙ rw takes_one.mentioned refl) read_to;
+      begins = search rules;
+      less = rw takes_one.after_is (omega (arith, words_size-left (Spec.argument_words takes_one.argument) left));
+      free = tt;
+      next = λ filled. absurd (filled refl);
+    }
 
     -- it is in short form
-    module _ (names : Text) (form : IsShortForm grammar word names) where
-      short_said : (more : List Text)
-          → read grammar (word ∷ (words ++ more)) ≡ read_names grammar names (words ++ more)
-      short_said more = read_after more _ (Steps.step_short grammar word names (words ++ more) form)
-          ∙ read_names-filled names form.filled where
-            read_names-filled : (names : Text) → names ≢ []
-                → after_step (cluster_step grammar [] names (words ++ more)) (read grammar (words ++ more))
-                (read grammar (drop 1 (words ++ more))) ≡ read_names grammar names (words ++ more)
-            read_names-filled [] filled = absurd (filled refl)
-            read_names-filled (byte ∷ rest) filled = refl
+    pub ReadsOne-short : (names : Text) → IsShortForm grammar word names
+        → {names_left : Text} {left : List Text} {place : ℕ} {value : Option Text}
+        → TakesName grammar names words place value names_left left
+        → ReadsOne grammar kept (length words) [] (word ∷ words) names_left left (Spec.option place value)
+    ReadsOne-short names form = ReadsOne-name names (λ line more items read_to. IsInWord-begins form read_to) (search rules)
+        (rw form.word_is (omega arith))
 
-      pub ReadsOne-short : {names_left : Text} {left : List Text} {given : Spec.Given}
-          → ReadsOne grammar kept (length words) names words names_left left given
-          → ReadsOne grammar kept (length words) [] (word ∷ words) names_left left given
-      ReadsOne-short reads = record {
-        gives = λ at more may. ap (made_of (left_of grammar at)) (short_said more) ∙ reads.gives at more may;
-        begins = search rules;
-        within = reads.within;
-        less = rw form.word_is (omega (arith, reads.less));
-        next = reads.next;
-      }
+  -- names are left
+  pub ReadsOne-within : (names : Text) → names ≢ []
+      → {names_left : Text} {left : List Text} {place : ℕ} {value : Option Text}
+      → TakesName grammar names words place value names_left left
+      → ReadsOne grammar kept (length words) names words names_left left (Spec.option place value)
+  ReadsOne-within [] filled = absurd (filled refl)
+  ReadsOne-within (c ∷ names) filled = ReadsOne-name (c ∷ names) (λ line more items read_to. IsInWord-within filled read_to) refl
+      (omega arith)
 
-      pub short_fault : (fault : Fault) → cluster_step grammar [] names words ≡ faults fault
-          → (more : List Text) → (kept ≡ 0 → more ≡ []) → read grammar (word ∷ (words ++ more)) ≡ Err fault
-      short_fault fault fails more may = short_said more ∙ names_fault names form.filled fault fails more may
+  -- an error in long form, and of names in a cluster
+  module _ (fault : Fault) (more : List Text) (may : kept ≡ 0 → more ≡ []) where
+    pub IsNextFault-long : (dashes : Spec.Dashes) (word long : Text) → IsInLongForm grammar dashes word long → IsUtf8 word
+        → long_step grammar dashes long words ≡ faults fault
+        → IsNextFault grammar (record { names = []; words = word ∷ (words ++ more) }) fault
+    IsNextFault-long dashes word long form utf8 fails =
+        let is = step_long-more grammar words more (enough more may) dashes word long form ∙ fails in
+        in_next word (words ++ more) refl refl ((rw is at (Steps.step_sound grammar named word (words ++ more))) utf8)
+
+    module _ (names : Text) (utf8 : IsUtf8 names) (fails : (bytes : List ℕ) → cluster_step grammar bytes names words ≡ faults fault)
+        (filled : names ≢ []) where
+      IsFaultAt-names : (word : Text) → Spec.HasAfterFlags grammar word names → Spec.IsFaultAt grammar word (words ++ more) fault
+      IsFaultAt-names word has =
+          let form = Steps.short_of grammar word names has
+          (λ none. omega (arith, ap length none, length-append has.bytes names, names_length names filled)) in
+          let is = Steps.short_step_flags grammar word has.bytes names (words ++ more) form has.each
+          ∙ cluster_step-more grammar words more (enough more may) has.bytes names ∙ fails has.bytes in
+          (rw is at (Steps.step_sound grammar named word (words ++ more))) (rw has.word_is (Texts.IsUtf8-ascii Spec.dash
+          (has.bytes ++ names) (omega arith) (IsUtf8-flags named has.bytes names has.each utf8)))
+
+      pub IsNextFault-short : (word : Text) → IsShortForm grammar word names
+          → IsNextFault grammar (record { names = []; words = word ∷ (words ++ more) }) fault
+      IsNextFault-short word form = in_next word (words ++ more) refl refl (IsFaultAt-names word (unflagged form))
+
+      pub IsNextFault-within : IsNextFault grammar (record { names = names; words = words ++ more }) fault
+      IsNextFault-within = in_this filled IsFaultAt-names
+
+-- What a whole line gave.
+module _ {grammar : Grammar} {line : List Text} {left : Left} where
+  -- its error
+  pub AreReadTo-fault : HasTextNames grammar → {items : List Spec.Item} (fault : Fault) → IsNextFault grammar left fault
+      → AreReadTo grammar line items left.names left.words → read grammar line ≡ Err fault
+  AreReadTo-fault named fault (in_next word after none is at) read_to =
+      let read : AreRead grammar line _ left.words = AreRead-between none read_to in
+      line_fault named line after fault (rw is at read) at
+  AreReadTo-fault named fault (in_this filled at) read_to =
+      let inside = IsInWord-within filled read_to in
+      line_fault named line left.words fault inside.read_to (at inside.word inside.has)
+
+  -- one option or free word more
+  pub IsReadTo-next : {before : List Spec.Given} {kept after : ℕ} {given : Spec.Given} {left_new : Left}
+      → ReadsOne grammar kept after left.names left.words left_new.names left_new.words given
+      → IsReadTo grammar line before left → IsReadTo grammar line (before ++ given ∷ []) left_new
+  IsReadTo-next reads read_to =
+      let one = reads.reads line [] read_to.items (λ none. refl) (rw append-nil read_to.read) in
+      record { items = one.all; read = rw append-nil at one.read; given_is = rw read_to.given_is (sym one.order) }
+
+  -- the end of the options
+  pub order-ended : {before : List Spec.Given} → HasTextNames grammar → (tail : Spec.Tail) → left.names ≡ []
+      → read grammar left.words ≡ Ok (record { items = []; tail = tail }) → IsReadTo grammar line before left
+      → made_of (Spec.order_of_reading grammar) (read grammar line)
+      ≡ Ok (before ++ map Spec.free_word (Spec.tail_frees tail))
+  order-ended named tail empty is read_to = search (rules, items_read)

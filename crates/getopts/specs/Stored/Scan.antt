@@ -1,6 +1,6 @@
 -- What the functions of `scan` find in the words that they are given.
-use Rattle.std.specs.Prelude.{◌≡◌, Bool, true, false, if◌then◌else◌, Some, List, [], ◌∷◌, ◌++◌, length, map}
-use Rattle.std.specs.Prelude.{Result, Ok, Option, ℕ, ◌≢◌, ◌≤◌, ◌<◌, ◌+◌, ◌-◌, drop}
+use Rattle.std.specs.Prelude.{◌≡◌, Bool, true, false, Some, List, [], ◌∷◌, ◌++◌, length, map}
+use Rattle.std.specs.Prelude.{Result, Ok, Option, ℕ, ◌≢◌, ◌≤◌, ◌<◌, ◌+◌, ◌-◌}
 use Rattle.std.specs.String.{string_bytes}
 use Rattle.getopts.specs.Names.{Text}
 use Rattle.getopts.specs.Options.{Declared, Grammar, MayBeDeclared, names_of, grammar_of}
@@ -9,12 +9,14 @@ use Rattle.getopts.specs.Canon.{Content}
 use Rattle.getopts.specs.Fail.{Fault}
 use Rattle.getopts.specs.Reading.{Dashes, is_dashed, stop_word, Reading}
 use Rattle.getopts.specs.Reading.{occurrences_of, free_words, trailing_start}
-use Rattle.getopts.specs.Reading.{Occurrence, occurrences_after, free_items, Tail, line_end, stop, rest}
-use Rattle.getopts.specs.Reading.{tail_frees, trailing_after, Item, word_count}
-use Rattle.getopts.specs.Reading.{Given, given_by, options_in, frees_in}
-use Rattle.getopts.specs.Results.{made_of, read, reading_or_error, accepted_reading, after_step}
-use Rattle.getopts.specs.Step.{IsInLongForm, IsShortForm, cluster_step}
+use Rattle.getopts.specs.Reading.{Occurrence, occurrences_after, free_items, Tail}
+use Rattle.getopts.specs.Reading.{tail_frees, trailing_after, Item}
+use Rattle.getopts.specs.Reading.{Given, options_in, frees_in, order_of_items, at_position}
+use Rattle.getopts.specs.Reader.{AreReadTo, IfFreeWord, size_of}
+use Rattle.getopts.specs.Results.{made_of, read, reading_or_error, accepted_reading}
+use Rattle.getopts.specs.Step.{IsInLongForm, IsShortForm}
 use Rattle.getopts.specs.declared.kinds.HasArg.{HasArg}
+use Rattle.getopts.specs.declared.kinds.ParsingStyle.TheVariants.{FloatingFrees}
 use Rattle.getopts.specs.declared.scan.Line.{Line}
 use Rattle.getopts.specs.declared.scan.Resolved.{Resolved}
 use Rattle.getopts.specs.declared.scan.Scanner.{Scanner}
@@ -91,11 +93,6 @@ given_with grammar at line words =
     made_of (with_reading grammar at line.found (map string_bytes line.free.items))
     (read grammar words)
 
--- a tail of these words: free words, or a stop and free words
-abbrev pub tail_of : List Text → Tail
-tail_of [] = line_end
-tail_of (word ∷ after) = if is_dashed word then stop after else rest (word ∷ after)
-
 -- The first words of a command line were read into a line, and these words are left.
 abbrev pub IsLeft : Declared → ℕ → Line → List Text → List Text → Type 0
 IsLeft options count line whole left =
@@ -106,41 +103,19 @@ IsLeft options count line whole left =
 abbrev pub order_content : List Given → Content
 order_content order = record { mentions = options_in order; free = frees_in order }
 
--- an option or a free word, with the position of its item
-pub record Placed : Type 0 where
-  pub position : ℕ
-  pub given : Given
+-- the occurrence of an option at a position; a free word has none
+abbrev pub occurrences_at : ℕ → Given → List Occurrence
+occurrences_at position given = map (at_position position) (options_in (given ∷ []))
 
--- what items that follow this many words give, in order
-abbrev pub placed_after : ℕ → Grammar → List Item → List Placed
-placed_after at grammar [] = []
-placed_after at grammar (item ∷ items) =
-    map (λ given. record { position = at; given = given }) (given_by grammar item)
-    ++ placed_after (at + word_count (item ∷ [])) grammar items
-
--- what is left of a line: what its items give, and its tail
-pub record Left : Type 0 where
-  pub placed : List Placed
-  pub tail : Tail
-
--- what a reading of the words from this position on gives
-abbrev pub left_of : Grammar → ℕ → Reading → Left
-left_of grammar at reading =
-    record { placed = placed_after at grammar reading.items; tail = reading.tail }
-
--- what is left, with an option or a free word at this position before it
-abbrev pub preceded : ℕ → Given → Left → Left
-preceded position given left = record {
-  placed = record { position = position; given = given } ∷ left.placed;
-  tail = left.tail;
-}
-
--- the result of the names that are left in a cluster, and the words after it
-abbrev pub read_names : Grammar → Text → List Text → Result Reading Fault
-read_names grammar [] words = read grammar words
-read_names grammar (byte ∷ names) words =
-    after_step (cluster_step grammar [] (byte ∷ names) words) (read grammar words)
-    (read grammar (drop 1 words))
+-- After these items of a line, an option or a free word was read, in a word at this position. These
+-- names and words are left.
+pub record HasOneMore (grammar : Grammar) (line : List Text) (items : List Item) (position : ℕ)
+    (given : Given) (names : Text) (words : List Text) : Type 0 where
+  pub all : List Item
+  pub read : AreReadTo grammar line all names words
+  pub order : order_of_items grammar all ≡ order_of_items grammar items ++ given ∷ []
+  pub occurrences : (before : ℕ) → occurrences_after before grammar all
+      ≡ occurrences_after before grammar items ++ occurrences_at (before + position) given
 
 -- how many words are left, with the cluster's if names of it are left
 abbrev pub words_left : Text → List Text → ℕ
@@ -151,26 +126,16 @@ words_left (byte ∷ names) words = 1 + length words
 abbrev pub IsNext : ℕ → Text → List Text → Type 0
 IsNext kept names words = names ≢ [] → kept ≤ length words
 
--- the bytes of words, and their number
-abbrev pub words_size : List Text → ℕ
-words_size [] = 0
-words_size (word ∷ words) = 1 + length word + words_size words
-
--- how much is left of names and words
-abbrev pub size_left : Text → List Text → ℕ
-size_left names words = length names + words_size words
-
 -- An option or a free word was read. `after` words follow the first word of its item. If some words
 -- are kept, more may follow.
--- What is left before gives the option or free word, and then what is left after.
 pub record ReadsOne (grammar : Grammar) (kept after : ℕ) (names : Text) (words : List Text)
     (names_new : Text) (words_new : List Text) (given : Given) : Type 0 where
-  pub gives : (at : ℕ) (more : List Text) → (kept ≡ 0 → more ≡ [])
-      → made_of (left_of grammar at) (read_names grammar names (words ++ more))
-      ≡ made_of (λ reading. preceded at given
-      (left_of grammar (at + (1 + after - words_left names_new words_new)) reading))
-      (read_names grammar names_new (words_new ++ more))
+  pub reads : (line more : List Text) (items : List Item) → (kept ≡ 0 → more ≡ [])
+      → AreReadTo grammar line items names (words ++ more)
+      → HasOneMore grammar line items (length line - (1 + after + length more)) given names_new (words_new ++ more)
   pub begins : 1 + after ≡ words_left names words
-  pub within : words_left names_new words_new ≤ 1 + after
-  pub less : size_left names_new words_new < size_left names words
+  pub less : size_of (record { names = names_new; words = words_new })
+      < size_of (record { names = names; words = words })
+  pub free : IfFreeWord given (λ word.
+      (grammar.style ≡ FloatingFrees) × (names_new ≡ []) × (words ≡ word ∷ words_new))
   pub next : IsNext kept names_new words_new

@@ -1,7 +1,8 @@
 -- The names and kinds of groups, as they are stored or borrowed.
-use Rattle.std.specs.Prelude.{◌≡◌, ◌==◌, ◌-◌, Bool, not, List, [], map, slice_get}
+use Rattle.std.specs.Prelude.{◌≡◌, ◌==◌, ◌-◌, Bool, not, is_some, List, [], map, slice_get}
+use Rattle.std.specs.Bool.{beq}
 use Rattle.std.specs.List.{AllByRecursion}
-use Rattle.std.specs.Option.{option_eq, option_map_or}
+use Rattle.std.specs.Option.{option_map_or}
 use Rattle.std.specs.Ordering.{on, eq_of_both}
 use Rattle.std.specs.Str.{IsUtf8}
 use Rattle.std.specs.String.{string_bytes}
@@ -47,7 +48,7 @@ ends_of group = record {
 abbrev pub same_record : SignatureRecord → SignatureRecord → Bool
 same_record = eq_of_both (on (λ group. group.long) ◌==◌)
     (eq_of_both (on (λ group. group.end) ◌==◌)
-    (eq_of_both (on (λ group. group.short) (option_eq ◌==◌)) (on (λ group. group.kinds) same_kinds)))
+    (eq_of_both (on (λ group. is_some group.short) beq) (on (λ group. group.kinds) same_kinds)))
 
 abbrev pub signature_in : Text → SignatureRecord → Signature
 signature_in text group =

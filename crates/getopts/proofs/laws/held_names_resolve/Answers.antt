@@ -10,7 +10,7 @@ returns c =
     let groups = c.args.matches.now.groups in
     let names = held_names groups in
     let lawful = AllByRecursion-map IsLawfullyNamed
-    (λ group. group.signature.names) groups c.opt_place-place.ensures.lawful in
+    (λ group. group.signature.names) groups c.opt_place.ensures.lawful in
     record {
       main_name = λ name place own resolved at. resolution-main_name names name place own resolved
           at;

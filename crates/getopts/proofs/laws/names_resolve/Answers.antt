@@ -10,11 +10,11 @@ returns c =
     let groups = c.args.options.now.groups in
     let names = names_of groups in
     let lawful = AllByRecursion-map IsLawfullyNamed
-    (λ group. group.signature.names) groups c.signatures-signatures.ensures.declared.named in
+    (λ group. group.signature.names) groups c.signatures.ensures.declared.named in
     record {
       main_name = λ name place own resolved at. resolution-main_name names name place own resolved
           at;
       one_byte = OneByteIsShort-lawful names lawful;
       empty = resolution-nil names lawful;
-      declared = c.signatures-signatures.ensures.declared;
+      declared = c.signatures.ensures.declared;
     }

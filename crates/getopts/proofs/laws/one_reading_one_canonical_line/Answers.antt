@@ -13,7 +13,7 @@ use Rattle.getopts.proofs.laws.one_reading_one_canonical_line.Goals as goal
 pub returns : goal.returns
 returns c =
     let options = c.args.options.now in
-    let declared = c.signatures-signatures.ensures.declared in
+    let declared = c.names_resolve.ensures.declared in
     let holds_same = OneContentHoldsSame_lem options
     (AcceptedExactlyWhen-options options declared) in
     let line_laws = KeepsLineLaws-lawful options declared in

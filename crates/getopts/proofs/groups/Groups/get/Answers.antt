@@ -15,8 +15,8 @@ pub index-pair-requires : goal.index-pair-requires
 index-pair-requires c =
     search (rules, signatures_stored c.self.inside c.args.self.now c.self.invariant c.self.view_is)
 
-pub get-requires : goal.get-requires
-get-requires c = search (rules, signatures_stored c.self.inside c.args.self.now c.self.invariant c.self.view_is)
+pub get-signature-requires : goal.get-signature-requires
+get-signature-requires c = search (rules, signatures_stored c.self.inside c.args.self.now c.self.invariant c.self.view_is)
 
 pair_there : (c : After-index-pair) → slice_get c.self.inside.ends.items c.args.place ≡ Some c.index-pair.result.now
 pair_there c =
@@ -42,8 +42,8 @@ returns c =
     let two = slice_get-map (pair_at text) all c.args.place
     ∙ ap (option_map (pair_at text)) (pair_there at) in
     let there = groups_with-at c.self.inside.signatures _ c.args.place
-    (signature_view c.get.result) (pair_at text c.index-pair.result.now) (sym c.get.ensures) two in
+    (signature_view c.get-signature.result) (pair_at text c.index-pair.result.now) (sym c.get-signature.ensures) two in
     let hint = rw c.deref.ensures at c.first_at.ensures in
     let description = rw c.deref-2.ensures at c.second_at.ensures in
-    rw (← c.self.view_is) ((λ i. Some (group_with (signature_view c.get.result)
+    rw (← c.self.view_is) ((λ i. Some (group_with (signature_view c.get-signature.result)
     (hint i, description i))) ∙ sym there)

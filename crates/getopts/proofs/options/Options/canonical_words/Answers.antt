@@ -13,7 +13,7 @@ returns-then-are_plain-clause-result g c =
       c.in_ok-canonical_line.ensures,
       c.deref-then-are_plain.ensures.value,
       ← c.deref.ensures.value,
-      ← c.groups-groups.ensures.groups,
+      ← c.groups-groups.ensures,
       ← c.are_plain.ensures,
       c.if-are_plain.true,
     ) refl
@@ -23,31 +23,31 @@ returns-clause-result g c =
     canonical_result-order _ _ _ c.in_ok-order.ensures.result
     ∙ rw (
       ← c.deref.ensures.value,
-      ← c.groups-groups.ensures.groups,
+      ← c.groups-groups.ensures,
       ← c.are_plain.ensures,
       c.if-are_plain.false,
     ) refl
 
 pub returns-then-are_plain-clause-written : goal.returns-then-are_plain-clause-written
 returns-then-are_plain-clause-written g c =
-    ((HasResults-declared _ c.groups-groups.ensures.declared _ c.are_texts.ensures.texts).canonical (Ok (Some _))).1
+    ((HasResults-declared _ c.names_resolve.ensures.declared _ c.are_texts.ensures.texts).canonical (Ok (Some _))).1
     (sym (returns-then-are_plain-clause-result g c))
 
 pub returns-clause-unwritable : goal.returns-clause-unwritable
 returns-clause-unwritable g c =
-    ((HasResults-declared _ c.groups-groups.ensures.declared _ c.are_texts.ensures.texts).canonical (Ok None)).1
+    ((HasResults-declared _ c.names_resolve.ensures.declared _ c.are_texts.ensures.texts).canonical (Ok None)).1
     (sym (returns-clause-result g c))
 
 pub returns-then-are_plain-clause-laws : goal.returns-then-are_plain-clause-laws
-returns-then-are_plain-clause-laws g c = KeepsLineLaws-lawful _ c.groups-groups.ensures.declared
+returns-then-are_plain-clause-laws g c = KeepsLineLaws-lawful _ c.names_resolve.ensures.declared
 
 pub returns-clause-laws : goal.returns-clause-laws
-returns-clause-laws g c = KeepsLineLaws-lawful _ c.groups-groups.ensures.declared
+returns-clause-laws g c = KeepsLineLaws-lawful _ c.names_resolve.ensures.declared
 
 pub returns-then-are_plain-clause-read_again : goal.returns-then-are_plain-clause-read_again
 returns-then-are_plain-clause-read_again g c =
-    LinesReadAgain_lem _ c.groups-groups.ensures.declared (returns-then-are_plain-clause-laws g c)
+    LinesReadAgain_lem _ c.names_resolve.ensures.declared (returns-then-are_plain-clause-laws g c)
 
 pub returns-clause-read_again : goal.returns-clause-read_again
 returns-clause-read_again g c =
-    LinesReadAgain_lem _ c.groups-groups.ensures.declared (returns-clause-laws g c)
+    LinesReadAgain_lem _ c.names_resolve.ensures.declared (returns-clause-laws g c)

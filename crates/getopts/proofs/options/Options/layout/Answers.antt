@@ -1,7 +1,7 @@
 use Rattle.std.proofs.Common.{◌||◌, Bool, not, ap, sym, ◌∙◌, arith}
 use Rattle.std.proofs.lemmas.List.{take_all}
 use Rattle.getopts.specs.Usage.{any_short}
-use Rattle.getopts.specs.Stored.Groups.{group_view}
+use Rattle.getopts.specs.Accessors.{borrowed_group}
 use Rattle.getopts.proofs.usage.Rows.{any_short_more}
 use Rattle.getopts.proofs.options.Options.layout.Goals as goal
 
@@ -10,7 +10,7 @@ pub loop-place-preserved : goal.loop-place-preserved
 loop-place-preserved c =
     let groups = c.groups-groups.result.now in
     let place = c.loop-place.place in
-    any_short_more groups place (group_view c.get.result) (sym c.get.ensures)
+    any_short_more groups place (borrowed_group c.get.result) (sym c.get.ensures)
     c.loop-place.any_short _ c.loop-place.invariant
     (ap (λ (empty : Bool). c.loop-place.any_short || not empty) c.is_empty.ensures)
 
@@ -19,4 +19,4 @@ pub returns-clause-any_short : goal.returns-clause-any_short
 returns-clause-any_short c =
     c.loop-place.invariant
     ∙ ap any_short (take_all c.loop-place.place c.groups-groups.result.now (omega arith)
-    ∙ c.groups-groups.ensures.groups)
+    ∙ c.groups-groups.ensures)

@@ -1,7 +1,7 @@
 use Rattle.std.proofs.Common.{◌∷◌, [], List, length, map, string_bytes, refl, sym, ap, ◌∙◌, arith}
 use Rattle.std.proofs.lemmas.List.{map-append, take_all}
 use Rattle.getopts.specs.Options.{Group}
-use Rattle.getopts.specs.Stored.Groups.{group_view}
+use Rattle.getopts.specs.Accessors.{borrowed_group}
 use Rattle.getopts.specs.Usage.{option_text}
 use Rattle.getopts.proofs.Lists.{map-take_more}
 use Rattle.getopts.proofs.options.Options.option_texts.Goals as goal
@@ -12,8 +12,8 @@ loop-place-preserved c =
     rw (
       c.in_ok-push.ensures.items,
       map-append string_bytes c.loop-place.texts.items (c.push_option.new.text ∷ []),
-      map-take_more option_text c.args.self.now.groups c.loop-place.place (group_view c.get.result)
-          (sym (rw c.groups-groups.ensures.groups at c.get.ensures)),
+      map-take_more option_text c.args.self.now.groups c.loop-place.place (borrowed_group c.get.result)
+          (sym (rw c.groups-groups.ensures at c.get.ensures)),
       c.in_ok-push_option.ensures,
       c.new-text.ensures.bytes,
       c.loop-place.invariant,
@@ -24,4 +24,4 @@ pub returns : goal.returns
 returns c =
     c.loop-place.invariant
     ∙ ap (map option_text) (take_all c.loop-place.place c.args.self.now.groups
-    (omega (arith, ap (λ (groups : List Group). length groups) c.groups-groups.ensures.groups)))
+    (omega (arith, ap (λ (groups : List Group). length groups) c.groups-groups.ensures)))

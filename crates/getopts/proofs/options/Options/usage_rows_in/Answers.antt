@@ -5,7 +5,7 @@ use Rattle.getopts.specs.Only.{IsTheOnly}
 use Rattle.getopts.specs.Options.{Group}
 use Rattle.getopts.specs.Usage.{AreUsageRowsIn, any_short}
 use Rattle.getopts.specs.UsageResults.{usage_row_in, usage_rows_in_result}
-use Rattle.getopts.specs.Stored.Groups.{group_view}
+use Rattle.getopts.specs.Accessors.{borrowed_group}
 use Rattle.getopts.proofs.Lists.{map-take_more}
 use Rattle.getopts.proofs.usage.Rows.{usage_rows_in_computed}
 use Rattle.getopts.proofs.options.Options.usage_rows_in.Goals as goal
@@ -18,8 +18,8 @@ loop-place-preserved c =
       c.in_ok-push.ensures.items,
       map-append string_bytes c.loop-place.rows.items (c.in_ok-row_of.field-0 ∷ []),
       map-take_more (usage_row_in c.args.columns options.long_only (any_short options.groups))
-          options.groups c.loop-place.place (group_view c.get.result)
-          (sym (rw c.groups-groups.ensures.groups at c.get.ensures)),
+          options.groups c.loop-place.place (borrowed_group c.get.result)
+          (sym (rw c.groups-groups.ensures at c.get.ensures)),
       c.in_ok-row_of.ensures,
       c.layout-layout.ensures.columns,
       c.layout-layout.ensures.long_only,
@@ -35,7 +35,7 @@ returns c =
     c.loop-place.invariant
     ∙ ap (map (usage_row_in c.args.columns options.long_only (any_short options.groups)))
     (take_all c.loop-place.place options.groups
-    (omega (arith, ap (λ (groups : List Group). length groups) c.groups-groups.ensures.groups))) in
+    (omega (arith, ap (λ (groups : List Group). length groups) c.groups-groups.ensures))) in
     record {
       rows = subst (IsTheOnly (AreUsageRowsIn c.args.columns options)) (sym made)
           (usage_rows_in_computed c.args.columns options);

@@ -1,5 +1,5 @@
 -- The next word is free, in long form or in short form, or ends the items.
-use Rattle.std.proofs.Common.{◌≡◌, ◌≢◌, ◌<◌, ◌≤◌, [], refl, sym, ◌∙◌, rules, length, map, arith}
+use Rattle.std.proofs.Common.{◌≡◌, ◌≢◌, ◌<◌, [], refl, sym, ◌∙◌, rules, length, arith}
 use Rattle.std.proofs.lemmas.List.{length-map, nil_from_length}
 use Rattle.getopts.specs.Stored.Scan.{scanner_grammar}
 use Rattle.getopts.specs.declared.kinds.ParsingStyle.TheVariants.{FloatingFrees, StopAtFirstFree}
@@ -7,6 +7,7 @@ use Rattle.getopts.proofs.Reading.Readings.{read_nil}
 use Rattle.getopts.proofs.Weaker.{IsOutOfMemoryOr-exit}
 use Rattle.getopts.proofs.scan.Loop.{read-rest, read-stop}
 use Rattle.getopts.proofs.scan.Names as Names
+use Rattle.getopts.proofs.table.Names.{has_text_names}
 use Rattle.getopts.proofs.scan.Scanner.next.Goals as goal
 
 pub returns-in_default-clause-tail : goal.returns-in_default-clause-tail
@@ -24,26 +25,26 @@ pub returns-then-eq-clause-tail : goal.returns-then-eq-clause-tail
 returns-then-eq-clause-tail g c = λ whole.
     let plain = rw c.as_str.ensures at c.in-Free.ensures in
     let stops : c.args.self.now.options.now.style ≡ StopAtFirstFree = search rules in
-    rw (c.in-Some.ensures.cases.0, plain) (read-rest (scanner_grammar c.args.self.now) _ _ _ refl plain stops)
+    rw c.in-Some.ensures.cases.0 (read-rest (scanner_grammar c.args.self.now) _ _ _ refl plain stops)
 
 pub returns-in-Stop-clause-tail : goal.returns-in-Stop-clause-tail
 returns-in-Stop-clause-tail g c = λ whole.
     let stops = rw c.as_str.ensures at c.in-Stop.ensures in
-    rw (c.in-Some.ensures.cases.0, stops) (read-stop (scanner_grammar c.args.self.now) _ _ _ refl refl)
+    rw c.in-Some.ensures.cases.0 (read-stop (scanner_grammar c.args.self.now) _ _ _ refl stops)
 
 pub returns-in-Free-clause-some : goal.returns-in-Free-clause-some
 returns-in-Free-clause-some g c =
     let floating : c.args.self.now.options.now.style ≡ FloatingFrees = search rules in
     let none = Names.empty_names _ (sym c.is_empty.ensures ∙ c.if-is_empty.true) in
     rw (none, ← length-map c.in-Some.after.now g.S.AsStr.text, c.in-Some.ensures.cases.0, c.as_str.ensures)
-    (Names.ReadsOne-free (scanner_grammar c.args.self.now) _ _ (search (rules, length-map)) _
+    (Names.ReadsOne-free (has_text_names _ c.requires.lawful.declared) _ _ (search (rules, length-map)) _
     (rw c.as_str.ensures at c.in-Free.ensures) floating)
 
 pub returns-in-Long-clause-some : goal.returns-in-Long-clause-some
 returns-in-Long-clause-some g c =
     let none = Names.empty_names _ (sym c.is_empty.ensures ∙ c.if-is_empty.true) in
     rw (none, ← length-map c.in-Some.after.now g.S.AsStr.text, c.in-Some.ensures.cases.0)
-    (Names.ReadsOne-long (scanner_grammar c.args.self.now) _ _ (search (rules, length-map)) _ c.in-Long.ensures.0 _
+    (Names.ReadsOne-long (has_text_names _ c.requires.lawful.declared) _ _ (search (rules, length-map)) _ c.in-Long.ensures.0 _
     (rw c.as_str.ensures at c.in-Long.ensures.1) (c.in_ok-taken-in-Long.ensures.ok c.in-Long.ensures.0))
 
 pub returns-in_err-taken-in-Long-clause-err : goal.returns-in_err-taken-in-Long-clause-err
@@ -51,39 +52,38 @@ returns-in_err-taken-in-Long-clause-err g c =
     rw (Names.empty_names _ (sym c.is_empty.ensures ∙ c.if-is_empty.true), c.in-Some.ensures.cases.0)
     (IsOutOfMemoryOr-exit _ c.in_err-taken-in-Long.field-0.0 _ _ c.from_residual.ensures.1
     (c.in_err-taken-in-Long.ensures.err c.in-Long.ensures.0)
-    (λ fault told. Names.long_fault (scanner_grammar c.args.self.now) _ _ (search (rules, length-map)) _
-    c.in-Long.ensures.0 _ (rw c.as_str.ensures at c.in-Long.ensures.1) fault told))
+    (λ fault told more may. Names.IsNextFault-long (has_text_names _ c.requires.lawful.declared) _ _
+    (search (rules, length-map)) fault more may c.in-Long.ensures.0 _ _
+    (rw c.as_str.ensures at c.in-Long.ensures.1) (rw c.as_str.ensures at c.as_str.utf8) told))
 
 pub returns-clause-some : goal.returns-clause-some
 returns-clause-some g c = elim c.if-is_empty.branch [
   | goal.then-is_empty+in-Some+in-Cluster w ↦
       let form = rw w.as_str.ensures at w.in-Cluster.ensures in
-      let few : c.args.steps.now.kept ≤ length (map g.S.AsStr.text w.in-Some.after.now) =
-      search (rules, length-map) in
       let none = Names.empty_names _ (sym c.is_empty.ensures ∙ w.if-is_empty.true) in
       rw (none, w.steps-is, ← length-map w.in-Some.after.now g.S.AsStr.text, w.in-Some.ensures.cases.0)
-      (Names.ReadsOne-short (scanner_grammar c.args.self.now) _ _ few _ _ form
-      (Names.ReadsOne-name (scanner_grammar c.args.self.now) _ _ few _ form.filled
-      (rw w.steps-is at c.in_ok-taken.ensures.ok)))
+      (Names.ReadsOne-short (has_text_names _ c.requires.lawful.declared) _ _ (search (rules, length-map)) _ _ form
+      (rw w.steps-is at c.in_ok-taken.ensures.ok))
   | goal.else-is_empty w ↦
       let filled : c.args.steps.now.names.now ≢ [] = search rules in
       rw (w.steps-is, ← length-map c.args.steps.now.left.now g.S.AsStr.text)
-      (Names.ReadsOne-name (scanner_grammar c.args.self.now) _ _ (c.requires.next filled) _ filled (rw w.steps-is at c.in_ok-taken.ensures.ok))
+      (Names.ReadsOne-within (has_text_names _ c.requires.lawful.declared) _ _ (c.requires.next filled) _ filled
+      (rw w.steps-is at c.in_ok-taken.ensures.ok))
 ]
 
 pub returns-in_err-taken-clause-err : goal.returns-in_err-taken-clause-err
 returns-in_err-taken-clause-err g c = elim c.if-is_empty.branch [
   | goal.then-is_empty+in-Some+in-Cluster w ↦
-      let few : c.args.steps.now.kept ≤ length (map g.S.AsStr.text w.in-Some.after.now) =
-      search (rules, length-map) in
       rw (Names.empty_names _ (sym c.is_empty.ensures ∙ w.if-is_empty.true), w.in-Some.ensures.cases.0)
       (IsOutOfMemoryOr-exit _ c.in_err-taken.field-0.0 _ _ c.from_residual-in_err-taken.ensures.1
-      (rw w.steps-is at c.in_err-taken.ensures.err) (λ fault told.
-      Names.short_fault (scanner_grammar c.args.self.now) _ _ few _ _ (rw w.as_str.ensures at w.in-Cluster.ensures)
-      fault told))
+      (rw w.steps-is at c.in_err-taken.ensures.err) (λ fault told more may.
+      let form = rw w.as_str.ensures at w.in-Cluster.ensures in
+      Names.IsNextFault-short (has_text_names _ c.requires.lawful.declared) _ _ (search (rules, length-map)) fault more
+      may _ (rw w.steps-is at c.short.ensures.text) told form.filled _ form))
   | goal.else-is_empty w ↦
       let filled : c.args.steps.now.names.now ≢ [] = search rules in
       IsOutOfMemoryOr-exit _ c.in_err-taken.field-0.0 _ _ c.from_residual-in_err-taken.ensures.1
-      (rw w.steps-is at c.in_err-taken.ensures.err) (λ fault told.
-      Names.names_fault (scanner_grammar c.args.self.now) _ _ (c.requires.next filled) _ filled fault told)
+      (rw w.steps-is at c.in_err-taken.ensures.err) (λ fault told more may.
+      Names.IsNextFault-within (has_text_names _ c.requires.lawful.declared) _ _ (c.requires.next filled) fault more may
+      _ (rw w.steps-is at c.short.ensures.text) told filled)
 ]

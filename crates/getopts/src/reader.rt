@@ -1,0 +1,161 @@
+//! Reading a command line in a loop of the caller's, one option or free word at a time.
+
+ghost use Rattle.std.specs.Prelude.{◌≡◌, ◌<◌, ◌∷◌, ◌++◌, [], Ok, Err, IfOk, IfErr, OnErr, IfSome, IfNone, map};
+ghost use Rattle.getopts.specs.Accessors.{borrowed_given};
+ghost use Rattle.getopts.specs.Fail.{IsOutOfMemoryOr};
+ghost use Rattle.getopts.specs.Options.{grammar_of};
+ghost use Rattle.getopts.specs.Parse.{IsDeclared};
+ghost use Rattle.getopts.specs.Reader.{IfFreeWord, IfReadTo, IsNextFault, IsReadTo, left_in, size_of, tail_of};
+ghost use Rattle.getopts.specs.Reading.{free_word, tail_frees};
+ghost use Rattle.getopts.specs.Results.{order_or_error};
+
+use crate::fail::Fail;
+use crate::kinds::ParsingStyle;
+use crate::options::Options;
+use crate::scan::{Given, Scanner, Steps};
+use crate::table::Table;
+use std::alloc::{AllocError, Global};
+use std::convert::AsStr;
+use std::marker::Model;
+
+/// What wasn't read yet of a command line.
+///
+/// After a loop that stops early, `words` is what the loop left. To read a word in another way,
+/// move `words` past it: `unread.words = &unread.words[1..]`.
+#[derive(Debug, Drop)]
+pub struct Unread<'w, S> {
+    /// The words after the last word that was read.
+    pub words: &'w [S],
+    /// What is left of that word, if it combines short options: after the first option of `-vx`,
+    /// `x`. Otherwise empty.
+    pub names: &'w str,
+}
+
+impl<'w, S> Unread<'w, S> {
+    /// All words of a command line, given without the program's own name.
+    pub fn new(words: &'w [S]) -> Unread<'w, S>
+        ensures words { result.words.now ≡ words.now }
+        ensures names { result.names.now ≡ [] }
+    {
+        Unread { words, names: "" }
+    }
+}
+
+/// Reads command lines by the options from which it was made, one option or free word at a time.
+#[derive(Debug, Drop)]
+pub struct Reader<'o> {
+    options: &'o Options,
+    table: Table,
+}
+
+impl<'o> Model for Reader<'o> {
+    ghost use Rattle.getopts.specs.Options.{Declared, MayBeDeclared, names_of};
+    ghost use Rattle.getopts.specs.Stored.Table.{IsTableOf};
+
+    ghost Value = { Declared };
+
+    ghost view = { λ a. a.options.now };
+
+    ghost invariant = { λ a. MayBeDeclared a.options.now.groups
+        × IsTableOf (names_of a.options.now.groups) a.table };
+}
+
+impl Options {
+    /// Returns a reader, which reads any number of command lines by these options.
+    ///
+    /// Use it if what was read decides how to go on: to stop at a subcommand and hand over the
+    /// words after it, to print help before a later word is rejected, or to read a word such as
+    /// `-5` as an operand. Otherwise, `parse_words` and `parse_in_order` are simpler, and they also
+    /// check how often options occur. Fails only if an allocation fails. The Rust crate has no such
+    /// method.
+    ///
+    /// ```
+    /// let reader = options.reader(alloc)?;
+    /// let mut unread = Unread::new(words);
+    /// while let Some(given) = reader.next(alloc, &mut unread)? {
+    ///     match given {
+    ///         Given::Option { place, value } => ..,
+    ///         Given::Free(word) => ..,
+    ///     }
+    /// }
+    /// for word in free_words(unread.words) { .. }
+    /// ```
+    pub fn reader(&self, alloc: Global) -> Result<Reader<'_>, AllocError>
+        ensures options { IfOk result (λ reader. reader ≡ self.now) }
+    {
+        let table = Table::of(alloc, self.signatures())?;
+        Ok(Reader {
+            options: self,
+            table,
+        })
+    }
+}
+
+impl<'o> Reader<'o> {
+    /// Reads the next option or free word of a command line, and moves `unread` past it.
+    ///
+    /// Returns `None` if no option can follow: at the end, at `--` and, in the style
+    /// `StopAtFirstFree`, at a free word. `unread` is then unchanged, so a further call returns
+    /// `None` again. The words that are left are free words, except a first `--`, which
+    /// `free_words` leaves out. All that was returned, and then these free words, are what
+    /// `parse_in_order` returns if it accepts the line.
+    ///
+    /// Returns an error if the next word can't be read, the same as `parse_words` returns for the
+    /// line, or `OutOfMemory` if an allocation fails, which only errors need. `unread` is then
+    /// unchanged. What was returned before remains valid.
+    ///
+    /// Doesn't check how often options occur. To see how an option was typed, look at
+    /// `unread.words[0]` before the call, if `unread.names` is empty.
+    #[inline]
+    pub fn next<'w, S: AsStr>(
+        &self,
+        alloc: Global,
+        unread: &mut Unread<'w, S>,
+    ) -> Result<Option<Given<'w>>, Fail>
+        ensures some { IfOk result (λ given. IfSome given (λ given.
+            IfReadTo (grammar_of self.now) (left_in S.text unread.old) (λ line before.
+            IsReadTo (grammar_of self.now) line (before ++ borrowed_given given ∷ [])
+            (left_in S.text unread.new)))) }
+
+        // The place is below the number of options, and the value fits the option's kind.
+        ensures declared { IfOk result (λ given. IfSome given (λ given.
+            IfReadTo (grammar_of self.now) (left_in S.text unread.old)
+            (λ line before. IsDeclared self.now.groups (borrowed_given given)))) }
+        ensures free { IfOk result (λ given. IfSome given (λ given. IfFreeWord (borrowed_given given)
+            (λ word. (self.now.style ≡ ParsingStyle.FloatingFrees) × (unread.new.names.now ≡ [])
+            × (map S.text unread.old.words.now ≡ word ∷ map S.text unread.new.words.now)))) }
+
+        // So a loop ends.
+        ensures less { IfOk result (λ given. IfSome given (λ given.
+            size_of (left_in S.text unread.new) < size_of (left_in S.text unread.old))) }
+        ensures none { IfOk result (λ given. IfNone given ((unread.old.names.now ≡ [])
+            × (unread.new.words.now ≡ unread.old.words.now) × (unread.new.names.now ≡ []))) }
+
+        // At the end, the line's reading gives what was given, and then the words left.
+        ensures ended { IfOk result (λ given. IfNone given
+            (IfReadTo (grammar_of self.now) (left_in S.text unread.old) (λ line before.
+            order_or_error self.now line ≡ Ok (before
+            ++ map free_word (tail_frees (tail_of (map S.text unread.old.words.now))))))) }
+        ensures err { IfErr result (λ fail. IsOutOfMemoryOr fail (λ fault.
+            IfReadTo (grammar_of self.now) (left_in S.text unread.old) (λ line before.
+            order_or_error self.now line ≡ Err fault))) }
+        ensures next_word { IfErr result (λ fail. IsOutOfMemoryOr fail
+            (IsNextFault (grammar_of self.now) (left_in S.text unread.old))) }
+        ensures unchanged { OnErr result (unread.new ≡ unread.old) }
+    {
+        let scanner = Scanner {
+            options: self.options,
+            table: &self.table,
+        };
+        let mut steps = Steps {
+            left: unread.words,
+            names: unread.names,
+            after: 0,
+            kept: 0,
+        };
+        let given = scanner.next(alloc, &mut steps)?;
+        unread.words = steps.left;
+        unread.names = steps.names;
+        Ok(given)
+    }
+}

@@ -1,0 +1,61 @@
+//! A program that runs another: its own options, then a command with its words, as in
+//! `env -u HOME ls -l`. The command's words aren't read. Help is given at once, even if a later
+//! word is an error.
+
+ghost use Rattle.std.specs.Prelude.{◌≡◌, IfErr, IfOk, map};
+ghost use Rattle.getopts.specs.Prelude.{IsOutOfMemoryOr};
+ghost use Rattle.getopts_uses.specs.Launcher.{IsAsked, IsRefusedFor, launch_options};
+
+use getopts::{Fail, Given, Options, ParsingStyle, Request, Unread, free_words};
+use std::alloc::{AllocError, Global};
+use std::convert::AsStr;
+
+/// What a command line runs.
+#[derive(Debug, Drop)]
+pub struct Launch<'w, S> {
+    pub options: Vec<Given<'w>>,
+    /// The command and its own words, as they were typed.
+    pub command: &'w [S],
+}
+
+/// The place of the option `help`.
+const HELP: usize = 2;
+
+/// Variables to unset, whether to begin without any, and help. Options precede the command.
+fn options(alloc: Global) -> Result<Options, AllocError>
+    ensures { IfOk result (λ options. options ≡ launch_options) }
+{
+    let mut options = Options::new(alloc);
+    options
+        .optmulti("u", "unset", "remove NAME from the variables", "NAME")?
+        .optflagmulti("i", "ignore", "begin without variables")?
+        .optflagmulti("", "help", "print this help")?
+        .parsing_style(ParsingStyle::StopAtFirstFree);
+    Ok(options)
+}
+
+/// What a command line asks for.
+pub fn read_launch<'w, S: AsStr>(
+    alloc: Global,
+    words: &'w [S],
+) -> Result<Request<Launch<'w, S>>, Fail>
+    ensures asked { IfOk result (IsAsked S.text (map S.text words.now)) }
+    ensures err { IfErr result (λ fail. IsOutOfMemoryOr fail (IsRefusedFor (map S.text words.now))) }
+{
+    let options = options(alloc)?;
+    let reader = options.reader(alloc)?;
+    let mut unread = Unread::new(words);
+    let mut read = Vec::new(alloc);
+    while let Some(given) = reader.next(alloc, &mut unread)? {
+        match given {
+            Given::Option { place: HELP, .. } => return Ok(Request::Help),
+            Given::Option { .. } => read.push(given)?,
+            // A free word ends the options.
+            Given::Free(_) => unreachable!(),
+        }
+    }
+    Ok(Request::Parsed(Launch {
+        options: read,
+        command: free_words(unread.words),
+    }))
+}
