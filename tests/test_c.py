@@ -848,11 +848,11 @@ def test_uninstall_keeps_other_files(copies, tmp_path):
 @pytest.mark.parametrize("shell", ["sh", "busybox sh"])
 def test_rejected_arguments(shell, tmp_path):
     need(shell.split()[0])
-    def said(*words, **env):
-        return run(*shell.split(), C / "install.sh", *words, status=1, cwd=tmp_path, env=env)[1]
+    def said(*words, status=1, **env):
+        return run(*shell.split(), C / "install.sh", *words, status=status, cwd=tmp_path, env=env)[1]
 
     for words in ([], [""], ["--nope"], ["a", "b"]):
-        assert "usage: bindings/c/install.sh [--uninstall] PREFIX" in said(*words), words
+        assert said(*words, status=2) == "usage: bindings/c/install.sh [--uninstall] PREFIX\n", words
     for prefix in ("C:/getopts", "c:\\getopts", "D:"):
         assert "write PREFIX as in Git Bash and MSYS2: /c/getopts for C:/getopts" in said(prefix), prefix
     for name in [*'"$#\\:;()|,', "a\nb", "a\tb", "b\n", "b ", "b\t//", "b\r//"]:
@@ -862,6 +862,61 @@ def test_rejected_arguments(shell, tmp_path):
     (tmp_path / "link").symlink_to(C / "install.sh")
     assert "through a symbolic link" in run(*shell.split(), tmp_path / "link", tmp_path / "to", status=1)[1]
     assert [*tmp_path.iterdir()] == [tmp_path / "link"]
+
+
+@pytest.mark.parametrize("build", builds("gcc", "clang-san"), indirect=True)
+def test_claims_of_page(build):
+    """What the page says of functions, modes and getopt_long is so."""
+    for sentence in run(*build(C / "tests/claims.c"))[0].splitlines():
+        assert sentence in " ".join(PAGE.split())
+
+
+WITHIN = """#define _POSIX_C_SOURCE 200809L
+#include <getopts.h>
+#include <stdio.h>
+#include <unistd.h>
+
+enum { DIRECTORY, OUTPUT };
+
+static const struct getopts_option table[] = {
+    { "C", NULL, "DIR", NULL, GETOPTS_YES + GETOPTS_MULTI }, { "o", NULL, "FILE", NULL, GETOPTS_YES },
+    { NULL, NULL, NULL, NULL, GETOPTS_NO },
+};
+
+static int usage(const struct getopts *options) {
+    puts(getopts_message(options));
+    return 2;
+}
+
+static int failed(const char *name) {
+    puts(name);
+    return 3;
+}
+
+%s
+int main(int argc, char **argv) {
+    struct getopts *options = getopts_new(table, GETOPTS_STOP + GETOPTS_KEEP_ORDER);
+    int status = run(options, argc - 1, argv + 1);
+    getopts_delete(options);
+    return status;
+}
+"""
+
+
+def test_example_that_stops_at_a_word(library, tmp_path):
+    need("gcc", "sh")
+    (tmp_path / "within.c").write_text(WITHIN % re.findall(r"^```c\n(.*?)^```", PAGE, re.M | re.S)[1])
+    run("gcc", *WARNINGS, "-I", C, tmp_path / "within.c", library(None), "-o", tmp_path / "within")
+    (tmp_path / "a").mkdir()
+
+    def said(*words, status=0):
+        return run(tmp_path / "within", *words, status=status, cwd=tmp_path)[0]
+
+    assert said("-C", "a", "-C..", "--", "sh", "-c", 'echo "$@"', "sh", "-o", "--", "-C") == "-o -- -C\n"
+    for words, written in [("-C a -o out", "a/out"), ("-o out -C a", "out")]:
+        assert said(*words.split(), "pwd") == "" and (tmp_path / written).read_text() == f"{tmp_path}/a\n"
+    assert said("-C", "a", status=2) == "\n" and said("-o", status=2) == "Argument to option 'o' missing\n"
+    assert said("-C", "nope", "pwd", status=3) == "nope\n" and said("./nope", status=3) == "./nope\n"
 
 
 def test_page():

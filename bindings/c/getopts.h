@@ -1,5 +1,5 @@
-/* Parses command lines according to a table of options, like getopt_long. The parser is formally
- * verified.
+/* Parses command lines according to a table of options, as getopt_long does. The source that reads
+ * them is formally verified.
  *
  *     static const struct getopts_option table[] = {
  *         { "o", "output", "FILE", "write to FILE", GETOPTS_YES + GETOPTS_REQ },
@@ -14,17 +14,18 @@
  *     if (status != GETOPTS_OK) .. getopts_message(options) ..
  *     const char *output = getopts_value(options, "output", 0);
  *
- * No function keeps a pointer to its arguments. Words are the strings of argv. They may contain
+ * No function keeps a pointer to its arguments. Words are the strings of argv, which may contain
  * any bytes, and are returned unchanged. The strings in a table, and those passed to the usage
- * functions, must be UTF-8 with all characters below U+10FF80: higher characters represent the
- * bytes of words that aren't UTF-8.
+ * functions, must be UTF-8 with all characters below U+10FF80, because higher characters represent
+ * the bytes of words that aren't UTF-8.
  *
- * There is no global state. Threads may share a struct getopts as long as none of them calls
+ * There is no global state, and threads may share a struct getopts as long as none of them calls
  * getopts_read or getopts_delete on it, or changes a free word. No function reports an error in
  * errno, but functions that allocate or free memory may change it.
  *
- * `pkg-config --cflags --libs getopts` prints the flags for the shared library. For the static
- * library, write `getopts-static`. PREFIX/share/doc/getopts/head.c is a complete program. */
+ * `pkg-config --cflags --libs getopts` prints the flags for the shared library, and those for the
+ * static library if `getopts-static` stands in place of `getopts`. PREFIX/share/doc/getopts/head.c
+ * is a complete program. */
 #ifndef GETOPTS_H
 #define GETOPTS_H
 
@@ -75,8 +76,9 @@ enum {
  * GETOPTS_REQ or GETOPTS_MULTI is added. With both, it must be given at least once.
  *
  * With GETOPTS_MAYBE, a short option also takes the next word if that is `-` or doesn't begin with
- * a dash: `-O f` gives O the argument f, except in the mode GETOPTS_LONG_ONLY. With getopt_long,
- * only `-Of` does. A long option takes an optional argument only after `=`. */
+ * a dash, so that `-O f` gives O the argument f, while getopt_long accepts only `-Of`. A long
+ * option takes an optional argument only after `=`, and so does any option in the mode
+ * GETOPTS_LONG_ONLY. */
 enum getopts_kind {
     GETOPTS_NO = 0,    /* takes no argument; may be omitted */
     GETOPTS_YES = 1,   /* needs an argument, in the same word or the next */
@@ -87,7 +89,8 @@ enum getopts_kind {
 };
 
 /* A row of a table, which declares an option. NULL and "" both mean that a string is absent. The
- * table ends with a row whose names are both NULL; a row with the names NULL and "" is an error. */
+ * table ends with a row whose names are both NULL; a row with the names NULL and "" is an error. If
+ * an option that takes an argument has no hint, usage texts have nothing in its place: `[-n ]`. */
 struct getopts_option {
     const char *short_name;  /* one byte; one of the two names may be absent */
     const char *long_name;   /* more than one byte */
@@ -96,18 +99,19 @@ struct getopts_option {
     enum getopts_kind kind;  /* such as GETOPTS_YES + GETOPTS_REQ */
 };
 
-/* How words are read. Modes can be added. A mode used as a kind, or a kind used as a mode, is an
- * error: see getopts_new. With GETOPTS_LONG_ONLY, short options can't be combined, and take
- * arguments as long options do: write `-I dir` or `-I=dir`, and `-v -v`. `-Idir` and `-vv`, which
- * getopt_long_only accepts, are rejected.
+/* How words are read. Modes can be added, but a mode used as a kind, or a kind used as a mode, is
+ * an error: see getopts_new. With GETOPTS_LONG_ONLY, short options can't be combined, and take
+ * arguments as long options do, so write `-I dir` or `-I=dir`, and `-v -v`: `-Idir` and `-vv`,
+ * which getopt_long_only accepts, are rejected.
  *
  * With GETOPTS_REPEAT, an option whose kind doesn't include GETOPTS_MULTI may be given again. Its
- * last occurrence then replaces the others, except for getopts_nth and getopts_canonical. Usage
- * lines show `..` after it.
+ * last occurrence then replaces the others, except for getopts_nth and getopts_canonical, and usage
+ * lines show `..` after it, unless it is required.
  *
  * With GETOPTS_STRICT, a function that is passed NULL or the name of no option prints the name to
  * stderr and calls abort(), as assert() does, even if nothing was read. Only getopts_defined
- * accepts such names. getopts_nth also calls abort() if GETOPTS_KEEP_ORDER isn't set. */
+ * accepts such names. getopts_nth also calls abort() if GETOPTS_KEEP_ORDER isn't set. If the table
+ * is invalid, GETOPTS_STRICT has no effect. */
 enum getopts_modes {
     GETOPTS_ORDINARY = 0,    /* no mode */
     GETOPTS_STOP = 16,       /* the first free word ends the options */
@@ -124,17 +128,18 @@ struct getopts;
 /* Frees options, and all results that are valid until the next getopts_read. NULL is allowed. */
 void getopts_delete(struct getopts *options);
 
-/* Creates options from a table. Free them with getopts_delete. Returns NULL if out of memory. All
- * functions accept NULL options: getopts_read and getopts_canonical return GETOPTS_NO_MEMORY,
- * getopts_message returns "Out of memory", the usage functions return NULL, and the others behave
- * as if nothing had been read.
+/* Creates options from a table, to be freed with getopts_delete, or returns NULL if out of memory.
+ * You needn't check for NULL, because all functions accept NULL options: getopts_read and
+ * getopts_canonical return GETOPTS_NO_MEMORY, getopts_message returns "Out of memory", the usage
+ * functions return NULL, and the others behave as if nothing had been read.
  *
  * If the table is NULL, or a row or the modes are invalid, getopts_message says what is wrong,
  * such as "table[2]: short name 'ab' isn't one ASCII character". Then getopts_read and
  * getopts_canonical return GETOPTS_BAD, and the usage functions return NULL.
  *
- * No two rows may share a name, no name begins with a dash, and only options that take an argument
- * have a hint. To give an option another name, add a row, as order.c does. */
+ * No two rows may share a short name or a long name, no name begins with a dash, and only options
+ * that take an argument have a hint. To give an option another name, add a row, as order.c does;
+ * counts and values are those of a row, so that the program has to look at both. */
 GETOPTS_FREED_BY(getopts_delete)
 struct getopts *getopts_new(const struct getopts_option *table, enum getopts_modes modes);
 
@@ -142,8 +147,9 @@ struct getopts *getopts_new(const struct getopts_option *table, enum getopts_mod
  * there are no words. Returns GETOPTS_OK or an error:
  *
  * - GETOPTS_OPTION_MISSING, GETOPTS_OPTION_DUPLICATED: a required option is missing, or an option
- *   was given too often. Except for getopts_nth, the functions below return what was read, so that
- *   a program can look for its help option.
+ *   was given too often. If this is true of several options, the error is about the first in the
+ *   table. Except for getopts_nth, the functions below return what was read, so that a program can
+ *   look for its help option.
  * - GETOPTS_ARGUMENT_MISSING, GETOPTS_UNRECOGNIZED_OPTION, GETOPTS_UNEXPECTED_ARGUMENT: a word
  *   is invalid. The functions below behave as if nothing had been read.
  * - GETOPTS_NO_MEMORY: out of memory. What was read before is kept.
@@ -235,13 +241,13 @@ GETOPTS_FREED_BY(getopts_free)
 char *getopts_usage(const struct getopts *options, const char *brief);
 
 /* Like getopts_usage, but descriptions end within this many columns, such as the width of a
- * terminal; getopts_usage wraps them within 78. They begin after 24 columns. A word that doesn't
- * fit has a row of its own. */
+ * terminal; getopts_usage wraps them within 78. They begin after 24 columns, and a word that
+ * doesn't fit has a row of its own. */
 GETOPTS_FREED_BY(getopts_free)
 char *getopts_usage_in(const struct getopts *options, const char *brief, size_t columns);
 
 /* A line with the program's name and all options, such as "Usage: head [-n COUNT] [-h]"; otherwise
- * like getopts_usage. */
+ * like getopts_usage. It doesn't show that a required option may be repeated. */
 GETOPTS_FREED_BY(getopts_free)
 char *getopts_short_usage(const struct getopts *options, const char *program);
 
@@ -250,8 +256,8 @@ char *getopts_short_usage(const struct getopts *options, const char *program);
  * name. Returns what getopts_read would return, but keeps what was read before.
  *
  * Stores the result in *line: a list like argv, to free with one getopts_free. Stores NULL if the
- * status isn't GETOPTS_OK. Also stores NULL, with GETOPTS_OK, if the words give an option whose
- * main name contains `=`. */
+ * status isn't GETOPTS_OK, and also, with GETOPTS_OK, if the words give an option whose main name
+ * contains `=`. */
 int getopts_canonical(const struct getopts *options, int count, char *const *words, char ***line);
 
 /* The version of the library that the program runs with, in the form of GETOPTS_VERSION. */

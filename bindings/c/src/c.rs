@@ -325,7 +325,7 @@ unsafe extern "C" fn getopts_values(options: Option<&Getopts>, name: Text) -> *c
 
 #[no_mangle]
 unsafe extern "C" fn getopts_nth(options: Option<&Getopts>, nth: usize, value: *mut Text) -> c_int {
-    let given = options.and_then(|options| options.nth(nth));
+    let given = options.and_then(|options| options.reading.nth(nth));
     if given.is_none() && options.map_or(false, Getopts::misses_order) {
         end(&[b"getopts.h: getopts_nth needs the mode GETOPTS_KEEP_ORDER\n"]);
     }

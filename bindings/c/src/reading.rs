@@ -1,8 +1,9 @@
 //! The result of reading words, in the form that C gets.
 
-use crate::AllocResult;
 use crate::c::{Text, text};
+use crate::options::NOTHING;
 use crate::words::Texts;
+use crate::{AllocResult, OK, Status, status_of};
 use core::ffi::c_int;
 use core::mem::take;
 use core::ptr::null;
@@ -17,7 +18,8 @@ const FREE_WORD: usize = c_int::MAX as usize;
 /// The result of reading words: empty if they couldn't be read.
 #[derive(Default)]
 pub struct Reading {
-    matches: Option<Matches>,
+    pub status: Status,
+    pub matches: Option<Matches>,
     /// The message and its name, if there is one, the values and the free words, each followed by a
     /// zero byte.
     texts: Vec<u8>,
@@ -28,6 +30,9 @@ pub struct Reading {
     lists: Vec<Text>,
     /// The index in `lists` at which the values of each option begin, and then the free words.
     starts: Vec<usize>,
+    /// For all options and free words in order: the row of an option, or `FREE_WORD`, and the index
+    /// in `lists` of its value, or of the free word. Empty if the order isn't kept.
+    order: Vec<(usize, usize)>,
 }
 
 /// An empty list of C strings: just NULL.
@@ -69,27 +74,29 @@ impl Given<'_> {
 }
 
 impl Reading {
-    /// The result of reading words with this number of options, and the message of an error.
-    pub fn of(
-        matches: Option<Matches>,
+    /// Stores the status and the message of an error, and what the matches have of this number of
+    /// options.
+    pub fn lay_out(
+        &mut self,
         fail: Option<&Fail>,
         groups: usize,
         of: &Texts<'_>,
-    ) -> AllocResult<Reading> {
-        let mut reading = Reading::default();
+    ) -> AllocResult<()> {
         let (before, name, after) = fail.map_or(("", "", ""), Fail::parts);
         let message = before.len() + 2 * name.len() + after.len() + 2;
-        reading.texts.try_grow_exact(of.bytes.saturating_add(message))?;
-        if fail.is_some() {
+        let mut texts = Vec::empty(Global);
+        texts.try_grow_exact(of.bytes.saturating_add(message))?;
+        if let Some(fail) = fail {
+            self.status = status_of(fail);
             for part in [before, name, after] {
-                push_bytes(&mut reading.texts, part)?;
+                push_bytes(&mut texts, part)?;
             }
-            reading.texts.try_push(0)?;
-            reading.name = reading.texts.len();
-            push_bytes(&mut reading.texts, name)?;
-            reading.texts.try_push(0)?;
+            texts.try_push(0)?;
+            self.name = texts.len();
+            push_bytes(&mut texts, name)?;
+            texts.try_push(0)?;
         }
-        if let Some(mut matches) = matches {
+        if let Some(matches) = &mut self.matches {
             let free = take(&mut matches.free);
             let (mut starts, mut len) = (Vec::of_capacity(Global, groups + 1)?, 0);
             for place in 0..groups {
@@ -101,61 +108,47 @@ impl Reading {
             for place in 0..groups {
                 for (nth, (_, value)) in matches.occurrences_at(place).into_iter().enumerate() {
                     if let Some(value) = value {
-                        lists[starts[place] + nth] = reading.push_text(value, of.marked)?;
+                        lists[starts[place] + nth] = push_text(&mut texts, value, of.marked)?;
                     }
                 }
             }
             for (to, word) in lists[len..].iter_mut().zip(&free) {
-                *to = reading.push_text(word, of.marked)?;
+                *to = push_text(&mut texts, word, of.marked)?;
             }
-            reading.lists = lists;
-            reading.starts = starts;
-            reading.matches = Some(matches);
+            (self.lists, self.starts) = (lists, starts);
         }
-        Ok(reading)
+        self.texts = texts;
+        Ok(())
     }
 
-    /// For all options and free words in order: the row of an option, or `FREE_WORD`, and the index
-    /// in the lists of the option's value, or of the free word.
-    pub fn in_order(&self, order: &[proved::Given<'_>]) -> AllocResult<Vec<(usize, usize)>> {
-        let (mut next, mut found) =
-            (self.starts.try_clone()?, Vec::of_capacity(Global, order.len())?);
+    /// Stores the order of all options and free words.
+    #[cold]
+    pub fn keep_order(&mut self, order: &[proved::Given<'_>]) -> AllocResult<()> {
+        let mut next = self.starts.try_clone()?;
+        self.order = Vec::of_capacity(Global, order.len())?;
         for given in order {
             let (row, list) = match *given {
                 proved::Given::Option { place, .. } => (place, place),
                 proved::Given::Free(_) => (FREE_WORD, next.len() - 1),
             };
-            found.push((row, next[list]));
+            self.order.push((row, next[list]));
             next[list] += 1;
         }
-        Ok(found)
+        Ok(())
     }
 
-    /// The text at an index of the lists.
-    pub fn text_at(&self, at: usize) -> Text {
-        self.lists[at]
+    /// The row of the nth option or free word, and its value.
+    pub fn nth(&self, nth: usize) -> Option<(usize, Text)> {
+        let (row, at) = *self.order.get(nth_of(nth, self.order.len())?)?;
+        Some((row, self.lists[at]))
     }
 
-    /// Stores a text. The space was reserved: each word gives at most one text, which is no longer
-    /// than the word.
-    fn push_text(&mut self, text: &str, marked: bool) -> AllocResult<Text> {
-        let start = self.texts.as_ptr().wrapping_add(self.texts.len());
-        match marked {
-            true => push_bytes(&mut self.texts, text)?,
-            false => self.texts.extend_from_slice(text.as_bytes()),
+    /// The message and the name in it; both are empty unless the words were rejected.
+    pub fn message(&self) -> (Text, Text) {
+        match self.status {
+            OK => (NOTHING.as_ptr(), NOTHING.as_ptr()),
+            _ => (self.texts.as_ptr(), self.texts[self.name..].as_ptr()),
         }
-        self.texts.push(0);
-        Ok(start)
-    }
-
-    /// The message, if the words were rejected.
-    pub fn message(&self) -> Text {
-        self.texts.as_ptr()
-    }
-
-    /// The name in the message, if the words were rejected.
-    pub fn message_name(&self) -> Text {
-        self.texts[self.name..].as_ptr()
     }
 
     /// What was given of an option, if words were read and it is declared.
@@ -189,4 +182,16 @@ pub fn nth_of(nth: usize, count: usize) -> Option<usize> {
         usize::MAX => Some(last),
         _ => (nth <= last).then_some(nth),
     }
+}
+
+/// Stores a text. The space was reserved: each word gives at most one text, which is no longer than
+/// the word.
+fn push_text(texts: &mut Vec<u8>, text: &str, marked: bool) -> AllocResult<Text> {
+    let start = texts.as_ptr().wrapping_add(texts.len());
+    match marked {
+        true => push_bytes(texts, text)?,
+        false => texts.extend_from_slice(text.as_bytes()),
+    }
+    texts.push(0);
+    Ok(start)
 }

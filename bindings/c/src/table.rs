@@ -4,23 +4,23 @@ use crate::AllocResult;
 use crate::c::{Row, text};
 use library::alloc::Global;
 use library::fallible::{TryCopies, TryList, Vec};
-use library::proved::{HasArg, Occur, Options, ParsingStyle};
+use library::proved::{HasArg, Occur, OptGroup, Options, ParsingStyle, names_lawful};
 
 /// The modes, which may be added.
 const STOP: u32 = 16;
 const LONG_ONLY: u32 = 32;
 pub const KEEP_ORDER: u32 = 64;
-const REPEAT: u32 = 128;
+pub const REPEAT: u32 = 128;
 pub const STRICT: u32 = 256;
 
 /// The kinds of required and of repeatable options.
-const REQ: u32 = 4;
-const MULTI: u32 = 8;
+pub const REQ: u32 = 4;
+pub const MULTI: u32 = 8;
 
 /// The most bytes that a message shows of a name that is too long.
 const SHOWN: usize = 40;
 
-const TEXTS: [&str; 4] = ["short name", "long name", "hint", "description"];
+const TEXTS: [&[u8]; 4] = [b"short name", b"long name", b"hint", b"description"];
 
 /// What is wrong, followed by a zero byte; `None` if nothing is.
 type Wrong = Option<Vec<u8>>;
@@ -29,26 +29,10 @@ type Wrong = Option<Vec<u8>>;
 pub struct Table {
     /// How many rows were declared.
     pub rows: usize,
-    /// How options differ from what the library takes them for: for each row, up to the last one
-    /// that differs.
-    pub more: Vec<More>,
+    /// The kind of each row, if an option has a kind that the library doesn't know: it may be
+    /// repeated, but is required, or its last occurrence counts. Otherwise empty.
+    pub kinds: Vec<u32>,
     pub wrong: Wrong,
-}
-
-/// How an option differs from one that may be given any number of times.
-#[derive(Clone, Copy, Default)]
-pub struct More {
-    /// Only its last occurrence counts.
-    pub last_counts: bool,
-    /// It must be given.
-    pub needed: bool,
-}
-
-impl Table {
-    /// The rows of options that must be given, and may be given again.
-    pub fn needed(&self) -> impl Iterator<Item = usize> + '_ {
-        self.more.iter().enumerate().filter(|(_, more)| more.needed).map(|(place, _)| place)
-    }
 }
 
 /// Declares the rows of a table.
@@ -57,18 +41,14 @@ pub fn declare<'c>(
     rows: Option<impl Iterator<Item = Row<&'c [u8]>> + Clone>,
     modes: u32,
 ) -> AllocResult<Table> {
-    let wrong_table = |wrong| Table { rows: 0, more: Vec::new(), wrong };
+    let wrong_table = |wrong| Table { rows: 0, kinds: Vec::new(), wrong };
     let Some(rows) = rows else { return Ok(wrong_table(message_of(&[b"the table is NULL"])?)) };
-    let (mut names, mut more, mut place) =
-        (Names { shorts: 0, longs: [0; 16] }, Vec::<More>::new(), 0);
-    let repeats = modes & REPEAT != 0;
+    let (mut names, mut place) = (Names { shorts: 0, longs: [0; 16] }, 0);
+    let mut has_own_kinds = modes & REPEAT != 0;
     for row in rows.clone() {
-        let earlier = rows.clone().take(place);
-        if let wrong @ Some(_) = declare_row(options, &mut names, earlier, place, &row, repeats)? {
-            return Ok(wrong_table(wrong));
-        }
-        if repeats || row.kind >= REQ + MULTI {
-            push_more(&mut more, place, row.kind)?;
+        has_own_kinds |= row.kind >= REQ + MULTI;
+        if !declare_row(options, &mut names, row, modes)? {
+            return Ok(wrong_table(wrong_row(options, place, row)?));
         }
         place += 1;
     }
@@ -79,16 +59,13 @@ pub fn declare<'c>(
         options.parsing_style(ParsingStyle::StopAtFirstFree);
     }
     options.long_only(modes & LONG_ONLY != 0);
-    Ok(Table { rows: place, more, wrong: None })
-}
-
-/// Adds how an option of this kind, which may be repeated, differs from the library's.
-#[cold]
-fn push_more(more: &mut Vec<More>, place: usize, kind: u32) -> AllocResult<()> {
-    while more.len() < place {
-        more.try_push(More::default())?;
+    let mut kinds = Vec::empty(Global);
+    if has_own_kinds {
+        for row in rows {
+            kinds.try_push(row.kind)?;
+        }
     }
-    Ok(more.try_push(More { last_counts: kind < MULTI, needed: kind & REQ != 0 })?)
+    Ok(Table { rows: place, kinds, wrong: None })
 }
 
 /// The names of rows: a bit for each, at a hash of the name.
@@ -116,38 +93,35 @@ impl Names {
 
 /// The two parts of a kind, if it is valid.
 fn kind_of(kind: u32) -> Option<(HasArg, Occur)> {
-    let hasarg = [HasArg::No, HasArg::Yes, HasArg::Maybe].into_iter().nth(kind as usize % 4)?;
-    let occurs = [Occur::Optional, Occur::Req, Occur::Multi, Occur::Multi];
-    Some((hasarg, occurs.into_iter().nth((kind / REQ) as usize)?))
+    const HASARGS: [HasArg; 3] = [HasArg::No, HasArg::Yes, HasArg::Maybe];
+    const OCCURS: [Occur; 4] = [Occur::Optional, Occur::Req, Occur::Multi, Occur::Multi];
+    Some((*HASARGS.get((kind % REQ) as usize)?, *OCCURS.get((kind / REQ) as usize)?))
 }
 
-fn declare_row<'c>(
+/// Declares a row if it is valid, and returns whether it is.
+fn declare_row(
     options: &mut Options,
     names: &mut Names,
-    earlier: impl Iterator<Item = Row<&'c [u8]>> + Clone,
-    place: usize,
-    row: &Row<&[u8]>,
-    repeats: bool,
-) -> AllocResult<Wrong> {
+    row: Row<&[u8]>,
+    modes: u32,
+) -> AllocResult<bool> {
     let [short, long, hint, desc] = row.texts;
-    let valid = short.len() <= 1
-        && long.len() != 1
-        && short.len() + long.len() > 0
-        && short != b"-"
-        && long.first() != Some(&b'-')
-        && (hint.is_empty() || row.kind % REQ != 0);
-    let (Some(short), Some(long), Some(hint), Some(desc), Some((hasarg, occur)), true) =
-        (text(short), text(long), text(hint), text(desc), kind_of(row.kind), valid)
+    let may_repeat = names.add(short, long);
+    let (Some(short), Some(long), Some(hint), Some(desc), Some((hasarg, occur))) =
+        (text(short), text(long), text(hint), text(desc), kind_of(row.kind))
     else {
-        return wrong_row(place, row);
+        return Ok(false);
     };
-    if names.add(row.texts[0], row.texts[1]) {
-        if let wrong @ Some(_) = repeated_name(earlier, place, row)? {
-            return Ok(wrong);
-        }
+    if !names_lawful(short, long)
+        || short == "-"
+        || long.starts_with('-')
+        || !hint.is_empty() && hasarg == HasArg::No
+        || may_repeat && named(options, [short, long]).is_some()
+    {
+        return Ok(false);
     }
-    let occur = if repeats { Occur::Multi } else { occur };
-    options.add_group(short, long, desc, hint, hasarg, occur).map(|()| None)
+    let occur = if modes & REPEAT != 0 { Occur::Multi } else { occur };
+    options.add_group(short, long, desc, hint, hasarg, occur).map(|()| true)
 }
 
 /// What to write instead of invalid modes.
@@ -167,10 +141,9 @@ const NO_TEXT: &[u8] = b" must be UTF-8 with all characters below U+10FF80";
 
 /// What is wrong with a row: the first mistake, in the order of the cases below.
 #[cold]
-fn wrong_row(place: usize, row: &Row<&[u8]>) -> AllocResult<Wrong> {
-    let ([short, long, hint, _], bad) =
-        (row.texts, row.texts.iter().position(|bytes| text(bytes).is_none()));
-    let kind = digits(row.kind as usize)?;
+fn wrong_row(options: &Options, place: usize, row: Row<&[u8]>) -> AllocResult<Wrong> {
+    let ([short, long, hint, _], texts) = (row.texts, row.texts.map(text));
+    let (kind, bad) = (digits(row.kind as usize)?, texts.iter().position(Option::is_none));
     let parts: [&[u8]; 3] = match bad {
         _ if short.len() > 1 => [b"short name '", shown(short), b"' isn't one ASCII character"],
         _ if long.len() == 1 => [b"long name '", long, b"' has 1 byte: write it as the short name"],
@@ -180,37 +153,35 @@ fn wrong_row(place: usize, row: &Row<&[u8]>) -> AllocResult<Wrong> {
             [b"long name '", shown(long), b"' begins with '-': remove it"]
         }
         _ if kind_of(row.kind).is_none() => [b"invalid kind ", &kind, KINDS],
-        Some(nth) => [b"the ", TEXTS[nth].as_bytes(), NO_TEXT],
-        None => [b"hint '", shown(hint), NO_ARGUMENT],
+        Some(nth) => [b"the ", TEXTS[nth], NO_TEXT],
+        None if row.kind % REQ == 0 && !hint.is_empty() => [b"hint '", shown(hint), NO_ARGUMENT],
+        None => {
+            let names = [texts[0], texts[1]].map(Option::unwrap_or_default);
+            let (nth, other) = named(options, names).unwrap_or_default();
+            return message_of(&[
+                b"table[",
+                &digits(place)?,
+                b"]: ",
+                TEXTS[nth],
+                b" '",
+                shown(row.texts[nth]),
+                b"' is also in table[",
+                &digits(other)?,
+                b"]: rename one",
+            ]);
+        }
     };
     message_of(&[b"table[", &digits(place)?, b"]: ", parts[0], parts[1], parts[2]])
 }
 
-/// What is wrong with a row if one of these earlier rows has one of its names.
+/// Which of a short and a long name an option has, and its place.
 #[cold]
-fn repeated_name<'c>(
-    earlier: impl Iterator<Item = Row<&'c [u8]>> + Clone,
-    place: usize,
-    row: &Row<&[u8]>,
-) -> AllocResult<Wrong> {
-    for (nth, name) in row.texts.into_iter().enumerate().take(2) {
-        let same = earlier.clone().position(|other| other.texts[nth] == name);
-        if let (Some(other), false) = (same, name.is_empty()) {
-            let (place, what, other) = (digits(place)?, TEXTS[nth].as_bytes(), digits(other)?);
-            return message_of(&[
-                b"table[",
-                &place,
-                b"]: ",
-                what,
-                b" '",
-                shown(name),
-                b"' is also in table[",
-                &other,
-                b"]: rename one",
-            ]);
-        }
-    }
-    Ok(None)
+pub fn named(options: &Options, names: [&str; 2]) -> Option<(usize, usize)> {
+    names.into_iter().enumerate().filter(|(_, name)| !name.is_empty()).find_map(|(nth, name)| {
+        let has = |group: OptGroup<'_>| [group.short_name, group.long_name][nth] == name;
+        let place = (0..options.len()).find(|place| options.get(*place).map_or(false, has))?;
+        Some((nth, place))
+    })
 }
 
 /// The part of a name that a message shows: all, or its first bytes up to the end of a character.

@@ -196,6 +196,7 @@ static void numbers_are_checked(void) {
         long value;
     } rows[] = {
         { "0", true, 0 }, { "7", true, 7 }, { "-7", true, -7 }, { "+7", true, 7 }, { "007", true, 7 },
+        { "08", true, 8 }, { "010", true, 10 }, { "-08", true, -8 },
 #if LONG_MAX > 2147483647
         { "9223372036854775807", true, LONG_MAX }, { "-9223372036854775808", true, LONG_MIN },
         { "9223372036854775808", false, 0 }, { "-9223372036854775809", false, 0 }, { "", false, 0 },
