@@ -168,7 +168,7 @@ class Options:
         return b"%s\n\nOptions:\n%s\n" % (brief, b"\n".join(self.usage_rows(columns)))
 
     def short_usage(self, program):
-        brackets = {"req": b"%s", "optional": b"[%s]", "multi": b"[%s]..", "reqmulti": b"%s.."}
+        brackets = {"req": b"%s", "optional": b"[%s]", "multi": b"[%s]..", "reqmulti": b"%s"}
         texts = [(b"-" + group.short if group.short else b"--" + group.long) + (b" " if group.kind != "no" else b"")
                  + group.argument for group in self.groups]
         return b"Usage: %s " % program + b" ".join(brackets[group.occur] % text for group, text in zip(self.groups, texts))
@@ -228,13 +228,13 @@ class Session:
             return [line("case", *fields)] if word == "case" else []
         if word in ("keep", "same"):
             return self.compared(word, *fields)
-        if word in ("words", "parse_words", "parse_promised", "ignoring_counts"):
+        if word in ("words", "ignoring_counts"):
             self.read = self.options.parse(fields, word != "ignoring_counts")
             return [self.result("accepted", self.read)]
         if word in ("parse_request", "parse_unless"):
             return [self.unless(word, fields)]
-        if word in ("canonical", "canonical_words", "canonical_promised"):
-            return [self.canonical(word, fields)]
+        if word == "canonical":
+            return [self.canonical(fields)]
         if word == "error" and not fields:
             rejected = self.read is not None and len(self.read) == 2
             return [line("error", TEXTS[self.read[0]] % self.read[1] if rejected else "nothing")]
@@ -243,15 +243,10 @@ class Session:
             return [line(word) + b"\t" + (self.result("", read) if len(read) == 2 else
                                           line("order", *(field for place, text in read[3] for field in (
                                               [b"=" + text] if place is None else [place, optional(text)]))))]
-        if word == "lawful":
-            short, long = fields
-            return [line("lawful", "true" if len(short) < 2 and len(long) != 1 and short + long else "false")]
-        if word in ("option", "positions", "any", "take_trailing") and (self.read is None or len(self.read) == 2):
+        if word in ("option", "positions", "take_trailing") and (self.read is None or len(self.read) == 2):
             return [line(word, "nothing")]
         if word in ("clear", "take_trailing"):
             return self.taken_off(word)
-        if word == "any":
-            return [self.any([self.given(name) for name in fields])]
         if word in ("option", "positions"):
             own = self.given(fields[0])
             return [line(word, fields[0], "undefined")] if own is None else getattr(self, word)(own, *fields)
@@ -326,25 +321,17 @@ class Session:
             return line("refused", *read)
         return line(word, "-" if read[2] is None else read[2], *read[1])
 
-    def canonical(self, word, words):
+    def canonical(self, words):
         read = self.options.parse(words)
         if len(read) == 2:
-            return line(word) + b"\t" + self.result("", read)
+            return line("canonical") + b"\t" + self.result("", read)
         written = self.options.canonical(read)
-        return line(word, "none") if written is None else line(word, "line", *written)
+        return line("canonical", "none") if written is None else line("canonical", "line", *written)
 
     def given(self, name):
         """The positions and values of an option's occurrences, or None if the name is undefined."""
         place = self.options.resolve(name)
         return None if place is None else [(at, value) for mine, at, value in self.read[0] if mine == place]
-
-    def any(self, given):
-        firsts = [own[0][1] for own in given if own]
-        present = "true" if firsts else "false"
-        if None in given:
-            return line("any", present, "undefined")
-        value = optional(next((first for first in firsts if first is not None), None))
-        return line("any", present, present, value, value)
 
     def option(self, own, name, default):
         values = [value for _, value in own if value is not None]

@@ -45,7 +45,7 @@ def all_rows():
     rows = [row for file in ROWS for row in rows_of(file.read_bytes())]
     asked, given, differ = answer_rows(rows)
     assert not differ, b"\n  ".join(differ[0]).decode()
-    assert given > 7_000 and len(asked) > len(rows) + 20_000
+    assert given > 6_500 and len(asked) > len(rows) + 20_000
     return asked
 
 

@@ -9,10 +9,12 @@ import subprocess
 import sys
 from pathlib import Path
 
+import bench as bench_py
 import generate
 import pytest
 import test_rows
-from conftest import LINES, ROOT, ROWS, VECTORS, answer, copy_tree, need_rustfmt, run
+from conftest import LINES, ROOT, ROWS, VECTORS, answer, check_page, copy_tree, need_rustfmt, run
+from model import parts, rows_of
 from targets import (REGISTRY, TARGETS, UNWINDS, cargo, cargo_for, commit_repository, need_cargo, offline,
                      passed, runner, shared_folder)
 
@@ -133,7 +135,7 @@ def folder(tmp_path_factory):
 
 
 @pytest.mark.parametrize("features, tests, programs", [
-    ("std,unicode,proved", [], 7), ("std", ["--tests"], 5), ("proved", [], 4)])
+    ("std,unicode,proved", [], 8), ("std", ["--tests"], 6), ("proved", [], 4)])
 def test_own_tests_of_the_crate(folder, features, tests, programs):
     said, _ = cargo(folder, "test", "--no-default-features", "--features", features, *tests)
     assert len(passed(said)) == programs
@@ -183,10 +185,9 @@ def test_documentation(folder):
     cargo(folder, "doc", "--no-deps", "--all-features")
     shown = {str(page.relative_to(folder / "target/doc/getopts")) for page in (folder / "target/doc/getopts").rglob("*.html")}
     assert {"enum.HasArg.html", "iter/struct.Values.html", "fallible/trait.TryClone.html", "alloc/struct.Global.html"} <= shown
-    # Lemmas do nothing. What the C library and the shell program need may change in any version.
-    assert not {"proved/fn.are_texts.html", "bytes/index.html", "fn.bytes_of.html", "alloc/struct.AllocFailed.html"} & shown
+    # What the C library and the shell program need may change in any version.
+    assert not {"bytes/index.html", "fn.bytes_of.html", "alloc/struct.AllocFailed.html"} & shown
     assert not {*map("fallible/trait.{}.html".format, ("TryText", "TryList", "TryCopies"))} & shown
-    assert "method.declared" not in (folder / "target/doc/getopts/proved/struct.Options.html").read_text()
     for name in ("fail", "iter", "options", "matches", "os"):
         example = False
         for line in (RUST / f"src/{name}.rs").read_text().splitlines():
@@ -251,6 +252,32 @@ def test_git_dependency(tmp_path):
             assert (tmp_path / "target/doc/getopts/struct.Matches.html").exists() == ("-p" in words or name == "both")
 
 
+def test_small_program(tmp_path):
+    """The README's program is the one that bench.py measures, and its size is near the record, which was made with one rustc."""
+    program = (ROOT / "bench/join/proved-getopts.rs").read_text()
+    assert f"```rust\n{program}```" in (RUST / "README.md").read_text()
+    need_cargo(RUST)
+    version = re.search(r"rustc (\S+)", (ROOT / "bench/last_run.txt").read_text())[1]
+    if run("rustc", "--version")[0].split()[1] != version:
+        pytest.skip(f"rustc isn't {version}")
+    size, least = (bench_py.build_join(tmp_path, column, offline())[0] for column in ("bindings/rust", "none"))
+    recorded = int(bench_py.recorded()[bench_py.SMALL, "kilobytes"]["bindings/rust"])
+    assert abs((size - least) / 1000 - recorded) < 2, f"{size - least}: run bench/bench.py again"
+
+
+def test_manual_page_of_declared_options(folder, tmp_path):
+    page = tmp_path / "join.1"
+    page.write_text(cargo(folder, "run", "--example", "manual")[0])
+    check_page(page, [
+        "JOIN(1) General Commands Manual JOIN(1)", "NAME", "       join - join files",
+        "SYNOPSIS", "       join -o FILE [-I DIR].. [--color [WHEN]] [-v].. [-h]", "OPTIONS",
+        "       -o, --output FILE\n              write to FILE (required)",
+        "       -I DIR look into DIR, too (may be repeated)",
+        "       --color [WHEN]\n              colour the output: 'always', ~never~ or `auto`",
+        "       -v, --verbose\n              .\\say more, twice ^ as much with -vv (may be repeated)",
+        "       -h, --help\n              print this help", "join 1.0 JOIN(1)"])
+
+
 @pytest.fixture(scope="module")
 def example(folder):
     cargo(folder, "build", "--release", "--example", "show")
@@ -281,8 +308,11 @@ def reference(tmp_path_factory):
     return reference
 
 
-# With the second feature, the program calls the proved modules, whose accessors `proved-getopts` doesn't use.
+# With the feature `proved`, the package reports failed allocations in each call, and the program knows laws.
 CANONICAL, PROVED = ("--features", "canonical"), ("--features", "proved,getopts/proved")
+# Rows about calls that only getopts::proved has.
+LACKS = {"opt_place", "occurrences_at", "parse_in_order", "parse_request", "parse_unless", "take_trailing", "usage_in",
+         "usage_rows", "wrap"}
 
 
 @pytest.fixture(scope="module")
@@ -290,27 +320,32 @@ def ours(reference):
     return reference(RUST, *CANONICAL)
 
 
-@pytest.mark.parametrize("rows", ROWS, ids=lambda path: path.stem)
-def test_stored_answers(ours, rows):
-    assert ", 0 differ" in run(ours, "check", rows)[0]
+def differences(command, text, room, skipped=LACKS):
+    """The rows that the reference answers otherwise, each with its answer. Rows with some words are skipped. `{Z}` is U+0300,
+    which takes no columns."""
+    rows = [row for row in rows_of(text.replace(b"{Z}", "\u0300".encode())) if parts(row[0])[0] not in skipped]
+    assert any(answers for _, answers in rows)
+    (room / "asked.rows").write_bytes(test_rows.written(rows))
+    found = rows_of(run(*command, "answer", room / "asked.rows")[0].encode())
+    return [(row, answers) for row, (_, answers) in zip(rows, found, strict=True) if row[1] != answers]
 
 
-@pytest.mark.parametrize("flags", [CANONICAL, PROVED], ids=["package", "modules"])
-def test_answers_match_model(reference, cases, flags, tmp_path):
-    for name, text in ("all", test_rows.written(test_rows.all_rows())), ("random", test_rows.random_rows(cases(5_000))):
-        (tmp_path / name).write_bytes(text)
-        assert ", 0 differ" in run(reference(RUST, *flags), "check", tmp_path / name)[0]
+@pytest.mark.parametrize("flags", [CANONICAL, PROVED], ids=["package", "proved"])
+def test_answers_match_stored_rows_and_model(reference, cases, flags, tmp_path):
+    for text in test_rows.written(test_rows.all_rows()), test_rows.random_rows(cases(5_000)):
+        assert differences([reference(RUST, *flags)], text, tmp_path) == []
 
 
-def test_laws(reference, cases, tmp_path):
-    """Laws of what rows can't ask, on random cases."""
-    (tmp_path / "rows").write_bytes(random_cases(7, cases(10_000)))
+@pytest.mark.parametrize("rows", [*ROWS, None], ids=lambda path: path.stem if path else "random")
+def test_laws(reference, cases, rows, tmp_path):
+    """The calls of getopts::proved answer like those of the package, and laws are true of what rows can't ask."""
+    (tmp_path / "rows").write_bytes(rows.read_bytes() if rows else random_cases(7, cases(10_000)))
     run(reference(RUST, *PROVED), "laws", tmp_path / "rows")
 
 
-def test_recorded_answers(reference, crate):
+def test_recorded_answers(reference, crate, tmp_path):
     """The Rust crate gives the answers that were recorded from it."""
-    assert ", 0 differ" in run(reference(crate), "check", VECTORS / "data/recorded.rows")[0]
+    assert differences([reference(crate)], (VECTORS / "data/recorded.rows").read_bytes(), tmp_path) == []
 
 
 random_cases = functools.cache(generate.written)
@@ -318,9 +353,10 @@ random_cases = functools.cache(generate.written)
 
 def random_rows(program, room, seed, count):
     """A file of all short lines and random cases, with the answers of a program."""
-    rows = room / f"{seed}.rows"
+    asked, rows = room / "asked.rows", room / f"{seed}.rows"
+    asked.write_bytes(random_cases(seed, count))
     with open(rows, "wb") as file:
-        subprocess.run([program, "answer"], input=random_cases(seed, count), stdout=file, check=True)
+        subprocess.run([program, "answer", asked], stdout=file, check=True)
     return rows
 
 
@@ -330,16 +366,16 @@ def test_proved_library_matches_rust_crate(vectors, reference, crate, cases, tmp
 
 
 @pytest.mark.parametrize("flags, seeds", [(CANONICAL, (1, 2)), (("--no-default-features",), (2, 3)), (PROVED, (3, 4))],
-                         ids=["package", "bytes", "modules"])
+                         ids=["package", "bytes", "proved"])
 def test_random_cases_match_rust_crate(reference, crate, cases, flags, seeds, tmp_path):
     ours, theirs = reference(RUST, *flags), reference(crate, *(flags if "--no-default-features" in flags else ()))
     for seed in seeds:
-        assert ", 0 differ" in run(ours, "check", random_rows(theirs, tmp_path, seed, cases(20_000)))[0]
+        assert differences([ours], random_rows(theirs, tmp_path, seed, cases(20_000)).read_bytes(), tmp_path) == []
 
 
 def test_difference_is_found(ours, tmp_path):
-    (tmp_path / "rows").write_text("case\tone\nlawful\ta\t\n> lawful\ttrue\nlawful\tab\t\n> lawful\ttrue\n")
-    assert ", 1 differ" in run(ours, "check", tmp_path / "rows", status=1)[0]
+    text = b"case\tone\nlawful\ta\t\n> lawful\ttrue\nlawful\tab\t\n> lawful\ttrue\n"
+    assert differences([ours], text, tmp_path) == [((b"lawful\tab\t", [b"lawful\ttrue"]), [b"lawful\tfalse"])]
 
 
 # ---- other targets
@@ -370,8 +406,8 @@ def test_crate_on_target(target, tmp_path, request, ours, example):
     by, built = runner(target, tmp_path), reference / "target" / target / "release"
     program = {path.stem: path for path in built.iterdir() if path.suffix in ("", ".exe", ".wasm") and path.is_file()}
     for rows in ROWS:
-        passed_over = [] if target in UNWINDS else ["lawful"]
-        assert ", 0 differ" in run(*by, program["reference"], "check", rows, *passed_over)[0]
+        skipped = LACKS if target in UNWINDS else LACKS | {"lawful"}
+        assert differences([*by, program["reference"]], rows.read_bytes(), tmp_path, skipped) == []
     words = LINES[1].split()
     said, status = answer(example, *words)
     there = run(*by, program["show"], *words)[0].replace("\r", "")

@@ -1,30 +1,22 @@
 //! The Rust crate's answers to the lines of cases.
 
 use crate::form::Line;
-use crate::library::{copy_of, Fail, Matches, Options, ParsingStyle};
 use crate::options::{Group, CALLS};
+use getopts::{Fail, Matches, Options, ParsingStyle};
 use std::fmt::Display;
 use std::panic::catch_unwind;
 use std::str::FromStr;
 
 /// Options, and the result of the last words.
-#[derive(Default)]
-pub struct Side {
-    pub options: Options,
-    pub read: Option<Result<Matches, Fail>>,
-}
-
-impl Clone for Side {
-    fn clone(&self) -> Side {
-        let read =
-            self.read.as_ref().map(|read| read.as_ref().map(Matches::clone).map_err(copy_of));
-        Side { options: self.options.clone(), read }
-    }
+#[derive(Clone, Default)]
+struct Side {
+    options: Options,
+    read: Option<getopts::Result>,
 }
 
 impl Side {
     /// The result of the last words.
-    pub fn result(&self) -> String {
+    fn result(&self) -> String {
         match &self.read {
             Some(Ok(matches)) => {
                 let start = matches.free_trailing_start().map(|start| start.to_string());
@@ -44,21 +36,17 @@ pub struct Session {
 }
 
 /// `-` without a value, else `=` and the value.
-pub fn optional(value: Option<impl Display>) -> String {
+fn optional(value: Option<impl Display>) -> String {
     value.map_or("-".to_string(), |value| format!("={value}"))
 }
 
-pub fn line(head: &[&str], rest: impl IntoIterator<Item = String>) -> String {
+fn line(head: &[&str], rest: impl IntoIterator<Item = String>) -> String {
     Line(head.iter().map(|field| field.to_string()).chain(rest).collect()).written()
 }
 
 impl Session {
     /// Executes a line, and returns its answer.
     pub fn answer(&mut self, asked: &Line) -> String {
-        #[cfg(feature = "proved")]
-        if let Some(answer) = crate::proved::answer(&mut self.side, asked) {
-            return answer;
-        }
         let fields = asked.fields();
         let options = &mut self.side.options;
         let f = |nth: usize| fields[nth].as_str();
@@ -148,15 +136,13 @@ fn canonical(options: &Options, words: &[String]) -> String {
 }
 
 /// The kind of an error and its name.
-pub fn error_fields(fail: &Fail) -> [String; 2] {
+fn error_fields(fail: &Fail) -> [String; 2] {
     let (variant, name) = match fail {
         Fail::ArgumentMissing(name) => ("ArgumentMissing", name),
         Fail::UnrecognizedOption(name) => ("UnrecognizedOption", name),
         Fail::OptionMissing(name) => ("OptionMissing", name),
         Fail::OptionDuplicated(name) => ("OptionDuplicated", name),
         Fail::UnexpectedArgument(name) => ("UnexpectedArgument", name),
-        #[cfg(feature = "proved")]
-        Fail::OutOfMemory => panic!("{fail}"),
     };
     [variant.to_string(), name.clone()]
 }

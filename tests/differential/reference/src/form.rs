@@ -37,9 +37,9 @@ impl Line {
         fields.join("\t") + "\n"
     }
 
-    /// Parses a line; `None` for comments and empty lines.
+    /// Parses a line; `None` for comments, answers and empty lines.
     pub fn read(line: &str) -> Option<Line> {
-        if line.is_empty() || line.starts_with('#') {
+        if line.is_empty() || line.starts_with(['#', '>', '|']) {
             return None;
         }
         let parts = line.split('\t').map(|field| text_of(field).expect("a valid escape"));

@@ -1,13 +1,14 @@
-//! Laws of calls that rows don't ask about: what the documentation promises of errors, conversions
-//! and help texts with any characters. They compare answers with each other, and those of the
-//! package with those of the proved modules.
+//! Laws of `getopts::proved`, which answers no rows: its calls give what those of the package give,
+//! or, if the package has no such call, what the documentation promises. Also laws of the package
+//! that rows can't ask about, such as words of any bytes and help texts with any characters.
 
 use crate::form::Line;
-use crate::library::{copy_of, Fail, HasArg, Matches, Options};
-use crate::options::{Declared, Group};
+use crate::options::Group;
 use getopts::alloc::Global;
+use getopts::fallible::TryClone;
 use getopts::proved::wrap::each_split_within;
-use getopts::proved::{self, Request};
+use getopts::proved::{Fail, Given, HasArg, Matches, Occur, Options, ParsingStyle, Request};
+use std::fmt::Display;
 use unicode_width::UnicodeWidthStr;
 
 /// Panics unless a law holds.
@@ -20,19 +21,48 @@ macro_rules! law {
     };
 }
 
-/// Checks the laws of each line of words, and of the options of each case. Returns the number of
-/// lines.
+/// Panics unless these calls of the modules give for a name what those of the package give.
+macro_rules! same {
+    ($ours:expr, $theirs:expr, $name:expr; $($call:ident($($more:expr)*)),*) => {
+        $(law!($ours.$call(Global, $name $(, $more)*) == Ok($theirs.$call($name $(, $more)*)), $name);)*
+    };
+}
+
+/// The declarations of a case so far, and its last words.
+#[derive(Clone, Debug, Default)]
+struct Declared {
+    groups: Vec<Group>,
+    stop: bool,
+    long_only: bool,
+    words: Vec<String>,
+}
+
+/// Checks the laws of each line of words, of the options of each case, and of copies. Returns the
+/// number of lines.
 pub fn check(rows: &str) -> usize {
-    let (mut declared, mut lines) = (Declared::default(), 0);
-    for (nth, row) in rows.lines().filter(|row| !row.starts_with('>')).enumerate() {
-        let line = Line::read(row).expect("a row");
-        if line.word() == "case" {
-            of_options(&declared, "Usage: x", 20 + nth % 70);
-        }
-        declared.take(&line);
-        if line.word() == "words" {
-            of_line(&declared, line.fields());
-            lines += 1;
+    calls();
+    let (mut declared, mut kept) = (Declared::default(), Declared::default());
+    let mut lines = 0;
+    for (nth, line) in rows.lines().filter_map(Line::read).enumerate() {
+        match (line.word(), line.fields()) {
+            ("case" | "anew", _) => {
+                of_options(&declared, "Usage: x", 20 + nth % 70);
+                declared = Declared::default();
+            }
+            ("style", [style]) => declared.stop = style == "stop",
+            ("mode", [mode]) => declared.long_only = mode == "long-only",
+            ("keep", []) => kept = declared.clone(),
+            ("same", [..]) => equality(&declared, &kept),
+            (
+                "words" | "ignoring_counts" | "canonical" | "parse_in_order" | "parse_request",
+                words,
+            )
+            | ("parse_unless", [_, words @ ..]) => {
+                declared.words = words.to_vec();
+                of_line(&declared, words);
+                lines += 1;
+            }
+            _ => declared.groups.extend(Group::of_line(&line)),
         }
     }
     of_options(&declared, "Usage: x", 20);
@@ -40,61 +70,148 @@ pub fn check(rows: &str) -> usize {
 }
 
 fn options_of(declared: &Declared) -> Options {
-    let mut options = Options::new();
-    declared.groups.iter().for_each(|group| group.add(&mut options));
-    options.parsing_style(declared.style()).long_only(declared.long_only);
+    let mut options = Options::new(Global);
+    for Group { short, long, desc, hint, kind, occur, .. } in &declared.groups {
+        options.opt(short, long, desc, hint, *kind, *occur).unwrap();
+    }
+    options.parsing_style(style_of(declared)).long_only(declared.long_only);
     options
 }
 
 /// The same options of the package.
 fn package_of(declared: &Declared) -> getopts::Options {
     let mut options = getopts::Options::new();
-    for group in &declared.groups {
-        let Group { short, long, desc, hint, kind, occur, .. } = group;
-        options.opt(short, long, desc, hint, *kind, *occur);
-    }
-    options.parsing_style(declared.style()).long_only(declared.long_only);
+    declared.groups.iter().for_each(|group| group.add(&mut options));
+    options.parsing_style(style_of(declared)).long_only(declared.long_only);
     options
+}
+
+fn style_of(declared: &Declared) -> ParsingStyle {
+    [ParsingStyle::FloatingFrees, ParsingStyle::StopAtFirstFree][usize::from(declared.stop)]
+}
+
+/// A result with the text of its error, since the package has errors of another type.
+fn with_text<T, E: Display>(result: Result<T, E>) -> Result<T, String> {
+    result.map_err(|fail| fail.to_string())
+}
+
+/// Each call adds what `opt` adds.
+fn calls() {
+    let added = |add: &dyn Fn(&mut Options)| {
+        let mut options = Options::new(Global);
+        add(&mut options);
+        options
+    };
+    let by_opt =
+        |hint, kind, occur| added(&|o| _ = o.opt("a", "ab", "text", hint, kind, occur).unwrap());
+    let (no, yes, maybe) = (HasArg::No, HasArg::Yes, HasArg::Maybe);
+    let (once, multi) = (Occur::Optional, Occur::Multi);
+    for (one, other) in [
+        (added(&|o| _ = o.optflag("a", "ab", "text")), by_opt("", no, once)),
+        (added(&|o| _ = o.optflagmulti("a", "ab", "text")), by_opt("", no, multi)),
+        (added(&|o| _ = o.optflagopt("a", "ab", "text", "X")), by_opt("X", maybe, once)),
+        (added(&|o| _ = o.optmulti("a", "ab", "text", "X")), by_opt("X", yes, multi)),
+        (added(&|o| _ = o.optopt("a", "ab", "text", "X")), by_opt("X", yes, once)),
+        (added(&|o| _ = o.reqopt("a", "ab", "text", "X")), by_opt("X", yes, Occur::Req)),
+    ] {
+        law!(one == other && one != Options::new(Global), one, other);
+    }
+}
+
+/// Options, and the results of words, are equal if those of the package are. Options equal copies.
+fn equality(declared: &Declared, kept: &Declared) {
+    let ours = [declared, kept].map(|one| (options_of(one), &one.words));
+    let theirs = [declared, kept].map(|one| (package_of(one), &one.words));
+    law!((ours[0].0 == ours[1].0) == (theirs[0].0 == theirs[1].0), declared, kept);
+    law!(ours[0].0.try_clone().as_ref() == Ok(&ours[0].0), declared);
+    let ours = ours.map(|(options, words)| options.parse_words(Global, words));
+    let theirs = theirs.map(|(options, words)| options.parse(words));
+    law!((ours[0] == ours[1]) == (theirs[0] == theirs[1]), declared, kept);
 }
 
 // ---- parsing
 
 fn of_line(declared: &Declared, words: &[String]) {
     let (options, package) = (options_of(declared), package_of(declared));
-    let parsed = options.0.parse_words(Global, words);
+    let parsed = options.parse_words(Global, words);
     for fail in parsed.as_ref().err().into_iter().chain([&Fail::OutOfMemory]) {
         let (before, name, after) = fail.parts();
         law!(fail.to_string() == [before, name, after].concat() && !before.is_empty(), fail);
-        law!(copy_of(fail) == *fail, fail);
+        law!(fail.try_clone().as_ref() == Ok(fail), fail);
     }
+    let error = with_text(package.parse(words)).err();
+    law!(parsed.as_ref().err().map(Fail::to_string) == error, declared, words);
     let texts = || words.iter().map(String::as_str);
-    law!(options.0.parse(Global, texts()) == parsed, declared, words);
-    let line = options.0.canonical_words(Global, words);
-    law!(options.0.canonical(Global, texts()) == line, declared, words);
-    let names: Vec<_> = options.0.declared().map(|(names, ..)| names).collect();
-    let order = options.0.parse_in_order(Global, words).map(|given| {
+    law!(options.parse(Global, texts()) == parsed, declared, words);
+    let line = options.canonical_words(Global, words);
+    law!(options.canonical(Global, texts()) == line, declared, words);
+    law!(with_text(line) == with_text(package.canonical(words)), declared, words);
+    let names: Vec<_> = package.iter().map(|it| [it.short_name, it.long_name]).collect();
+    let order = options.parse_in_order(Global, words).map(|given| {
         let parts = given.into_iter().map(|given| match given {
-            proved::Given::Option { place, value } => (Some(names[place]), value.map(String::from)),
-            proved::Given::Free(word) => (None, Some(word.to_string())),
+            Given::Option { place, value } => (Some(names[place]), value.map(String::from)),
+            Given::Free(word) => (None, Some(word.to_string())),
         });
         parts.collect::<Vec<_>>()
     });
     let same = package.parse_in_order(words).map(|given| given.into_iter().map(parts).collect());
-    law!(order.map_err(|it| it.to_string()) == same.map_err(|it| it.to_string()), declared, words);
+    law!(with_text(order) == with_text(same), declared, words);
+    in_a_loop(&package, words);
     #[cfg(unix)]
     any_bytes(&package, words);
     without_dashes(&options, words);
-    let matches = match options.parse(words) {
-        Ok(matches) => matches,
-        Err(_) => return,
-    };
-    law!(options.parse_ignoring_counts(words).as_ref() == Ok(&matches), declared, words);
-    law!(options.0.parse_unless(Global, words, "nope").ok().flatten() == parsed.ok(), words);
-    if let Ok(Request::Parsed(read)) = options.0.parse_request(Global, words) {
-        law!(read == *matches, declared, words);
+    let uncounted = options.parse_ignoring_counts(Global, words);
+    law!(parsed.is_err() || parsed == uncounted, declared, words);
+    requests(declared, &options, words, &parsed, uncounted.as_ref().ok());
+    match (&uncounted, &package.parse_ignoring_counts(words)) {
+        (Ok(matches), Ok(same)) => {
+            law!(matches.free == same.free, words);
+            law!(matches.free_trailing_start() == same.free_trailing_start(), words);
+            law!(matches.try_clone().as_ref() == Ok(matches), words);
+            accessors(declared, matches, same);
+            of_names(declared, matches, same);
+            trailing(matches, words);
+        }
+        (ours, theirs) => law!(ours.is_err() && theirs.is_err(), declared, words),
     }
-    accessors(declared, &matches, &package.parse(words).unwrap());
-    trailing(&matches, words);
+}
+
+/// Words that give a flag, or request help or the version, aren't parsed further.
+fn requests(
+    declared: &Declared,
+    options: &Options,
+    words: &[String],
+    parsed: &getopts::proved::Result,
+    read: Option<&Matches>,
+) {
+    let gives = |flag: &str| read.map_or(false, |read| read.opt_present(flag));
+    let (asked, result) = match options.parse_request(Global, words) {
+        Ok(Request::Help) => (Some("help"), None),
+        Ok(Request::Version) => (Some("version"), None),
+        Ok(Request::Parsed(matches)) => (None, Some(Ok(matches))),
+        Err(fail) => (None, Some(Err(fail))),
+    };
+    law!(asked == ["help", "version"].into_iter().find(|flag| gives(flag)), declared, words);
+    law!(result.is_none() == asked.is_some(), words);
+    law!(result.map_or(true, |result| result == *parsed), declared, words);
+    let names = declared.groups.iter().flat_map(|group| [&group.short[..], &group.long]);
+    for flag in names.chain(["nope"]) {
+        let result = options.parse_unless(Global, words, flag).transpose();
+        law!(result.is_none() == gives(flag), flag, words);
+        law!(result.map_or(true, |result| result == *parsed), flag, declared, words);
+    }
+}
+
+/// A loop reads what `parse_in_order` returns, but doesn't check how often options occur.
+fn in_a_loop(package: &getopts::Options, words: &[String]) {
+    let read = package.read(words).collect::<Result<Vec<_>, _>>();
+    let fail = package.parse_ignoring_counts(words).err();
+    law!(read.as_ref().err() == fail.as_ref(), read, words);
+    if let (Ok(read), Ok(order)) = (read, package.parse_in_order(words)) {
+        let read = read.into_iter().map(parts);
+        let read = read.map(|(names, value)| (names, value.map(String::from)));
+        law!(read.eq(order.into_iter().map(parts)), words);
+    }
 }
 
 /// Words are free if another sign is in place of their dashes.
@@ -102,8 +219,8 @@ fn without_dashes(options: &Options, words: &[String]) {
     for sign in ["+", "/", "\u{2013}"] {
         let with = |word: &String| format!("{sign}{}", word.trim_start_matches('-'));
         let words: Vec<_> = words.iter().map(with).collect();
-        let read = options.parse_ignoring_counts(&words).unwrap();
-        let mut places = 0..options.0.declared().count();
+        let read = options.parse_ignoring_counts(Global, &words).unwrap();
+        let mut places = 0..options.len();
         law!(read.free == words, words);
         law!(places.all(|place| read.occurrences_at(place).is_empty()), words);
     }
@@ -191,8 +308,10 @@ fn accessors(declared: &Declared, matches: &Matches, package: &getopts::Matches)
         law!([matches.opt_defined(name), place.is_some()] == [has; 2], name, declared);
         let found: Vec<_> =
             place.map(|at| matches.occurrences_at(at)).into_iter().flatten().collect();
-        law!(matches.opt_positions(name).iter().eq(found.iter().map(|(at, _)| at)), name, found);
-        law!(matches.opt_strs(name).iter().eq(found.iter().filter_map(|one| one.1)), name, found);
+        let positions = matches.opt_positions(Global, name).unwrap();
+        law!(positions.iter().eq(found.iter().map(|(at, _)| at)), name, found);
+        let strs = matches.opt_strs(Global, name).unwrap();
+        law!(strs.iter().eq(found.iter().filter_map(|one| one.1)), name, found);
         law!(place.is_none() || package.occurrences(name).eq(found.iter().copied()), name, found);
         let first = found.first().and_then(|(_, value)| value.map(str::to_string));
         law!(matches.opt_get::<String>(name) == Ok(first.clone()), name, found, declared);
@@ -209,11 +328,34 @@ fn accessors(declared: &Declared, matches: &Matches, package: &getopts::Matches)
     }
 }
 
+/// The accessors give what those of the package give, which panic on names that aren't declared.
+fn of_names(declared: &Declared, matches: &Matches, package: &getopts::Matches) {
+    let names = declared.groups.iter().flat_map(|group| [&group.short, &group.long]);
+    let names: Vec<String> = names.filter(|name| !name.is_empty()).cloned().collect();
+    law!(names.iter().all(|name| package.opt_defined(name)), names, declared);
+    for (nth, name) in names.iter().enumerate() {
+        law!(matches.opt_present(name) == package.opt_present(name), name, declared);
+        law!(matches.opt_count(name) == package.opt_count(name), name, declared);
+        same!(matches, package, name; opt_positions(), opt_str(), opt_strs(), opt_strs_pos());
+        same!(matches, package, name; opt_default("def"));
+        law!(matches.opt_get::<i32>(name) == package.opt_get::<i32>(name), name, declared);
+        let truth = matches.opt_get_default(name, true);
+        law!(truth == package.opt_get_default(name, true), name, declared);
+        let names = &names[nth..];
+        let texts: Vec<_> = names.iter().map(String::as_str).collect();
+        law!(matches.opts_present(names) == package.opts_present(names), names, declared);
+        law!(matches.opts_present_any(&texts) == package.opts_present_any(names), names, declared);
+        law!(matches.opts_str(Global, names) == Ok(package.opts_str(names)), names, declared);
+        let first = matches.opts_str_first(Global, &texts);
+        law!(first == Ok(package.opts_str_first(names)), names, declared);
+    }
+}
+
 /// The words after `--` are taken off the free words, once, also if a caller added or removed some.
 fn trailing(matches: &Matches, words: &[String]) {
     let start = matches.free_trailing_start();
     let take = |free: usize| {
-        let mut left = matches.clone();
+        let mut left = matches.try_clone().unwrap();
         left.free.resize(free, "x".to_string());
         let (all, taken) = (left.free.clone(), left.take_trailing().unwrap());
         law!([&left.free[..], &taken].concat() == all, left, taken, words);
@@ -226,7 +368,7 @@ fn trailing(matches: &Matches, words: &[String]) {
     let (mut left, taken) = take(matches.free.len());
     law!(taken.is_empty() == start.is_none(), left, taken, words);
     law!(left.free_trailing_start() == start, left, words);
-    let once = left.clone();
+    let once = left.try_clone().unwrap();
     law!(left.take_trailing() == Ok(vec![]) && left == once, left, once, words);
 }
 
@@ -237,12 +379,16 @@ const MARGIN: usize = 24;
 
 /// The laws of options, and of their help within these columns and others.
 fn of_options(declared: &Declared, brief: &str, columns: usize) {
-    let options = options_of(declared);
-    let help = |columns| options.0.usage_in(Global, brief, columns).unwrap();
-    law!(help(MARGIN + 54) == options.usage(brief), declared, brief);
-    law!(package_of(declared).usage_in(brief, columns) == help(columns), declared, columns);
-    let formatted = options.usage_with_format(|rows| rows.collect::<Vec<_>>().join("\n"));
-    law!(formatted == options.0.usage_rows(Global).unwrap().join("\n"), formatted, declared);
+    let (options, package) = (options_of(declared), package_of(declared));
+    let help = |columns| options.usage_in(Global, brief, columns).unwrap();
+    law!(options.usage(Global, brief).as_ref() == Ok(&help(MARGIN + 54)), declared, brief);
+    law!(package.usage(brief) == help(MARGIN + 54), declared, brief);
+    law!(package.usage_in(brief, columns) == help(columns), declared, columns);
+    law!(options.short_usage(Global, "x") == Ok(package.short_usage("x")), declared);
+    let rows = options.usage_rows(Global).unwrap();
+    let formatted = options.usage_with_format(Global, |it| Ok(it.collect::<Vec<_>>().join("\n")));
+    law!(formatted == Ok(rows.join("\n")), rows, declared);
+    law!(package.usage_with_format(|it| it.eq(rows.clone()).to_string()) == "true", rows, declared);
     let lines = declared.groups.iter().flat_map(|group| group.desc.split('\n'));
     let widest = MARGIN + lines.map(width).max().unwrap_or(0);
     for columns in [columns, columns.rotate_right(16), widest, MARGIN, 0, usize::MAX] {
@@ -254,7 +400,13 @@ fn of_options(declared: &Declared, brief: &str, columns: usize) {
     let names: Vec<_> = names.filter(|name| !name.is_empty()).collect();
     let twice = (0..names.len()).find(|nth| names[..*nth].contains(&names[*nth]));
     let name = twice.map(|nth| names[nth].as_str());
-    law!(package_of(declared).repeated_name() == name, name, declared);
+    law!(package.repeated_name() == name, name, declared);
+    let listed = package
+        .iter()
+        .map(|it| (it.short_name, it.long_name, it.hint, it.desc, it.hasarg, it.occur));
+    let added = declared.groups.iter();
+    let added = added.map(|it| (&*it.short, &*it.long, &*it.hint, &*it.desc, it.kind, it.occur));
+    law!(listed.eq(added), declared);
 }
 
 /// The columns of words with one space between them.

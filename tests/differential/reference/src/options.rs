@@ -1,9 +1,7 @@
 //! The groups that a case declares.
 
 use crate::form::Line;
-#[cfg(feature = "proved")]
-use crate::library::ParsingStyle;
-use crate::library::{HasArg, Occur, Options};
+use getopts::{HasArg, Occur, Options};
 
 #[derive(Clone, Debug)]
 pub struct Group {
@@ -67,32 +65,5 @@ impl Group {
     pub fn add(&self, options: &mut Options) {
         let texts = [&self.short, &self.long, &self.desc, &self.hint].map(String::as_str);
         CALLS[self.call].3(options, texts, self);
-    }
-}
-
-/// The declarations of a case so far.
-#[cfg(feature = "proved")]
-#[derive(Debug, Default)]
-pub struct Declared {
-    pub groups: Vec<Group>,
-    pub stop: bool,
-    pub long_only: bool,
-}
-
-#[cfg(feature = "proved")]
-impl Declared {
-    /// Adds the declaration of a line, as if by `opt`.
-    pub fn take(&mut self, line: &Line) {
-        match (line.word(), line.fields()) {
-            ("case" | "anew", _) => *self = Declared::default(),
-            ("style", [style]) => self.stop = style == "stop",
-            ("mode", [mode]) => self.long_only = mode == "long-only",
-            // The first of `CALLS` is `opt`.
-            _ => self.groups.extend(Group::of_line(line).map(|group| Group { call: 0, ..group })),
-        }
-    }
-
-    pub fn style(&self) -> ParsingStyle {
-        [ParsingStyle::FloatingFrees, ParsingStyle::StopAtFirstFree][usize::from(self.stop)]
     }
 }
