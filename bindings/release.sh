@@ -1,6 +1,6 @@
 #!/usr/bin/env bash
 # Checks this repository, and writes the files of a release to tests/out/release. It publishes nothing.
-# usage: bindings/release.sh VERSION [CRATE]
+# usage: bindings/release.sh VERSION CRATE
 #
 # CHANGELOG.md must begin with "## VERSION, DATE". CRATE is a folder with the Rust crate getopts 0.2.24, to compare with.
 # TESTED=1 leaves out the tests, which take hours. It needs rt, cargo 1.84 or later, and root on Debian 12.
@@ -9,9 +9,10 @@ unset CDPATH
 stop() { echo "release.sh: $1" >&2; exit 1; }
 case ${1:-} in
 --help | -h) sed -n '2,/^[^#]/s/^# \{0,1\}//p' "$0"; exit ;;
-'' | -*) stop "usage: bindings/release.sh VERSION [CRATE]" ;;
+-*) set -- ;;
 esac
-version=$1 crate=${2:+$(cd -- "$2" && pwd)}
+[ $# = 2 ] || { echo "usage: bindings/release.sh VERSION CRATE" >&2; exit 2; }
+version=$1 crate=$(cd -- "$2" && pwd)
 cd "$(dirname "$0")/.."
 out=$PWD/tests/out/release name=getopts-$version
 unchanged() { [ -z "$(git status --porcelain)" ] || stop "there are uncommitted changes: release a clean clone"; }
@@ -24,9 +25,9 @@ bash test.sh --quick --no-install -k versions -q
 bindings/build.py --check
 bindings/rust/erase.py --check
 if [ -z "${TESTED:-}" ]; then
-    bash test.sh ${crate:+"$crate"}
+    bash test.sh "$crate"
     bindings/build.py --rebuild
-    bash test.sh -k 'rejected or theorem' --release -n 3
+    bash test.sh -k '' -m release --release --getopts="$crate" -n 3
     tests/fresh.sh
     unchanged
 fi
