@@ -5,6 +5,7 @@ usage: bench.py OUT [--getopts FOLDER] [JOB..]      prints the tables of all or 
        bench.py --count WHAT A B PROGRAM WORD..     prints what one iteration of a program costs
        bench.py --rows LINE                         prints a command line as rows
        bench.py --shell [PROGRAM]                   prints what calls of getopts_shell, getopt(1) and true cost
+       bench.py --join OUT [--getopts FOLDER]       prints what libraries cost a small program in Rust
 
 It needs rt, cargo, a C compiler and valgrind; without a network, --getopts and the librust-* packages of
 tests/packages.txt. The peers' programs are built in OUT, a folder outside the repository. FOLDER contains the Rust crate
@@ -14,6 +15,11 @@ proves and builds one.
 WHAT is `instructions`, `peak` (the most bytes allocated at once) or `microseconds` (of processor time, the least of ten
 runs). The program's last argument is the number of iterations. One iteration costs the difference between B and A
 iterations, divided by B - A: so work before the iterations isn't counted.
+
+--join builds the programs of bench/join, stripped, in release mode. It prints by how many KB (1000 bytes) each is larger
+than `none`, which only prints its words; the seconds of processor time that cargo takes to build it, the least of three
+builds; and the number of packages that the library depends on. These figures depend on the version of rustc, and the
+seconds on the machine and on what else it does.
 
 Programs run in OUT, with relative paths: the length of a path decides where malloc places the words, on which the count
 of the Rust crate depends.
@@ -272,6 +278,53 @@ def row(out, programs, what, job, work, line, few, more):
     print(f"{job:<16} " + " ".join(f"{cell:>14}" for cell in cells), flush=True)
 
 
+SMALL = "A small program in Rust"
+REGISTRY = Path("/usr/share/cargo/registry")
+
+
+def library(column, getopts):
+    """The dependency of the program of this column, as a line of Cargo.toml."""
+    if column == "bindings/rust":
+        return f"proved-getopts = {{ path = '{HERE.parent / 'bindings/rust'}' }}"
+    if column == "Rust crate":
+        return f"getopts = {{ path = '{Path(getopts).resolve()}' }}" if getopts else 'getopts = "=0.2.24"'
+    return {"none": "", "lexopt": 'lexopt = "0.2"', "pico-args": 'pico-args = "0.4"', "clap": 'clap = "4"'}[column]
+
+
+def build_join(out, column, getopts):
+    """Builds the program of bench/join for a column: its size, the seconds that this took, and the packages of its library."""
+    room = Path(out).resolve() / f"join-{column.replace('/', '-').replace(' ', '-')}"
+    shutil.rmtree(room, ignore_errors=True)
+    (room / "src").mkdir(parents=True)
+    source = {"bindings/rust": "proved-getopts", "Rust crate": "getopts"}.get(column, column)
+    shutil.copy(HERE / f"join/{source}.rs", room / "src/main.rs")
+    (room / "Cargo.toml").write_text('package = { name = "join", version = "0.0.0", edition = "2021" }\nworkspace = {}\n'
+                                     f"profile.release.strip = true\n[dependencies]\n{library(column, getopts)}\n")
+    flags = ["--offline", "--config", 'source.crates-io.replace-with="debian"',
+             "--config", f"source.debian.directory='{REGISTRY}'"] if getopts and REGISTRY.exists() else []
+    before = resource.getrusage(resource.RUSAGE_CHILDREN)
+    # Cargo looks for configurations above the current folder.
+    subprocess.run(["cargo", "build", "--release", "--quiet", *flags, "--manifest-path", room / "Cargo.toml"], cwd="/", check=True)
+    after = resource.getrusage(resource.RUSAGE_CHILDREN)
+    # In the tree, lines without `(*)` name each package once.
+    tree = subprocess.check_output(["cargo", "tree", "--prefix", "none", "--edges", "normal", *flags,
+                                    "--manifest-path", room / "Cargo.toml"], cwd="/", text=True)
+    packages = {line.split()[0] for line in tree.splitlines()}
+    size = (room / "target/release/join").stat().st_size
+    return size, sum(after[:2]) - sum(before[:2]), max(len(packages) - 2, 0)
+
+
+def join_table(out, getopts):
+    """Prints what libraries cost the programs of bench/join."""
+    least, columns = build_join(out, "none", getopts)[0], ("bindings/rust", "Rust crate", "lexopt", "pico-args", "clap")
+    builds = [[build_join(out, column, getopts) for _ in range(3)] for column in columns]
+    cells = {"kilobytes": [f"{(its[0][0] - least) / 1000:.0f}" for its in builds],
+             "seconds": [f"{min(it[1] for it in its):.1f}" for its in builds], "packages": [str(its[0][2]) for its in builds]}
+    print(f"\n{SMALL}\n{'job':<16} " + " ".join(f"{column:>14}" for column in columns))
+    for job, row in cells.items():
+        print(f"{job:<16} " + " ".join(f"{cell:>14}" for cell in row), flush=True)
+
+
 def tables(out, getopts, asked):
     out = Path(out).resolve()
     out.mkdir(parents=True, exist_ok=True)
@@ -288,6 +341,8 @@ def tables(out, getopts, asked):
             print(f"\n{title}\n{'job':<16} " + " ".join(f"{column:>14}" for column in columns))
         for job in chosen:
             row(out, columns, what, job, *jobs[job])
+    if not asked:
+        join_table(out, getopts)
     print("\n* its checksum differs from that of the first column")
 
 
@@ -323,6 +378,7 @@ def milliseconds(words):
 
 
 def main(words):
+    known = {job for *_, jobs in TABLES for job in jobs}
     match words:
         case ["--help" | "-h", *_]:
             print(__doc__.strip())
@@ -333,12 +389,17 @@ def main(words):
         case ["--shell", *program]:
             for name, call in shell_calls(*program).items():
                 print(f"{name}: {counted('instructions', call, SHELL_ENV)} instructions, {milliseconds(call):.1f} ms")
-        case [out, "--getopts", crate, *jobs]:
+        case ["--join", out]:
+            join_table(out, None)
+        case ["--join", out, "--getopts", crate]:
+            join_table(out, crate)
+        case [out, "--getopts", crate, *jobs] if known >= {*jobs}:
             tables(out, crate, jobs)
-        case [out, *jobs] if not any(word.startswith("-") for word in words):
+        case [out, *jobs] if out and not out.startswith("-") and known >= {*jobs}:
             tables(out, None, jobs)
         case _:
-            sys.exit(__doc__)
+            print(__doc__.strip(), file=sys.stderr)
+            sys.exit(2)
 
 
 if __name__ == "__main__":

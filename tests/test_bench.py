@@ -30,12 +30,14 @@ def test_charts(tmp_path):
 
 
 def test_shell_call(checked_in):
-    """The programs succeed, which valgrind's count doesn't show, and getopts_shell needs few instructions."""
+    """The programs succeed, which valgrind's count doesn't show, and getopts_shell needs few instructions: fewer than the
+    others, as its README says."""
     need("valgrind", "getopt")
     calls = bench_py.shell_calls(checked_in)
     for words in calls.values():
         run(*words, env=bench_py.SHELL_ENV)
-    assert 0 < bench_py.counted("instructions", calls["getopts_shell"], bench_py.SHELL_ENV) <= MOST
+    ours, *others = (bench_py.counted("instructions", calls[name], bench_py.SHELL_ENV) for name in calls)
+    assert 0 < ours <= MOST and ours < min(others)
 
 
 def test_bench_commands():
