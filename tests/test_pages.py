@@ -4,6 +4,7 @@ imports, and well-formed scripts and Rust.
 --fix writes the tables of figures, and what else GENERATED lists. Prose has no figures that change.
 """
 
+import ast
 import functools
 import graphlib
 import os
@@ -11,12 +12,15 @@ import re
 import textwrap
 
 import bench as bench_py
+import chart
 import pytest
 import reading
-from conftest import ROOT, answer, kit, need, need_rustfmt, run
+from conftest import MACHINE, ROOT, answer, copy_tree, kit, need, need_rustfmt, run
 from conftest import tracked as all_tracked
 from model import TEXTS, Group, Options
+from targets import REGISTRY, need_cargo, offline
 from test_mutants import MUTANTS, body_of, functions_in
+from test_unproved import rt_try
 
 
 def read(name):
@@ -76,21 +80,42 @@ def usage_example():
     return f"```text\n{options.usage(b'Usage: x FILE..').decode()}```"
 
 
+def paragraph(text):
+    """A text in lines of at most 120 columns."""
+    return textwrap.fill(text, 120, break_long_words=False, break_on_hyphens=False)
+
+
 def speed():
-    """README: the instructions of some jobs."""
+    """README: the instructions of some jobs, and in how many jobs of its picture lexopt takes the fewest."""
+    title, columns = "Instructions per iteration", ("this library", "Rust crate", "bindings/rust", "lexopt", "clap")
     versions = dict(re.findall(r"([\w-]+) ([\d.]+)", read("bench/last_run.txt").split("\n")[0]))
-    heads = ["job", "Rattle", "Rust crate", "`proved-getopts`", f"lexopt {versions['lexopt']}", f"clap {versions['clap']}"]
-    columns = "this library", "Rust crate", "bindings/rust", "lexopt", "clap"
-    return instructions(heads, "Instructions per iteration", ["small", "typical", "files"], *columns)
+    heads = ["job", "Rattle", "the original", "`proved-getopts`", f"lexopt {versions['lexopt']}", f"clap {versions['clap']}"]
+    drawn = [{name: chart.instructions(job, name) for name in chart.LIBRARIES} for job in chart.JOBS]
+    fewest = sum(min(counts, key=counts.get) == "lexopt" for counts in drawn)
+    return instructions(heads, title, ["small", "typical", "files"], *columns) + "\n\n" + paragraph(
+        f"In {fewest} of the {len(drawn)} jobs in the picture, `lexopt` takes the fewest instructions, because it only hands over one "
+        "argument after the other.")
 
 
 def moving():
-    """README: what a program gains and pays that moves from the Rust crate: instructions through the crate's methods, and size."""
-    both = [measured("Instructions per iteration", f"copied-{job}", "bindings/rust", "Rust crate") for job in ("small", "typical", "long")]
+    """The Rust page: the instructions of a program that moves from the Rust crate, and so calls the crate's methods."""
+    jobs = "small", "typical", "long"
+    both = [measured("Instructions per iteration", f"copied-{job}", "bindings/rust", "Rust crate") for job in jobs]
     shares = [round(100 * int(ours.replace(",", "")) / int(theirs.replace(",", ""))) for ours, theirs in both]
-    ours, theirs = re.search(r"^\| adds to .*? \| (\d+) KB \| (\d+) KB", pages["bindings/rust/README.md"], re.M).groups()
-    return (f"Programs that move from `getopts` to `proved-getopts` take {min(shares)}% to {max(shares)}% of the instructions\n"
-            f"[on three jobs](bench/last_run.txt), and grow by [{int(ours) - int(theirs)} KB](bindings/rust/README.md).")
+    return paragraph(
+        "If a program replaces the original by this crate, and is otherwise unchanged, it still copies the values that it reads. On "
+        f"the command lines `{'`, `'.join(jobs[:-1])}` and `{jobs[-1]}`, reading its options then takes {min(shares)}% to "
+        f"{max(shares)}% of the instructions that it took before (jobs `copied-..` in [last_run.txt](../../bench/last_run.txt)).")
+
+
+def costs():
+    """The Rust page: what libraries cost a small program."""
+    columns = {"bindings/rust": "`proved-getopts`", "Rust crate": "the original",
+               **{name: f"`{name}`" for name in ("lexopt", "pico-args", "clap")}}
+    rows = {"kilobytes": ("adds to a small stripped program", " KB"), "seconds": ("processor time to build", " s"),
+            "packages": ("packages that it depends on", "")}
+    return table(["", *columns.values()], *(
+        [text, *(f"{cell}{unit}" for cell in measured(bench_py.SMALL, job, *columns))] for job, (text, unit) in rows.items()))
 
 
 def speed_in_c():
@@ -103,11 +128,11 @@ def behind():
     rows, compared = [], {"Instructions per iteration": ("bindings/rust", "proved-getopts", "Rust crate"),
                           "Instructions per iteration in C": ("bindings/c", "bindings/c", "argp")}
     for (title, job), cells in bench_py.recorded().items():
-        if title in compared and not job.startswith(("read-", "order-")):
+        if title in compared and not job.startswith("read-"):
             column, name, peer = compared[title]
             mine, theirs = (cells[it].rstrip("*") for it in (column, peer))
             if "-" not in (mine, theirs) and int(theirs) < int(mine):
-                rows.append([f"`{job}`", f"`{name}`: {int(mine):,}", f"{peer}: {int(theirs):,}",
+                rows.append([f"`{job}`", f"`{name}`: {int(mine):,}", f"{peer.replace('Rust crate', 'the original')}: {int(theirs):,}",
                              f"{int(mine) / int(theirs):.2f}"])
     return table(["job", "this library", "the other", "times as many"], *rows)
 
@@ -116,7 +141,7 @@ def memory():
     jobs = {"held-small": "3 words", "held-described": "options with long descriptions", "held-long": "1,000 words",
             "held-cluster": "a cluster of 100,000 letters", "held-values": "three values of 1 MB", "memory": "100,000 words"}
     columns = "this library", "bindings/rust", "Rust crate"
-    return table(["job", "Rattle", "`proved-getopts`", "Rust crate"], *(
+    return table(["job", "Rattle", "`proved-getopts`", "the original"], *(
         [f"`{job}`: {words}", *measured("Bytes that matches take" if "-" in job else
                                         "Peak bytes while parsing, besides the words and the options", job, *columns)]
         for job, words in jobs.items()))
@@ -127,18 +152,43 @@ def first_output():
     return f"```text\n{read('crates/getopts_show/stdout')}```"
 
 
+def promises():
+    """The library's page, which may be copied alone: what README promises, without its links and its picture."""
+    part = pages["README.md"].partition("\n## What is promised\n\n")[2].partition("\n\nNothing is promised")[0]
+    part = re.sub(r"\[([^]]*)\]\([^)]*\)", r"\1", re.sub(r"^!\[.*\n\n", "", part, flags=re.M))
+    return "\n".join(textwrap.fill(line, 120, subsequent_indent="   ") for line in re.sub("\n {3}", " ", part).split("\n"))
+
+
 def compared():
-    """The library's page: the recorded cases, in which the Rust crate answered."""
+    """The library's page: the recorded cases, which the Rust crate answered."""
     cases = len(re.findall(r"^case\t", read("crates/getopts_vectors/data/recorded.rows"), re.M))
-    return f"The definitions describe the Rust crate: its answers to {cases:,} recorded cases, and to random ones, are the same."
+    return f"- On {cases:,} recorded cases, and on random ones, the definitions give the answers that the original gave."
+
+
+def code_in(name, text):
+    """The lines of a file with this text, without comments, imports and blank lines."""
+    if name.endswith(".py"):
+        # A string such as "/*" begins no comment, and a string that is a statement is one.
+        lines = text.split("\n")
+        for it in ast.walk(ast.parse(text)):
+            if isinstance(it, (ast.Import, ast.ImportFrom)) or isinstance(it, ast.Expr) and isinstance(it.value, ast.Constant):
+                lines[it.lineno - 1:it.end_lineno] = [""] * (it.end_lineno - it.lineno + 1)
+        return [line for line in lines if not re.match(" *(#|$)", line)]
+    lines = re.sub(r"/\*.*?\*/", "", text, flags=re.S).split("\n") if not name.endswith(".antt") else text.split("\n")
+    return [line for line in lines if not re.match(" *(//|--|#include|(pub )?(ghost )?(use|mod) |$)", line)]
+
+
+def test_lines_of_code():
+    python = '"""About\nthis."""\nimport re\n\n# Why.\nBEGINS, ENDS = "/*", "*/"\n\n\ndef f():\n    """Is\n    f."""\n    return 1\n'
+    assert code_in("a.py", python) == ['BEGINS, ENDS = "/*", "*/"', "def f():", "    return 1"]
+    assert code_in("a.rs", "//! A.\nuse b;\n\n/* C\n   d. */\nfn e() {} // f\n") == ["fn e() {} // f"]
+    assert code_in("a.antt", "use B\n-- C /* d\ne : F\n-- */\n") == ["e : F"]
 
 
 def lines_in(start, *omitted):
     """The lines of these files, rounded to hundreds, without comments, imports and blank lines."""
     kept = [name for name in tracked if name.startswith(start) and not name[len(start):].startswith(omitted)]
-    code = [line for name in kept for line in re.sub(r'/\*.*?\*/|""".*?"""', "", read(name), flags=re.S).split("\n")
-            if not re.match(r" *(//|--|# |#!/|#include|import |from |(pub )?(ghost )?(use|mod) |$)", line)]
-    return f"{round(len(code), -2):,}"
+    return f"{round(sum(len(code_in(name, read(name))) for name in kept), -2):,}"
 
 
 def sizes():
@@ -152,7 +202,7 @@ def sizes():
 
 
 def to_read():
-    """README: the lines to read for each way of using the library, counted as in `sizes`."""
+    """PROOFS: the lines to read for each way of using the library, counted as in `sizes`."""
     library = "crates/getopts/specs/", "Results", "Step", "Stored", "UsageResults"
     bytes_too, rust = "crates/getopts_bytes/", "bindings/rust/src/"
     # The C library is built without these modules of the Rust package.
@@ -174,11 +224,11 @@ def to_read():
 
 
 def calls():
-    """CALLING: the types of all calls, each with the first sentence of its documentation."""
+    """CALLING: all calls with their parameters, each with the first sentence of its documentation."""
     rows = []
     for name, _, before in public_functions():
         head = re.split(r"\n +(?=(?:requires|ensures)\b)", contracts()[name])[0].removeprefix(f"fn {name}")
-        types = re.sub(r"(?<=\() |,? (?=\))|\b(mut )?[a-z]\w*: ", "", " ".join(head.split()))
+        types = re.sub(r"(?<=\() |,? (?=\))|\bmut (?=[a-z]\w*: )", "", " ".join(head.split()))
         docs = " ".join(re.findall(r"/// (.*)", re.search(r"(?: *///.*\n)*(?: *#.*\n)*$", before)[0]))
         rows += [name + types, f"    // {docs.partition('. ')[0].rstrip('.')}"] if "->" in types else []
     return listing(rows)
@@ -200,6 +250,7 @@ CITED = {"Options::parse_words": ["result", "accepted", "declared"],
          "Options::parse_request": ["result", "accepted", "parsed", "refused", "declared", "laws"],
          "Options::parse_unless": ["result"],
          "Options::parse_in_order": ["result", "order", "declared", "same_error", "refused"],
+         "Reader::next": ["some", "declared", "free", "less", "none", "ended", "err", "next_word"],
          "Matches::opt_present": ["present"], "Matches::opt_count": ["count"], "Matches::opt_str": ["value"],
          "Matches::opt_strs": ["values"], "Matches::opt_get": ["parsed"], "Matches::opt_get_default": ["parsed"],
          "Options::usage": ["result"]}
@@ -215,14 +266,15 @@ def cited_clauses():
 
 
 # What --fix writes between `<!-- generated: NAME -->` and `<!-- end -->`.
-GENERATED = {make.__name__: make for make in (usage_example, moving, speed, speed_in_c, behind, memory, first_output,
-                                              compared, sizes, to_read, calls, variants, cited_clauses)}
+GENERATED = {make.__name__: make for make in (usage_example, moving, speed, costs, speed_in_c, behind, memory,
+                                              first_output, promises, compared, sizes, to_read, calls, variants, cited_clauses)}
 
 
 @pytest.mark.parametrize("page", pages)
 def test_generated_parts(page, request):
-    wanted = re.sub(r"^(<!-- generated: (\w+) -->\n).*?(\n<!-- end -->)$",
-                    lambda it: it[1] + GENERATED[it[2]]() + it[3], pages[page], flags=re.M | re.S)
+    wanted, count = re.subn(r"^(<!-- generated: (\w+) -->\n)(?:.*?\n)??(<!-- end -->)$",
+                            lambda it: f"{it[1]}{GENERATED[it[2]]()}\n{it[3]}", pages[page], flags=re.M | re.S)
+    assert 2 * count == len(re.findall(r"^<!-- (?:generated: .*|end) -->$", pages[page], re.M))
     if request.config.getoption("--fix") and wanted != pages[page]:
         (ROOT / page).write_text(wanted, encoding="utf-8")
         pages[page] = wanted
@@ -247,12 +299,12 @@ def test_generated_parts_are_used():
 
 @pytest.mark.parametrize("folder", ["rust", "c", "shell"])
 def test_oldest_rust(folder):
-    """The pages name the oldest Rust that builds this folder. If it is older than what unicode-width 0.2 needs, also that."""
+    """README names the oldest Rust that builds this folder with unicode-width 0.2, which needs 1.66. The folder's page also names
+    the oldest of all, if that is older."""
     oldest = re.search(r'rust-version = "(.*)"', read(f"bindings/{folder}/Cargo.toml"))[1]
     row = re.search(rf"^\| \[.*\]\(bindings/{folder}/README.md\).*", pages["README.md"], re.M)[0]
-    both = f"Rust 1.66, or {oldest}"
-    in_row, on_page = (f"Rust {oldest}", f"Rust {oldest} or later") if folder == "c" else (both, f"{both} with `unicode-width` 0.1.10")
-    assert in_row in row and on_page in " ".join(pages[f"bindings/{folder}/README.md"].split())
+    on_page = f"Rust {oldest} or later" if folder == "c" else f"Rust 1.66, or {oldest} with `unicode-width` 0.1.10"
+    assert f"Rust {'1.66' if folder != 'c' else oldest}" in row and on_page in " ".join(pages[f"bindings/{folder}/README.md"].split())
 
 
 def test_versions():
@@ -275,9 +327,9 @@ def test_versions():
 
 
 def test_toolchain_is_named():
-    """README and the library's page name the logic with which the library is proved."""
+    """PROOFS and the library's page name the logic with which the library is proved."""
     logic = re.search(r"logic (\w+)", read("bindings/shell/proved.sha256"))[1]
-    assert f"logic {logic}`" in pages["README.md"] and f"logic {logic}`" in pages["crates/getopts/README.md"]
+    assert f"logic {logic}`" in pages["docs/PROOFS.md"] and f"logic {logic}`" in pages["crates/getopts/README.md"]
 
 
 def joined(text):
@@ -294,13 +346,15 @@ def test_theorem_is_quoted():
 
 
 def test_example_lines():
-    """The command lines at the top of GRAMMAR are read as model.py reads them, and are examples for both provers."""
+    """The command lines at the top of GRAMMAR are read as model.py reads them, and are examples for both provers. README has some
+    of them."""
     examples = "crates/getopts/proofs/Examples.antt", "agda/12-Examples.agda"
     groups = [Group(b"o", b"output", "yes", "optional"), Group(b"v", b"verbose", "no", "multi"),
               Group(b"c", b"color", "maybe", "optional")]
     top = pages["docs/GRAMMAR.md"].partition("\n## ")[0]
-    rows = re.findall(r"^\| `(.*)` \| (.*?) \|(?: (.*))? \|$", top, re.M)
-    assert len(rows) == 10
+    rows, few = (re.findall(r"^\| `(.*)` \| (.*?) \|(?: (.*))? \|$", page, re.M)
+                 for page in (top, pages["README.md"].partition("\n## ")[0]))
+    assert len(rows) == 10 and len(few) == 4 and set(few) <= set(rows)
     for line, *reading in rows:
         found = Options(groups).parse(line.encode().split())
         if len(found) == 2:
@@ -312,7 +366,7 @@ def test_example_lines():
         texts = " ∷ ".join(f'codes "{word}"' for word in line.split())
         for file in examples:
             assert f"({texts} ∷ [])" in read(file), f"{file} doesn't state {line}"
-    (number, name), = re.findall(r"^A negative number, such as `(.*)`, is the short option `(.)`\.$", top, re.M)
+    (number, name), = re.findall(r"^A negative number, such as `(.*)`, is read as the short option `(.)`, ", top, re.M)
     assert Options(groups).parse([number.encode()]) == ("UnrecognizedOption", name.encode())
 
 
@@ -331,9 +385,14 @@ def imports_of(text):
     return names
 
 
+def rust_blocks(page):
+    return re.findall(r"^```rust\n(.*?)^```", pages[page], re.M | re.S)
+
+
+# README's first program is the one in Rattle. It is in no file: test_program_in_rattle runs it.
 blocks = [(page, block) for page in ("README.md", CALLING, "crates/getopts/README.md")
-          for block in re.findall(r"^```rust\n(.*?)^```", pages[page], re.M | re.S)]
-examples = sources | {name: read(name) for name in tracked if name.startswith("bindings/rust/tests/")}
+          for block in rust_blocks(page)[page == "README.md":]]
+examples = sources | {name: read(name) for name in tracked if name.startswith(("bindings/rust/examples/", "bindings/rust/tests/"))}
 
 
 def test_first_command():
@@ -341,6 +400,44 @@ def test_first_command():
     words = " ".join(read("crates/getopts_show/args").split())
     first = re.search(r"^ *\(cd .*rt try.*", pages["README.md"], re.M)[0]
     assert first == f"    (cd crates/getopts_show && rt try -- {words})"
+
+
+@pytest.mark.rt
+def test_program_in_rattle(tmp_path):
+    """README's program in Rattle is a whole crate. It prints what README says, as the one in Rust does in `test_doors`."""
+    (words, printed), = re.findall(r"^If you call either with `(.*)`, it prints `(.*)`\.$", pages["README.md"], re.M)
+    assert f" -- {words}\n" in doors()["Rust"][0] and f"{printed}\n" == doors()["Rust"][1]
+    copy = copy_tree(tmp_path / "copy", "crates/getopts")
+    (copy / "crates/join/src").mkdir(parents=True)
+    (copy / "crates/join/src/main.rt").write_text(rust_blocks("README.md")[0])
+    (copy / "crates.txt").write_text("getopts: unicode_width\njoin: getopts\n")
+    assert rt_try("join", "--", *words.split(), root=copy)[0] == f"{printed}\n"
+
+
+def doors():
+    """For each language, README's commands under *Try it*, and what they print."""
+    part = pages["README.md"].partition("\n## Try it\n")[2].partition("\n## ")[0]
+    found = re.findall(r"^\*\*(\w+)\.\*\* .*\n(?:\S.*\n)*\n((?: {4}.*\n)+)\n(?:<!-- .*\n)?```text\n((?:[^`].*\n)*)```$", part, re.M)
+    return {language: (textwrap.dedent(commands), printed) for language, commands, printed in found}
+
+
+@pytest.mark.xdist_group("Rust")
+@pytest.mark.parametrize("language, folder", [("Rust", "rust"), ("C", "c"), ("Shell", None)])
+def test_doors(language, folder, tmp_path):
+    """README's commands work in a fresh clone, if need be without a network. test_unproved.py runs those for Rattle."""
+    if folder:
+        need_cargo(ROOT / "bindings" / folder)
+        need("ld", "objcopy", "ar")
+    elif not (ROOT / f"bindings/shell/{MACHINE}/getopts_shell").exists():
+        pytest.skip(f"bindings/shell has no program for {MACHINE}")
+    commands, printed = doors()[language]
+    copy = copy_tree(tmp_path / "clone")
+    if offline():
+        (tmp_path / "config.toml").write_text('[net]\noffline = true\n[source.crates-io]\nreplace-with = "debian"\n'
+                                              f'[source.debian]\ndirectory = "{REGISTRY}"\n')
+    env = {"CARGO_HOME": str(tmp_path), "TMPDIR": str(tmp_path)}
+    said, _ = run("bash", "-euc", commands, cwd=copy, env=env)
+    assert re.sub("^installed in .*\n", "", said) == printed
 
 
 @pytest.mark.parametrize("page, block", blocks, ids=[f"{page}-{at}" for at, (page, _) in enumerate(blocks)])
@@ -525,7 +622,18 @@ def test_scripts_are_executable():
     assert_none(f"{name} isn't executable" for name in files if not os.access(ROOT / name, os.X_OK))
 
 
-@pytest.mark.parametrize("name", [name for name in scripts if not re.match(r"\.ci/|bindings/shell/examples/", name)])
+CALLED = [name for name in scripts if not re.match(r"\.ci/|bindings/shell/examples/", name)]
+
+
+@pytest.mark.parametrize("name", CALLED)
+def test_wrong_use_of_scripts(name, tmp_path):
+    """A script that is called wrongly prints its usage on standard error, with status 2, and does nothing else."""
+    env = ["env", "-i", "PATH=/usr/bin:/bin", f"HOME={tmp_path}", f"TMPDIR={tmp_path}"]
+    said, errors = run(*env, ROOT / name, "--nope", status=2, cwd=tmp_path)
+    assert said == "" and "usage: " in errors and os.path.basename(name) in errors and not [*tmp_path.iterdir()]
+
+
+@pytest.mark.parametrize("name", CALLED)
 def test_help_of_scripts(name, tmp_path):
     """--help and -h print how a script is called: the comment or text at its top. They do nothing else."""
     top = re.match(r'#!.*\n(?:((?:#.*\n)+)|"""((?:.|\n)*?)""")', read(name))

@@ -462,7 +462,7 @@ def test_damaged_binary(checked_in, tmp_path):
 @pytest.mark.parametrize("words", [[], [""], ["--nope"], ["a", "b"], ["--uninstall"]])
 def test_install_usage(words):
     said = run("sh", SHELL / "install.sh", *words, status=2)
-    assert said == ("", "usage: install.sh [--uninstall] PREFIX\n")
+    assert said == ("", "usage: bindings/shell/install.sh [--uninstall] PREFIX\n")
 
 
 def page_blocks(readme):
@@ -487,6 +487,12 @@ def page_blocks(readme):
             first, *items = re.split("^- ", block, flags=re.M)
             yield from (f"{MARGIN}{text}" for text in [plain(first), *(f"• {plain(item)}" for item in items)] if text)
     yield from ["SEE ALSO", f"{MARGIN}getopt(1)", "getopts_shell GETOPTS_SHELL(1)"]
+
+
+@pytest.mark.parametrize("machine", ["x86_64", "aarch64"])
+def test_size_of_binary(machine):
+    least, most = map(int, re.search(r"static binary of (\d+) to (\d+) KB", (SHELL / "README.md").read_text()).groups())
+    assert least <= round((SHELL / machine / "getopts_shell").stat().st_size / 1000) <= most
 
 
 def test_manual_page(tmp_path):
