@@ -17,7 +17,7 @@ use std::alloc::{AllocError, Global};
 use std::convert::AsStr;
 
 impl Options {
-    ghost use Rattle.getopts.specs.Options.{MayBeDeclared, grammar_of, names_of, signatures_of};
+    ghost use Rattle.getopts.specs.Options.{MayBeDeclared, grammar_of, names_of};
     ghost use Rattle.getopts.specs.Parse.{IsRefused, HasReading, HasNoReading, ReturnsConverted};
     ghost use Rattle.getopts.specs.Parse.{ReturnsResult, IsOrder, FitOptionsAndCounts, FitOptions};
     ghost use Rattle.getopts.specs.Parse.{Accepts, EndsInTrailing, IsDeclared};
@@ -26,8 +26,7 @@ impl Options {
     ghost use Rattle.getopts.specs.Results.{parse_in_order_result};
     ghost use Rattle.getopts.specs.Matches.{matches_of};
     ghost use Rattle.getopts.specs.Results.{made_of};
-    ghost use Rattle.getopts.specs.Stored.Index.{index_of, indices_in};
-    ghost use Rattle.getopts.specs.Stored.Scan.{GivesLine, IsLeft, reading_if};
+    ghost use Rattle.getopts.specs.Stored.Scan.{IsLeft, reading_if};
     ghost use Rattle.getopts.specs.Stored.Table.{IsTableOf};
     ghost use Rattle.getopts.specs.Accessors.{borrowed_given};
 

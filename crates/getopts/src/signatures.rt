@@ -11,7 +11,7 @@ ghost use Rattle.getopts.specs.Stored.Signatures.{signature_view, names_view, na
 ghost use Rattle.getopts.specs.Stored.Signatures.{HasKeys, ends_of};
 ghost use Rattle.getopts.specs.Stored.Names.{names_at};
 
-use crate::kinds::{HasArg, Kinds, Occur};
+use crate::kinds::Kinds;
 use crate::names::{NamesView, key_of, short_byte};
 use crate::pairs::{FIRST_TEXT, PairEnds, first_at, push_pair, second_at};
 use std::alloc::{AllocError, Global};

@@ -1,6 +1,6 @@
 //! Usage texts: all options in one line, and a row for each option with its description.
 
-ghost use Rattle.std.specs.Prelude.{◌≡◌, ◌++◌, List, [], codes, map, string_bytes, IfOk, IsOk, OnOk};
+ghost use Rattle.std.specs.Prelude.{◌≡◌, ◌++◌, List, [], map, string_bytes, IfOk, IsOk, OnOk};
 ghost use Rattle.std.specs.Iterator.{YieldsFirstBy, item_count};
 ghost use Rattle.getopts.specs.Accessors.{borrowed_group};
 ghost use Rattle.getopts.specs.Names.{Text};

@@ -1,6 +1,6 @@
 //! The program's work, for any words and any writer.
 
-ghost use Rattle.std.specs.Prelude.{◌≡◌, ◌++◌, codes, true, false, map};
+ghost use Rattle.std.specs.Prelude.{◌≡◌, ◌++◌, false, map};
 ghost use Rattle.std.specs.Prelude.{IfNone, IfOk, Ok, OnOk, Some};
 ghost use Rattle.std.specs.List.{flat_map};
 ghost use Rattle.std.specs.Option.{option_map};

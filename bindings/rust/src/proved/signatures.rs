@@ -3,7 +3,7 @@
 
 use crate::fallible::*;
 
-use super::kinds::{HasArg, Kinds, Occur};
+use super::kinds::Kinds;
 use super::names::{NamesView, key_of, short_byte};
 use super::pairs::{FIRST_TEXT, PairEnds, first_at, push_pair, second_at};
 use crate::alloc::{AllocError, Global};
