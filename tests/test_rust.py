@@ -320,13 +320,21 @@ def ours(reference):
     return reference(RUST, *CANONICAL)
 
 
+def answered(command, room, name, asked):
+    """A file of these test cases with the answers of a program, which writes to the file, because print! on WASI fails when
+    a pipe is full."""
+    (room / "asked.rows").write_bytes(asked)
+    with open(room / name, "wb") as file:
+        subprocess.run([*command, "answer", room / "asked.rows"], stdout=file, check=True)
+    return room / name
+
+
 def differences(command, text, room, skipped=LACKS):
     """The rows that the reference answers otherwise, each with its answer. Rows with some words are skipped. `{Z}` is U+0300,
     which takes no columns."""
     rows = [row for row in rows_of(text.replace(b"{Z}", "\u0300".encode())) if parts(row[0])[0] not in skipped]
     assert any(answers for _, answers in rows)
-    (room / "asked.rows").write_bytes(test_rows.written(rows))
-    found = rows_of(run(*command, "answer", room / "asked.rows")[0].encode())
+    found = rows_of(answered(command, room, "answered.rows", test_rows.written(rows)).read_bytes())
     return [(row, answers) for row, (_, answers) in zip(rows, found, strict=True) if row[1] != answers]
 
 
@@ -353,11 +361,7 @@ random_cases = functools.cache(generate.written)
 
 def random_rows(program, room, seed, count):
     """A file of all short lines and random cases, with the answers of a program."""
-    asked, rows = room / "asked.rows", room / f"{seed}.rows"
-    asked.write_bytes(random_cases(seed, count))
-    with open(rows, "wb") as file:
-        subprocess.run([program, "answer", asked], stdout=file, check=True)
-    return rows
+    return answered([program], room, f"{seed}.rows", random_cases(seed, count))
 
 
 def test_proved_library_matches_rust_crate(vectors, reference, crate, cases, tmp_path):
