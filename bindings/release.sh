@@ -21,7 +21,7 @@ unchanged
 heading=$(grep -m1 '^## ' CHANGELOG.md)
 [[ $heading =~ ^"## $version, "[0-9]{4}-[0-9]{2}-[0-9]{2}$ ]] ||
     stop "CHANGELOG.md begins with '$heading', not '## $version, DATE'"
-bash test.sh --quick --no-install -k versions -q
+bash test.sh --quick --no-install -k 'versions or changelog' -q
 bindings/build.py --check
 bindings/rust/erase.py --check
 if [ -z "${TESTED:-}" ]; then

@@ -197,7 +197,7 @@ def unpacked(archive, folder):
                 for it in files if it.isfile()}
 
 
-CHECKS = ["test.sh --quick --no-install -k versions -q", "build.py --check", "erase.py --check"]
+CHECKS = ["test.sh --quick --no-install -k versions or changelog -q", "build.py --check", "erase.py --check"]
 OF_KIT = "getopts getopts_uses: rt ci"
 
 
