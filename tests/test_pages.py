@@ -405,7 +405,7 @@ def test_first_command():
 @pytest.mark.rt
 def test_program_in_rattle(tmp_path):
     """README's program in Rattle is a whole crate. It prints what README says, as the one in Rust does in `test_doors`."""
-    (words, printed), = re.findall(r"^If you call either with `(.*)`, it prints `(.*)`\.$", pages["README.md"], re.M)
+    (words, printed), = re.findall(r"^With `(.*)`, either program prints `(.*)`\.$", pages["README.md"], re.M)
     assert f" -- {words}\n" in doors()["Rust"][0] and f"{printed}\n" == doors()["Rust"][1]
     copy = copy_tree(tmp_path / "copy", "crates/getopts")
     (copy / "crates/join/src").mkdir(parents=True)
