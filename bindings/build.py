@@ -61,10 +61,16 @@ def build(processor, to):
         stop(f"proving or building {CRATE} failed:\n{(done.stdout + done.stderr)[-3000:]}")
 
 
+def musl_for(processor):
+    """The folder of a processor's musl."""
+    musl = Path(f"/usr/lib/{processor}-linux-musl")
+    (musl / "libc.a").exists() or stop(f"{musl}/libc.a is missing: apt-get install musl-dev, or musl-dev:arm64")
+    return musl
+
+
 def link(processor, to, of):
     """Links a static program from an object file, start.c and musl."""
-    musl, tools = Path(f"/usr/lib/{processor}-linux-musl"), kit() / "toolchain/bin"
-    (musl / "libc.a").exists() or stop(f"{musl}/libc.a is missing: apt-get install musl-dev, or musl-dev:arm64")
+    musl, tools = musl_for(processor), kit() / "toolchain/bin"
     flags = "-std=c11 -O2 -Wall -Wextra -Wpedantic -Wshadow -Wconversion -Werror -fno-pic -nostdinc".split()
     start = Path(f"{to}.start.o")
     subprocess.run([tools / "clang", f"--target={processor}-linux-musl", *flags, "-isystem",
@@ -94,20 +100,23 @@ def sums():
             *(f"{sum_of(file)}  {file.relative_to(ROOT)}" for file in files)]
 
 
-def built_for(processor, room):
-    """The program, built for a processor in a folder."""
-    to = Path(room) / processor
-    build(processor, f"{to}.o")
-    link(processor, to, f"{to}.o")
-    return to
+def built_for(processors, room):
+    """Each of these processors, with the program built for it in a folder. Proofs begin only if no musl is missing."""
+    for processor in processors:
+        musl_for(processor)
+    for processor in processors:
+        to = Path(room) / processor
+        build(processor, f"{to}.o")
+        link(processor, to, f"{to}.o")
+        yield processor, to
 
 
 def rebuild(processors):
     """Builds the binaries again, and compares them with those that are checked in."""
     with tempfile.TemporaryDirectory() as room:
-        for processor in processors:
+        for processor, built in built_for(processors, room):
             kept = FOLDER / processor / CRATE
-            if built_for(processor, room).read_bytes() != kept.read_bytes():
+            if built.read_bytes() != kept.read_bytes():
                 stop(f"{kept.relative_to(ROOT)} isn't what its source gives")
             print(f"{kept.relative_to(ROOT)} is what its source gives, byte for byte", flush=True)
 
@@ -122,11 +131,11 @@ def shell(check):
     if check:
         stop(f"bindings/shell is out of date: run bindings/build.py (changed: {', '.join(changed)})")
     with tempfile.TemporaryDirectory() as room:
-        for processor in PROCESSORS:
+        for processor, built in built_for(PROCESSORS, room):
             to = FOLDER / processor / CRATE
             to.parent.mkdir(exist_ok=True)
             # A copy that replaces the old file: a test may be running that one.
-            shutil.copyfile(built_for(processor, room), f"{to}.new")
+            shutil.copyfile(built, f"{to}.new")
             os.chmod(f"{to}.new", 0o755)
             os.replace(f"{to}.new", to)
             Path(f"{to}.sha256").write_text(f"{sum_of(to)}  {to.name}\n")

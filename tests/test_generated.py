@@ -48,6 +48,7 @@ def test_rebuilt_binaries(build, monkeypatch, capsys):
     """After a change, both binaries are replaced by what was built and linked for their processors."""
     with open(build.FOLDER / "start.c", "a") as changed:
         changed.write("int more;\n")
+    monkeypatch.setattr(build, "musl_for", lambda processor: None)
     monkeypatch.setattr(build, "build", lambda processor, to: Path(to).write_text(f"object for {processor}\n"))
     monkeypatch.setattr(build, "link", lambda processor, to, of: Path(to).write_text(Path(of).read_text() + processor))
     build.shell(False)
@@ -58,6 +59,17 @@ def test_rebuilt_binaries(build, monkeypatch, capsys):
     capsys.readouterr()
     build.shell(False)
     assert (capsys.readouterr().out, "") == run(build.__file__, "--check") == UP_TO_DATE
+
+
+@pytest.mark.rt
+def test_missing_musl(build, monkeypatch):
+    """Nothing is proved if one of the programs couldn't be linked."""
+    proved = []
+    monkeypatch.setattr(build, "build", lambda processor, to: proved.append(processor))
+    monkeypatch.setattr(build, "musl_for", lambda processor: processor == "x86_64" or build.stop(f"no {processor}"))
+    with pytest.raises(SystemExit, match="^build.py: no aarch64$"):
+        build.main(["--rebuild"])
+    assert proved == []
 
 
 @pytest.mark.rt
@@ -74,6 +86,7 @@ def test_linked_program(build, tmp_path):
 def test_changed_binary_is_found(build, monkeypatch, capsys):
     """`--rebuild` compares the binaries with what their source gives, so a changed checksum doesn't hide a change."""
     binaries = {it: (build.FOLDER / it / "getopts_shell").read_bytes() for it in ("x86_64", "aarch64")}
+    monkeypatch.setattr(build, "musl_for", lambda processor: None)
     monkeypatch.setattr(build, "build", lambda processor, to: Path(to).write_text("object"))
     monkeypatch.setattr(build, "link", lambda processor, to, of: Path(to).write_bytes(binaries[processor]))
     build.main(["--rebuild"])
