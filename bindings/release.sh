@@ -3,7 +3,8 @@
 # usage: bindings/release.sh VERSION CRATE
 #
 # CHANGELOG.md must begin with "## VERSION, DATE". CRATE is a folder with the Rust crate getopts 0.2.24, to compare with.
-# TESTED=1 leaves out the tests, which take hours. It needs rt, cargo 1.84 or later, and root on Debian 12.
+# It needs rt, cargo 1.84 or later, and root on Debian 12 with the packages debootstrap and musl-dev:arm64. TESTED=1 leaves
+# out the tests, which take hours and need both packages.
 set -euo pipefail
 unset CDPATH
 stop() { echo "release.sh: $1" >&2; exit 1; }
@@ -21,6 +22,11 @@ unchanged
 heading=$(grep -m1 '^## ' CHANGELOG.md)
 [[ $heading =~ ^"## $version, "[0-9]{4}-[0-9]{2}-[0-9]{2}$ ]] ||
     stop "CHANGELOG.md begins with '$heading', not '## $version, DATE'"
+# What would be missing only after hours.
+[ -n "${TESTED:-}" ] || dpkg-query -W debootstrap musl-dev:arm64 >/dev/null 2>&1 ||
+    stop "debootstrap or musl-dev:arm64 is missing: see CONTRIBUTING"
+cargo package --exclude-lockfile --help >/dev/null 2>&1 ||
+    stop "cargo is older than 1.84: install a newer one from https://rustup.rs"
 bash test.sh --quick --no-install -k 'versions or changelog' -q
 bindings/build.py --check
 bindings/rust/erase.py --check

@@ -182,6 +182,7 @@ def clone(tmp_path_factory):
     for name in ("test.sh", "tests/fresh.sh", "bindings/build.py", "bindings/rust/erase.py"):
         script(clone / name, LOGS.format(name=name.split("/")[-1], log=room / "log"))
     (room / "bin").mkdir()
+    script(room / "bin/dpkg-query", LOGS.format(name="dpkg-query", log=room / "log"))
     script(room / "bin/rt", LOGS.format(name="$(sed 's/:.*//' crates.txt | xargs): rt", log=room / "log"))
     page = (clone / "CHANGELOG.md").read_text()
     for copy in ("CHANGELOG.md", "bindings/rust/CHANGELOG.md"):
@@ -236,7 +237,7 @@ def test_files_of_a_release(clone):
 
 
 def test_release_runs_all_tests(clone, tmp_path):
-    whole = [*CHECKS, f"test.sh {tmp_path}", "build.py --rebuild",
+    whole = ["dpkg-query -W debootstrap musl-dev:arm64", *CHECKS, f"test.sh {tmp_path}", "build.py --rebuild",
              f"test.sh -k  -m release --release --getopts={tmp_path} -n 3", "fresh.sh ", OF_KIT]
     assert release(clone, VERSION, tmp_path, TESTED="")[1] == whole
     for at, call in enumerate(whole):
@@ -245,12 +246,16 @@ def test_release_runs_all_tests(clone, tmp_path):
 
 
 def test_wrong_releases(clone):
-    def error(version=VERSION):
-        return release(clone, version, clone, status=1)[0]
+    def error(version=VERSION, **env):
+        return release(clone, version, clone, status=1, **env)[0]
 
     assert error("9.9.9") == f"release.sh: CHANGELOG.md begins with '## {VERSION}, 2026-11-28', not '## 9.9.9, DATE'\n"
     for words in [], [VERSION], ["--tested", clone]:
         assert release(clone, *words, status=2) == ("usage: bindings/release.sh VERSION CRATE\n", [])
+    assert error(TESTED="", FAIL="dpkg") == "release.sh: debootstrap or musl-dev:arm64 is missing: see CONTRIBUTING\n"
+    old = script(clone.parent / "bin/cargo", "#!/bin/sh\nexit 1\n")
+    assert error() == "release.sh: cargo is older than 1.84: install a newer one from https://rustup.rs\n"
+    old.unlink()
     (clone / "more").write_text("")
     assert error() == "release.sh: there are uncommitted changes: release a clean clone\n"
     (clone / "more").unlink()
