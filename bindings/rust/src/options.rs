@@ -674,7 +674,7 @@ fn scan_texts(
     before: usize,
     line: &mut Line,
 ) -> std::result::Result<usize, Fail> {
-    let left = scanner.scan(Global, words, before, 1, line).map_err(Fail::of)?;
+    let left = scanner.scan(Global, words, before, true, line).map_err(Fail::of)?;
     Ok(words.len() - left.len())
 }
 

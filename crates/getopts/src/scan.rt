@@ -1,7 +1,7 @@
 //! Reading a command line, one option or free word at a time.
 
 ghost use Rattle.std.specs.Prelude.{◌≡◌, ◌≢◌, ◌<◌, ◌≤◌, ◌+◌, ◌-◌, ◌^◌, ◌∷◌, ◌++◌, [], List, ℕ, MatchOption};
-ghost use Rattle.std.specs.Prelude.{OnOk, IfOk, IfErr, IfSome, IfNone, Some, None, Ok, Err, false, length};
+ghost use Rattle.std.specs.Prelude.{OnOk, IfOk, IfErr, IfSome, IfNone, Some, None, Ok, Err, true, false, length};
 ghost use Rattle.std.specs.Prelude.{map};
 ghost use Rattle.std.specs.String.{string_bytes};
 ghost use Rattle.std.specs.Option.{option_copied};
@@ -144,8 +144,10 @@ pub(crate) struct Steps<'w, S> {
     pub names: &'w str,
     /// How many words follow the first word of the item that was read last.
     pub after: usize,
-    /// No item begins in this many last words.
-    pub kept: usize,
+    /// Whether more words may follow `left`. If so, no item begins in its last word, because the
+    /// item's argument may be in the word after it. In this library, no more words follow: only the
+    /// Rust package's `parse_many`, which reads long command lines in parts, passes `true`.
+    pub more_follow: bool,
 }
 
 /// How a word is read.
@@ -466,28 +468,31 @@ impl<'o> Scanner<'o> {
         steps: &mut Steps<'w, S>,
     ) -> Result<Option<Given<'w>>, Fail>
         requires lawful { IsLawfulScanner self.now }
-        requires next { IsNext steps.old.kept steps.old.names.now (map S.text steps.old.left.now) }
-        ensures kept { steps.new.kept ≡ steps.old.kept }
+        requires next { IsNext steps.old.more_follow steps.old.names.now
+            (map S.text steps.old.left.now) }
+        ensures more { steps.new.more_follow ≡ steps.old.more_follow }
         ensures some { IfOk result (λ given. IfSome given (λ given.
-            ReadsOne (scanner_grammar self.now) steps.old.kept steps.new.after
+            ReadsOne (scanner_grammar self.now) steps.old.more_follow steps.new.after
             steps.old.names.now (map S.text steps.old.left.now)
             steps.new.names.now (map S.text steps.new.left.now) (borrowed_given given))) }
         ensures none { IfOk result (λ given. IfNone given
             ((steps.old.names.now ≡ []) × (steps.new.left.now ≡ steps.old.left.now)
             × (steps.new.names.now ≡ []))) }
         ensures tail { IfOk result (λ given. IfNone given
-            ((length steps.old.left.now ≤ steps.old.kept → steps.old.kept ≡ 0)
+            ((steps.old.more_follow ≡ true → 1 < length steps.old.left.now)
             → let left = map S.text steps.old.left.now in
             read (scanner_grammar self.now) left
             ≡ Ok (record { items = []; tail = tail_of left }))) }
         ensures err { let left = map S.text steps.old.left.now in
             IfErr result (λ fail. IsOutOfMemoryOr fail (λ fault. (more : List Text)
-            → (steps.old.kept ≡ 0 → more ≡ []) → IsNextFault (scanner_grammar self.now)
+            → (steps.old.more_follow ≡ false → more ≡ []) → IsNextFault (scanner_grammar self.now)
             (record { names = steps.old.names.now; words = left ++ more }) fault)) }
     {
         if steps.names.is_empty() {
             let (word, after) = match steps.left.split_first() {
-                Some((word, after)) if after.len() >= steps.kept => (word.as_str(), after),
+                Some((word, after)) if !(steps.more_follow && after.is_empty()) => {
+                    (word.as_str(), after)
+                }
                 _ => return Ok(None),
             };
             steps.after = after.len();
@@ -525,39 +530,39 @@ impl<'o> Scanner<'o> {
         }))
     }
 
-    /// Reads the items that don't begin in the last `kept` words, up to `--` or, if options stop
-    /// there, the first free word. Adds them to the line, and returns the words that are left.
-    /// `before` is the number of words that were read before these.
+    /// Reads items up to `--` or, if options stop there, the first free word. If more words may
+    /// follow, reads no item that begins in the last word. Adds the items to the line, and returns
+    /// the words that are left. `before` is the number of words that were read before these.
     #[inline(always)]
     pub(crate) fn scan<'w, S: AsStr>(
         &self,
         alloc: Global,
         words: &'w [S],
         before: usize,
-        kept: usize,
+        more_follow: bool,
         line: &mut Line,
     ) -> Result<&'w [S], Fail>
         requires lawful { IsLawfulScanner self.now }
         requires count { before + length words.now < 2 ^ 64 }
         ensures ok { let grammar = scanner_grammar self.now in
-            IfOk result (λ left. (more : List Text) → (kept ≡ 0 → more ≡ [])
+            IfOk result (λ left. (more : List Text) → (more_follow ≡ false → more ≡ [])
             → given_with grammar before line.old (map S.text words.now ++ more)
             ≡ given_with grammar (before + length words.now - length left.now) line.new
             (map S.text left.now ++ more)) }
         ensures within { IfOk result (λ left. length left.now ≤ length words.now) }
-        ensures tail { IfOk result (λ left. (length left.now ≤ kept → kept ≡ 0)
+        ensures tail { IfOk result (λ left. (more_follow ≡ true → 1 < length left.now)
             → read (scanner_grammar self.now) (map S.text left.now)
             ≡ Ok (record { items = []; tail = tail_of (map S.text left.now) })) }
         ensures err { let grammar = scanner_grammar self.now in
             IfErr result (λ fail. IsOutOfMemoryOr fail
-            (λ fault. (more : List Text) → (kept ≡ 0 → more ≡ [])
+            (λ fault. (more : List Text) → (more_follow ≡ false → more ≡ [])
             → given_with grammar before line.old (map S.text words.now ++ more) ≡ Err fault)) }
     {
         let mut steps = Steps {
             left: words,
             names: "",
             after: 0,
-            kept,
+            more_follow,
         };
         'items: while let Some(given) = self.next(alloc, &mut steps)? {
             match given {
@@ -590,7 +595,7 @@ impl<'o> Scanner<'o> {
             left: words,
             names: "",
             after: 0,
-            kept: 0,
+            more_follow: false,
         };
         'items: while let Some(given) = self.next(alloc, &mut steps)? {
             order.push(given)?;

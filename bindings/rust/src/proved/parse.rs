@@ -110,7 +110,7 @@ impl Options {
             options: self,
             table: &table,
         };
-        let left = scanner.scan(alloc, words, before, 0, &mut line)?;
+        let left = scanner.scan(alloc, words, before, false, &mut line)?;
         line.end(alloc, left)?;
         let index = Index::of(alloc, signatures.len(), &line.found)?;
         if counted {

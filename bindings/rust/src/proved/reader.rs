@@ -94,7 +94,7 @@ impl<'o> Reader<'o> {
             left: unread.words,
             names: unread.names,
             after: 0,
-            kept: 0,
+            more_follow: false,
         };
         let given = scanner.next(alloc, &mut steps)?;
         unread.words = steps.left;

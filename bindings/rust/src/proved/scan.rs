@@ -111,8 +111,10 @@ pub(crate) struct Steps<'w, S> {
     pub names: &'w str,
     /// How many words follow the first word of the item that was read last.
     pub after: usize,
-    /// No item begins in this many last words.
-    pub kept: usize,
+    /// Whether more words may follow `left`. If so, no item begins in its last word, because the
+    /// item's argument may be in the word after it. In this library, no more words follow: only the
+    /// Rust package's `parse_many`, which reads long command lines in parts, passes `true`.
+    pub more_follow: bool,
 }
 
 /// How a word is read.
@@ -365,7 +367,9 @@ impl<'o> Scanner<'o> {
     ) -> Result<Option<Given<'w>>, Fail> {
         if steps.names.is_empty() {
             let (word, after) = match steps.left.split_first() {
-                Some((word, after)) if after.len() >= steps.kept => (word.as_str(), after),
+                Some((word, after)) if !(steps.more_follow && after.is_empty()) => {
+                    (word.as_str(), after)
+                }
                 _ => return Ok(None),
             };
             steps.after = after.len();
@@ -403,23 +407,23 @@ impl<'o> Scanner<'o> {
         }))
     }
 
-    /// Reads the items that don't begin in the last `kept` words, up to `--` or, if options stop
-    /// there, the first free word. Adds them to the line, and returns the words that are left.
-    /// `before` is the number of words that were read before these.
+    /// Reads items up to `--` or, if options stop there, the first free word. If more words may
+    /// follow, reads no item that begins in the last word. Adds the items to the line, and returns
+    /// the words that are left. `before` is the number of words that were read before these.
     #[inline(always)]
     pub(crate) fn scan<'w, S: AsStr>(
         &self,
         alloc: Global,
         words: &'w [S],
         before: usize,
-        kept: usize,
+        more_follow: bool,
         line: &mut Line,
     ) -> Result<&'w [S], Fail> {
         let mut steps = Steps {
             left: words,
             names: "",
             after: 0,
-            kept,
+            more_follow,
         };
         'items: while let Some(given) = self.next(alloc, &mut steps)? {
             match given {
@@ -444,7 +448,7 @@ impl<'o> Scanner<'o> {
             left: words,
             names: "",
             after: 0,
-            kept: 0,
+            more_follow: false,
         };
         'items: while let Some(given) = self.next(alloc, &mut steps)? {
             order.try_push(given)?;

@@ -1,8 +1,9 @@
 -- A line that is read one option or free word at a time: a name in long form, a name of a cluster,
 -- and a free word.
 use Rattle.std.proofs.Common.{Err, ◌≡◌, ◌≢◌, ◌+◌, ◌-◌, ◌<◌, ◌≤◌, ℕ, List, [], ◌∷◌, ◌++◌, length, rules, drop, refl}
-use Rattle.std.proofs.Common.{◌∙◌, ap, sym, Ok, Option, Some, None, arith, ◌==◌, true, false, map, append_assoc}
+use Rattle.std.proofs.Common.{◌∙◌, ap, sym, Ok, Option, Some, None, arith, ◌==◌, Bool, true, false, map, append_assoc}
 use Rattle.std.proofs.Common.{slice_index, slice_range, length-append}
+use Rattle.std.proofs.lemmas.Bool.{false_from_ne_true}
 use Rattle.std.proofs.lemmas.List.{append-nil, map-append}
 use Rattle.std.proofs.Math.Seq.{drop-append_seam}
 use Rattle.std.proofs.Permutation.{every_append}
@@ -271,21 +272,22 @@ IsUtf8-flags named (byte ∷ bytes) names each utf8 =
     let ascii : byte < 128 = search rules in
     Texts.IsUtf8-ascii byte (bytes ++ names) ascii (IsUtf8-flags named bytes names each.1 utf8)
 
--- Words, some of which are kept for those that follow.
-module _ {grammar : Grammar} (named : HasTextNames grammar) (kept : ℕ) (words : List Text) (few : kept ≤ length words) where
+-- Words, of which one is left if more may follow.
+module _ {grammar : Grammar} (named : HasTextNames grammar) (more_follow : Bool) (words : List Text)
+    (few : more_follow ≡ true → words ≢ []) where
   -- after the last word, none follow
-  enough : (more : List Text) → (kept ≡ 0 → more ≡ []) → words ≡ [] → more ≡ []
-  enough more may none = may (omega (arith, few, ap length none))
+  enough : (more : List Text) → (more_follow ≡ false → more ≡ []) → words ≡ [] → more ≡ []
+  enough more may none = may (false_from_ne_true _ (λ follow. few follow none))
 
   -- the words after the one that is being read
   here : (line more : List Text) → length line - (1 + length words + length more) ≡ length line - (1 + length (words ++ more))
   here line more = omega (arith, length-append words more)
 
   -- an argument doesn't depend on the words after the next
-  Chooses-more : (kind : HasArg) (name text : Text) (more : List Text) → (kept ≡ 0 → more ≡ [])
+  Chooses-more : (kind : HasArg) (name text : Text) (more : List Text) → (more_follow ≡ false → more ≡ [])
       → {value : Option Text} {left : List Text} → Chooses (chosen_end kind name text words) words value left
       → Chooses (chosen_end kind name text (words ++ more)) (words ++ more) value (left ++ more)
-  Chooses-more kind name text more may {value} {left} chooses = search rules
+  Chooses-more kind name text more may {value} {left} chooses = search (rules, enough more may)
 
   -- the first name of a cluster
   ReadsOne-name : {names_old : Text} {words_old : List Text} (names : Text) → ((line more : List Text)
@@ -295,7 +297,7 @@ module _ {grammar : Grammar} (named : HasTextNames grammar) (kept : ℕ) (words 
       → length names + words_size words ≤ length names_old + words_size words_old
       → {place : ℕ} {value : Option Text} {names_left : Text} {left : List Text}
       → TakesName grammar names words place value names_left left
-      → ReadsOne grammar kept (length words) names_old words_old names_left left (Spec.option place value)
+      → ReadsOne grammar more_follow (length words) names_old words_old names_left left (Spec.option place value)
   ReadsOne-name names inside begins less {place} {value} {names_left} {left}
       (takes_last byte rest kind names_are none place_is other kind_is chooses) = rw none (record {
         reads = λ line more items may read_to. HasOneMore-last named line (words ++ more) (here line more) byte place rest kind
@@ -325,7 +327,7 @@ module _ {grammar : Grammar} (named : HasTextNames grammar) (kept : ℕ) (words 
   module _ (word : Text) where
     -- it is free
     pub ReadsOne-free : Spec.is_dashed word ≡ false → grammar.style ≡ FloatingFrees
-        → ReadsOne grammar kept (length words) [] (word ∷ words) [] words (Spec.free_word word)
+        → ReadsOne grammar more_follow (length words) [] (word ∷ words) [] words (Spec.free_word word)
     ReadsOne-free plain floating = record {
       reads = λ line more items may read_to. HasOneMore-word named line (words ++ more) (here line more) word
           (Spec.free word) Spec.none (Steps.step_free grammar word (words ++ more) plain ∙ rw floating refl) refl refl read_to;
@@ -339,7 +341,7 @@ module _ {grammar : Grammar} (named : HasTextNames grammar) (kept : ℕ) (words 
     pub ReadsOne-long : (dashes : Spec.Dashes) (long : Text) → IsInLongForm grammar dashes word long
         → {place : ℕ} {value : Option Text} {left : List Text}
         → TakesOne grammar (long_step grammar dashes long words) words place value left
-        → ReadsOne grammar kept (length words) [] (word ∷ words) [] left (Spec.option place value)
+        → ReadsOne grammar more_follow (length words) [] (word ∷ words) [] left (Spec.option place value)
     ReadsOne-long dashes long form {left = left} takes_one = record {
       reads = λ line more items may read_to.
           HasOneMore-word named line (words ++ more) (here line more) word takes_one.item takes_one.argument
@@ -356,7 +358,7 @@ module _ {grammar : Grammar} (named : HasTextNames grammar) (kept : ℕ) (words 
     pub ReadsOne-short : (names : Text) → IsShortForm grammar word names
         → {names_left : Text} {left : List Text} {place : ℕ} {value : Option Text}
         → TakesName grammar names words place value names_left left
-        → ReadsOne grammar kept (length words) [] (word ∷ words) names_left left (Spec.option place value)
+        → ReadsOne grammar more_follow (length words) [] (word ∷ words) names_left left (Spec.option place value)
     ReadsOne-short names form = ReadsOne-name names (λ line more items read_to. IsInWord-begins form read_to) (search rules)
         (rw form.word_is (omega arith))
 
@@ -364,13 +366,13 @@ module _ {grammar : Grammar} (named : HasTextNames grammar) (kept : ℕ) (words 
   pub ReadsOne-within : (names : Text) → names ≢ []
       → {names_left : Text} {left : List Text} {place : ℕ} {value : Option Text}
       → TakesName grammar names words place value names_left left
-      → ReadsOne grammar kept (length words) names words names_left left (Spec.option place value)
+      → ReadsOne grammar more_follow (length words) names words names_left left (Spec.option place value)
   ReadsOne-within [] filled = absurd (filled refl)
   ReadsOne-within (c ∷ names) filled = ReadsOne-name (c ∷ names) (λ line more items read_to. IsInWord-within filled read_to) refl
       (omega arith)
 
   -- an error in long form, and of names in a cluster
-  module _ (fault : Fault) (more : List Text) (may : kept ≡ 0 → more ≡ []) where
+  module _ (fault : Fault) (more : List Text) (may : more_follow ≡ false → more ≡ []) where
     pub IsNextFault-long : (dashes : Spec.Dashes) (word long : Text) → IsInLongForm grammar dashes word long → IsUtf8 word
         → long_step grammar dashes long words ≡ faults fault
         → IsNextFault grammar (record { names = []; words = word ∷ (words ++ more) }) fault
@@ -409,8 +411,8 @@ module _ {grammar : Grammar} {line : List Text} {left : Left} where
       line_fault named line left.words fault inside.read_to (at inside.word inside.has)
 
   -- one option or free word more
-  pub IsReadTo-next : {before : List Spec.Given} {kept after : ℕ} {given : Spec.Given} {left_new : Left}
-      → ReadsOne grammar kept after left.names left.words left_new.names left_new.words given
+  pub IsReadTo-next : {before : List Spec.Given} {more_follow : Bool} {after : ℕ} {given : Spec.Given} {left_new : Left}
+      → ReadsOne grammar more_follow after left.names left.words left_new.names left_new.words given
       → IsReadTo grammar line before left → IsReadTo grammar line (before ++ given ∷ []) left_new
   IsReadTo-next reads read_to =
       let one = reads.reads line [] read_to.items (λ none. refl) (rw append-nil read_to.read) in

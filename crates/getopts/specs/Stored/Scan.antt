@@ -1,6 +1,6 @@
 -- What the functions of `scan` find in the words that they are given.
 use Rattle.std.specs.Prelude.{◌≡◌, Bool, true, false, Some, List, [], ◌∷◌, ◌++◌, length, map}
-use Rattle.std.specs.Prelude.{Result, Ok, Option, ℕ, ◌≢◌, ◌≤◌, ◌<◌, ◌+◌, ◌-◌}
+use Rattle.std.specs.Prelude.{Result, Ok, Option, ℕ, ◌≢◌, ◌<◌, ◌+◌, ◌-◌}
 use Rattle.std.specs.String.{string_bytes}
 use Rattle.getopts.specs.Names.{Text}
 use Rattle.getopts.specs.Options.{Declared, Grammar, MayBeDeclared, names_of, grammar_of}
@@ -122,15 +122,15 @@ abbrev pub words_left : Text → List Text → ℕ
 words_left [] words = length words
 words_left (byte ∷ names) words = 1 + length words
 
--- If names are left, what is kept is among the words that are left.
-abbrev pub IsNext : ℕ → Text → List Text → Type 0
-IsNext kept names words = names ≢ [] → kept ≤ length words
+-- If names are left, and more words may follow, a word is left.
+abbrev pub IsNext : Bool → Text → List Text → Type 0
+IsNext more_follow names words = names ≢ [] → more_follow ≡ true → words ≢ []
 
--- An option or a free word was read. `after` words follow the first word of its item. If some words
--- are kept, more may follow.
-pub record ReadsOne (grammar : Grammar) (kept after : ℕ) (names : Text) (words : List Text)
+-- An option or a free word was read. `after` words follow the first word of its item. If more words
+-- may follow, this is true whatever they are.
+pub record ReadsOne (grammar : Grammar) (more_follow : Bool) (after : ℕ) (names : Text) (words : List Text)
     (names_new : Text) (words_new : List Text) (given : Given) : Type 0 where
-  pub reads : (line more : List Text) (items : List Item) → (kept ≡ 0 → more ≡ [])
+  pub reads : (line more : List Text) (items : List Item) → (more_follow ≡ false → more ≡ [])
       → AreReadTo grammar line items names (words ++ more)
       → HasOneMore grammar line items (length line - (1 + after + length more)) given names_new (words_new ++ more)
   pub begins : 1 + after ≡ words_left names words
@@ -138,4 +138,4 @@ pub record ReadsOne (grammar : Grammar) (kept after : ℕ) (names : Text) (words
       < size_of (record { names = names; words = words })
   pub free : IfFreeWord given (λ word.
       (grammar.style ≡ FloatingFrees) × (names_new ≡ []) × (words ≡ word ∷ words_new))
-  pub next : IsNext kept names_new words_new
+  pub next : IsNext more_follow names_new words_new

@@ -1,5 +1,6 @@
 -- The line that was read gives the matches of its reading, and its error is that of the whole line.
 use Rattle.std.proofs.Common.{◌≡◌, ◌∙◌, Err, IfErr, List, Some, [], map, refl, rules}
+use Rattle.std.proofs.lemmas.Bool.{false≢true}
 use Rattle.getopts.specs.Fail.{IsOutOfMemoryOr}
 use Rattle.getopts.specs.Names.{Text}
 use Rattle.getopts.specs.Options.{grammar_of, signatures_of}
@@ -19,7 +20,7 @@ gives : (g : Over) (c : After-of g) (whole : List Text)
     → GivesLine (grammar_of c.args.self.now) (read (grammar_of c.args.self.now) whole) c.end.new.self
 gives g c whole left = GivesLine-ended (grammar_of c.args.self.now) whole
     (map g.S.AsStr.text c.args.words.now) c.args.before c.args.line left _ _ _ _ c.end.new.self
-    (c.in_ok-left.ensures.ok [] (λ none. refl)) (c.in_ok-left.ensures.tail (λ read. refl)) c.in_ok-end.ensures
+    (c.in_ok-left.ensures.ok [] (λ none. refl)) (c.in_ok-left.ensures.tail (λ follow. absurd (false≢true follow))) c.in_ok-end.ensures
 
 pub returns-in_err-left : goal.returns-in_err-left
 unfolding reading_or_error

@@ -1,5 +1,6 @@
 -- The scanner's steps are the reader's.
 use Rattle.std.proofs.Common.{ap, Option, Some, None, IfNone, refl, [], append-nil}
+use Rattle.std.proofs.lemmas.Bool.{false≢true}
 use Rattle.std.proofs.lemmas.Option.{IfSome_then}
 use Rattle.getopts.specs.Results.{made_of, reading_or_error}
 use Rattle.getopts.proofs.Weaker.{IsOutOfMemoryOr-exit}
@@ -45,4 +46,4 @@ unfolding reading_or_error
 returns-clause-ended g c = rw (← c.self.view_is)
     (both c.in_ok-given.given _ _ _ c.in_ok-given.ensures.none c.in_ok-given.ensures.tail
     (λ none tail line before read_to.
-    order-ended (has_text_names _ c.self.invariant.0) _ none.0 (tail (λ read. refl)) read_to))
+    order-ended (has_text_names _ c.self.invariant.0) _ none.0 (tail (λ follow. absurd (false≢true follow))) read_to))

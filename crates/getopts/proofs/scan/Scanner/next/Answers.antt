@@ -1,5 +1,5 @@
 -- The next word is free, in long form or in short form, or ends the items.
-use Rattle.std.proofs.Common.{◌≡◌, ◌≢◌, ◌<◌, [], refl, sym, ◌∙◌, rules, length, arith}
+use Rattle.std.proofs.Common.{◌≡◌, ◌≢◌, [], refl, sym, ◌∙◌, rules, length, map, arith, true}
 use Rattle.std.proofs.lemmas.List.{length-map, nil_from_length}
 use Rattle.getopts.specs.Stored.Scan.{scanner_grammar}
 use Rattle.getopts.specs.declared.kinds.ParsingStyle.TheVariants.{FloatingFrees, StopAtFirstFree}
@@ -12,10 +12,10 @@ use Rattle.getopts.proofs.scan.Scanner.next.Goals as goal
 
 pub returns-in_default-clause-tail : goal.returns-in_default-clause-tail
 returns-in_default-clause-tail g c = λ whole. elim c.in_default.branch [
-  | goal.in_default-via-in-Some+else-after-steps w ↦
-      let after = w.in-Some.ensures.cases.1 in
-      let more : length w.in-Some.after.now < c.args.steps.now.kept = search rules in
-      absurd (omega (arith, after, more, whole (omega (arith, after, more))))
+  | goal.in_default-via-in-Some+else-not-is_empty w ↦
+      let follow : c.args.steps.now.more_follow ≡ true = search rules in
+      let last : length w.in-Some.after.now ≡ 0 = search rules in
+      absurd (omega (arith, w.in-Some.ensures.cases.1, last, whole follow))
   | goal.in_default-via-in_default w ↦
       let none = nil_from_length c.args.steps.now.left.now (search rules) in
       rw none (read_nil (scanner_grammar c.args.self.now))
@@ -34,35 +34,51 @@ returns-in-Stop-clause-tail g c = λ whole.
 
 pub returns-in-Free-clause-some : goal.returns-in-Free-clause-some
 returns-in-Free-clause-some g c =
+    let few : c.args.steps.now.more_follow ≡ true → map g.S.AsStr.text c.in-Some.after.now ≢ [] = elim c.if-steps.branch [
+      | goal.then-steps w ↦ search (rules, length-map)
+      | goal.else-steps w ↦ search rules
+    ] in
     let floating : c.args.self.now.options.now.style ≡ FloatingFrees = search rules in
     let none = Names.empty_names _ (sym c.is_empty.ensures ∙ c.if-is_empty.true) in
     rw (none, ← length-map c.in-Some.after.now g.S.AsStr.text, c.in-Some.ensures.cases.0, c.as_str.ensures)
-    (Names.ReadsOne-free (has_text_names _ c.requires.lawful.declared) _ _ (search (rules, length-map)) _
+    (Names.ReadsOne-free (has_text_names _ c.requires.lawful.declared) _ _ few _
     (rw c.as_str.ensures at c.in-Free.ensures) floating)
 
 pub returns-in-Long-clause-some : goal.returns-in-Long-clause-some
 returns-in-Long-clause-some g c =
+    let few : c.args.steps.now.more_follow ≡ true → map g.S.AsStr.text c.in-Some.after.now ≢ [] = elim c.if-steps.branch [
+      | goal.then-steps w ↦ search (rules, length-map)
+      | goal.else-steps w ↦ search rules
+    ] in
     let none = Names.empty_names _ (sym c.is_empty.ensures ∙ c.if-is_empty.true) in
     rw (none, ← length-map c.in-Some.after.now g.S.AsStr.text, c.in-Some.ensures.cases.0)
-    (Names.ReadsOne-long (has_text_names _ c.requires.lawful.declared) _ _ (search (rules, length-map)) _ c.in-Long.ensures.0 _
+    (Names.ReadsOne-long (has_text_names _ c.requires.lawful.declared) _ _ few _ c.in-Long.ensures.0 _
     (rw c.as_str.ensures at c.in-Long.ensures.1) (c.in_ok-taken-in-Long.ensures.ok c.in-Long.ensures.0))
 
 pub returns-in_err-taken-in-Long-clause-err : goal.returns-in_err-taken-in-Long-clause-err
 returns-in_err-taken-in-Long-clause-err g c =
+    let few : c.args.steps.now.more_follow ≡ true → map g.S.AsStr.text c.in-Some.after.now ≢ [] = elim c.if-steps.branch [
+      | goal.then-steps w ↦ search (rules, length-map)
+      | goal.else-steps w ↦ search rules
+    ] in
     rw (Names.empty_names _ (sym c.is_empty.ensures ∙ c.if-is_empty.true), c.in-Some.ensures.cases.0)
     (IsOutOfMemoryOr-exit _ c.in_err-taken-in-Long.field-0.0 _ _ c.from_residual.ensures.1
     (c.in_err-taken-in-Long.ensures.err c.in-Long.ensures.0)
     (λ fault told more may. Names.IsNextFault-long (has_text_names _ c.requires.lawful.declared) _ _
-    (search (rules, length-map)) fault more may c.in-Long.ensures.0 _ _
+    few fault more may c.in-Long.ensures.0 _ _
     (rw c.as_str.ensures at c.in-Long.ensures.1) (rw c.as_str.ensures at c.as_str.utf8) told))
 
 pub returns-clause-some : goal.returns-clause-some
 returns-clause-some g c = elim c.if-is_empty.branch [
   | goal.then-is_empty+in-Some+in-Cluster w ↦
+      let few : c.args.steps.now.more_follow ≡ true → map g.S.AsStr.text w.in-Some.after.now ≢ [] = elim w.if-steps.branch [
+        | goal.then-steps v ↦ search (rules, length-map)
+        | goal.else-steps v ↦ search rules
+      ] in
       let form = rw w.as_str.ensures at w.in-Cluster.ensures in
       let none = Names.empty_names _ (sym c.is_empty.ensures ∙ w.if-is_empty.true) in
       rw (none, w.steps-is, ← length-map w.in-Some.after.now g.S.AsStr.text, w.in-Some.ensures.cases.0)
-      (Names.ReadsOne-short (has_text_names _ c.requires.lawful.declared) _ _ (search (rules, length-map)) _ _ form
+      (Names.ReadsOne-short (has_text_names _ c.requires.lawful.declared) _ _ few _ _ form
       (rw w.steps-is at c.in_ok-taken.ensures.ok))
   | goal.else-is_empty w ↦
       let filled : c.args.steps.now.names.now ≢ [] = search rules in
@@ -74,11 +90,15 @@ returns-clause-some g c = elim c.if-is_empty.branch [
 pub returns-in_err-taken-clause-err : goal.returns-in_err-taken-clause-err
 returns-in_err-taken-clause-err g c = elim c.if-is_empty.branch [
   | goal.then-is_empty+in-Some+in-Cluster w ↦
+      let few : c.args.steps.now.more_follow ≡ true → map g.S.AsStr.text w.in-Some.after.now ≢ [] = elim w.if-steps.branch [
+        | goal.then-steps v ↦ search (rules, length-map)
+        | goal.else-steps v ↦ search rules
+      ] in
       rw (Names.empty_names _ (sym c.is_empty.ensures ∙ w.if-is_empty.true), w.in-Some.ensures.cases.0)
       (IsOutOfMemoryOr-exit _ c.in_err-taken.field-0.0 _ _ c.from_residual-in_err-taken.ensures.1
       (rw w.steps-is at c.in_err-taken.ensures.err) (λ fault told more may.
       let form = rw w.as_str.ensures at w.in-Cluster.ensures in
-      Names.IsNextFault-short (has_text_names _ c.requires.lawful.declared) _ _ (search (rules, length-map)) fault more
+      Names.IsNextFault-short (has_text_names _ c.requires.lawful.declared) _ _ few fault more
       may _ (rw w.steps-is at c.short.ensures.text) told form.filled _ form))
   | goal.else-is_empty w ↦
       let filled : c.args.steps.now.names.now ≢ [] = search rules in

@@ -11,7 +11,7 @@ use Rattle.getopts.proofs.scan.Scanner.scan.Given.{Over}
 
 pub items-init : goal.items-init
 items-init g c = record {
-  kept = search rules;
+  more = search rules;
   next = λ filled. absurd (filled (search rules));
   read = λ more may. record {
     items = [];
@@ -22,19 +22,19 @@ items-init g c = record {
 }
 
 pub next-requires-clause-next : goal.next-requires-clause-next
-next-requires-clause-next g c = rw c.items.invariant.kept c.items.invariant.next
+next-requires-clause-next g c = rw c.items.invariant.more c.items.invariant.next
 
 pub returns-in_err-given-clause-err : goal.returns-in_err-given-clause-err
 returns-in_err-given-clause-err g c =
     IsOutOfMemoryOr-exit _ c.in_err-given.field-0.0 _ _ c.from_residual.ensures.1
-    (rw c.items.invariant.kept at c.in_err-given.ensures.err)
+    (rw c.items.invariant.more at c.in_err-given.ensures.err)
     (λ fault told more may. rw (AreReadTo-fault (has_text_names _ c.requires.lawful.declared) fault (told more may)
     (c.items.invariant.read more may).read_to) refl)
 
 -- the first word of the option's item is a word of the line
 within : (g : Over) (c : goal.In-Option g) → 1 + c.next.new.steps.after ≤ length c.args.words.now
 within g c =
-    let reads = rw (c.in-Some.is, c.items.invariant.kept) at c.in_ok-given.ensures.some in
+    let reads = rw (c.in-Some.is, c.items.invariant.more) at c.in_ok-given.ensures.some in
     omega (
       arith,
       reads.begins,
@@ -51,8 +51,8 @@ overflow_sub-position g c = omega (arith, within g c)
 
 pub items-preserved-in-Continue-branch-3 : goal.items-preserved-in-Continue-branch-3
 items-preserved-in-Continue-branch-3 g c =
-    let reads = rw (c.in-Some.is, c.in-Option.is, c.items.invariant.kept) at c.in_ok-given.ensures.some in record {
-      kept = c.in_ok-given.ensures.kept ∙ c.items.invariant.kept;
+    let reads = rw (c.in-Some.is, c.in-Option.is, c.items.invariant.more) at c.in_ok-given.ensures.some in record {
+      more = c.in_ok-given.ensures.more ∙ c.items.invariant.more;
       next = reads.next;
       read = λ more may.
           let so_far = c.items.invariant.read more may in
@@ -66,8 +66,8 @@ items-preserved-in-Continue-branch-3 g c =
 
 pub items-preserved : goal.items-preserved
 items-preserved g c =
-    let reads = rw (c.in-Some.is, c.in-Free.is, c.items.invariant.kept) at c.in_ok-given.ensures.some in record {
-      kept = c.in_ok-given.ensures.kept ∙ c.items.invariant.kept;
+    let reads = rw (c.in-Some.is, c.in-Free.is, c.items.invariant.more) at c.in_ok-given.ensures.some in record {
+      more = c.in_ok-given.ensures.more ∙ c.items.invariant.more;
       next = reads.next;
       read = λ more may.
           let so_far = c.items.invariant.read more may in
@@ -106,4 +106,4 @@ pub returns-clause-tail : goal.returns-clause-tail
 returns-clause-tail g c =
     let none : c.in_ok-given.field-0 ≡ None = search rules in
     let ends = rw none at c.in_ok-given.ensures.none in
-    rw ends.1 (rw (none, c.items.invariant.kept) at c.in_ok-given.ensures.tail)
+    rw ends.1 (rw (none, c.items.invariant.more) at c.in_ok-given.ensures.tail)

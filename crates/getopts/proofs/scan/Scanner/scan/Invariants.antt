@@ -1,5 +1,5 @@
 -- What was read so far is in the line.
-use Rattle.std.proofs.Common.{◌≡◌, List, [], ◌++◌, map}
+use Rattle.std.proofs.Common.{◌≡◌, false, List, [], ◌++◌, map}
 use Rattle.std.specs.String.{string_bytes}
 use Rattle.getopts.specs.Names.{Text}
 use Rattle.getopts.specs.Reader.{size_of}
@@ -10,9 +10,9 @@ use Rattle.getopts.proofs.scan.Scanner.scan.Given as goal
 abbrev pub invariant-items : goal.invariant-items
 invariant-items g l =
     let left = map g.S.AsStr.text l.steps.left.now in record {
-      kept : l.steps.kept ≡ l.kept;
-      next : IsNext l.kept l.steps.names.now left;
-      read : (more : List Text) → (l.kept ≡ 0 → more ≡ [])
+      more : l.steps.more_follow ≡ l.more_follow;
+      next : IsNext l.more_follow l.steps.names.now left;
+      read : (more : List Text) → (l.more_follow ≡ false → more ≡ [])
           → SoFar (scanner_grammar l.self) l.before l.fn.line.found (map string_bytes l.fn.line.free.items)
           l.line.found (map string_bytes l.line.free.items) (map g.S.AsStr.text l.words ++ more)
           l.steps.names.now (left ++ more);
