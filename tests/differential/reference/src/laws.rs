@@ -147,7 +147,9 @@ fn of_line(declared: &Declared, words: &[String]) {
     law!(options.canonical(Global, texts()) == line, declared, words);
     law!(with_text(line) == with_text(package.canonical(words)), declared, words);
     let names: Vec<_> = package.iter().map(|it| [it.short_name, it.long_name]).collect();
-    let order = options.parse_in_order(Global, words).map(|given| {
+    let order = options.parse_in_order(Global, words);
+    law!(order.as_ref().err() == parsed.as_ref().err(), declared, words);
+    let order = order.map(|given| {
         let parts = given.into_iter().map(|given| match given {
             Given::Option { place, value } => (Some(names[place]), value.map(String::from)),
             Given::Free(word) => (None, Some(word.to_string())),
