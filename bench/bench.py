@@ -85,7 +85,8 @@ def job_of(name):
 # - `long`, in `proved-getopts`: `Table::resolve` 2.3; `Scanner::option` 2
 JOBS = {name: job_of(name) for name in """small read-small canonical-small copied-small os-small typical read-typical
     copied-typical long read-long canonical-long copied-long os-long many read-many canonical-many copied-many many11 front
-    read-front asked-front none rustc sub60 files equal usage defined-4000 order-small order-typical order-long""".split()}
+    read-front asked-front none rustc sub60 files equal usage defined-4000 order-small order-typical order-long
+    loop-small loop-typical loop-long""".split()}
 GROWING = {line: on(line) for line in WORDS | OPTIONS}
 OF_C = {name: JOBS[name] for name in "small read-small typical long none order-small order-typical order-long".split()}
 # Jobs that keep their matches.
@@ -150,10 +151,11 @@ def described():
 # In Rust, libraries get the words as from `args_os().skip(1)`, and free them or move them into their results; copying
 # them before the first iteration isn't counted. In Rattle and C, libraries borrow them. In Rattle and with
 # proved-getopts, programs borrow values (`opt_place` and `occurrences_at`; `occurrences`), except in the jobs `copied-`.
-# The program for lexopt stores what it reads in a struct, except in the jobs `order-`, which take options and free words
-# in command-line order. pico-args searches the words for each option, and again for
-# each repetition. In C, the programs for getopt_long and argp add up the results but don't store them; `getopts_new` is
-# counted.
+# The program for lexopt stores what it reads in a struct, except in the jobs `order-` and `loop-`, which take options and
+# free words in command-line order. In `loop-`, programs with proved-getopts first convert the words to `String`s, and
+# those with the original parse as in `whole`, since it has no loop. pico-args searches the words for each option, and
+# again for each repetition. In C, the programs for getopt_long and argp add up the results but don't store them;
+# `getopts_new` is counted.
 # Generated lines: their options and their words.
 LINES = {
     "long": lambda: long(250), "memory": lambda: long(25_000),

@@ -137,6 +137,19 @@ def behind():
     return table(["job", "this library", "the other", "times as many"], *rows)
 
 
+def in_order():
+    """The instructions of reading options and free words in order: in a loop, as a list, and with other libraries."""
+    title, columns, rows = "Instructions per iteration", ("this library", "bindings/rust"), []
+    for line in "small", "typical", "long":
+        (loop, rust_loop, lexopt, original), ordered = (measured(title, f"{work}-{line}", *columns, *others) for work, others
+                                                        in [("loop", ("lexopt", "Rust crate")), ("order", ())])
+        rows.append([described(line), loop, ordered[0], rust_loop, ordered[1], lexopt, original])
+    words = len(bench_py.parts("long")[1])
+    each = [f"{int(cell.replace(',', '')) / words:,.0f}" for cell in rows[-1][1:]]
+    return table(["job", "Rattle: loop", "`parse_in_order`", "`proved-getopts`: loop", "`parse_in_order`", "lexopt", "the original"],
+                 *rows, ["`long`, a word", *each])
+
+
 def memory():
     jobs = {"held-small": "3 words", "held-described": "options with long descriptions", "held-long": "1,000 words",
             "held-cluster": "a cluster of 100,000 letters", "held-values": "three values of 1 MB", "memory": "100,000 words"}
@@ -266,7 +279,7 @@ def cited_clauses():
 
 
 # What --fix writes between `<!-- generated: NAME -->` and `<!-- end -->`.
-GENERATED = {make.__name__: make for make in (usage_example, moving, speed, costs, speed_in_c, behind, memory,
+GENERATED = {make.__name__: make for make in (usage_example, moving, speed, costs, speed_in_c, in_order, behind, memory,
                                               first_output, promises, compared, sizes, to_read, calls, variants, cited_clauses)}
 
 

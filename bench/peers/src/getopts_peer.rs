@@ -22,6 +22,11 @@ pub fn run(
         "os" => return Some(over_ours::os(input, args, times)),
         #[cfg(feature = "over_ours")]
         "order" => return Some(over_ours::order(input, args, times)),
+        #[cfg(feature = "over_ours")]
+        "loop" => return Some(over_ours::one_at_a_time(input, args, times)),
+        // Users of the crate parse the whole line.
+        #[cfg(not(feature = "over_ours"))]
+        "loop" => return Some(whole(input, args, times, taken)),
         _ => {}
     }
     let options = declared(&input.options);
@@ -121,6 +126,7 @@ mod over_ours {
     use super::{declared, iterations, total_length};
     use crate::input::{Args, Input, Named};
     use getopts::{Given, Matches};
+    use std::ffi::OsString;
 
     /// Adds up the matches with a call that borrows the values.
     pub fn taken(matches: &Matches, named: &[Named]) -> usize {
@@ -141,6 +147,21 @@ mod over_ours {
             let given = options.parse_in_order(args()).expect("the line is valid");
             let lengths = given.iter().map(|given| match given {
                 Given::Option { value, .. } => 1 + value.as_ref().map_or(0, String::len),
+                Given::Free(word) => word.len(),
+            });
+            lengths.sum()
+        })
+    }
+
+    /// The same in a loop over borrowed texts, into which a program first converts its words.
+    pub fn one_at_a_time(input: &Input, args: &mut dyn FnMut() -> Args, times: usize) -> usize {
+        iterations(times, || {
+            let options = declared(&input.options);
+            let words: Result<Vec<String>, _> = args().map(OsString::into_string).collect();
+            let words = words.expect("words are UTF-8");
+            let given = options.read(&words).map(|given| given.expect("the line is valid"));
+            let lengths = given.map(|given| match given {
+                Given::Option { value, .. } => 1 + value.map_or(0, str::len),
                 Given::Free(word) => word.len(),
             });
             lengths.sum()

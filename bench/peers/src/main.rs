@@ -4,8 +4,9 @@
 //!
 //! PEER is `getopts` (the Rust crate, or its replacement), `lexopt`, `pico-args` or `clap`. The top
 //! of `crates/getopts_bench/src/main.rt` describes jobs and rows. All peers do `whole`. `getopts`
-//! also does the other jobs, except `canonical` and `order`, which the crate lacks. The replacement
-//! also does `order`, and `os`, which is `whole` with `parse_os`; `lexopt` does `order`.
+//! also does the other jobs, except `canonical` and `order`, which the crate lacks. For `loop`, the
+//! crate does `whole`, since it has no loop. The replacement also does `order`, and `os`, which is
+//! `whole` with `parse_os`. `lexopt` does the same for `order` and `loop`.
 //!
 //! Iterations consume the words that they parse. READY copies of the words, at least TIMES, are
 //! made before the first iteration. Only `held` makes its words in each iteration: copies that wait
@@ -49,7 +50,7 @@ fn sum_of(words: &[String]) -> Option<usize> {
     let line = Path::new(rows).file_stem()?.to_str()?;
     let iteration: Box<dyn Fn(Args) -> usize> = match (peer.as_str(), job.as_str()) {
         ("lexopt", "whole") => Box::new(lexopt_peer::iteration_of(line)?),
-        ("lexopt", "order") => Box::new(lexopt_peer::order_of(line)?),
+        ("lexopt", "order" | "loop") => Box::new(lexopt_peer::order_of(line)?),
         ("pico-args", "whole") => Box::new(|args| pico_peer::iteration(&input, args)),
         ("clap", "whole") => Box::new(|args| clap_peer::iteration(&input, args)),
         _ => return None,

@@ -6,8 +6,9 @@ ghost use Rattle.getopts.specs.Accessors.{IsDefined};
 
 use crate::input::{Input, Named};
 use crate::trouble::Trouble;
-use getopts::{Fail, Given, Matches, Occurrences, Options};
+use getopts::{Fail, Given, Matches, Occurrences, Options, Unread, free_words};
 use std::alloc::{AllocError, Global};
+use std::convert::AsStr;
 
 /// The first line of a usage text.
 const BRIEF: &str = "Usage: getopts_show [options] FILE";
@@ -19,6 +20,7 @@ pub fn run(alloc: Global, job: &str, times: usize, input: &Input<'_>) -> Result<
         "whole" => whole(alloc, named, words, times)?,
         "copied" => copied(alloc, named, words, times)?,
         "order" => order(alloc, named, words, times)?,
+        "loop" => one_at_a_time(alloc, named, words, times)?,
         _ => run_declared(alloc, job, times, named, &declared(alloc, named)?, words)?,
     })
 }
@@ -86,6 +88,20 @@ fn order(alloc: Global, named: &[Named<'_>], words: &[&str], times: usize) -> Re
         let order = options.parse_in_order(alloc, words)?;
         Ok(taken_in_order(&order))
     })
+}
+
+/// The same in a loop, which stores nothing.
+#[inline(never)]
+fn one_at_a_time(
+    alloc: Global,
+    named: &[Named<'_>],
+    words: &[&str],
+    times: usize,
+) -> Result<usize, Fail> {
+    repeated(
+        times,
+        || taken_in_a_loop(alloc, &declared(alloc, named)?, words),
+    )
 }
 
 /// Each iteration parses the words, and adds the number of free words.
@@ -205,12 +221,27 @@ fn taken_as_copies(
 
 /// Adds up options and free words: 1 for each option, and the lengths of values and free words.
 fn taken_in_order(order: &[Given<'_>]) -> usize {
-    sum_of(
-        order.iter().map(|given| match *given {
-            Given::Option { value, .. } => value.map_or(0, str::len).wrapping_add(1),
-            Given::Free(word) => word.len(),
-        }),
-    )
+    sum_of(order.iter().map(|given| length_of(*given)))
+}
+
+/// Adds up the same in a loop.
+fn taken_in_a_loop<S: AsStr>(alloc: Global, options: &Options, words: &[S]) -> Result<usize, Fail> {
+    let reader = options.reader(alloc)?;
+    let mut unread = Unread::new(words);
+    let mut sum = 0usize;
+    while let Some(given) = reader.next(alloc, &mut unread)? {
+        sum = sum.wrapping_add(length_of(given));
+    }
+    let rest = free_words(unread.words).iter();
+    Ok(sum.wrapping_add(sum_of(rest.map(|word| word.as_str().len()))))
+}
+
+/// 1 for an option, and the length of its value; the length of a free word.
+fn length_of(given: Given<'_>) -> usize {
+    match given {
+        Given::Option { value, .. } => value.map_or(0, str::len).wrapping_add(1),
+        Given::Free(word) => word.len(),
+    }
 }
 
 /// The count of an option plus the lengths of its values, which are copied.

@@ -17,6 +17,7 @@
 //!   `opt_strs`, which copies, for each defined name.
 //! - `order` does what `whole` does by `parse_in_order`: it takes options and free words in
 //!   command-line order.
+//! - `loop` does what `order` does in a loop with a `Reader`, which stores nothing.
 //! - `read` only parses; the options are declared once, before the iterations. It adds the number
 //!   of free words.
 //! - `canonical` writes the canonical line. It adds the lengths of its words.
