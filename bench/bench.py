@@ -70,7 +70,8 @@ def job_of(name):
 # - `typical`: `FIRST_GROUPS` 32, `FIRST_TEXT` 15, `FIRST_VALUES` 3.5; `SignatureRecord`, `Signatures`, `Kinds` and the
 #   texts that they store 7; `Signatures::push` and `Groups::push` 3.3; `MatchedGroups::occurrences_of_group`,
 #   `Matches::occurrences_at` and `Index::indices` 2.4
-# - `typical`, in `proved-getopts`: `Entry::order`, `main_entries`, `sort` and `Entry::name_order` (`inline(never)`) 6
+# - `typical`, in `proved-getopts`: `Entry::order`, `main_entries`, `sort` and `Entry::name_order` (`inline(never)`) 6;
+#   `Options::add_group` 2.3
 # - `usage`: `ROW_ROOM` 40
 # - `asked-front`: `key_of` 6; `search` 9.6
 # - `many`, in `proved-getopts`: `search` and `search_key` 2.5

@@ -40,6 +40,7 @@ impl Options {
     ///
     /// Requires valid names (see `names_lawful`). Fails only if an allocation fails. The Rust crate
     /// has no such method.
+    #[inline]
     pub(crate) fn add_valid_group(
         &mut self,
         short_name: &str,
