@@ -68,7 +68,7 @@ def job_of(name):
 # attributes of these functions, were left out of the source as it was then:
 #
 # - `typical`: `FIRST_GROUPS` 32, `FIRST_TEXT` 15, `FIRST_VALUES` 3.5; `SignatureRecord`, `Signatures`, `Kinds` and the
-#   texts that they store 7; `Signatures::push` and `Groups::push` 3.3; `MatchedGroups::occurrences_of_group`,
+#   texts that they store 7; `Signatures::push` and `Groups::push` 3.3; `MatchedOptions::occurrences_of_group`,
 #   `Matches::occurrences_at` and `Index::indices` 2.4
 # - `typical`, in `proved-getopts`: `Entry::order`, `main_entries`, `sort` and `Entry::name_order` (`inline(never)`) 6;
 #   `Options::add_group` 2.3
@@ -81,7 +81,7 @@ def job_of(name):
 #   `LineOccurrences::push` 9.5; `Occurrences::into_iter` and `OccurrencesIter::next` 5
 # - `none`: `Signatures::clone` 8
 # - `equal`: `Occurrences::get` and `Occurrences::at` 80; `Occurrences::same` 20;
-#   `MatchedGroups::same` (`inline(never)`) 14
+#   `MatchedOptions::same` (`inline(never)`) 14
 # - `files`, in `proved-getopts`: `push_copy` 3
 # - `long`, in `proved-getopts`: `Table::resolve` 2.3; `Scanner::option` 2
 JOBS = {name: job_of(name) for name in """small read-small canonical-small copied-small os-small typical read-typical

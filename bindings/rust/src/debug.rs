@@ -3,7 +3,7 @@
 // Only `Debug` reads the fields.
 #![allow(dead_code)]
 
-use crate::proved::matches::MatchedGroups;
+use crate::proved::matches::MatchedOptions;
 use crate::{HasArg, Occur};
 
 /// An option in matches: named by its long name, with the short name as an alias, or else by its
@@ -22,7 +22,7 @@ enum Name<'a> {
     Short(char),
 }
 
-pub(crate) fn opts_of(matches: &MatchedGroups) -> Vec<Opt<'_>> {
+pub(crate) fn opts_of(matches: &MatchedOptions) -> Vec<Opt<'_>> {
     let signatures = matches.signatures();
     let shown = |place| {
         let (names, kinds) = (signatures.get(place).names, signatures.get(place).kinds);

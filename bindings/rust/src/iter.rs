@@ -2,7 +2,7 @@
 
 use crate::alloc::Global;
 use crate::fail::granted;
-use crate::proved::matches::MatchedGroups;
+use crate::proved::matches::MatchedOptions;
 use crate::proved::{self, Unread, free_words};
 use crate::{Fail, Given};
 use std::ffi::{OsStr, OsString};
@@ -142,7 +142,7 @@ impl<S: AsRef<str>> FusedIterator for Reader<'_, '_, S> {}
 /// ```
 #[derive(Clone)]
 pub struct Occurrences<'m> {
-    held: &'m MatchedGroups,
+    held: &'m MatchedOptions,
     place: usize,
     /// The numbers of the occurrences that are left.
     left: Range<usize>,
@@ -151,7 +151,7 @@ pub struct Occurrences<'m> {
 impl<'m> Occurrences<'m> {
     /// The occurrences of the option at this place.
     #[inline]
-    pub(crate) fn of(held: &'m MatchedGroups, place: usize) -> Occurrences<'m> {
+    pub(crate) fn of(held: &'m MatchedOptions, place: usize) -> Occurrences<'m> {
         Occurrences { held, place, left: 0..held.occurrences_of_group(place).len() }
     }
 

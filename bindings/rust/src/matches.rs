@@ -6,7 +6,7 @@ use crate::fail::granted;
 use crate::fallible::TryClone;
 use crate::iter::{Occurrences, Values};
 use crate::proved;
-use crate::proved::matches::MatchedGroups;
+use crate::proved::matches::MatchedOptions;
 use std::fmt;
 use std::result::Result;
 use std::str::FromStr;
@@ -33,7 +33,7 @@ pub struct Matches {
     /// The positional arguments (*free words*), in command-line order.
     pub free: Vec<String>,
     /// The proved library's matches.
-    held: MatchedGroups,
+    held: MatchedOptions,
     trailing_start: Option<usize>,
 }
 

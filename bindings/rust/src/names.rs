@@ -46,7 +46,7 @@ impl crate::proved::Matches {
     /// ```
     #[doc(hidden)]
     pub fn count_error(&self) -> Option<crate::proved::Fail> {
-        self.check_all(crate::alloc::Global).err()
+        self.check_counts(crate::alloc::Global).err()
     }
 }
 

@@ -18,7 +18,7 @@ use crate::groups::Groups;
 use crate::laws::names_resolve;
 use crate::options::Options;
 use crate::parse::words_from;
-use crate::scan::{Given, are_texts};
+use crate::scan::{Given, words_are_texts};
 use std::alloc::{AllocError, Global};
 use std::convert::AsStr;
 
@@ -172,7 +172,7 @@ impl Options {
         ensures laws { OnOk result (KeepsLineLaws self.now) }
         ensures read_again { OnOk result (LinesReadAgain self.now) }
     {
-        are_texts(words);
+        words_are_texts(words);
         names_resolve(self);
         let order = self.parse_in_order(alloc, words)?;
         let groups = self.groups();

@@ -72,4 +72,4 @@ pub use laws::{
     declared_options_keep_laws, equal_input_equal_answers, held_names_resolve, names_resolve,
     one_reading_one_canonical_line, results_are_computed, usage_texts_are_computed,
 };
-pub use scan::are_texts;
+pub use scan::words_are_texts;

@@ -33,7 +33,7 @@ pub struct Matches {
     /// The free words, in command-line order. You may change them: accessors ignore this field,
     /// even `free_trailing_start`. Only `take_trailing`, `==`, `clone` and `{:?}` use it.
     pub free: Vec<String>,
-    pub(crate) held: MatchedGroups,
+    pub(crate) held: MatchedOptions,
     pub(crate) trailing_start: Option<usize>,
 }
 
@@ -68,7 +68,7 @@ impl Matches {
         } = line;
         Matches {
             free,
-            held: MatchedGroups {
+            held: MatchedOptions {
                 signatures,
                 table,
                 found,
@@ -80,7 +80,7 @@ impl Matches {
 
     /// Checks how often each option occurs, in order of declaration.
     #[tactic(auto, using(crate::proofs::counts::Groups::first_wrong_matched))]
-    pub(crate) fn check_all(&self, alloc: Global) -> Result<(), Fail>
+    pub(crate) fn check_counts(&self, alloc: Global) -> Result<(), Fail>
         ensures ok { OnOk result (first_count_fault self.now.groups ≡ None) }
         ensures err { IfErr result (λ fail. IsOutOfMemoryOr fail
             (λ fault. first_count_fault self.now.groups ≡ Some fault)) }
@@ -139,16 +139,16 @@ impl Eq for Matches {
 }
 
 #[derive(Debug)]
-pub(crate) struct MatchedGroups {
+pub(crate) struct MatchedOptions {
     signatures: Signatures,
     table: Table,
     found: LineOccurrences,
     index: Index,
 }
 
-impl Drop for MatchedGroups {
+impl Drop for MatchedOptions {
     fn drop(self) {
-        let MatchedGroups {
+        let MatchedOptions {
             signatures: _,
             table: _,
             found: _,
@@ -157,7 +157,7 @@ impl Drop for MatchedGroups {
     }
 }
 
-impl Model for MatchedGroups {
+impl Model for MatchedOptions {
     ghost use Rattle.std.specs.Prelude.{List};
     ghost use Rattle.getopts.specs.Matches.{MatchedGroup};
     ghost use Rattle.getopts.specs.Stored.Matches.{matched_view, KeepsGroups};
@@ -169,7 +169,7 @@ impl Model for MatchedGroups {
     ghost invariant = { KeepsGroups };
 }
 
-impl MatchedGroups {
+impl MatchedOptions {
     ghost use Rattle.getopts.specs.Same.{same_matched_group};
 
     pub(crate) fn signatures(&self) -> &Signatures
@@ -203,7 +203,7 @@ impl MatchedGroups {
 
     // Inlined, it would slow down its caller.
     #[inline(never)]
-    pub(crate) fn same(&self, other: &MatchedGroups) -> bool
+    pub(crate) fn same(&self, other: &MatchedOptions) -> bool
         ensures { result ≡ pointwise same_matched_group self.now other.now }
     {
         if self.signatures != other.signatures {
@@ -221,11 +221,11 @@ impl MatchedGroups {
     }
 }
 
-impl Clone for MatchedGroups {
+impl Clone for MatchedOptions {
     ghost is_clone = { λ a b. b ≡ a };
 
-    fn clone(&self) -> Result<MatchedGroups, AllocError> {
-        Ok(MatchedGroups {
+    fn clone(&self) -> Result<MatchedOptions, AllocError> {
+        Ok(MatchedOptions {
             signatures: self.signatures.clone()?,
             table: self.table.clone()?,
             found: self.found.clone()?,

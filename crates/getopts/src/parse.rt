@@ -11,7 +11,7 @@ use crate::fail::Fail;
 use crate::index::Index;
 use crate::matches::Matches;
 use crate::options::Options;
-use crate::scan::{FIRST_ROOM, Given, Line, Scanner, are_texts};
+use crate::scan::{FIRST_ROOM, Given, Line, Scanner, words_are_texts};
 use crate::table::Table;
 use std::alloc::{AllocError, Global};
 use std::convert::AsStr;
@@ -135,7 +135,7 @@ impl Options {
         ensures refused { IfErr result (λ fail. IsOutOfMemoryOr fail
             (IsRefused self.now (map S.text words.now))) }
     {
-        are_texts(words);
+        words_are_texts(words);
         let signatures = self.signatures();
         let table = Table::of(alloc, signatures)?;
         let scanner = Scanner {
@@ -161,7 +161,7 @@ impl Options {
         ensures texts { AreTexts (map S.text words.now) }
         ensures laws { OnOk result (KeepsReadingLaws (grammar_of self.now)) }
     {
-        are_texts(words);
+        words_are_texts(words);
         let table = Table::of(alloc, self.signatures())?;
         let line = Line::for_words(alloc, words, self.style())?;
         self.read_rest(alloc, table, line, 0, words, counted)

@@ -31,7 +31,7 @@ const SAMPLE: usize = 1024;
 
 /// A lemma for proofs: each word is UTF-8, as its type says. Compiles to nothing in an optimized
 /// build.
-pub fn are_texts<S: AsStr>(words: &[S])
+pub fn words_are_texts<S: AsStr>(words: &[S])
     ensures texts { AreTexts (map S.text words.now) }
 {
     for word in words {

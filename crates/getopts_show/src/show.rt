@@ -22,7 +22,9 @@ ghost use Rattle.getopts_show.specs.Program.{fault_line, matches_text};
 ghost use Rattle.getopts_show.specs.Program.{named_lines, position_mark, program_groups};
 ghost use Rattle.getopts_show.specs.Program.{program_options, value_line, word_line};
 
-use getopts::{Fail, HasArg, Matches, Occur, Options, are_texts, one_reading_one_canonical_line};
+use getopts::{
+    Fail, HasArg, Matches, Occur, Options, one_reading_one_canonical_line, words_are_texts,
+};
 use std::alloc::{AllocError, Global};
 use std::io;
 use std::io::Write;
@@ -109,7 +111,7 @@ fn have_one_result(options: &Options, words: &[&str])
     ensures { IsTheOnly (IsLineOf program_options (texts words.now))
         (accepted_reading program_options (texts words.now)) }
 {
-    are_texts(words);
+    words_are_texts(words);
     one_reading_one_canonical_line(options);
 }
 

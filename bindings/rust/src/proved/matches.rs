@@ -21,7 +21,7 @@ pub struct Matches {
     /// The free words, in command-line order. You may change them: accessors ignore this field,
     /// even `free_trailing_start`. Only `take_trailing`, `==`, `clone` and `{:?}` use it.
     pub free: Vec<String>,
-    pub(crate) held: MatchedGroups,
+    pub(crate) held: MatchedOptions,
     pub(crate) trailing_start: Option<usize>,
 }
 
@@ -39,7 +39,7 @@ impl Matches {
         } = line;
         Matches {
             free,
-            held: MatchedGroups {
+            held: MatchedOptions {
                 signatures,
                 table,
                 found,
@@ -50,7 +50,7 @@ impl Matches {
     }
 
     /// Checks how often each option occurs, in order of declaration.
-    pub(crate) fn check_all(&self, alloc: Global) -> Result<(), Fail> {
+    pub(crate) fn check_counts(&self, alloc: Global) -> Result<(), Fail> {
         check_counts(alloc, &self.held.signatures, &self.held.index)
     }
 }
@@ -87,14 +87,14 @@ impl PartialEq for Matches {
 impl Eq for Matches {}
 
 #[derive(Debug)]
-pub(crate) struct MatchedGroups {
+pub(crate) struct MatchedOptions {
     signatures: Signatures,
     table: Table,
     found: LineOccurrences,
     index: Index,
 }
 
-impl MatchedGroups {
+impl MatchedOptions {
     pub(crate) fn signatures(&self) -> &Signatures {
         &self.signatures
     }
@@ -117,7 +117,7 @@ impl MatchedGroups {
 
     // Inlined, it would slow down its caller.
     #[inline(never)]
-    pub(crate) fn same(&self, other: &MatchedGroups) -> bool {
+    pub(crate) fn same(&self, other: &MatchedOptions) -> bool {
         if self.signatures != other.signatures {
             return false;
         }
@@ -133,9 +133,9 @@ impl MatchedGroups {
     }
 }
 
-impl TryClone for MatchedGroups {
-    fn try_clone(&self) -> Result<MatchedGroups, AllocError> {
-        Ok(MatchedGroups {
+impl TryClone for MatchedOptions {
+    fn try_clone(&self) -> Result<MatchedOptions, AllocError> {
+        Ok(MatchedOptions {
             signatures: self.signatures.try_clone()?,
             table: self.table.try_clone()?,
             found: self.found.try_clone()?,

@@ -42,7 +42,7 @@ impl Options {
         if matches.has("version") {
             return Ok(Request::Version);
         }
-        matches.check_all(alloc)?;
+        matches.check_counts(alloc)?;
         Ok(Request::Parsed(matches))
     }
 
@@ -63,7 +63,7 @@ impl Options {
         if read.has(flag) {
             return Ok(None);
         }
-        read.check_all(alloc)?;
+        read.check_counts(alloc)?;
         Ok(Some(read))
     }
 }

@@ -4,7 +4,7 @@ use Rattle.getopts.specs.Matches.{MatchedGroup, matched}
 use Rattle.getopts.specs.Stored.Signatures.{names_in}
 use Rattle.getopts.specs.Stored.Index.{index_of, indices_in}
 use Rattle.getopts.specs.Stored.Table.{IsTableOf}
-use Rattle.getopts.specs.declared.matches.MatchedGroups.TheInside.{Inside}
+use Rattle.getopts.specs.declared.matches.MatchedOptions.TheInside.{Inside}
 
 abbrev pub matched_view : Inside → List MatchedGroup
 matched_view inside = matched 0 inside.signatures inside.found

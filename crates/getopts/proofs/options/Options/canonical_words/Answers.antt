@@ -30,12 +30,12 @@ returns-clause-result g c =
 
 pub returns-then-are_plain-clause-written : goal.returns-then-are_plain-clause-written
 returns-then-are_plain-clause-written g c =
-    ((HasResults-declared _ c.names_resolve.ensures.declared _ c.are_texts.ensures.texts).canonical (Ok (Some _))).1
+    ((HasResults-declared _ c.names_resolve.ensures.declared _ c.words_are_texts.ensures.texts).canonical (Ok (Some _))).1
     (sym (returns-then-are_plain-clause-result g c))
 
 pub returns-clause-unwritable : goal.returns-clause-unwritable
 returns-clause-unwritable g c =
-    ((HasResults-declared _ c.names_resolve.ensures.declared _ c.are_texts.ensures.texts).canonical (Ok None)).1
+    ((HasResults-declared _ c.names_resolve.ensures.declared _ c.words_are_texts.ensures.texts).canonical (Ok None)).1
     (sym (returns-clause-result g c))
 
 pub returns-then-are_plain-clause-laws : goal.returns-then-are_plain-clause-laws

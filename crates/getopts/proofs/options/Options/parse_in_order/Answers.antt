@@ -46,7 +46,7 @@ returns-in_err-order-clause-same_error g c = search rules
 
 pub returns-in_err-order-clause-refused : goal.returns-in_err-order-clause-refused
 returns-in_err-order-clause-refused g c =
-    refused _ _ _ c.signatures-signatures.ensures.declared c.are_texts.ensures.texts
+    refused _ _ _ c.signatures-signatures.ensures.declared c.words_are_texts.ensures.texts
     (returns-in_err-order-clause-same_error g c)
 
 pub returns-in_err-check_order-clause-same_error : goal.returns-in_err-check_order-clause-same_error
@@ -63,7 +63,7 @@ returns-in_err-check_order-clause-result g c = search (rules, returns-in_err-che
 
 pub returns-in_err-check_order-clause-refused : goal.returns-in_err-check_order-clause-refused
 returns-in_err-check_order-clause-refused g c =
-    refused _ _ _ c.signatures-signatures.ensures.declared c.are_texts.ensures.texts
+    refused _ _ _ c.signatures-signatures.ensures.declared c.words_are_texts.ensures.texts
     (returns-in_err-check_order-clause-same_error g c)
 
 pub returns-clause-result : goal.returns-clause-result
@@ -73,7 +73,7 @@ returns-clause-result g c = order-kept c.args.self.now _ _ c.in_ok-order.ensures
 
 pub returns-clause-order : goal.returns-clause-order
 returns-clause-order g c =
-    ((HasResults-declared _ c.signatures-signatures.ensures.declared _ c.are_texts.ensures.texts).order (Ok _)).1
+    ((HasResults-declared _ c.signatures-signatures.ensures.declared _ c.words_are_texts.ensures.texts).order (Ok _)).1
     (sym (returns-clause-result g c))
 
 pub returns-clause-declared : goal.returns-clause-declared

@@ -10,20 +10,20 @@ use Rattle.getopts.proofs.options.Options.parse_request.Goals as goal
 pub returns-in_err-matches-clause-refused : goal.returns-in_err-matches-clause-refused
 returns-in_err-matches-clause-refused g c = search (rules, unread_refused)
 
-pub returns-in_err-check_all-clause-result : goal.returns-in_err-check_all-clause-result
-returns-in_err-check_all-clause-result g c =
-    search (rules, parse_result-broken _ _ _ c.in_ok-matches.ensures.result _ c.in_err-check_all.ensures.err)
+pub returns-in_err-check_counts-clause-result : goal.returns-in_err-check_counts-clause-result
+returns-in_err-check_counts-clause-result g c =
+    search (rules, parse_result-broken _ _ _ c.in_ok-matches.ensures.result _ c.in_err-check_counts.ensures.err)
 
-pub returns-in_err-check_all-clause-refused : goal.returns-in_err-check_all-clause-refused
-returns-in_err-check_all-clause-refused g c =
+pub returns-in_err-check_counts-clause-refused : goal.returns-in_err-check_counts-clause-refused
+returns-in_err-check_counts-clause-refused g c =
     let read = c.in_ok-matches.ensures in
-    IsOutOfMemoryOr-exit _ _ _ _ c.from_residual-in_err-check_all.ensures.1
-    (parse_result-broken _ _ _ read.result _ c.in_err-check_all.ensures.err)
+    IsOutOfMemoryOr-exit _ _ _ _ c.from_residual-in_err-check_counts.ensures.1
+    (parse_result-broken _ _ _ read.result _ c.in_err-check_counts.ensures.err)
     (λ fault is. is_refused _ _ fault is read.declared read.texts)
 
 pub returns-clause-parsed : goal.returns-clause-parsed
 returns-clause-parsed g c =
-    parse_result-kept _ _ _ c.in_ok-matches.ensures.result c.in_ok-check_all.ensures.ok
+    parse_result-kept _ _ _ c.in_ok-matches.ensures.result c.in_ok-check_counts.ensures.ok
 
 pub returns-clause-result : goal.returns-clause-result
 returns-clause-result g c = search (rules, returns-clause-parsed)

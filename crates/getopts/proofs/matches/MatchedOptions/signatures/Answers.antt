@@ -1,6 +1,6 @@
 -- The stored signatures are those of the groups of the matches.
 use Rattle.getopts.proofs.Stored.Matches.{signatures-matched}
-use Rattle.getopts.proofs.matches.MatchedGroups.signatures.Goals as goal
+use Rattle.getopts.proofs.matches.MatchedOptions.signatures.Goals as goal
 
 pub returns : goal.returns
 returns c =

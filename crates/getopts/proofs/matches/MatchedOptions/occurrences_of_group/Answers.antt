@@ -2,8 +2,8 @@
 use Rattle.std.proofs.Common.{◌≡◌, ◌∙◌, length}
 use Rattle.getopts.specs.Stored.Index.{index_of}
 use Rattle.getopts.proofs.Stored.Matches.{indexed-within, indexed-occurrences}
-use Rattle.getopts.proofs.matches.MatchedGroups.occurrences_of_group.Goals as goal
-use Rattle.getopts.proofs.matches.MatchedGroups.occurrences_of_group.Goals.{After-indices}
+use Rattle.getopts.proofs.matches.MatchedOptions.occurrences_of_group.Goals as goal
+use Rattle.getopts.proofs.matches.MatchedOptions.occurrences_of_group.Goals.{After-indices}
 
 indices_are : (c : After-indices) → c.indices.result.now
     ≡ index_of (length c.self.inside.signatures) c.self.inside.found c.args.place

@@ -9,8 +9,8 @@ use Rattle.getopts.proofs.counts.Groups.{length-matched}
 use Rattle.getopts.proofs.Stored.Matches.{signatures-matched, same_occurrences_everywhere}
 use Rattle.getopts.proofs.Stored.Same.{differ, same_group_occurrence-decides}
 use Rattle.getopts.proofs.Stored.Same.{same_matched_group-decides, same_signature-decides}
-use Rattle.getopts.proofs.matches.MatchedGroups.same.Goals as goal
-use Rattle.getopts.proofs.matches.MatchedGroups.same.Goals.{After-ne}
+use Rattle.getopts.proofs.matches.MatchedOptions.same.Goals as goal
+use Rattle.getopts.proofs.matches.MatchedOptions.same.Goals.{After-ne}
 
 signatures : (c : After-ne)
     → pointwise same_signature (map (λ (group : MatchedGroup). group.signature) c.args.self.now)

@@ -2,7 +2,7 @@
 use Rattle.std.proofs.Common.{◌≡◌, ◌∙◌, ap, length, sym}
 use Rattle.getopts.specs.Matches.{matched}
 use Rattle.getopts.specs.Stored.Index.{index_of, indices_in}
-use Rattle.getopts.proofs.matches.MatchedGroupsClone.clone.Goals as goal
+use Rattle.getopts.proofs.matches.MatchedOptionsClone.clone.Goals as goal
 
 pub invariant_of-result : goal.invariant_of-result
 invariant_of-result c =

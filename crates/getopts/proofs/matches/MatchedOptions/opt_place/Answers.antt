@@ -5,7 +5,7 @@ use Rattle.getopts.specs.Options.{Signature}
 use Rattle.getopts.specs.Matches.{MatchedGroup}
 use Rattle.getopts.proofs.Lists.{AllByRecursion-unmap}
 use Rattle.getopts.proofs.Stored.Matches.{signatures-matched, opt_place-signatures}
-use Rattle.getopts.proofs.matches.MatchedGroups.opt_place.Goals as goal
+use Rattle.getopts.proofs.matches.MatchedOptions.opt_place.Goals as goal
 
 pub returns-clause-place : goal.returns-clause-place
 returns-clause-place c =
