@@ -71,7 +71,7 @@ laws = λ where
       let is = sym (held-are (matches .$groups) same) ; facts = names-resolve options declared in
       mk (subst MainNameResolves is (facts .$main-name))
         (subst OneByteIsShort is (facts .$one-byte)) (subst EmptyResolvesNot is (facts .$empty))
-    .$equal-input-equal-answers → mk 09-Computed.one-parse-result 09-Computed.one-canonical-result
+    .$equal-input-equal-results → mk 09-Computed.one-parse-result 09-Computed.one-canonical-result
     .$results-are-computed → mk λ options words declared →
       declared-theorem options declared .$results words
     .$usage-texts-are-computed → mk usage-text-is usage-rows description fewest-rows

@@ -23,7 +23,7 @@ def test_theorems_are_proved_and_wrong_ones_rejected():
 
 @pytest.mark.rt
 @pytest.mark.parametrize("old, new, why", [
-    ("    ensures parse {", "    requires never { ⊥ }\n    ensures parse {", "can't read equal_input_equal_answers"),
+    ("    ensures parse {", "    requires never { ⊥ }\n    ensures parse {", "can't read equal_input_equal_results"),
     ("fn results_are_computed()", "fn results_are_computed<T>()", "can't read results_are_computed"),
     ("HasResults", "ReturnsResult", "a lemma needs this, but Fail isn't translated"),
     ("pub fn results", "/*\npub fn results", "can't read each lemma"),

@@ -17,8 +17,8 @@ pub record AreRead (grammar : Grammar) (line : List Text) (items : List Item) (w
   pub lawful : AllByRecursion (IsLawfulItem grammar) items
   pub followed : AreWellFollowed items words
 
--- These items begin the line, and these names and words are left. If names are left, flags precede
--- them in their word, and the last item has these flags.
+-- If names are left, flags precede them in their word, and the last item has these flags.
+-- These items begin the line, and these names and words are left.
 pub data AreReadTo (grammar : Grammar) (line : List Text) (items : List Item) (names : Text)
     (words : List Text) : Type 0 where
   between_words : names ≡ [] → AreRead grammar line items words
@@ -43,7 +43,7 @@ pub record IsReadTo (grammar : Grammar) (line : List Text) (given : List Given) 
   pub read : AreReadTo grammar line items left.names left.words
   pub given_is : given ≡ order_of_items grammar items
 
--- If this is left of a line, this is true of it and of what it gave before.
+-- For each line of which this is left, this is true of the line and of what it gave before.
 abbrev pub IfReadTo : Grammar → Left → (List Text → List Given → Type 0) → Type 0
 IfReadTo grammar left P =
     (line : List Text) (before : List Given) → IsReadTo grammar line before left → P line before
@@ -55,7 +55,7 @@ pub data IsNextFault (grammar : Grammar) (left : Left) (fault : Fault) : Type 0 
   in_this : left.names ≢ [] → ((word : Text) → HasAfterFlags grammar word left.names
       → IsFaultAt grammar word left.words fault) → IsNextFault grammar left fault
 
--- If this is a free word, this is true of it.
+-- If a free word was given, this is true of the word.
 abbrev pub IfFreeWord : Given → (Text → Type 0) → Type 0
 IfFreeWord (free_word word) P = P word
 IfFreeWord (option place value) P = ⊤

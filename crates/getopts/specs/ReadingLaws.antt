@@ -45,7 +45,7 @@ pub record ReadsAlike (grammar : Grammar) (Alike : List ℕ → List ℕ → Typ
   pub trailing : trailing_start new ≡ trailing_start old
   pub positions : Alike (positions_in grammar old) (positions_in grammar new)
 
--- In every reading, the others may replace the item; `Alike` also gets the item's position.
+-- In every reading, these items may replace the item; `Alike` also gets the item's position.
 abbrev pub Respells : Grammar → Item → List Item → (ℕ → List ℕ → List ℕ → Type 0) → Type 0
 Respells grammar item others Alike = (front back : List Item) (tail : Tail) (words : List Text)
     → IsReading grammar (reading_of front (item ∷ []) back tail) words

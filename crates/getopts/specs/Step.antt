@@ -122,12 +122,12 @@ pub record TakesOne (grammar : Grammar) (step : Step) (after : List Text) (place
 -- The first of a cluster's names gives this option, and these names and words are left.
 pub data TakesName (grammar : Grammar) (names : Text) (after : List Text) (place : ℕ)
     (value : Option Text) (names_left : Text) (left : List Text) : Type 0 where
-  -- it ends the cluster
+  -- the option ends the cluster
   takes_last : (byte : ℕ) (text : Text) (kind : HasArg) → names ≡ byte ∷ text → names_left ≡ []
       → grammar.place (byte ∷ []) ≡ Some place → kind ≢ No → grammar.kind (byte ∷ []) ≡ Some kind
       → Chooses (chosen_end kind (byte ∷ []) text after) after value left
       → TakesName grammar names after place value names_left left
-  -- it is a flag
+  -- the option is a flag
   takes_flag : (byte : ℕ) → names ≡ byte ∷ names_left → IsFlag grammar byte
       → grammar.place (byte ∷ []) ≡ Some place → value ≡ None → left ≡ after
       → TakesName grammar names after place value names_left left

@@ -15,10 +15,9 @@ use crate::signatures::{FIRST_GROUPS, Signatures};
 use std::alloc::{AllocError, Global};
 use std::marker::Model;
 
-/// A declared option, as `Options::get` returns it.
+/// A declared option. Its fields are what was passed to `opt` or a similar method.
 ///
-/// The fields are what was passed to `opt` or a similar method. The Rust crate has no such public
-/// type.
+/// The Rust crate has no such public type.
 #[derive(Debug, Clone, Copy)]
 pub struct OptGroup<'o> {
     /// Its short name, or `""` if it has none.

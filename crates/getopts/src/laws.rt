@@ -1,5 +1,5 @@
-//! Lemmas for proofs: the main theorem, and other facts about all options, words and matches. They
-//! do nothing at run time.
+//! Lemmas for proofs: the main theorem, and other facts about all options, words and matches. At
+//! run time, they return nothing and change nothing.
 
 ghost use Rattle.getopts.specs.Canon.{Content, Says, IsSound, IsPlain, HasCanonicalLine, with_setting};
 ghost use Rattle.getopts.specs.declared.kinds.ParsingStyle.{ParsingStyle};
@@ -109,7 +109,7 @@ pub fn names_resolve(options: &Options)
 }
 
 /// The three facts of `names_resolve`, about the names in the matches. This is a lemma for
-/// proofs, which does nothing.
+/// proofs, which returns nothing and changes nothing.
 pub fn held_names_resolve(matches: &Matches)
     ensures main_name { MainNameResolves (held_names matches.now.groups) }
     ensures one_byte { OneByteIsShort (held_names matches.now.groups) }
@@ -123,7 +123,7 @@ pub fn held_names_resolve(matches: &Matches)
 /// `parse` and one of `canonical`. Running out of memory doesn't count as a result.
 ///
 /// This is a lemma for proofs, which does nothing.
-pub fn equal_input_equal_answers()
+pub fn equal_input_equal_results()
     ensures parse { (options : Declared) (words : List Text)
         → AtMostOne (IsParseResult options words) }
     ensures canonical { (options : Declared) (words : List Text)

@@ -69,7 +69,7 @@ pub type Result = std::result::Result<Matches, Fail>;
 // Lemmas for proofs. A function calls one if its own proof needs the facts in the lemma's contract.
 // Other callers don't need them.
 pub use laws::{
-    declared_options_keep_laws, equal_input_equal_answers, held_names_resolve, names_resolve,
+    declared_options_keep_laws, equal_input_equal_results, held_names_resolve, names_resolve,
     one_reading_one_canonical_line, results_are_computed, usage_texts_are_computed,
 };
 pub use scan::words_are_texts;

@@ -6,7 +6,7 @@ ghost use Rattle.std.specs.Iterator.Runs.{WholeRun};
 ghost use Rattle.getopts.specs.Fail.{IsOutOfMemoryOr};
 ghost use Rattle.getopts.specs.Names.{AreTexts, Text, texts};
 
-use crate::counts::{check_counts, check_order};
+use crate::counts::{check_counts, check_counts_in_order};
 use crate::fail::Fail;
 use crate::index::Index;
 use crate::matches::Matches;
@@ -143,7 +143,7 @@ impl Options {
             table: &table,
         };
         let order = scanner.scan_in_order(alloc, words)?;
-        check_order(alloc, signatures, &order)?;
+        check_counts_in_order(alloc, signatures, &order)?;
         Ok(order)
     }
 

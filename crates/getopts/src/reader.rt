@@ -27,7 +27,8 @@ pub struct Unread<'w, S> {
     /// The words after the last word that was read.
     pub words: &'w [S],
     /// What is left of that word, if it combines short options: after the first option of `-vx`,
-    /// `x`. Otherwise empty.
+    /// `x`. Otherwise empty. A program may set it to `""`, to skip these options, but to no other
+    /// text.
     pub names: &'w str,
 }
 
@@ -100,12 +101,12 @@ impl<'o> Reader<'o> {
     /// `free_words` leaves out. All that was returned, and then these free words, are what
     /// `parse_in_order` returns if it accepts the line.
     ///
-    /// Returns an error if the next word can't be read, the same as `parse_words` returns for the
-    /// line, or `OutOfMemory` if an allocation fails, which only errors need. `unread` is then
+    /// Returns an error if what is next can't be read: the one that `parse_words` returns for a
+    /// line of which this is left, or `OutOfMemory` if it can't be allocated. `unread` is then
     /// unchanged. What was returned before remains valid.
     ///
-    /// Doesn't check how often options occur. To see how an option was typed, look at
-    /// `unread.words[0]` before the call, if `unread.names` is empty.
+    /// Doesn't check how often options occur. If `unread.names` is empty, `unread.words.first()`
+    /// shows, before the call, how an option is typed.
     #[inline]
     pub fn next<'w, S: AsStr>(
         &self,

@@ -62,8 +62,7 @@ abbrev pub with_option : ℕ → Option Text → Asked → Asked
 with_option place value asked = if place == 0 then record asked { format = value }
     else (if place == 1 then record asked { separator = value } else record asked { equal_width = true })
 
--- The last value of an option wins.
--- what is asked for after these options and operands
+-- what is asked for after these options and operands, where an option's last value wins
 abbrev pub asked_after : List Given → Asked → Asked
 asked_after [] asked = asked
 asked_after (option place value ∷ order) asked = asked_after order (with_option place value asked)

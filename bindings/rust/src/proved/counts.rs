@@ -27,7 +27,7 @@ pub(crate) fn check_counts(
 }
 
 /// Checks the counts in order of declaration, by the order of a command line.
-pub(crate) fn check_order(
+pub(crate) fn check_counts_in_order(
     alloc: Global,
     signatures: &Signatures,
     order: &[Given],

@@ -8,10 +8,9 @@ use super::pairs::{FIRST_TEXT, PairEnds, first_at, push_pair, second_at};
 use super::signatures::{FIRST_GROUPS, Signatures};
 use crate::alloc::{AllocError, Global};
 
-/// A declared option, as `Options::get` returns it.
+/// A declared option. Its fields are what was passed to `opt` or a similar method.
 ///
-/// The fields are what was passed to `opt` or a similar method. The Rust crate has no such public
-/// type.
+/// The Rust crate has no such public type.
 #[derive(Debug, Clone, Copy)]
 pub struct OptGroup<'o> {
     /// Its short name, or `""` if it has none.

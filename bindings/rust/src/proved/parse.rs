@@ -3,7 +3,7 @@
 
 use crate::fallible::*;
 
-use super::counts::{check_counts, check_order};
+use super::counts::{check_counts, check_counts_in_order};
 use super::fail::Fail;
 use super::index::Index;
 use super::matches::Matches;
@@ -75,7 +75,7 @@ impl Options {
             table: &table,
         };
         let order = scanner.scan_in_order(alloc, words)?;
-        check_order(alloc, signatures, &order)?;
+        check_counts_in_order(alloc, signatures, &order)?;
         Ok(order)
     }
 

@@ -53,7 +53,7 @@ HaveStarts values records = AllByRecursion (λ stored. IsCharBoundary values (st
 abbrev pub HaveTheirValues : Inside → Type 0
 HaveTheirValues inside = HaveStarts (string_bytes inside.values) inside.records.items
 
--- stands for an occurrence past the last one
+-- a placeholder for what is past the last occurrence
 abbrev pub no_occurrence : Occurrence
 no_occurrence = record { mention = record { place = 0; value = None }; position = 0 }
 

@@ -32,12 +32,12 @@ pub record IsLawfulScanner (scanner : Scanner) : Type 0 where
   pub declared : MayBeDeclared scanner.options.now.groups
   pub table : IsTableOf (names_of scanner.options.now.groups) scanner.table.now
 
--- This is the place and this the kind of an option.
+-- The option has this place and this kind.
 pub record IsResolvedTo (name_place : Option ℕ) (takes : Option HasArg) (option : Resolved) : Type 0 where
   pub place : name_place ≡ Some option.place
   pub kind : takes ≡ Some option.kind
 
--- The word is read in this way.
+-- This shape says how the word is read.
 abbrev pub HasShape : Grammar → Text → Shape → Type 0
 HasShape grammar word shape.Free = is_dashed word ≡ false
 HasShape grammar word shape.Stop = word ≡ stop_word
@@ -107,8 +107,8 @@ order_content order = record { mentions = options_in order; free = frees_in orde
 abbrev pub occurrences_at : ℕ → Given → List Occurrence
 occurrences_at position given = map (at_position position) (options_in (given ∷ []))
 
--- After these items of a line, an option or a free word was read, in a word at this position. These
--- names and words are left.
+-- These names and words are left.
+-- After these items, an option or a free word was read, in a word at this position.
 pub record HasOneMore (grammar : Grammar) (line : List Text) (items : List Item) (position : ℕ)
     (given : Given) (names : Text) (words : List Text) : Type 0 where
   pub all : List Item
@@ -117,7 +117,7 @@ pub record HasOneMore (grammar : Grammar) (line : List Text) (items : List Item)
   pub occurrences : (before : ℕ) → occurrences_after before grammar all
       ≡ occurrences_after before grammar items ++ occurrences_at (before + position) given
 
--- how many words are left, with the cluster's if names of it are left
+-- the number of words left, and one more if names of a cluster are left
 abbrev pub words_left : Text → List Text → ℕ
 words_left [] words = length words
 words_left (byte ∷ names) words = 1 + length words
@@ -126,8 +126,8 @@ words_left (byte ∷ names) words = 1 + length words
 abbrev pub IsNext : Bool → Text → List Text → Type 0
 IsNext more_follow names words = names ≢ [] → more_follow ≡ true → words ≢ []
 
--- An option or a free word was read. `after` words follow the first word of its item. If more words
--- may follow, this is true whatever they are.
+-- If more words may follow, this is true whatever they are.
+-- An option or a free word was read, and `after` words follow the first word of its item.
 pub record ReadsOne (grammar : Grammar) (more_follow : Bool) (after : ℕ) (names : Text) (words : List Text)
     (names_new : Text) (words_new : List Text) (given : Given) : Type 0 where
   pub reads : (line more : List Text) (items : List Item) → (more_follow ≡ false → more ≡ [])

@@ -49,27 +49,27 @@ returns-in_err-order-clause-refused g c =
     refused _ _ _ c.signatures-signatures.ensures.declared c.words_are_texts.ensures.texts
     (returns-in_err-order-clause-same_error g c)
 
-pub returns-in_err-check_order-clause-same_error : goal.returns-in_err-check_order-clause-same_error
+pub returns-in_err-check_counts_in_order-clause-same_error : goal.returns-in_err-check_counts_in_order-clause-same_error
 unfolding accepted_reading
-returns-in_err-check_order-clause-same_error g c =
-    IsOutOfMemoryOr-exit _ c.in_err-check_order.field-0.0 _ _
-    c.from_residual-in_err-check_order.ensures.1
-    (rw (c.signatures-signatures.ensures.signatures, c.deref.ensures.value) at c.in_err-check_order.ensures.err)
+returns-in_err-check_counts_in_order-clause-same_error g c =
+    IsOutOfMemoryOr-exit _ c.in_err-check_counts_in_order.field-0.0 _ _
+    c.from_residual-in_err-check_counts_in_order.ensures.1
+    (rw (c.signatures-signatures.ensures.signatures, c.deref.ensures.value) at c.in_err-check_counts_in_order.ensures.err)
     (λ fault first. rw (order-broken c.args.self.now _ _ c.in_ok-order.ensures.ok fault first) refl)
 
-pub returns-in_err-check_order-clause-result : goal.returns-in_err-check_order-clause-result
+pub returns-in_err-check_counts_in_order-clause-result : goal.returns-in_err-check_counts_in_order-clause-result
 unfolding accepted_reading
-returns-in_err-check_order-clause-result g c = search (rules, returns-in_err-check_order-clause-same_error g c)
+returns-in_err-check_counts_in_order-clause-result g c = search (rules, returns-in_err-check_counts_in_order-clause-same_error g c)
 
-pub returns-in_err-check_order-clause-refused : goal.returns-in_err-check_order-clause-refused
-returns-in_err-check_order-clause-refused g c =
+pub returns-in_err-check_counts_in_order-clause-refused : goal.returns-in_err-check_counts_in_order-clause-refused
+returns-in_err-check_counts_in_order-clause-refused g c =
     refused _ _ _ c.signatures-signatures.ensures.declared c.words_are_texts.ensures.texts
-    (returns-in_err-check_order-clause-same_error g c)
+    (returns-in_err-check_counts_in_order-clause-same_error g c)
 
 pub returns-clause-result : goal.returns-clause-result
 unfolding accepted_reading
 returns-clause-result g c = order-kept c.args.self.now _ _ c.in_ok-order.ensures.ok
-    (rw (c.signatures-signatures.ensures.signatures, c.deref.ensures.value) at c.in_ok-check_order.ensures.ok)
+    (rw (c.signatures-signatures.ensures.signatures, c.deref.ensures.value) at c.in_ok-check_counts_in_order.ensures.ok)
 
 pub returns-clause-order : goal.returns-clause-order
 returns-clause-order g c =

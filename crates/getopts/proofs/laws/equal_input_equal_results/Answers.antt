@@ -1,6 +1,6 @@
 -- Words determine their reading, counts and errors.
 use Rattle.getopts.proofs.canon.OneResult.{only_parse_result, only_canonical_result}
-use Rattle.getopts.proofs.laws.equal_input_equal_answers.Goals as goal
+use Rattle.getopts.proofs.laws.equal_input_equal_results.Goals as goal
 
 pub returns-clause-parse : goal.returns-clause-parse
 returns-clause-parse c options words = only_parse_result options words

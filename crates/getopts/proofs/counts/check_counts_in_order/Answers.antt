@@ -4,7 +4,7 @@ use Rattle.std.proofs.lemmas.List.{get_or_read_under, with_items_is}
 use Rattle.getopts.specs.Accessors.{borrowed_given}
 use Rattle.getopts.specs.Stored.Index.{count_given}
 use Rattle.getopts.proofs.counts.Groups.{first_wrong-kept, first_wrong-broken}
-use Rattle.getopts.proofs.counts.check_order.Goals as goal
+use Rattle.getopts.proofs.counts.check_counts_in_order.Goals as goal
 
 pub loop-place-preserved : goal.loop-place-preserved
 loop-place-preserved c =
