@@ -13,12 +13,11 @@ use std::ops::Range;
 /// Iterates over the options and positional arguments of a command line. [`Options::read`] returns
 /// it.
 ///
-/// Its items are those that [`Options::parse_in_order`] returns or, if a word can't be read, the
-/// items before it and the error, after which there are no more. Words are read when an item is
-/// asked for, so a program may stop anywhere, and use the [`rest`](Self::rest) in another way.
+/// Its items are the options and positional arguments in command-line order or, if a word can't be
+/// read, those before the error, and last the error. Words are read when an item is asked for, so a
+/// program may stop anywhere, and use the [`rest`](Self::rest) in another way.
 ///
 /// [`Options::read`]: crate::Options::read
-/// [`Options::parse_in_order`]: crate::Options::parse_in_order
 ///
 /// ```
 /// use getopts::Given;
@@ -34,7 +33,7 @@ use std::ops::Range;
 ///     }
 /// }
 /// ```
-#[derive(Debug)]
+#[must_use = "iterators are lazy and do nothing unless consumed"]
 pub struct Reader<'o, 'w, S> {
     options: &'o proved::Options,
     proved: proved::Reader<'o>,
@@ -42,7 +41,6 @@ pub struct Reader<'o, 'w, S> {
     state: State,
 }
 
-#[derive(Debug)]
 enum State {
     /// Options may follow.
     Options,
@@ -58,11 +56,11 @@ impl<'o, 'w, S: AsRef<str>> Reader<'o, 'w, S> {
         Reader { options, proved, unread: Unread::new(words), state: State::Options }
     }
 
-    /// The words that weren't read yet, as they were given. After an error, they are the words that
-    /// were left before it.
+    /// The words that weren't read yet, as they were given.
     ///
-    /// If a word combines options, it counts as read when its first option is. Unless more of its
-    /// options are left, the next item begins in the first of these words.
+    /// A word that combines options counts as read when its first option is. An error takes no
+    /// word: after it, the word that couldn't be read is the first of these, unless an option of
+    /// this word was read before.
     ///
     /// ```
     /// let mut options = getopts::Options::new();
@@ -76,8 +74,12 @@ impl<'o, 'w, S: AsRef<str>> Reader<'o, 'w, S> {
         self.unread.words
     }
 
-    /// Takes the next word as it was given, if the closure returns true for it. At the end, or if
-    /// options are left of a word that combines some, returns `None` without calling the closure.
+    /// Takes the next word as it was given, if the closure returns true for it. At the end, and
+    /// between the options of one word, returns `None` without calling the closure.
+    ///
+    /// After an error, the next word is the one that couldn't be read, unless an option of this
+    /// word was read before. A program that passes such words on takes it, and goes on with
+    /// `options.read(reader.rest())`.
     ///
     /// ```
     /// let mut options = getopts::Options::new();
@@ -91,11 +93,12 @@ impl<'o, 'w, S: AsRef<str>> Reader<'o, 'w, S> {
     #[inline]
     pub fn next_word_if(&mut self, take: impl FnOnce(&str) -> bool) -> Option<&'w str> {
         let (word, others) = self.unread.words.split_first()?;
-        if !self.unread.names.is_empty() || !take(word.as_ref()) {
+        let word = word.as_ref();
+        if !self.unread.names.is_empty() || !take(word) {
             return None;
         }
         self.unread.words = others;
-        Some(word.as_ref())
+        Some(word)
     }
 }
 
@@ -127,6 +130,13 @@ impl<'o, 'w, S: AsRef<str>> Iterator for Reader<'o, 'w, S> {
 
 impl<S: AsRef<str>> FusedIterator for Reader<'_, '_, S> {}
 
+impl<S: fmt::Debug> fmt::Debug for Reader<'_, '_, S> {
+    fn fmt(&self, f: &mut fmt::Formatter<'_>) -> fmt::Result {
+        let Unread { names, words } = &self.unread;
+        f.debug_struct("Reader").field("names", names).field("rest", words).finish_non_exhaustive()
+    }
+}
+
 /// Iterates over the positions and values of an option's occurrences. [`Matches::occurrences`]
 /// returns it.
 ///
@@ -140,6 +150,7 @@ impl<S: AsRef<str>> FusedIterator for Reader<'_, '_, S> {}
 /// assert_eq!(folders.len(), 2);
 /// assert_eq!(folders.rev().next(), Some((1, Some("b"))));
 /// ```
+#[must_use = "iterators are lazy and do nothing unless consumed"]
 #[derive(Clone)]
 pub struct Occurrences<'m> {
     held: &'m MatchedOptions,
@@ -205,6 +216,7 @@ impl fmt::Debug for Occurrences<'_> {
 /// let folders: getopts::iter::OsOccurrences = matches.occurrences("L");
 /// assert_eq!(folders.rev().next(), Some((1, Some("b".as_ref()))));
 /// ```
+#[must_use = "iterators are lazy and do nothing unless consumed"]
 #[derive(Clone)]
 pub struct OsOccurrences<'m> {
     texts: Occurrences<'m>,
@@ -272,6 +284,7 @@ impl fmt::Debug for OsOccurrences<'_> {
 /// let matches = options.parse(["-oa", "-ob"]).unwrap();
 /// assert_eq!(matches.values("output").next_back(), Some("b"));
 /// ```
+#[must_use = "iterators are lazy and do nothing unless consumed"]
 #[derive(Clone)]
 pub struct Values<I>(pub(crate) I);
 

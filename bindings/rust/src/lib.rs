@@ -43,8 +43,8 @@ an element of the command line, such as `-ofile`, and a *free word* a positional
 
 If a required option is missing, `parse` rejects even `join --help`. To print help anyway, use
 [`parse_ignoring_counts`](Options::parse_ignoring_counts). If the order of options and positional
-arguments matters, use [`parse_in_order`](Options::parse_in_order) or, to decide while reading how
-to read on, [`read`](Options::read).
+arguments matters, use [`parse_in_order`](Options::parse_in_order), and to decide while reading what
+the next words mean, [`read`](Options::read).
 "
 )]
 //!
@@ -92,7 +92,7 @@ to read on, [`read`](Options::read).
 //!     options.optopt("s", "separator", "print this between the numbers", "TEXT");
 //!     let (mut reader, mut separator, mut numbers) = (options.read(words), " ", Vec::new());
 //!     loop {
-//!         if let Some(number) = reader.next_word_if(|word| word.parse::<f64>().is_ok()) {
+//!         if let Some(number) = reader.next_word_if(|word| word.parse::<i64>().is_ok()) {
 //!             numbers.push(number);
 //!             continue;
 //!         }

@@ -57,9 +57,8 @@ impl fmt::Debug for Options {
     }
 }
 
-/// An option or a positional argument, as [`Options::parse_in_order`] returns them. Texts are
-/// `OsString` if [`parse_os_in_order`](Options::parse_os_in_order) returned it, and `&str` if
-/// [`read`](Options::read) did.
+/// An option or a positional argument, as [`Options::parse_in_order`] returns it. `T` is `OsString`
+/// from [`parse_os_in_order`](Options::parse_os_in_order), and `&str` from [`read`](Options::read).
 ///
 /// ```
 /// use getopts::{Given, Options};

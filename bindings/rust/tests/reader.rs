@@ -100,6 +100,33 @@ fn words_are_taken_as_they_were_given() {
     assert_eq!(reader.next_word_if(|_| unreachable!()), None);
 }
 
+#[test]
+fn reads_on_after_an_error() {
+    let options = ordinary();
+    // The word that couldn't be read, if it is left, and what is read after it.
+    for (line, word, given) in [
+        (&["-x", "-v"][..], Some("-x"), &["-v"][..]),
+        (&["-v", "--nope", "f"], Some("--nope"), &["free f"]),
+        (&["-vx", "-v"], None, &["-v"]),
+        (&["-vC"], None, &[]),
+        (&["-C"], Some("-C"), &[]),
+    ] {
+        let mut reader = options.read(line);
+        assert!(reader.by_ref().any(|given| given.is_err()));
+        assert_eq!(reader.next_word_if(|_| true), word);
+        assert!(reader.next().is_none());
+        assert_eq!(read(&options, reader.rest()), given);
+    }
+}
+
+#[test]
+fn debug_shows_what_is_left() {
+    let options = ordinary();
+    let mut reader = options.read(&["-vC", "a"]);
+    assert!(reader.next().is_some());
+    assert_eq!(format!("{reader:?}"), r#"Reader { names: "C", rest: ["a"], .. }"#);
+}
+
 /// Calls a closure with all lines of up to this many of some words.
 fn for_lines(longest: usize, each: impl Fn(&[&str])) {
     const WORDS: [&str; 13] = [
