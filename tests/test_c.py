@@ -545,7 +545,7 @@ def test_installed_documents(prefix):
 
 
 def test_program_size(prefix, tmp_path):
-    ranges = re.search(r"by (\d+) to\s+(\d+) KB, or by (\d+) to (\d+) KB if you link", PAGE).groups()
+    ranges = re.search(r"by (\d+) to\s+(\d+) KB,\s+or\s+by (\d+) to\s+(\d+) KB if you link", PAGE).groups()
     (tmp_path / "empty.c").write_text("int main(void) { return 0; }\n")
     library = ["-isystem", prefix / "include", prefix / "lib/libgetopts.a"]
 

@@ -134,7 +134,7 @@ def behind():
             if "-" not in (mine, theirs) and int(theirs) < int(mine):
                 rows.append([f"`{job}`", f"`{name}`: {int(mine):,}", f"{peer.replace('Rust crate', 'the original')}: {int(theirs):,}",
                              f"{int(mine) / int(theirs):.2f}"])
-    return table(["job", "this library", "the other", "times as many"], *rows)
+    return table(["job", "ours", "the other", "times as many"], *rows)
 
 
 def in_order():
