@@ -263,7 +263,7 @@ CITED = {"Options::parse_words": ["result", "accepted", "declared"],
          "Options::parse_request": ["result", "accepted", "parsed", "refused", "declared", "laws"],
          "Options::parse_unless": ["result"],
          "Options::parse_in_order": ["result", "order", "declared", "same_error", "refused"],
-         "Reader::next": ["some", "declared", "free", "less", "none", "ended", "err", "next_word"],
+         "Reader::next": ["some", "declared", "less", "none", "ended", "err", "next_word"],
          "Matches::opt_present": ["present"], "Matches::opt_count": ["count"], "Matches::opt_str": ["value"],
          "Matches::opt_strs": ["values"], "Matches::opt_get": ["parsed"], "Matches::opt_get_default": ["parsed"],
          "Options::usage": ["result"]}

@@ -3,7 +3,7 @@
 use crate::alloc::Global;
 use crate::fail::granted;
 use crate::proved::matches::MatchedOptions;
-use crate::proved::{self, Unread, free_words};
+use crate::proved::{self, Unread};
 use crate::{Fail, Given};
 use std::ffi::{OsStr, OsString};
 use std::fmt;
@@ -38,22 +38,14 @@ pub struct Reader<'o, 'w, S> {
     options: &'o proved::Options,
     proved: proved::Reader<'o>,
     unread: Unread<'w, S>,
-    state: State,
-}
-
-enum State {
-    /// Options may follow.
-    Options,
-    /// Only free words follow.
-    Free,
-    /// A word couldn't be read.
-    Failed,
+    /// Whether a word couldn't be read.
+    failed: bool,
 }
 
 impl<'o, 'w, S: AsRef<str>> Reader<'o, 'w, S> {
     pub(crate) fn of(options: &'o proved::Options, words: &'w [S]) -> Reader<'o, 'w, S> {
         let proved = granted(options.reader(Global));
-        Reader { options, proved, unread: Unread::new(words), state: State::Options }
+        Reader { options, proved, unread: Unread::new(words), failed: false }
     }
 
     /// The words that weren't read yet, as they were given.
@@ -107,24 +99,16 @@ impl<'o, 'w, S: AsRef<str>> Iterator for Reader<'o, 'w, S> {
 
     #[inline]
     fn next(&mut self) -> Option<Self::Item> {
-        match self.state {
-            State::Options => match self.proved.next(Global, &mut self.unread) {
-                Ok(Some(given)) => return Some(Ok(Given::of(self.options, given, |text| text))),
-                Ok(None) => {
-                    self.unread.words = free_words(self.unread.words);
-                    self.state = State::Free;
-                }
-                Err(fail) => {
-                    self.state = State::Failed;
-                    return Some(Err(Fail::of(fail)));
-                }
-            },
-            State::Free => {}
-            State::Failed => return None,
+        if self.failed {
+            return None;
         }
-        let (word, others) = self.unread.words.split_first()?;
-        self.unread.words = others;
-        Some(Ok(Given::Free(word.as_ref())))
+        match self.proved.next(Global, &mut self.unread) {
+            Ok(given) => given.map(|given| Ok(Given::of(self.options, given, |text| text))),
+            Err(fail) => {
+                self.failed = true;
+                Some(Err(Fail::of(fail)))
+            }
+        }
     }
 }
 
@@ -132,7 +116,7 @@ impl<S: AsRef<str>> FusedIterator for Reader<'_, '_, S> {}
 
 impl<S: fmt::Debug> fmt::Debug for Reader<'_, '_, S> {
     fn fmt(&self, f: &mut fmt::Formatter<'_>) -> fmt::Result {
-        let Unread { names, words } = &self.unread;
+        let Unread { names, words, .. } = &self.unread;
         f.debug_struct("Reader").field("names", names).field("rest", words).finish_non_exhaustive()
     }
 }

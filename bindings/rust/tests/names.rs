@@ -267,7 +267,7 @@ mod of_the_proved_source {
                 let _ = options.parse_ignoring_counts(Global, &words);
                 let _ = options.canonical_words(Global, &words);
                 let _ = options.parse_in_order(Global, &words);
-                let mut unread = Unread { words: &words, names: "oé" };
+                let mut unread = Unread { names: "oé", ..Unread::new(&words) };
                 while let Ok(Some(_)) = reader.next(Global, &mut unread) {}
                 #[cfg(feature = "std")]
                 getopts::Options::new().read(&words).for_each(drop);

@@ -176,7 +176,7 @@ fn items_are_those_of_parse_in_order() {
 #[cfg(feature = "proved")]
 mod proved {
     use getopts::alloc::Global;
-    use getopts::proved::{Fail, Given, HasArg, Occur, Options, ParsingStyle, Unread, free_words};
+    use getopts::proved::{Fail, Given, HasArg, Occur, Options, ParsingStyle, Unread};
 
     fn options() -> Options {
         let mut options = Options::new(Global);
@@ -206,11 +206,7 @@ mod proved {
             loop {
                 match reader.next(Global, &mut unread) {
                     Ok(Some(given)) => items.push(shown(given)),
-                    Ok(None) => {
-                        let free = free_words(unread.words).iter();
-                        items.extend(free.map(|word| shown(Given::Free(word))));
-                        break;
-                    }
+                    Ok(None) => break,
                     Err(fail) => {
                         items.push(fail.to_string());
                         break;
@@ -235,9 +231,11 @@ mod proved {
         assert!(reader.next(Global, &mut unread).is_err());
         assert_eq!((unread.names, unread.words), ("", &words[2..]));
         unread.words = &unread.words[1..];
+        assert!(!unread.only_free);
+        assert_eq!(reader.next(Global, &mut unread)?, Some(Given::Free("y")));
+        assert!(unread.only_free);
         assert_eq!(reader.next(Global, &mut unread)?, None);
         assert_eq!(reader.next(Global, &mut unread)?, None);
-        assert_eq!(unread.words, ["--", "y"]);
         Ok(())
     }
 
@@ -248,8 +246,26 @@ mod proved {
         let mut unread = Unread::new(&["-v", "run", "-v"]);
         let reader = options.reader(Global)?;
         assert_eq!(reader.next(Global, &mut unread)?.map(shown).as_deref(), Some("-v"));
+        assert_eq!(reader.next(Global, &mut unread)?, Some(Given::Free("run")));
+        assert_eq!((unread.only_free, unread.words), (true, &["-v"][..]));
+        assert_eq!(reader.next(Global, &mut unread)?, Some(Given::Free("-v")));
         assert_eq!(reader.next(Global, &mut unread)?, None);
-        assert_eq!(unread.words, ["run", "-v"]);
+        Ok(())
+    }
+
+    /// A program may end the options itself, as with a negative number.
+    #[test]
+    fn a_program_ends_the_options() -> Result<(), Fail> {
+        let options = options();
+        let reader = options.reader(Global)?;
+        let mut unread = Unread::new(&["-v", "-5", "--", "-v"]);
+        assert_eq!(reader.next(Global, &mut unread)?.map(shown).as_deref(), Some("-v"));
+        assert!(reader.next(Global, &mut unread).is_err());
+        unread.only_free = true;
+        for word in ["-5", "--", "-v"] {
+            assert_eq!(reader.next(Global, &mut unread)?, Some(Given::Free(word)));
+        }
+        assert_eq!(reader.next(Global, &mut unread)?, None);
         Ok(())
     }
 }

@@ -11,6 +11,7 @@ use crate::fail::Fail;
 use crate::index::Index;
 use crate::matches::Matches;
 use crate::options::Options;
+use crate::reader::Unread;
 use crate::scan::{FIRST_ROOM, Given, Line, Scanner, words_are_texts};
 use crate::table::Table;
 use std::alloc::{AllocError, Global};
@@ -137,12 +138,12 @@ impl Options {
     {
         words_are_texts(words);
         let signatures = self.signatures();
-        let table = Table::of(alloc, signatures)?;
-        let scanner = Scanner {
-            options: self,
-            table: &table,
-        };
-        let order = scanner.scan_in_order(alloc, words)?;
+        let reader = self.reader(alloc)?;
+        let mut unread = Unread::new(words);
+        let mut order = Vec::with_capacity(alloc, words.len().min(FIRST_ROOM))?;
+        'items: while let Some(given) = reader.next(alloc, &mut unread)? {
+            order.push(given)?;
+        }
         check_counts_in_order(alloc, signatures, &order)?;
         Ok(order)
     }

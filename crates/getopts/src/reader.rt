@@ -1,18 +1,18 @@
 //! Reading a command line in a loop of the caller's, one option or free word at a time.
 
-ghost use Rattle.std.specs.Prelude.{◌≡◌, ◌<◌, ◌∷◌, ◌++◌, [], Ok, Err, IfOk, IfErr, OnErr, IfSome, IfNone, map};
+ghost use Rattle.std.specs.Prelude.{◌≡◌, ◌<◌, ◌∷◌, ◌++◌, [], Ok, Err, IfOk, IfErr, OnErr, IfSome, IfNone};
+ghost use Rattle.std.specs.Prelude.{false, map, option_to_list, true};
 ghost use Rattle.getopts.specs.Accessors.{borrowed_given};
 ghost use Rattle.getopts.specs.Fail.{IsOutOfMemoryOr};
 ghost use Rattle.getopts.specs.Options.{grammar_of};
 ghost use Rattle.getopts.specs.Parse.{IsDeclared};
-ghost use Rattle.getopts.specs.Reader.{IfFreeWord, IfReadTo, IsNextFault, IsReadTo, left_in, size_of, tail_of};
-ghost use Rattle.getopts.specs.Reading.{free_word, tail_frees};
+ghost use Rattle.getopts.specs.Reader.{IfReadTo, IsNextFault, IsReadTo, left_in, size_of};
+ghost use Rattle.getopts.specs.Reading.{free_word};
 ghost use Rattle.getopts.specs.Results.{order_or_error};
 
 use crate::fail::Fail;
-use crate::kinds::ParsingStyle;
 use crate::options::Options;
-use crate::scan::{Given, Scanner, Steps};
+use crate::scan::{Given, Scanner, Steps, free_words};
 use crate::table::Table;
 use std::alloc::{AllocError, Global};
 use std::convert::AsStr;
@@ -30,6 +30,9 @@ pub struct Unread<'w, S> {
     /// `x`. Otherwise empty. A program may set it to `""`, to skip these options, but to no other
     /// text.
     pub names: &'w str,
+    /// Whether all of `words` are free words: after `--` and, in the style `StopAtFirstFree`, after
+    /// a free word. A program may set it to `true`, to end the options itself.
+    pub only_free: bool,
 }
 
 impl<'w, S> Unread<'w, S> {
@@ -37,8 +40,13 @@ impl<'w, S> Unread<'w, S> {
     pub fn new(words: &'w [S]) -> Unread<'w, S>
         ensures words { result.words.now ≡ words.now }
         ensures names { result.names.now ≡ [] }
+        ensures only_free { result.only_free ≡ false }
     {
-        Unread { words, names: "" }
+        Unread {
+            words,
+            names: "",
+            only_free: false,
+        }
     }
 }
 
@@ -79,7 +87,6 @@ impl Options {
     ///         Given::Free(word) => ..,
     ///     }
     /// }
-    /// for word in free_words(unread.words) { .. }
     /// ```
     pub fn reader(&self, alloc: Global) -> Result<Reader<'_>, AllocError>
         ensures options { IfOk result (λ reader. reader ≡ self.now) }
@@ -95,11 +102,8 @@ impl Options {
 impl<'o> Reader<'o> {
     /// Reads the next option or free word of a command line, and moves `unread` past it.
     ///
-    /// Returns `None` if no option can follow: at the end, at `--` and, in the style
-    /// `StopAtFirstFree`, at a free word. `unread` is then unchanged, so a further call returns
-    /// `None` again. The words that are left are free words, except a first `--`, which
-    /// `free_words` leaves out. All that was returned, and then these free words, are what
-    /// `parse_in_order` returns if it accepts the line.
+    /// Returns `None` at the end, and again if it is called again. Then all that was returned is
+    /// what `parse_in_order` returns if it accepts the line.
     ///
     /// Returns an error if what is next can't be read: the one that `parse_words` returns for a
     /// line of which this is left, or `OutOfMemory` if it can't be allocated. `unread` is then
@@ -107,7 +111,7 @@ impl<'o> Reader<'o> {
     ///
     /// Doesn't check how often options occur. If `unread.names` is empty, `unread.words.first()`
     /// shows, before the call, how an option is typed.
-    #[inline]
+    #[inline(always)]
     pub fn next<'w, S: AsStr>(
         &self,
         alloc: Global,
@@ -122,21 +126,18 @@ impl<'o> Reader<'o> {
         ensures declared { IfOk result (λ given. IfSome given (λ given.
             IfReadTo (grammar_of self.now) (left_in S.text unread.old)
             (λ line before. IsDeclared self.now.groups (borrowed_given given)))) }
-        ensures free { IfOk result (λ given. IfSome given (λ given. IfFreeWord (borrowed_given given)
-            (λ word. (self.now.style ≡ ParsingStyle.FloatingFrees) × (unread.new.names.now ≡ [])
-            × (map S.text unread.old.words.now ≡ word ∷ map S.text unread.new.words.now)))) }
 
         // So a loop ends.
         ensures less { IfOk result (λ given. IfSome given (λ given.
             size_of (left_in S.text unread.new) < size_of (left_in S.text unread.old))) }
-        ensures none { IfOk result (λ given. IfNone given ((unread.old.names.now ≡ [])
-            × (unread.new.words.now ≡ unread.old.words.now) × (unread.new.names.now ≡ []))) }
+        ensures none { IfOk result (λ given. IfNone given
+            ((unread.new.only_free ≡ true) × (unread.new.words.now ≡ []))) }
 
-        // At the end, the line's reading gives what was given, and then the words left.
-        ensures ended { IfOk result (λ given. IfNone given
-            (IfReadTo (grammar_of self.now) (left_in S.text unread.old) (λ line before.
-            order_or_error self.now line ≡ Ok (before
-            ++ map free_word (tail_frees (tail_of (map S.text unread.old.words.now))))))) }
+        // Once only free words are left, the line gives what was given, and then these words.
+        ensures ended { IfOk result (λ given. unread.new.only_free ≡ true
+            → IfReadTo (grammar_of self.now) (left_in S.text unread.old) (λ line before.
+            order_or_error self.now line ≡ Ok (before ++ map borrowed_given (option_to_list given)
+            ++ map free_word (map S.text unread.new.words.now)))) }
         ensures err { IfErr result (λ fail. IsOutOfMemoryOr fail (λ fault.
             IfReadTo (grammar_of self.now) (left_in S.text unread.old) (λ line before.
             order_or_error self.now line ≡ Err fault))) }
@@ -144,19 +145,31 @@ impl<'o> Reader<'o> {
             (IsNextFault (grammar_of self.now) (left_in S.text unread.old))) }
         ensures unchanged { OnErr result (unread.new ≡ unread.old) }
     {
-        let scanner = Scanner {
-            options: self.options,
-            table: &self.table,
-        };
-        let mut steps = Steps {
-            left: unread.words,
-            names: unread.names,
-            after: 0,
-            more_follow: false,
-        };
-        let given = scanner.next(alloc, &mut steps)?;
-        unread.words = steps.left;
-        unread.names = steps.names;
-        Ok(given)
+        if !unread.only_free {
+            let scanner = Scanner {
+                options: self.options,
+                table: &self.table,
+            };
+            let mut steps = Steps {
+                left: unread.words,
+                names: unread.names,
+                after: 0,
+                more_follow: false,
+            };
+            if let Some(given) = scanner.next(alloc, &mut steps)? {
+                unread.words = steps.left;
+                unread.names = steps.names;
+                return Ok(Some(given));
+            }
+            unread.only_free = true;
+            unread.words = free_words(unread.words);
+        }
+        match unread.words.split_first() {
+            Some((word, others)) => {
+                unread.words = others;
+                Ok(Some(Given::Free(word.as_str())))
+            }
+            None => Ok(None),
+        }
     }
 }

@@ -6,7 +6,8 @@ ghost use Rattle.std.specs.Prelude.{map};
 ghost use Rattle.std.specs.String.{string_bytes};
 ghost use Rattle.std.specs.Option.{option_copied};
 ghost use Rattle.getopts.specs.Reading.{Dashes, dash, holds_equals, is_dashed, free_word, tail_frees};
-ghost use Rattle.getopts.specs.Reader.{IsNextFault, tail_of};
+ghost use Rattle.getopts.specs.Reader.{IsNextFault};
+ghost use Rattle.getopts.specs.Stored.Scan.{tail_of};
 ghost use Rattle.getopts.specs.Accessors.{borrowed_given};
 ghost use Rattle.getopts.specs.Fail.{IsOutOfMemoryOr};
 ghost use Rattle.std.specs.Str.{IsUtf8};
@@ -189,25 +190,10 @@ fn push_copies<S: AsStr>(
     Ok(())
 }
 
-/// Appends words as free words.
-fn push_free_words<'w, S: AsStr>(
-    order: &mut Vec<Given<'w>>,
-    words: &'w [S],
-) -> Result<(), AllocError>
-    ensures { OnOk result (map borrowed_given order.new.items
-        ≡ map borrowed_given order.old.items ++ map free_word (map S.text words.now)) }
-{
-    order.reserve(words.len())?;
-    for word in words {
-        order.push(Given::Free(word.as_str()))?;
-    }
-    Ok(())
-}
-
-/// Returns the free words among the words that `Reader::next` leaves when it returns `None`: all of
-/// them, except a first `--`.
-pub fn free_words<S: AsStr>(left: &[S]) -> &[S]
-    ensures words { map S.text result.now ≡ tail_frees (tail_of (map S.text left.now)) }
+/// The free words among the words that `Scanner::next` leaves when it returns `None`: all of them,
+/// except a first `--`.
+pub(crate) fn free_words<S: AsStr>(left: &[S]) -> &[S]
+    ensures { map S.text result.now ≡ tail_frees (tail_of (map S.text left.now)) }
 {
     match left.first() {
         Some(word) if word.as_str() == "--" => &left[1..],
@@ -340,7 +326,7 @@ impl<'o> Scanner<'o> {
     ghost use Rattle.getopts.specs.Step.{long_step, TakesOne, TakesName};
     ghost use Rattle.getopts.specs.Stored.Scan.{scanner_grammar, IsLawfulScanner, IsResolvedTo};
     ghost use Rattle.getopts.specs.Stored.Scan.{HasShape, given_with};
-    ghost use Rattle.getopts.specs.Reading.{order_of_reading};
+    ghost use Rattle.getopts.specs.Reading.{order_of_reading, IsLawfulTail};
     ghost use Rattle.getopts.specs.Results.{made_of, read};
     ghost use Rattle.getopts.specs.Stored.Scan.{IsNext, ReadsOne};
 
@@ -480,13 +466,11 @@ impl<'o> Scanner<'o> {
             × (steps.new.names.now ≡ []))) }
         ensures tail { IfOk result (λ given. IfNone given
             ((steps.old.more_follow ≡ true → 1 < length steps.old.left.now)
-            → let left = map S.text steps.old.left.now in
-            read (scanner_grammar self.now) left
-            ≡ Ok (record { items = []; tail = tail_of left }))) }
+            → IsLawfulTail (scanner_grammar self.now) (tail_of (map S.text steps.old.left.now)))) }
         ensures err { let left = map S.text steps.old.left.now in
             IfErr result (λ fail. IsOutOfMemoryOr fail (λ fault. (more : List Text)
             → (steps.old.more_follow ≡ false → more ≡ []) → IsNextFault (scanner_grammar self.now)
-            (record { names = steps.old.names.now; words = left ++ more }) fault)) }
+            (record { names = steps.old.names.now; words = left ++ more; only_free = false }) fault)) }
     {
         if steps.names.is_empty() {
             let (word, after) = match steps.left.split_first() {
@@ -551,8 +535,7 @@ impl<'o> Scanner<'o> {
             (map S.text left.now ++ more)) }
         ensures within { IfOk result (λ left. length left.now ≤ length words.now) }
         ensures tail { IfOk result (λ left. (more_follow ≡ true → 1 < length left.now)
-            → read (scanner_grammar self.now) (map S.text left.now)
-            ≡ Ok (record { items = []; tail = tail_of (map S.text left.now) })) }
+            → IsLawfulTail (scanner_grammar self.now) (tail_of (map S.text left.now))) }
         ensures err { let grammar = scanner_grammar self.now in
             IfErr result (λ fail. IsOutOfMemoryOr fail
             (λ fault. (more : List Text) → (more_follow ≡ false → more ≡ [])
@@ -574,33 +557,5 @@ impl<'o> Scanner<'o> {
             }
         }
         Ok(steps.left)
-    }
-
-    /// Reads a command line, and returns its options and free words in order.
-    pub(crate) fn scan_in_order<'w, S: AsStr>(
-        &self,
-        alloc: Global,
-        words: &'w [S],
-    ) -> Result<Vec<Given<'w>>, Fail>
-        requires { IsLawfulScanner self.now }
-        ensures ok { let grammar = scanner_grammar self.now in IfOk result (λ order.
-            made_of (order_of_reading grammar) (read grammar (map S.text words.now))
-            ≡ Ok (map borrowed_given order.items)) }
-        ensures err { let grammar = scanner_grammar self.now in
-            IfErr result (λ fail. IsOutOfMemoryOr fail
-            (λ fault. read grammar (map S.text words.now) ≡ Err fault)) }
-    {
-        let mut order = Vec::with_capacity(alloc, words.len().min(FIRST_ROOM))?;
-        let mut steps = Steps {
-            left: words,
-            names: "",
-            after: 0,
-            more_follow: false,
-        };
-        'items: while let Some(given) = self.next(alloc, &mut steps)? {
-            order.push(given)?;
-        }
-        push_free_words(&mut order, free_words(steps.left))?;
-        Ok(order)
     }
 }

@@ -6,7 +6,7 @@ ghost use Rattle.getopts.specs.Accessors.{IsDefined};
 
 use crate::input::{Input, Named};
 use crate::trouble::Trouble;
-use getopts::{Fail, Given, Matches, Occurrences, Options, Unread, free_words};
+use getopts::{Fail, Given, Matches, Occurrences, Options, Unread};
 use std::alloc::{AllocError, Global};
 use std::convert::AsStr;
 
@@ -232,8 +232,7 @@ fn taken_in_a_loop<S: AsStr>(alloc: Global, options: &Options, words: &[S]) -> R
     while let Some(given) = reader.next(alloc, &mut unread)? {
         sum = sum.wrapping_add(length_of(given));
     }
-    let rest = free_words(unread.words).iter();
-    Ok(sum.wrapping_add(sum_of(rest.map(|word| word.as_str().len()))))
+    Ok(sum)
 }
 
 /// 1 for an option, and the length of its value; the length of a free word.

@@ -1,5 +1,5 @@
 -- A program that runs another: its options, and what a command line asks for.
-use Rattle.std.specs.Prelude.{◌≡◌, ◌≢◌, ◌++◌, List, [], ◌∷◌, codes, map, Ok, Option}
+use Rattle.std.specs.Prelude.{◌≡◌, ◌≢◌, ◌++◌, List, [], ◌∷◌, codes, map, Ok, Option, Some, None}
 use Rattle.std.specs.List.{AllByRecursion}
 use Rattle.getopts.specs.Options.{Grammar, grammar_of}
 use Rattle.getopts.specs.Prelude.{Declared, Fault, Given, IsNextFault, IsReadTo, Text}
@@ -9,6 +9,7 @@ use Rattle.getopts.specs.Reader.{Left}
 use Rattle.getopts.specs.declared.kinds.ParsingStyle.TheVariants.{StopAtFirstFree}
 use Rattle.getopts.specs.declared.request.Request.{Request}
 use Rattle.getopts.specs.declared.request.Request.TheVariants.{Help, Parsed, Version}
+use Rattle.getopts_uses.specs.declared.launcher.Command.{Command}
 use Rattle.getopts_uses.specs.declared.launcher.Launch.{Launch}
 
 -- variables to unset, whether to begin without any, and help; options precede the command
@@ -27,13 +28,18 @@ abbrev pub IsOther : Given → Type 0
 IsOther (option place value) = place ≢ 2
 IsOther (free_word word) = ⊥
 
+-- the words of a command, if there is one
+abbrev pub command_words : {S : Type 0} → (S → Text) → Option (Command S) → List Text
+command_words text None = []
+command_words text (Some command) = command.program.now ∷ map text command.words.now
+
 -- This is what a command line asks for: help, if no error precedes it, or else to run a command.
 abbrev pub IsAsked : {S : Type 0} → (S → Text) → List Text → Request (Launch S) → Type 0
 IsAsked text line Help = (others : List Given) × (value : Option Text) × (left : Left)
     × AllByRecursion IsOther others × IsReadTo launch_grammar line (others ++ option 2 value ∷ []) left
 IsAsked text line (Parsed launch) = AllByRecursion IsOther (map borrowed_given launch.options.items)
     × (order_or_error launch_options line
-    ≡ Ok (map borrowed_given launch.options.items ++ map free_word (map text launch.command.now)))
+    ≡ Ok (map borrowed_given launch.options.items ++ map free_word (command_words text launch.command)))
 IsAsked text line Version = ⊥
 
 -- This is the error of a command line, and no help precedes it.

@@ -5,7 +5,7 @@ use Rattle.std.specs.List.{slice_get, slice_index}
 use Rattle.std.specs.Option.{option_copied}
 use Rattle.getopts.specs.Options.{Grammar, grammar_of}
 use Rattle.getopts.specs.Prelude.{Declared, Fault, Given, IsNextFault, IsReadTo, Text, free_word}
-use Rattle.getopts.specs.Prelude.{optflagmulti, option, options_of, optmulti, order_or_error}
+use Rattle.getopts.specs.Prelude.{optflagmulti, option, options_of, optmulti, order_or_error, texts}
 use Rattle.getopts.specs.Reader.{Left}
 use Rattle.getopts.specs.declared.kinds.ParsingStyle.TheVariants.{StopAtFirstFree}
 use Rattle.getopts_uses.specs.declared.seq.Seq.{Seq}
@@ -32,7 +32,7 @@ is_at_number left = (length left.names == 0) && is_negative (unwrap_or (slice_ge
 
 -- The options and operands of a command line, in order, or its error.
 pub data IsLine (line : List Text) : Result (List Given) Fault → Type 0 where
-  -- a negative number is where an option could begin: with it, the operands begin
+  -- a negative number is next: it and the words after it are operands
   negative : (given : List Given) (left : Left) → IsReadTo seq_grammar line given left
       → is_at_number left ≡ true → IsLine line (Ok (given ++ map free_word left.words))
   -- no word is an error
@@ -49,12 +49,12 @@ pub record Asked : Type 0 where
   pub operands : List Text
 
 -- what it asks for, as it is stored
-abbrev pub asked_view : {S : Type 0} → (S → Text) → Seq S → Asked
-asked_view text seq = record {
+abbrev pub asked_view : Seq → Asked
+asked_view seq = record {
   format = option_copied seq.format;
   separator = option_copied seq.separator;
   equal_width = seq.equal_width;
-  operands = map text seq.operands.now;
+  operands = texts seq.operands.items;
 }
 
 -- what is asked for after the option at a place, with its value
@@ -75,6 +75,6 @@ asked_by order =
     asked_after order (record { format = None; separator = None; equal_width = false; operands = [] })
 
 -- A command line asks for this.
-abbrev pub AsksFor : {S : Type 0} → (S → Text) → List Text → Seq S → Type 0
-AsksFor text line seq =
-    (order : List Given) × IsLine line (Ok order) × (asked_view text seq ≡ asked_by order)
+abbrev pub AsksFor : List Text → Seq → Type 0
+AsksFor line seq =
+    (order : List Given) × IsLine line (Ok order) × (asked_view seq ≡ asked_by order)

@@ -5,7 +5,7 @@ ghost use Rattle.std.specs.Prelude.{◌≡◌, IfOk, map};
 ghost use Rattle.getopts.specs.Parse.{ReturnsConverted};
 ghost use Rattle.getopts_uses.specs.Archive.{archive_options, entries_of, entry_view};
 
-use getopts::{Fail, Given, Options, Unread, free_words};
+use getopts::{Fail, Given, Options, Unread};
 use std::alloc::{AllocError, Global};
 use std::convert::AsStr;
 
@@ -40,12 +40,6 @@ pub fn read_entries<'w, S: AsStr>(alloc: Global, words: &'w [S]) -> Result<Vec<E
             Given::Option { value, .. } => folder = value,
             Given::Free(file) => entries.push(Entry { folder, file })?,
         }
-    }
-    for word in free_words(unread.words) {
-        entries.push(Entry {
-            folder,
-            file: word.as_str(),
-        })?;
     }
     Ok(entries)
 }

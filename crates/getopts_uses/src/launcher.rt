@@ -6,7 +6,7 @@ ghost use Rattle.std.specs.Prelude.{◌≡◌, IfErr, IfOk, map};
 ghost use Rattle.getopts.specs.Prelude.{IsOutOfMemoryOr};
 ghost use Rattle.getopts_uses.specs.Launcher.{IsAsked, IsRefusedFor, launch_options};
 
-use getopts::{Fail, Given, Options, ParsingStyle, Request, Unread, free_words};
+use getopts::{Fail, Given, Options, ParsingStyle, Request, Unread};
 use std::alloc::{AllocError, Global};
 use std::convert::AsStr;
 
@@ -14,8 +14,14 @@ use std::convert::AsStr;
 #[derive(Debug, Drop)]
 pub struct Launch<'w, S> {
     pub options: Vec<Given<'w>>,
-    /// The command and its own words, as they were typed.
-    pub command: &'w [S],
+    pub command: Option<Command<'w, S>>,
+}
+
+/// A program, and its words as they were typed.
+#[derive(Debug, Drop)]
+pub struct Command<'w, S> {
+    pub program: &'w str,
+    pub words: &'w [S],
 }
 
 /// The place of the option `help`.
@@ -50,12 +56,19 @@ pub fn read_launch<'w, S: AsStr>(
         match given {
             Given::Option { place: HELP, .. } => return Ok(Request::Help),
             Given::Option { .. } => read.push(given)?,
-            // A free word ends the options.
-            Given::Free(_) => unreachable!(),
+            Given::Free(program) => {
+                return Ok(Request::Parsed(Launch {
+                    options: read,
+                    command: Some(Command {
+                        program,
+                        words: unread.words,
+                    }),
+                }));
+            }
         }
     }
     Ok(Request::Parsed(Launch {
         options: read,
-        command: free_words(unread.words),
+        command: None,
     }))
 }

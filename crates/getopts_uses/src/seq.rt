@@ -1,22 +1,23 @@
 //! Negative numbers as operands, as in `seq -5 5`. If an option is repeated, its last value wins.
 
-ghost use Rattle.std.specs.Prelude.{◌≡◌, [], ◌∷◌, codes, map, Err, IfErr, IfOk, Ok, Some, None};
+ghost use Rattle.std.specs.Prelude.{◌≡◌, [], ◌∷◌, ◌++◌, codes, map, Err, IfErr, IfOk, OnOk, Ok, Some, None};
 ghost use Rattle.std.specs.Option.{option_copied};
-ghost use Rattle.getopts.specs.Prelude.{IsOutOfMemoryOr, free_word, left_in, option, unrecognized_option};
+ghost use Rattle.getopts.specs.Prelude.{IsOutOfMemoryOr, free_word, left_in, option, texts};
+ghost use Rattle.getopts.specs.Prelude.{unrecognized_option};
 ghost use Rattle.getopts_uses.specs.Seq.{AsksFor, IsLine, asked_view, is_at_number, is_negative};
 ghost use Rattle.getopts_uses.specs.Seq.{seq_options, with_option};
 
-use getopts::{Fail, Given, Options, ParsingStyle, Unread, free_words};
+use getopts::{Fail, Given, Options, ParsingStyle, Unread};
 use std::alloc::{AllocError, Global};
 use std::convert::AsStr;
 
 /// How to print numbers, and the operands that say which numbers.
 #[derive(Debug, Drop)]
-pub struct Seq<'w, S> {
+pub struct Seq<'w> {
     pub format: Option<&'w str>,
     pub separator: Option<&'w str>,
     pub equal_width: bool,
-    pub operands: &'w [S],
+    pub operands: Vec<&'w str>,
 }
 
 /// The place of the option `format`.
@@ -51,8 +52,8 @@ fn lines_written_out()
 {}
 
 /// What a command line asks for.
-pub fn read_seq<'w, S: AsStr>(alloc: Global, words: &'w [S]) -> Result<Seq<'w, S>, Fail>
-    ensures seq { IfOk result (AsksFor S.text (map S.text words.now)) }
+pub fn read_seq<'w, S: AsStr>(alloc: Global, words: &'w [S]) -> Result<Seq<'w>, Fail>
+    ensures seq { IfOk result (AsksFor (map S.text words.now)) }
     ensures err { IfErr result (λ fail. IsOutOfMemoryOr fail
         (λ fault. IsLine (map S.text words.now) (Err fault))) }
 {
@@ -63,27 +64,34 @@ pub fn read_seq<'w, S: AsStr>(alloc: Global, words: &'w [S]) -> Result<Seq<'w, S
         format: None,
         separator: None,
         equal_width: false,
-        operands: words,
+        operands: Vec::new(alloc),
     };
     while !is_at_number(&unread) {
         match reader.next(alloc, &mut unread)? {
             Some(Given::Option { place, value }) => set_option(&mut seq, place, value),
-            // A free word ends the options.
-            Some(Given::Free(_)) => unreachable!(),
-            None => {
-                seq.operands = free_words(unread.words);
-                return Ok(seq);
-            }
+            Some(Given::Free(word)) => seq.operands.push(word)?,
+            None => return Ok(seq),
         }
     }
-    seq.operands = unread.words;
+    push_words(&mut seq.operands, unread.words)?;
     Ok(seq)
 }
 
+/// Appends words.
+fn push_words<'w, S: AsStr>(operands: &mut Vec<&'w str>, words: &'w [S]) -> Result<(), AllocError>
+    ensures { OnOk result
+        (texts operands.new.items ≡ texts operands.old.items ++ map S.text words.now) }
+{
+    for word in words {
+        operands.push(word.as_str())?;
+    }
+    Ok(())
+}
+
 /// Notes the option at a place, and its value.
-fn set_option<'w, S: AsStr>(seq: &mut Seq<'w, S>, place: usize, value: Option<&'w str>)
-    ensures { asked_view S.text seq.new
-        ≡ with_option place (option_copied value.entry) (asked_view S.text seq.old) }
+fn set_option<'w>(seq: &mut Seq<'w>, place: usize, value: Option<&'w str>)
+    ensures { asked_view seq.new
+        ≡ with_option place (option_copied value.entry) (asked_view seq.old) }
 {
     match place {
         FORMAT => seq.format = value,

@@ -57,7 +57,7 @@ pub use occurrences::{Occurrences, OccurrencesIter};
 pub use options::Options;
 pub use reader::{Reader, Unread};
 pub use request::Request;
-pub use scan::{Given, free_words};
+pub use scan::Given;
 pub use usage::UsageRows;
 
 /// What `parse` returns: the matches of an accepted command line, or why it was rejected.

@@ -8,6 +8,7 @@ use super::fail::Fail;
 use super::index::Index;
 use super::matches::Matches;
 use super::options::Options;
+use super::reader::Unread;
 use super::scan::{FIRST_ROOM, Given, Line, Scanner};
 use super::table::Table;
 use crate::alloc::{AllocError, Global};
@@ -69,12 +70,12 @@ impl Options {
         words: &'w [S],
     ) -> Result<Vec<Given<'w>>, Fail> {
         let signatures = self.signatures();
-        let table = Table::of(alloc, signatures)?;
-        let scanner = Scanner {
-            options: self,
-            table: &table,
-        };
-        let order = scanner.scan_in_order(alloc, words)?;
+        let reader = self.reader(alloc)?;
+        let mut unread = Unread::new(words);
+        let mut order = Vec::of_capacity(alloc, words.len().min(FIRST_ROOM))?;
+        'items: while let Some(given) = reader.next(alloc, &mut unread)? {
+            order.try_push(given)?;
+        }
         check_counts_in_order(alloc, signatures, &order)?;
         Ok(order)
     }

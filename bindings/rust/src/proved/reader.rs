@@ -2,9 +2,8 @@
 //! Reading a command line in a loop of the caller's, one option or free word at a time.
 
 use super::fail::Fail;
-use super::kinds::ParsingStyle;
 use super::options::Options;
-use super::scan::{Given, Scanner, Steps};
+use super::scan::{Given, Scanner, Steps, free_words};
 use super::table::Table;
 use crate::alloc::{AllocError, Global};
 use crate::convert::AsStr;
@@ -21,12 +20,19 @@ pub struct Unread<'w, S> {
     /// `x`. Otherwise empty. A program may set it to `""`, to skip these options, but to no other
     /// text.
     pub names: &'w str,
+    /// Whether all of `words` are free words: after `--` and, in the style `StopAtFirstFree`, after
+    /// a free word. A program may set it to `true`, to end the options itself.
+    pub only_free: bool,
 }
 
 impl<'w, S> Unread<'w, S> {
     /// All words of a command line, given without the program's own name.
     pub fn new(words: &'w [S]) -> Unread<'w, S> {
-        Unread { words, names: "" }
+        Unread {
+            words,
+            names: "",
+            only_free: false,
+        }
     }
 }
 
@@ -55,7 +61,6 @@ impl Options {
     ///         Given::Free(word) => ..,
     ///     }
     /// }
-    /// for word in free_words(unread.words) { .. }
     /// ```
     pub fn reader(&self, alloc: Global) -> Result<Reader<'_>, AllocError> {
         let table = Table::of(alloc, self.signatures())?;
@@ -69,11 +74,8 @@ impl Options {
 impl<'o> Reader<'o> {
     /// Reads the next option or free word of a command line, and moves `unread` past it.
     ///
-    /// Returns `None` if no option can follow: at the end, at `--` and, in the style
-    /// `StopAtFirstFree`, at a free word. `unread` is then unchanged, so a further call returns
-    /// `None` again. The words that are left are free words, except a first `--`, which
-    /// `free_words` leaves out. All that was returned, and then these free words, are what
-    /// `parse_in_order` returns if it accepts the line.
+    /// Returns `None` at the end, and again if it is called again. Then all that was returned is
+    /// what `parse_in_order` returns if it accepts the line.
     ///
     /// Returns an error if what is next can't be read: the one that `parse_words` returns for a
     /// line of which this is left, or `OutOfMemory` if it can't be allocated. `unread` is then
@@ -81,25 +83,37 @@ impl<'o> Reader<'o> {
     ///
     /// Doesn't check how often options occur. If `unread.names` is empty, `unread.words.first()`
     /// shows, before the call, how an option is typed.
-    #[inline]
+    #[inline(always)]
     pub fn next<'w, S: AsStr>(
         &self,
         alloc: Global,
         unread: &mut Unread<'w, S>,
     ) -> Result<Option<Given<'w>>, Fail> {
-        let scanner = Scanner {
-            options: self.options,
-            table: &self.table,
-        };
-        let mut steps = Steps {
-            left: unread.words,
-            names: unread.names,
-            after: 0,
-            more_follow: false,
-        };
-        let given = scanner.next(alloc, &mut steps)?;
-        unread.words = steps.left;
-        unread.names = steps.names;
-        Ok(given)
+        if !unread.only_free {
+            let scanner = Scanner {
+                options: self.options,
+                table: &self.table,
+            };
+            let mut steps = Steps {
+                left: unread.words,
+                names: unread.names,
+                after: 0,
+                more_follow: false,
+            };
+            if let Some(given) = scanner.next(alloc, &mut steps)? {
+                unread.words = steps.left;
+                unread.names = steps.names;
+                return Ok(Some(given));
+            }
+            unread.only_free = true;
+            unread.words = free_words(unread.words);
+        }
+        match unread.words.split_first() {
+            Some((word, others)) => {
+                unread.words = others;
+                Ok(Some(Given::Free(word.as_str())))
+            }
+            None => Ok(None),
+        }
     }
 }

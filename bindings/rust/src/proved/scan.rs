@@ -150,21 +150,9 @@ fn push_copies<S: AsStr>(
     Ok(())
 }
 
-/// Appends words as free words.
-fn push_free_words<'w, S: AsStr>(
-    order: &mut Vec<Given<'w>>,
-    words: &'w [S],
-) -> Result<(), AllocError> {
-    order.try_grow(words.len())?;
-    for word in words {
-        order.try_push(Given::Free(word.as_str()))?;
-    }
-    Ok(())
-}
-
-/// Returns the free words among the words that `Reader::next` leaves when it returns `None`: all of
-/// them, except a first `--`.
-pub fn free_words<S: AsStr>(left: &[S]) -> &[S] {
+/// The free words among the words that `Scanner::next` leaves when it returns `None`: all of them,
+/// except a first `--`.
+pub(crate) fn free_words<S: AsStr>(left: &[S]) -> &[S] {
     match left.first() {
         Some(word) if word.as_str() == "--" => &left[1..],
         _ => left,
@@ -435,25 +423,5 @@ impl<'o> Scanner<'o> {
             }
         }
         Ok(steps.left)
-    }
-
-    /// Reads a command line, and returns its options and free words in order.
-    pub(crate) fn scan_in_order<'w, S: AsStr>(
-        &self,
-        alloc: Global,
-        words: &'w [S],
-    ) -> Result<Vec<Given<'w>>, Fail> {
-        let mut order = Vec::of_capacity(alloc, words.len().min(FIRST_ROOM))?;
-        let mut steps = Steps {
-            left: words,
-            names: "",
-            after: 0,
-            more_follow: false,
-        };
-        'items: while let Some(given) = self.next(alloc, &mut steps)? {
-            order.try_push(given)?;
-        }
-        push_free_words(&mut order, free_words(steps.left))?;
-        Ok(order)
     }
 }

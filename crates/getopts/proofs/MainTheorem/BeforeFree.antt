@@ -21,7 +21,7 @@ cut_tail (stop words) = stop []
 cut_tail tail = line_end
 
 -- under `StopAtFirstFree` no item is free
-no_free_items : (grammar : Grammar) → grammar.style ≡ StopAtFirstFree → (items : List Item)
+pub no_free_items : (grammar : Grammar) → grammar.style ≡ StopAtFirstFree → (items : List Item)
     → AllByRecursion (IsLawfulItem grammar) items → free_items items ≡ []
 no_free_items grammar style [] lawful = refl
 no_free_items grammar style (free word ∷ items) lawful = search rules

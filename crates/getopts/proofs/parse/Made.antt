@@ -44,6 +44,11 @@ with_counts_kept-order : (options : Declared) {result : Result Reading Fault}
 with_counts_kept-order options reading order fault result_is order_is first =
     search (rules, first_wrong-counts, count_given-order)
 
+-- an error that is made of a result is the result's
+pub made_of-err : {X : Type 0} (make : Reading → X) (result : Result Reading Fault) (fault : Fault)
+    → made_of make result ≡ Err fault → result ≡ Err fault
+made_of-err make result fault same = search rules
+
 -- An order was made of the result.
 module _ (options : Declared) (result : Result Reading Fault) (order : List Given)
     (made : made_of (order_of_reading (grammar_of options)) result ≡ Ok order) where

@@ -1,21 +1,20 @@
 -- A line that was read up to a place: what it has so far, one more item, and all ways in which it
 -- ends.
 use Rattle.std.proofs.Common.{Err, ◌≡◌, ℕ, List, [], ◌∷◌, ◌++◌, rules}
-use Rattle.std.proofs.Common.{false, Ok}
+use Rattle.std.proofs.Common.{false, Ok, refl}
 use Rattle.getopts.specs.Names.{Text}
 use Rattle.getopts.specs.Options.{Grammar}
 use Rattle.getopts.specs.Fail.{Fault}
 use Rattle.getopts.specs.Reading as Spec
 use Rattle.std.specs.Str.{bytes_eq}
-use Rattle.getopts.specs.Reader.{tail_of}
 use Rattle.getopts.specs.Results.{made_of}
 use Rattle.getopts.specs.Step.{long_step, cluster_step, IsInLongForm}
-use Rattle.getopts.specs.Stored.Scan.{with_tail, with_reading, given_with, GivesLine, parts_of}
+use Rattle.getopts.specs.Stored.Scan.{with_tail, with_reading, given_with, GivesLine, parts_of, tail_of}
 use Rattle.getopts.specs.declared.scan.Line.{Line}
 use Rattle.getopts.specs.declared.kinds.ParsingStyle.TheVariants.{StopAtFirstFree}
-use Rattle.getopts.proofs.Reading.Reader.{step, read}
-use Rattle.getopts.proofs.Reading.Readings.{read_step}
-use Rattle.getopts.proofs.Reading.Steps.{step_free, step_long, step_stop}
+use Rattle.getopts.proofs.Reading.Reader.{HasTextNames, step, read}
+use Rattle.getopts.proofs.Reading.Readings.{reading_read}
+use Rattle.getopts.proofs.Reading.Steps.{step_long}
 
 -- Only the next word may be an option's argument. If there is none, this is the last word.
 module _ (grammar : Grammar) (after more : List Text) (enough : after ≡ [] → more ≡ []) where
@@ -38,14 +37,24 @@ plain-stop word plain = search rules
 module _ (grammar : Grammar) (words : List Text) (word : Text) (after : List Text)
     (left : words ≡ word ∷ after) where
   -- the rest, from a free word on
-  pub read-rest : Spec.is_dashed word ≡ false → grammar.style ≡ StopAtFirstFree
-      → read grammar words ≡ Ok (record { items = []; tail = tail_of words })
-  read-rest plain stops = search (rules, read_step, step_free, plain-stop word plain)
+  pub IsLawfulTail-rest : Spec.is_dashed word ≡ false → grammar.style ≡ StopAtFirstFree
+      → Spec.IsLawfulTail grammar (tail_of words)
+  IsLawfulTail-rest plain stops = search (rules, plain-stop word plain)
 
   -- the stop, and the words after it
-  pub read-stop : word ≡ Spec.stop_word
-      → read grammar words ≡ Ok (record { items = []; tail = tail_of words })
-  read-stop stops = search (rules, read_step, step_stop)
+  pub IsLawfulTail-stop : word ≡ Spec.stop_word → Spec.IsLawfulTail grammar (tail_of words)
+  IsLawfulTail-stop stops = search rules
+
+-- a tail spells its words
+pub tail_words-tail_of : (words : List Text) → Spec.tail_words (tail_of words) ≡ words
+tail_words-tail_of [] = refl
+tail_words-tail_of (word ∷ after) = search rules
+
+-- what is read of a tail
+pub read-tail : {grammar : Grammar} → HasTextNames grammar → (words : List Text)
+    → Spec.IsLawfulTail grammar (tail_of words) → read grammar words ≡ Ok (record { items = []; tail = tail_of words })
+read-tail {grammar} named words lawful = reading_read grammar named (record { items = []; tail = tail_of words }) words
+    (record { spells = tail_words-tail_of words; items = tt; tail = lawful; followed = tt })
 
 -- A command line whose last words were read up to a tail.
 module _ (grammar : Grammar) (whole words : List Text) (before : ℕ) (line : Line)

@@ -3,7 +3,7 @@
 use Rattle.std.proofs.Common.{Err, ◌≡◌, ◌≢◌, ◌+◌, ◌-◌, ◌<◌, ◌≤◌, ℕ, List, [], ◌∷◌, ◌++◌, length, rules, drop, refl}
 use Rattle.std.proofs.Common.{◌∙◌, ap, sym, Ok, Option, Some, None, arith, ◌==◌, Bool, true, false, map, append_assoc}
 use Rattle.std.proofs.Common.{slice_index, slice_range, length-append}
-use Rattle.std.proofs.lemmas.Bool.{false_from_ne_true}
+use Rattle.std.proofs.lemmas.Bool.{false_from_ne_true, false≢true}
 use Rattle.std.proofs.lemmas.List.{append-nil, map-append}
 use Rattle.std.proofs.Math.Seq.{drop-append_seam}
 use Rattle.std.proofs.Permutation.{every_append}
@@ -15,22 +15,23 @@ use Rattle.getopts.specs.Fail.{Fault, unrecognized_option}
 use Rattle.getopts.specs.Reading as Spec
 use Rattle.getopts.specs.Reading.{spelled_all}
 use Rattle.getopts.specs.Reader.{AreRead, AreReadTo, IsReadTo, Left, between_words, within_word, words_size}
+use Rattle.getopts.specs.Reader.{among_frees, among_options}
 use Rattle.getopts.specs.Reader.{IsNextFault, in_next, in_this}
 use Rattle.getopts.specs.Results.{made_of}
 use Rattle.getopts.specs.Step.{takes, faults, byte_step, cluster_step, TakesOne, TakesName, takes_last, takes_flag}
 use Rattle.getopts.specs.Step.{chosen_end, chosen_step, first_char, Chooses, long_step, IsInLongForm, IsShortForm}
-use Rattle.getopts.specs.Stored.Scan.{HasOneMore, ReadsOne, words_left}
+use Rattle.getopts.specs.Stored.Scan.{HasOneMore, ReadsOne, tail_of, words_left}
 use Rattle.getopts.specs.declared.kinds.HasArg.{HasArg}
 use Rattle.getopts.specs.declared.kinds.HasArg.TheVariants.{No}
 use Rattle.getopts.specs.declared.kinds.ParsingStyle.TheVariants.{FloatingFrees}
 use Rattle.getopts.proofs.Lists.{filled-append}
 use Rattle.getopts.proofs.Reading.Reader.{HasTextNames, step, read}
-use Rattle.getopts.proofs.Reading.Readings.{read_step, items_read, spelled_all-joined}
+use Rattle.getopts.proofs.Reading.Readings.{reading_read, read_step, items_read, spelled_all-joined}
 use Rattle.getopts.proofs.Reading.Positions.{order_of_items-append, occurrences_after-append, length-spelled_all}
 use Rattle.getopts.proofs.Reading.Positions.{options_in-append, options_in-options, options_in-given_by}
 use Rattle.getopts.proofs.Reading.Steps as Steps
 use Rattle.getopts.proofs.Reading.Texts as Texts
-use Rattle.getopts.proofs.scan.Loop.{cluster_step-more, step_long-more}
+use Rattle.getopts.proofs.scan.Loop.{cluster_step-more, step_long-more, tail_words-tail_of}
 
 -- what a dashed item gives
 given_by-dashed : (grammar : Grammar) (item : Spec.Item) → Spec.free_items (item ∷ []) ≡ []
@@ -310,7 +311,6 @@ module _ {grammar : Grammar} (named : HasTextNames grammar) (more_follow : Bool)
           ap words_size chooses.after_is,
           words_size-left (Spec.argument_words chooses.argument) left,
         );
-        free = tt;
         next = λ filled. absurd (filled refl);
       })
   ReadsOne-name names inside begins less {place} {value} {names_left}
@@ -319,7 +319,6 @@ module _ {grammar : Grammar} (named : HasTextNames grammar) (more_follow : Bool)
             names_left flag place_is (rw names_are at inside line more items read_to);
         begins = begins;
         less = omega (arith, less, ap length names_are);
-        free = tt;
         next = λ filled. few;
       })
 
@@ -333,7 +332,6 @@ module _ {grammar : Grammar} (named : HasTextNames grammar) (more_follow : Bool)
           (Spec.free word) Spec.none (Steps.step_free grammar word (words ++ more) plain ∙ rw floating refl) refl refl read_to;
       begins = search rules;
       less = omega arith;
-      free = (floating, refl, refl);
       next = λ filled. absurd (filled refl);
     }
 
@@ -350,7 +348,6 @@ module _ {grammar : Grammar} (named : HasTextNames grammar) (more_follow : Bool)
           (given_by-dashed grammar takes_one.item takes_one.no_free ∙ rw takes_one.mentioned refl) read_to;
       begins = search rules;
       less = rw takes_one.after_is (omega (arith, words_size-left (Spec.argument_words takes_one.argument) left));
-      free = tt;
       next = λ filled. absurd (filled refl);
     }
 
@@ -375,10 +372,10 @@ module _ {grammar : Grammar} (named : HasTextNames grammar) (more_follow : Bool)
   module _ (fault : Fault) (more : List Text) (may : more_follow ≡ false → more ≡ []) where
     pub IsNextFault-long : (dashes : Spec.Dashes) (word long : Text) → IsInLongForm grammar dashes word long → IsUtf8 word
         → long_step grammar dashes long words ≡ faults fault
-        → IsNextFault grammar (record { names = []; words = word ∷ (words ++ more) }) fault
+        → IsNextFault grammar (record { names = []; words = word ∷ (words ++ more); only_free = false }) fault
     IsNextFault-long dashes word long form utf8 fails =
         let is = step_long-more grammar words more (enough more may) dashes word long form ∙ fails in
-        in_next word (words ++ more) refl refl ((rw is at (Steps.step_sound grammar named word (words ++ more))) utf8)
+        in_next word (words ++ more) refl refl refl ((rw is at (Steps.step_sound grammar named word (words ++ more))) utf8)
 
     module _ (names : Text) (utf8 : IsUtf8 names) (fails : (bytes : List ℕ) → cluster_step grammar bytes names words ≡ faults fault)
         (filled : names ≢ []) where
@@ -392,35 +389,81 @@ module _ {grammar : Grammar} (named : HasTextNames grammar) (more_follow : Bool)
           (has.bytes ++ names) (omega arith) (IsUtf8-flags named has.bytes names has.each utf8)))
 
       pub IsNextFault-short : (word : Text) → IsShortForm grammar word names
-          → IsNextFault grammar (record { names = []; words = word ∷ (words ++ more) }) fault
-      IsNextFault-short word form = in_next word (words ++ more) refl refl (IsFaultAt-names word (unflagged form))
+          → IsNextFault grammar (record { names = []; words = word ∷ (words ++ more); only_free = false }) fault
+      IsNextFault-short word form = in_next word (words ++ more) refl refl refl (IsFaultAt-names word (unflagged form))
 
-      pub IsNextFault-within : IsNextFault grammar (record { names = names; words = words ++ more }) fault
-      IsNextFault-within = in_this filled IsFaultAt-names
+      pub IsNextFault-within : IsNextFault grammar (record { names = names; words = words ++ more; only_free = false }) fault
+      IsNextFault-within = in_this refl filled IsFaultAt-names
+
+-- If options may follow, an error is that of the next word.
+pub IsNextFault-options : {grammar : Grammar} {left : Left} {fault : Fault} → left.only_free ≡ false
+    → IsNextFault grammar (record { names = left.names; words = left.words; only_free = false }) fault
+    → IsNextFault grammar left fault
+IsNextFault-options options (in_next word after is none words_are at) = in_next word after options none words_are at
+IsNextFault-options options (in_this is filled at) = in_this options filled at
 
 -- What a whole line gave.
-module _ {grammar : Grammar} {line : List Text} {left : Left} where
+module _ {grammar : Grammar} {line : List Text} {left : Left} (named : HasTextNames grammar) where
   -- its error
-  pub AreReadTo-fault : HasTextNames grammar → {items : List Spec.Item} (fault : Fault) → IsNextFault grammar left fault
+  pub AreReadTo-fault : {items : List Spec.Item} (fault : Fault) → IsNextFault grammar left fault
       → AreReadTo grammar line items left.names left.words → read grammar line ≡ Err fault
-  AreReadTo-fault named fault (in_next word after none is at) read_to =
+  AreReadTo-fault fault (in_next word after options none is at) read_to =
       let read : AreRead grammar line _ left.words = AreRead-between none read_to in
       line_fault named line after fault (rw is at read) at
-  AreReadTo-fault named fault (in_this filled at) read_to =
+  AreReadTo-fault fault (in_this options filled at) read_to =
       let inside = IsInWord-within filled read_to in
       line_fault named line left.words fault inside.read_to (at inside.word inside.has)
 
-  -- one option or free word more
-  pub IsReadTo-next : {before : List Spec.Given} {more_follow : Bool} {after : ℕ} {given : Spec.Given} {left_new : Left}
-      → ReadsOne grammar more_follow after left.names left.words left_new.names left_new.words given
-      → IsReadTo grammar line before left → IsReadTo grammar line (before ++ given ∷ []) left_new
-  IsReadTo-next reads read_to =
-      let one = reads.reads line [] read_to.items (λ none. refl) (rw append-nil read_to.read) in
-      record { items = one.all; read = rw append-nil at one.read; given_is = rw read_to.given_is (sym one.order) }
+  -- all that it gives, if only free words are left
+  pub order-ended : {given : List Spec.Given} → left.only_free ≡ true → IsReadTo grammar line given left
+      → made_of (Spec.order_of_reading grammar) (read grammar line) ≡ Ok (given ++ map Spec.free_word left.words)
+  order-ended only (among_options items may read_to given_is) = absurd (false≢true (sym may ∙ only))
+  order-ended only (among_frees reading frees is reads frees_are given_is) =
+      rw (reading_read grammar named reading line reads, frees_are, given_is, map-append, append_assoc) refl
 
-  -- the end of the options
-  pub order-ended : {before : List Spec.Given} → HasTextNames grammar → (tail : Spec.Tail) → left.names ≡ []
-      → read grammar left.words ≡ Ok (record { items = []; tail = tail }) → IsReadTo grammar line before left
-      → made_of (Spec.order_of_reading grammar) (read grammar line)
-      ≡ Ok (before ++ map Spec.free_word (Spec.tail_frees tail))
-  order-ended named tail empty is read_to = search (rules, items_read)
+module _ {grammar : Grammar} {line : List Text} {left : Left} where
+  -- its error, whatever it gave before
+  pub IsReadTo-fault : HasTextNames grammar → {given : List Spec.Given} (fault : Fault) → left.only_free ≡ false
+      → IsNextFault grammar (record { names = left.names; words = left.words; only_free = false }) fault
+      → IsReadTo grammar line given left → read grammar line ≡ Err fault
+  IsReadTo-fault named fault options at (among_options items may read_to given_is) =
+      AreReadTo-fault named fault at read_to
+  IsReadTo-fault named fault options at (among_frees reading frees only reads frees_are given_is) =
+      absurd (false≢true (sym options ∙ only))
+
+-- One option or free word more of a line.
+module _ {grammar : Grammar} {line : List Text} {before : List Spec.Given} {left : Left} where
+  -- while options may follow
+  pub IsReadTo-next : {more_follow : Bool} {after : ℕ} {given : Spec.Given} {names : Text} {words : List Text}
+      → left.only_free ≡ false → ReadsOne grammar more_follow after left.names left.words names words given
+      → IsReadTo grammar line before left
+      → IsReadTo grammar line (before ++ given ∷ []) (record { names = names; words = words; only_free = left.only_free })
+  IsReadTo-next options reads (among_options items may read_to given_is) =
+      let one = reads.reads line [] items (λ none. refl) (rw append-nil read_to) in
+      among_options one.all options (rw append-nil at one.read) (rw given_is (sym one.order))
+  IsReadTo-next options reads (among_frees reading frees only is frees_are given_is) =
+      absurd (false≢true (sym options ∙ only))
+
+  -- where only free words follow
+  pub IsReadTo-tail : left.only_free ≡ false → left.names ≡ [] → Spec.IsLawfulTail grammar (tail_of left.words)
+      → IsReadTo grammar line before left → IsReadTo grammar line before
+      (record { names = left.names; words = Spec.tail_frees (tail_of left.words); only_free = true })
+  IsReadTo-tail options none lawful (among_options items may read_to given_is) =
+      let read = AreRead-between none read_to in
+      among_frees (record { items = items; tail = tail_of left.words }) [] refl (record {
+        spells = rw tail_words-tail_of read.spells;
+        items = read.lawful;
+        tail = lawful;
+        followed = rw tail_words-tail_of read.followed;
+      }) refl (rw append-nil given_is)
+  IsReadTo-tail options none lawful (among_frees reading frees only is frees_are given_is) =
+      absurd (false≢true (sym options ∙ only))
+
+  -- after that
+  pub IsReadTo-free : (word : Text) {others : List Text} → left.only_free ≡ true → left.words ≡ word ∷ others
+      → IsReadTo grammar line before left → IsReadTo grammar line (before ++ Spec.free_word word ∷ [])
+      (record { names = left.names; words = others; only_free = left.only_free })
+  IsReadTo-free word only words_are (among_options items may read_to given_is) = absurd (false≢true (sym may ∙ only))
+  IsReadTo-free word only words_are (among_frees reading frees is reads frees_are given_is) =
+      among_frees reading (frees ++ word ∷ []) is reads (search (rules, append_assoc))
+      (search (rules, map-append, append_assoc))

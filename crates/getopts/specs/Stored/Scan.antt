@@ -1,6 +1,7 @@
 -- What the functions of `scan` find in the words that they are given.
 use Rattle.std.specs.Prelude.{◌≡◌, Bool, true, false, Some, List, [], ◌∷◌, ◌++◌, length, map}
-use Rattle.std.specs.Prelude.{Result, Ok, Option, ℕ, ◌≢◌, ◌<◌, ◌+◌, ◌-◌}
+use Rattle.std.specs.Prelude.{Result, Ok, Option, ℕ, ◌≢◌, ◌<◌, ◌+◌, ◌-◌, if◌then◌else◌}
+use Rattle.std.specs.Str.{bytes_eq}
 use Rattle.std.specs.String.{string_bytes}
 use Rattle.getopts.specs.Names.{Text}
 use Rattle.getopts.specs.Options.{Declared, Grammar, MayBeDeclared, names_of, grammar_of}
@@ -9,14 +10,13 @@ use Rattle.getopts.specs.Canon.{Content}
 use Rattle.getopts.specs.Fail.{Fault}
 use Rattle.getopts.specs.Reading.{Dashes, is_dashed, stop_word, Reading}
 use Rattle.getopts.specs.Reading.{occurrences_of, free_words, trailing_start}
-use Rattle.getopts.specs.Reading.{Occurrence, occurrences_after, free_items, Tail}
+use Rattle.getopts.specs.Reading.{Occurrence, occurrences_after, free_items, Tail, line_end, stop, rest}
 use Rattle.getopts.specs.Reading.{tail_frees, trailing_after, Item}
 use Rattle.getopts.specs.Reading.{Given, options_in, frees_in, order_of_items, at_position}
-use Rattle.getopts.specs.Reader.{AreReadTo, IfFreeWord, size_of}
+use Rattle.getopts.specs.Reader.{AreReadTo, words_size}
 use Rattle.getopts.specs.Results.{made_of, read, reading_or_error, accepted_reading}
 use Rattle.getopts.specs.Step.{IsInLongForm, IsShortForm}
 use Rattle.getopts.specs.declared.kinds.HasArg.{HasArg}
-use Rattle.getopts.specs.declared.kinds.ParsingStyle.TheVariants.{FloatingFrees}
 use Rattle.getopts.specs.declared.scan.Line.{Line}
 use Rattle.getopts.specs.declared.scan.Resolved.{Resolved}
 use Rattle.getopts.specs.declared.scan.Scanner.{Scanner}
@@ -99,6 +99,11 @@ IsLeft options count line whole left =
     made_of (with_reading (grammar_of options) 0 [] []) (read (grammar_of options) whole)
     ≡ given_with (grammar_of options) count line left
 
+-- a tail of these words: free words, or a stop and free words
+abbrev pub tail_of : List Text → Tail
+tail_of [] = line_end
+tail_of (word ∷ after) = if bytes_eq word stop_word then stop after else rest (word ∷ after)
+
 -- the content of an order
 abbrev pub order_content : List Given → Content
 order_content order = record { mentions = options_in order; free = frees_in order }
@@ -134,8 +139,5 @@ pub record ReadsOne (grammar : Grammar) (more_follow : Bool) (after : ℕ) (name
       → AreReadTo grammar line items names (words ++ more)
       → HasOneMore grammar line items (length line - (1 + after + length more)) given names_new (words_new ++ more)
   pub begins : 1 + after ≡ words_left names words
-  pub less : size_of (record { names = names_new; words = words_new })
-      < size_of (record { names = names; words = words })
-  pub free : IfFreeWord given (λ word.
-      (grammar.style ≡ FloatingFrees) × (names_new ≡ []) × (words ≡ word ∷ words_new))
+  pub less : length names_new + words_size words_new < length names + words_size words
   pub next : IsNext more_follow names_new words_new

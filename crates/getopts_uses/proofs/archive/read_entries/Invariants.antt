@@ -1,8 +1,8 @@
 -- The entries so far, and then the files of what is left, are the files of the command line.
-use Rattle.std.proofs.Common.{◌≡◌, ◌++◌, List, None, drop, map}
+use Rattle.std.proofs.Common.{◌≡◌, ◌++◌, List, None, map}
 use Rattle.std.specs.Option.{option_copied}
 use Rattle.getopts.specs.Options.{grammar_of}
-use Rattle.getopts.specs.Prelude.{Given, IsReadTo, free_word, left_in, size_of}
+use Rattle.getopts.specs.Prelude.{Given, IsReadTo, left_in, size_of}
 use Rattle.getopts_uses.specs.Archive.{archive_options, entries_in, entry_view}
 use Rattle.getopts_uses.proofs.archive.read_entries.Given as goal
 
@@ -15,10 +15,3 @@ invariant-loop-entries g l = (order : List Given)
 
 abbrev pub decreases-loop-entries : goal.decreases-loop-entries
 decreases-loop-entries g l = size_of (left_in g.S.AsStr.text l.unread)
-
-abbrev pub invariant-loop-word : goal.invariant-loop-word
-invariant-loop-word g l =
-    map entry_view l.entries.items
-    ++ entries_in (option_copied l.folder) (map free_word (map g.S.AsStr.text (drop l.word-index l.word-items)))
-    ≡ map entry_view l.initial.entries.items
-    ++ entries_in (option_copied l.folder) (map free_word (map g.S.AsStr.text l.word-items))

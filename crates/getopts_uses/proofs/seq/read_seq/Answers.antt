@@ -1,6 +1,7 @@
--- Each iteration reads an option, unless a negative number is next.
-use Rattle.std.proofs.Common.{◌≡◌, ◌++◌, [], ◌∷◌, List, append_assoc, map, rules}
-use Rattle.std.proofs.lemmas.List.{append-nil}
+-- Each iteration reads an option or an operand, unless a negative number is next.
+use Rattle.std.proofs.Common.{◌≡◌, ◌++◌, [], ◌∷◌, List, append_assoc, map, refl, rules, sym}
+use Rattle.std.proofs.lemmas.List.{append-nil, map-append}
+use Rattle.getopts.proofs.InLoops.{IsReadTo-start}
 use Rattle.getopts.proofs.Weaker.{IsOutOfMemoryOr-exit}
 use Rattle.getopts.specs.Prelude.{Text, free_word}
 use Rattle.getopts_uses.specs.Seq.{Asked, asked_after, negative, refused, whole}
@@ -11,11 +12,20 @@ asked_after-frees : (words : List Text) (asked : Asked)
 asked_after-frees [] asked = search (rules, append-nil)
 asked_after-frees (word ∷ words) asked = search (rules, append_assoc, asked_after-frees words)
 
-pub loop-alloc-preserved : goal.loop-alloc-preserved
-loop-alloc-preserved g c =
+pub loop-alloc-init : goal.loop-alloc-init
+loop-alloc-init g c = ([], IsReadTo-start (search rules) (search rules) (search rules) (search rules), λ left. search rules)
+
+pub loop-alloc-preserved-in-Some-Option : goal.loop-alloc-preserved-in-Some-Option
+loop-alloc-preserved-in-Some-Option g c =
     let read = rw (c.in-Some-Option.is, c.in-Some-Option.field-0-is, c.in_ok-reader.ensures.options, c.in_ok-options.ensures)
     at c.in_ok-place.ensures.some in
-    (_, read _ _ c.loop-alloc.invariant.1, λ left. search (rules, append_assoc, c.loop-alloc.invariant.2))
+    (_, read _ _ c.loop-alloc.invariant.1, λ left. rw (append_assoc, c.set_option.ensures) (c.loop-alloc.invariant.2 _))
+
+pub loop-alloc-preserved : goal.loop-alloc-preserved
+loop-alloc-preserved g c =
+    let read = rw (c.in-Some-Free.is, c.in-Some-Free.field-0-is, c.in_ok-reader.ensures.options, c.in_ok-options.ensures)
+    at c.in_ok-place.ensures.some in
+    (_, read _ _ c.loop-alloc.invariant.1, λ left. search (rules, append_assoc, map-append, c.loop-alloc.invariant.2))
 
 pub returns-in_err-place-clause-err : goal.returns-in_err-place-clause-err
 returns-in_err-place-clause-err g c =
@@ -28,8 +38,12 @@ returns-in-None-clause-seq g c =
     let ended = rw (c.in-None.is, c.in_ok-reader.ensures.options, c.in_ok-options.ensures)
     at c.in_ok-place.ensures.ended in
     let none = rw c.in-None.is at c.in_ok-place.ensures.none in
-    (_, whole _ (ended _ _ c.loop-alloc.invariant.1), search (rules, none.1, c.loop-alloc.invariant.2, asked_after-frees))
+    let order = rw (none.1, append-nil, append-nil) at (ended none.0 _ _ c.loop-alloc.invariant.1) in
+    (_, whole _ order, sym (rw append-nil at (c.loop-alloc.invariant.2 [])))
 
 pub returns-clause-seq : goal.returns-clause-seq
-returns-clause-seq g c =
-    (_, negative _ _ c.loop-alloc.invariant.1 (search rules), search (rules, c.loop-alloc.invariant.2, asked_after-frees))
+returns-clause-seq g c = (
+  _,
+  negative _ _ c.loop-alloc.invariant.1 (search rules),
+  rw (c.loop-alloc.invariant.2, asked_after-frees, ← c.in_ok-push_words.ensures) refl,
+)

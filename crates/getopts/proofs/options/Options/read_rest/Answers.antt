@@ -7,7 +7,8 @@ use Rattle.getopts.specs.Options.{grammar_of, signatures_of}
 use Rattle.getopts.specs.Results.{accepted_reading, read, reading_or_error}
 use Rattle.getopts.specs.Stored.Scan.{GivesLine, IsLeft, reading_if}
 use Rattle.getopts.proofs.parse.Made.{GivesLine-kept, made_of-matches, with_counts_kept-line, reading_if-fault}
-use Rattle.getopts.proofs.scan.Loop.{GivesLine-ended, read-ended}
+use Rattle.getopts.proofs.scan.Loop.{GivesLine-ended, read-ended, read-tail}
+use Rattle.getopts.proofs.table.Names.{has_text_names}
 use Rattle.getopts.proofs.Stored.Signatures.{names-signatures_of}
 use Rattle.getopts.proofs.Weaker.{IsOutOfMemoryOr-exit}
 use Rattle.getopts.proofs.options.Options.read_rest.Goals as goal
@@ -20,7 +21,9 @@ gives : (g : Over) (c : After-of g) (whole : List Text)
     → GivesLine (grammar_of c.args.self.now) (read (grammar_of c.args.self.now) whole) c.end.new.self
 gives g c whole left = GivesLine-ended (grammar_of c.args.self.now) whole
     (map g.S.AsStr.text c.args.words.now) c.args.before c.args.line left _ _ _ _ c.end.new.self
-    (c.in_ok-left.ensures.ok [] (λ none. refl)) (c.in_ok-left.ensures.tail (λ follow. absurd (false≢true follow))) c.in_ok-end.ensures
+    (c.in_ok-left.ensures.ok [] (λ none. refl))
+    (read-tail (has_text_names _ c.signatures-signatures.ensures.declared) _
+    (c.in_ok-left.ensures.tail (λ follow. absurd (false≢true follow)))) c.in_ok-end.ensures
 
 pub returns-in_err-left : goal.returns-in_err-left
 unfolding reading_or_error

@@ -1,49 +1,91 @@
--- The scanner's steps are the reader's.
-use Rattle.std.proofs.Common.{ap, Option, Some, None, IfNone, refl, [], append-nil}
+-- While options may follow, the scanner's steps are the reader's. After that, each word is free.
+use Rattle.std.proofs.Common.{◌≡◌, List, ap, false, true, refl, rules, [], append-nil}
 use Rattle.std.proofs.lemmas.Bool.{false≢true}
-use Rattle.std.proofs.lemmas.Option.{IfSome_then}
+use Rattle.std.proofs.lemmas.List.{nil_from_length}
+use Rattle.getopts.specs.Names.{Text}
+use Rattle.getopts.specs.Options.{MayBeDeclared, grammar_of}
+use Rattle.getopts.specs.Reader.{IsReadTo, left_in}
+use Rattle.getopts.specs.Reading.{Given}
 use Rattle.getopts.specs.Results.{made_of, reading_or_error}
 use Rattle.getopts.proofs.Weaker.{IsOutOfMemoryOr-exit}
 use Rattle.getopts.proofs.parse.Holds.{IsDeclared-last}
-use Rattle.getopts.proofs.scan.Names.{AreReadTo-fault, IsReadTo-next, order-ended}
+use Rattle.getopts.proofs.scan.Names.{IsNextFault-options, IsReadTo-fault, IsReadTo-free, IsReadTo-next, IsReadTo-tail, order-ended}
 use Rattle.getopts.proofs.table.Names.{has_text_names}
 use Rattle.getopts.proofs.reader.Reader.next.Goals as goal
-
--- two facts about the case without a value
-both : {X : Type 0} (given : Option X) (P Q R : Type 0) → IfNone given P → IfNone given Q → (P → Q → R)
-    → IfNone given R
-both None P Q R first second follows = follows first second
-both (Some it) P Q R first second follows = tt
+use Rattle.getopts.proofs.reader.Reader.next.Goals.{After-split_first}
+use Rattle.getopts.proofs.reader.Reader.next.Given.{Over}
 
 pub returns-in_err-given-clause-next_word : goal.returns-in_err-given-clause-next_word
-returns-in_err-given-clause-next_word g c = rw (← c.self.view_is)
+returns-in_err-given-clause-next_word g c =
+    let options : c.args.unread.now.only_free ≡ false = search rules in
+    rw (← c.self.view_is)
     (IsOutOfMemoryOr-exit _ c.in_err-given.field-0.0 _ _ c.from_residual.ensures.1 c.in_err-given.ensures.err
-    (λ fault told. rw append-nil at (told [] (λ none. refl))))
+    (λ fault told. IsNextFault-options options (rw append-nil at (told [] (λ none. refl)))))
 
 pub returns-in_err-given-clause-err : goal.returns-in_err-given-clause-err
 unfolding reading_or_error
-returns-in_err-given-clause-err g c = rw (← c.self.view_is)
+returns-in_err-given-clause-err g c =
+    let options : c.args.unread.now.only_free ≡ false = search rules in
+    rw (← c.self.view_is)
     (IsOutOfMemoryOr-exit _ c.in_err-given.field-0.0 _ _ c.from_residual.ensures.1 c.in_err-given.ensures.err
-    (λ fault told line before read_to. ap (made_of _) (AreReadTo-fault (has_text_names _ c.self.invariant.0) fault
-    (rw append-nil at (told [] (λ none. refl))) read_to.read)))
+    (λ fault told line before read_to. ap (made_of _) (IsReadTo-fault (has_text_names _ c.self.invariant.0) fault options
+    (rw append-nil at (told [] (λ none. refl))) read_to)))
 
-pub returns-clause-free : goal.returns-clause-free
-returns-clause-free g c = rw (← c.self.view_is)
-    (IfSome_then c.in_ok-given.given c.in_ok-given.ensures.some (λ given reads. reads.free))
+pub returns-in-Some-clause-some : goal.returns-in-Some-clause-some
+returns-in-Some-clause-some g c =
+    let options : c.args.unread.now.only_free ≡ false = search rules in
+    let reads = rw c.in-Some.is at c.in_ok-given.ensures.some in
+    rw (← c.self.view_is) (λ line before read_to. IsReadTo-next options reads read_to)
 
-pub returns-clause-some : goal.returns-clause-some
-returns-clause-some g c = rw (← c.self.view_is)
-    (IfSome_then c.in_ok-given.given c.in_ok-given.ensures.some
-    (λ given reads line before read_to. IsReadTo-next reads read_to))
+pub returns-in-Some-clause-declared : goal.returns-in-Some-clause-declared
+returns-in-Some-clause-declared g c =
+    let options : c.args.unread.now.only_free ≡ false = search rules in
+    let reads = rw c.in-Some.is at c.in_ok-given.ensures.some in
+    rw (← c.self.view_is) (λ line before read_to.
+    IsDeclared-last c.self.inside.options.now before _ options (IsReadTo-next options reads read_to))
 
-pub returns-clause-declared : goal.returns-clause-declared
-returns-clause-declared g c = rw (← c.self.view_is)
-    (IfSome_then c.in_ok-given.given c.in_ok-given.ensures.some (λ given reads line before read_to.
-    IsDeclared-last c.self.inside.options.now before _ (IsReadTo-next reads read_to)))
+-- after the options, only free words follow
+only_free : (g : Over) (c : After-split_first g) → c.if-not-unread.unread.only_free ≡ true
+only_free g c = elim c.if-not-unread.branch [
+  | goal.then-not-unread+in_ok-given+in_default w ↦ rw w.unread-is refl
+  | goal.else-not-unread w ↦ search rules
+]
 
-pub returns-clause-ended : goal.returns-clause-ended
+read_free : (g : Over) (c : After-split_first g) (line : List Text) (before : List Given)
+    → IsReadTo (grammar_of c.args.self.now) line before (left_in g.S.AsStr.text c.args.unread.now)
+    → IsReadTo (grammar_of c.args.self.now) line before (left_in g.S.AsStr.text c.if-not-unread.unread)
+read_free g c = rw (← c.self.view_is) (λ line before read_to. elim c.if-not-unread.branch [
+  | goal.then-not-unread+in_ok-given+in_default w ↦
+      let options : c.args.unread.now.only_free ≡ false = search rules in
+      let none = rw w.in_default.is at w.in_ok-given.ensures.none in
+      let tail = rw w.in_default.is at w.in_ok-given.ensures.tail in
+      rw (w.unread-is, w.free_words-unread.ensures)
+      (IsReadTo-tail options none.0 (tail (λ follow. absurd (false≢true follow))) read_to)
+  | goal.else-not-unread w ↦ rw w.unread-is read_to
+])
+
+pub returns-in-Some-split_first-clause-some : goal.returns-in-Some-split_first-clause-some
+returns-in-Some-split_first-clause-some g c = λ line before read_to.
+    let end = (goal.at.returns-in-Some-split_first-clause-some g c).After-split_first in
+    rw c.as_str.ensures (IsReadTo-free (g.S.AsStr.text c.in-Some-split_first.word.now) (only_free g end)
+    (rw c.in-Some-split_first.ensures.cases.0 refl) (read_free g end line before read_to))
+
+pub returns-in-None-clause-none : goal.returns-in-None-clause-none
+returns-in-None-clause-none g c =
+    (only_free g (goal.at.returns-in-None-clause-none g c).After-split_first, nil_from_length _ c.in-None.ensures.cases)
+
+pub returns-in-None-clause-ended : goal.returns-in-None-clause-ended
 unfolding reading_or_error
-returns-clause-ended g c = rw (← c.self.view_is)
-    (both c.in_ok-given.given _ _ _ c.in_ok-given.ensures.none c.in_ok-given.ensures.tail
-    (λ none tail line before read_to.
-    order-ended (has_text_names _ c.self.invariant.0) _ none.0 (tail (λ follow. absurd (false≢true follow))) read_to))
+returns-in-None-clause-ended g c = λ only line before read_to.
+    let end = (goal.at.returns-in-None-clause-ended g c).After-split_first in
+    let declared : MayBeDeclared c.args.self.now.groups = rw (← c.self.view_is) c.self.invariant.0 in
+    rw append-nil (order-ended (has_text_names _ declared) (only_free g end) (read_free g end line before read_to))
+
+pub returns-in-Some-split_first-clause-ended : goal.returns-in-Some-split_first-clause-ended
+unfolding reading_or_error
+returns-in-Some-split_first-clause-ended g c = λ only line before read_to.
+    let end = (goal.at.returns-in-Some-split_first-clause-ended g c).After-split_first in
+    let declared : MayBeDeclared c.args.self.now.groups = rw (← c.self.view_is) c.self.invariant.0 in
+    rw c.as_str.ensures (order-ended (has_text_names _ declared) only
+    (IsReadTo-free (g.S.AsStr.text c.in-Some-split_first.word.now) (only_free g end)
+    (rw c.in-Some-split_first.ensures.cases.0 refl) (read_free g end line before read_to)))

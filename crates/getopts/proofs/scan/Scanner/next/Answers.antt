@@ -3,9 +3,8 @@ use Rattle.std.proofs.Common.{◌≡◌, ◌≢◌, [], refl, sym, ◌∙◌, ru
 use Rattle.std.proofs.lemmas.List.{length-map, nil_from_length}
 use Rattle.getopts.specs.Stored.Scan.{scanner_grammar}
 use Rattle.getopts.specs.declared.kinds.ParsingStyle.TheVariants.{FloatingFrees, StopAtFirstFree}
-use Rattle.getopts.proofs.Reading.Readings.{read_nil}
 use Rattle.getopts.proofs.Weaker.{IsOutOfMemoryOr-exit}
-use Rattle.getopts.proofs.scan.Loop.{read-rest, read-stop}
+use Rattle.getopts.proofs.scan.Loop.{IsLawfulTail-rest, IsLawfulTail-stop}
 use Rattle.getopts.proofs.scan.Names as Names
 use Rattle.getopts.proofs.table.Names.{has_text_names}
 use Rattle.getopts.proofs.scan.Scanner.next.Goals as goal
@@ -18,19 +17,19 @@ returns-in_default-clause-tail g c = λ whole. elim c.in_default.branch [
       absurd (omega (arith, w.in-Some.ensures.cases.1, last, whole follow))
   | goal.in_default-via-in_default w ↦
       let none = nil_from_length c.args.steps.now.left.now (search rules) in
-      rw none (read_nil (scanner_grammar c.args.self.now))
+      rw none tt
 ]
 
 pub returns-then-eq-clause-tail : goal.returns-then-eq-clause-tail
 returns-then-eq-clause-tail g c = λ whole.
     let plain = rw c.as_str.ensures at c.in-Free.ensures in
     let stops : c.args.self.now.options.now.style ≡ StopAtFirstFree = search rules in
-    rw c.in-Some.ensures.cases.0 (read-rest (scanner_grammar c.args.self.now) _ _ _ refl plain stops)
+    rw c.in-Some.ensures.cases.0 (IsLawfulTail-rest (scanner_grammar c.args.self.now) _ (g.S.AsStr.text c.in-Some.word.now) _ refl plain stops)
 
 pub returns-in-Stop-clause-tail : goal.returns-in-Stop-clause-tail
 returns-in-Stop-clause-tail g c = λ whole.
     let stops = rw c.as_str.ensures at c.in-Stop.ensures in
-    rw c.in-Some.ensures.cases.0 (read-stop (scanner_grammar c.args.self.now) _ _ _ refl stops)
+    rw c.in-Some.ensures.cases.0 (IsLawfulTail-stop (scanner_grammar c.args.self.now) _ (g.S.AsStr.text c.in-Some.word.now) _ refl stops)
 
 pub returns-in-Free-clause-some : goal.returns-in-Free-clause-some
 returns-in-Free-clause-some g c =

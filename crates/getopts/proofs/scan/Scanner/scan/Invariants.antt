@@ -1,8 +1,8 @@
 -- What was read so far is in the line.
-use Rattle.std.proofs.Common.{◌≡◌, false, List, [], ◌++◌, map}
+use Rattle.std.proofs.Common.{◌≡◌, ◌+◌, false, List, [], ◌++◌, length, map}
 use Rattle.std.specs.String.{string_bytes}
 use Rattle.getopts.specs.Names.{Text}
-use Rattle.getopts.specs.Reader.{size_of}
+use Rattle.getopts.specs.Reader.{words_size}
 use Rattle.getopts.specs.Stored.Scan.{scanner_grammar, IsNext}
 use Rattle.getopts.proofs.scan.Placed.{SoFar}
 use Rattle.getopts.proofs.scan.Scanner.scan.Given as goal
@@ -19,4 +19,4 @@ invariant-items g l =
     }
 
 abbrev pub decreases-items : goal.decreases-items
-decreases-items g l = size_of (record { names = l.steps.names.now; words = map g.S.AsStr.text l.steps.left.now })
+decreases-items g l = length l.steps.names.now + words_size (map g.S.AsStr.text l.steps.left.now)
