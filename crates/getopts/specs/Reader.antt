@@ -6,7 +6,8 @@ use Rattle.getopts.specs.Options.{Grammar}
 use Rattle.getopts.specs.Fail.{Fault}
 use Rattle.getopts.specs.Reading.{Item, cluster, flags, IsLawfulItem, AreWellFollowed, spelled_all}
 use Rattle.getopts.specs.Reading.{Given, free_word, order_of_items, HasAfterFlags, IsFaultAt}
-use Rattle.getopts.specs.Reading.{Reading, IsReading, tail_frees}
+use Rattle.getopts.specs.Reading.{Reading, IsReading, tail_frees, unknown_byte, wide_character}
+use Rattle.getopts.specs.Reading.{short_unfinished}
 use Rattle.getopts.specs.declared.reader.Unread.{Unread}
 
 -- These items begin the line, and these words are left.
@@ -58,14 +59,24 @@ abbrev pub IfReadTo : Grammar → Left → (List Text → List Given → Type 0)
 IfReadTo grammar left P =
     (line : List Text) (before : List Given) → IsReadTo grammar line before left → P line before
 
--- Options may follow, and the next word, or the word whose names are left, has this error.
+-- the flags that precede an error in its word
+abbrev pub flags_before : {grammar : Grammar} {word : Text} {after : List Text} {fault : Fault}
+    → IsFaultAt grammar word after fault → List ℕ
+flags_before (unknown_byte byte more ascii has unknown) = has.bytes
+flags_before (wide_character character more scalar wide has) = has.bytes
+flags_before (short_unfinished option has kind ended) = has.bytes
+flags_before in_long_form = []
+
+-- Options may follow, and the next word has this error, which no flags precede. Or names are left,
+-- and their word has this error, which only the flags that were read precede.
 pub data IsNextFault (grammar : Grammar) (left : Left) (fault : Fault) : Type 0 where
   in_next : (word : Text) (after : List Text) → left.only_free ≡ false → left.names ≡ []
-      → left.words ≡ word ∷ after → IsFaultAt grammar word after fault
-      → IsNextFault grammar left fault
+      → left.words ≡ word ∷ after → (at : IsFaultAt grammar word after fault)
+      → flags_before at ≡ [] → IsNextFault grammar left fault
   in_this : left.only_free ≡ false → left.names ≢ []
-      → ((word : Text) → HasAfterFlags grammar word left.names
-      → IsFaultAt grammar word left.words fault) → IsNextFault grammar left fault
+      → ((word : Text) (has : HasAfterFlags grammar word left.names)
+      → (at : IsFaultAt grammar word left.words fault) × (flags_before at ≡ has.bytes))
+      → IsNextFault grammar left fault
 
 -- the bytes of words, and their number
 abbrev pub words_size : List Text → ℕ

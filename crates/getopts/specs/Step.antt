@@ -101,6 +101,12 @@ cluster_step grammar bytes (byte ∷ text) after =
     byte_step (grammar.kind (byte ∷ [])) bytes byte text after
     (cluster_step grammar (bytes ++ byte ∷ []) text after)
 
+-- the step of a cluster at the first of these names; `more` if it is a flag
+abbrev pub name_step : Grammar → List ℕ → Text → List Text → Step → Step
+name_step grammar bytes [] after more = more
+name_step grammar bytes (byte ∷ text) after more =
+    byte_step (grammar.kind (byte ∷ [])) bytes byte text after more
+
 -- An argument was chosen, which gives this value. Of the words after the option, these are left.
 pub record Chooses (chosen : Result Argument Fault) (after : List Text) (value : Option Text)
     (left : List Text) : Type 0 where

@@ -13,7 +13,7 @@ ghost use Rattle.getopts.specs.Fail.{IsOutOfMemoryOr};
 ghost use Rattle.std.specs.Str.{IsUtf8};
 ghost use Rattle.getopts.specs.Names.{AreTexts, Text};
 ghost use Rattle.getopts.specs.Step.{with_equals, first_char, chosen_long, chosen_end, Chooses};
-ghost use Rattle.getopts.specs.Step.{cluster_step, faults};
+ghost use Rattle.getopts.specs.Step.{Step, name_step, faults};
 
 use crate::fail::Fail;
 use crate::kinds::{HasArg, ParsingStyle};
@@ -391,8 +391,8 @@ impl<'o> Scanner<'o> {
             TakesName (scanner_grammar self.now) names.now (map S.text after.now)
             taken.place (option_copied taken.value) taken.names.now (map S.text taken.left.now)) }
         ensures err { let grammar = scanner_grammar self.now in
-            IfErr result (λ fail. IsOutOfMemoryOr fail (λ fault. (bytes : List ℕ)
-            → cluster_step grammar bytes names.now (map S.text after.now) ≡ faults fault)) }
+            IfErr result (λ fail. IsOutOfMemoryOr fail (λ fault. (bytes : List ℕ) (more : Step)
+            → name_step grammar bytes names.now (map S.text after.now) more ≡ faults fault)) }
         ensures text { IsUtf8 names.now }
     {
         if !names.as_bytes()[0].is_ascii() {

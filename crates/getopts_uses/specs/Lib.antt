@@ -8,4 +8,5 @@ pub mod Linker
 pub mod Logged
 pub mod Loudness
 pub mod Seq
+pub mod ShortHelp
 pub mod Wrapper

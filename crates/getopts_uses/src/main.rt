@@ -19,6 +19,7 @@ mod logged;
 mod loudness;
 mod plugin;
 mod seq;
+mod short_help;
 mod subcommand;
 mod wrapper;
 

@@ -359,7 +359,7 @@ spelled_step grammar named (cluster bytes (ends_in option argument)) more lawful
 -- ---- the step of an error
 
 -- a wide character is unknown, by its first byte
-wide_unknown : (grammar : Grammar) → HasTextNames grammar → (c byte : ℕ) (others text : Text)
+pub wide_unknown : (grammar : Grammar) → HasTextNames grammar → (c byte : ℕ) (others text : Text)
     → byte ∷ others ≡ encode_utf8 c ++ text → 1 < length (encode_utf8 c) → grammar.kind (byte ∷ []) ≡ None
 wide_unknown grammar named c byte others text e wide = search (rules, Texts.encode-ascii_byte)
 

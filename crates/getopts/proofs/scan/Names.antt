@@ -8,6 +8,7 @@ use Rattle.std.proofs.lemmas.List.{append-nil, map-append}
 use Rattle.std.proofs.Math.Seq.{drop-append_seam}
 use Rattle.std.proofs.Permutation.{every_append}
 use Rattle.std.specs.List.{AllByRecursion}
+use Rattle.std.specs.Char.{encode_utf8}
 use Rattle.std.specs.Str.{IsUtf8}
 use Rattle.getopts.specs.Names.{Text}
 use Rattle.getopts.specs.Options.{Grammar}
@@ -16,9 +17,9 @@ use Rattle.getopts.specs.Reading as Spec
 use Rattle.getopts.specs.Reading.{spelled_all}
 use Rattle.getopts.specs.Reader.{AreRead, AreReadTo, IsReadTo, Left, between_words, within_word, words_size}
 use Rattle.getopts.specs.Reader.{among_frees, among_options}
-use Rattle.getopts.specs.Reader.{IsNextFault, in_next, in_this}
+use Rattle.getopts.specs.Reader.{IsNextFault, flags_before, in_next, in_this}
 use Rattle.getopts.specs.Results.{made_of}
-use Rattle.getopts.specs.Step.{takes, faults, byte_step, cluster_step, TakesOne, TakesName, takes_last, takes_flag}
+use Rattle.getopts.specs.Step.{Step, takes, faults, name_step, cluster_step, TakesOne, TakesName, takes_last, takes_flag}
 use Rattle.getopts.specs.Step.{chosen_end, chosen_step, first_char, Chooses, long_step, IsInLongForm, IsShortForm}
 use Rattle.getopts.specs.Stored.Scan.{HasOneMore, ReadsOne, tail_of, words_left}
 use Rattle.getopts.specs.declared.kinds.HasArg.{HasArg}
@@ -45,19 +46,37 @@ words_size-left : (words left : List Text) → words_size left ≤ words_size (w
 words_size-left [] left = omega arith
 words_size-left (word ∷ words) left = omega (arith, words_size-left words left)
 
--- The first of the names that are left in a cluster, by its kind.
-first_kind : (grammar : Grammar) (bytes : List ℕ) (byte : ℕ) (rest : Text) (after : List Text) (kind : Option HasArg)
-    → grammar.kind (byte ∷ []) ≡ kind → cluster_step grammar bytes (byte ∷ rest) after
-    ≡ byte_step kind bytes byte rest after (cluster_step grammar (bytes ++ byte ∷ []) rest after)
+-- The first of the names that are left in a cluster, by its kind. If it is an error whatever
+-- follows it, it isn't a flag.
+name_cluster : (grammar : Grammar) (bytes : List ℕ) (byte : ℕ) (rest : Text) (after : List Text) {fault : Fault}
+    → ((more : Step) → name_step grammar bytes (byte ∷ rest) after more ≡ faults fault)
+    → cluster_step grammar bytes (byte ∷ rest) after ≡ faults fault
 unfolding cluster_step
-first_kind grammar bytes byte rest after kind is = rw is refl
+name_cluster grammar bytes byte rest after fails = fails (cluster_step grammar (bytes ++ byte ∷ []) rest after)
 
--- The same of names that aren't empty.
+name_plain : (grammar : Grammar) (byte : ℕ) (rest : Text) (after : List Text) {fault : Fault}
+    → ((more : Step) → name_step grammar [] (byte ∷ rest) after more ≡ faults fault)
+    → grammar.kind (byte ∷ []) ≢ Some No
+name_plain grammar byte rest after fails flag = cc (rw flag at (fails (takes (Spec.free []) Spec.none)))
+
+names_cluster : (grammar : Grammar) (bytes : List ℕ) (names : Text) (after : List Text) {fault : Fault} → names ≢ []
+    → ((more : Step) → name_step grammar bytes names after more ≡ faults fault)
+    → cluster_step grammar bytes names after ≡ faults fault
+names_cluster grammar bytes [] after filled fails = absurd (filled refl)
+names_cluster grammar bytes (byte ∷ rest) after filled fails = name_cluster grammar bytes byte rest after fails
+
+names_plain : (grammar : Grammar) (names : Text) (after : List Text) {fault : Fault} → names ≢ []
+    → ((more : Step) → name_step grammar [] names after more ≡ faults fault) → (byte : ℕ) (rest : Text)
+    → names ≡ byte ∷ rest → grammar.kind (byte ∷ []) ≢ Some No
+names_plain grammar names after filled fails byte rest is = name_plain grammar byte rest after (rw is at fails)
+
+-- The first of names that aren't empty.
 module _ (grammar : Grammar) (after : List Text) where
   pub name_unknown : (names : Text) → names ≢ [] → grammar.kind (slice_index names 0 ∷ []) ≡ None
-      → (bytes : List ℕ) → cluster_step grammar bytes names after ≡ faults (unrecognized_option (first_char names))
-  name_unknown [] filled unknown bytes = absurd (filled refl)
-  name_unknown (byte ∷ rest) filled unknown bytes = first_kind grammar bytes byte rest after None unknown
+      → (bytes : List ℕ) (more : Step)
+      → name_step grammar bytes names after more ≡ faults (unrecognized_option (first_char names))
+  name_unknown [] filled unknown bytes more = absurd (filled refl)
+  name_unknown (byte ∷ rest) filled unknown bytes more = rw unknown refl
 
   pub name_flag : (names : Text) (place : ℕ) → names ≢ [] → grammar.place (slice_index names 0 ∷ []) ≡ Some place
       → grammar.kind (slice_index names 0 ∷ []) ≡ Some No
@@ -77,12 +96,11 @@ module _ (grammar : Grammar) (after : List Text) where
   pub name_error : (names : Text) (kind : HasArg) (fault : Fault) → names ≢ [] → kind ≢ No
       → grammar.kind (slice_index names 0 ∷ []) ≡ Some kind
       → chosen_end kind (slice_index names 0 ∷ []) (drop 1 names) after ≡ Err fault
-      → (bytes : List ℕ) → cluster_step grammar bytes names after ≡ faults fault
-  name_error [] kind fault filled other kind_is told bytes = absurd (filled refl)
-  name_error (byte ∷ rest) kind fault filled other kind_is told bytes =
-      first_kind grammar bytes byte rest after (Some kind) kind_is
-      ∙ Steps.byte_step-end kind bytes byte rest after (cluster_step grammar (bytes ++ byte ∷ []) rest after) other
-      ∙ ap (chosen_step (λ a. Spec.cluster bytes (Spec.ends_in byte a))) told
+      → (bytes : List ℕ) (more : Step) → name_step grammar bytes names after more ≡ faults fault
+  name_error [] kind fault filled other kind_is told bytes more = absurd (filled refl)
+  name_error (byte ∷ rest) kind fault filled other kind_is told bytes more = rw kind_is
+      (Steps.byte_step-end kind bytes byte rest after more other
+      ∙ ap (chosen_step (λ a. Spec.cluster bytes (Spec.ends_in byte a))) told)
 
 -- a first byte of ASCII is the first character
 pub name_first : (names : Text) → names ≢ [] → slice_index names 0 < 128 → first_char names ≡ slice_index names 0 ∷ []
@@ -273,6 +291,78 @@ IsUtf8-flags named (byte ∷ bytes) names each utf8 =
     let ascii : byte < 128 = search rules in
     Texts.IsUtf8-ascii byte (bytes ++ names) ascii (IsUtf8-flags named bytes names each.1 utf8)
 
+-- Flags that a name which isn't a flag follows are all flags in front of it.
+same_flags : (grammar : Grammar) (flags others : List ℕ) (byte other : ℕ) (more rest : Text)
+    → flags ++ byte ∷ more ≡ others ++ other ∷ rest → AllByRecursion (Spec.IsFlag grammar) flags
+    → AllByRecursion (Spec.IsFlag grammar) others → grammar.kind (byte ∷ []) ≢ Some No
+    → grammar.kind (other ∷ []) ≢ Some No → flags ≡ others
+same_flags grammar [] [] byte other more rest is each all plain end = refl
+same_flags grammar [] (flag ∷ others) byte other more rest is each all plain end = search rules
+same_flags grammar (flag ∷ flags) [] byte other more rest is each all plain end = search rules
+same_flags grammar (flag ∷ flags) (next ∷ others) byte other more rest is each all plain end =
+    search (rules, same_flags grammar flags others byte other more rest)
+
+-- A word in short form, and a second way to divide it at a name that isn't a flag.
+module _ {grammar : Grammar} {word names : Text} (byte : ℕ) (rest : Text) (names_are : names ≡ byte ∷ rest)
+    (plain : grammar.kind (byte ∷ []) ≢ Some No) (has : Spec.HasAfterFlags grammar word names) where
+  same_bytes : {text : Text} (other : Spec.HasAfterFlags grammar word text) (next : ℕ) (more : Text)
+      → text ≡ next ∷ more → grammar.kind (next ∷ []) ≢ Some No → other.bytes ≡ has.bytes
+  same_bytes other next more text_is end =
+      let same : other.bytes ++ next ∷ more ≡ has.bytes ++ byte ∷ rest = search rules in
+      same_flags grammar other.bytes has.bytes next byte more rest same other.each has.each end plain
+
+  same_wide : HasTextNames grammar → (character : ℕ) (whole more : Text) → whole ≡ encode_utf8 character ++ more
+      → 1 < length (encode_utf8 character) → (other : Spec.HasAfterFlags grammar word whole) → other.bytes ≡ has.bytes
+  same_wide named character [] more is wide other =
+      absurd (omega (arith, wide, ap length is, length-append (encode_utf8 character) more))
+  same_wide named character (next ∷ others) more is wide other =
+      let unknown = Steps.wide_unknown grammar named character next others more is wide in
+      same_bytes other next others refl (λ flag. cc (unknown, flag))
+
+  -- it isn't in long form
+  not_long : (name : Text) (argument : Option Text) (dashes : Spec.Dashes) → Spec.MayPrecede grammar.long_only dashes name
+      → word ≡ Spec.long_word dashes name argument → ⊥
+  not_long name argument Spec.one before word_is = search rules
+  not_long name argument Spec.two before word_is = search rules
+
+  -- the flags in front of its names precede each of its errors
+  flags_before-same : HasTextNames grammar → {after : List Text} {fault : Fault}
+      (at : Spec.IsFaultAt grammar word after fault) → flags_before at ≡ has.bytes
+  flags_before-same named (Spec.unknown_name name argument form unknown) =
+      absurd (not_long name argument form.dashes form.before form.word_is)
+  flags_before-same named (Spec.unknown_byte next more ascii other unknown) =
+      same_bytes other next more refl (λ flag. cc (unknown, flag))
+  flags_before-same named (Spec.wide_character character more scalar wide other) =
+      same_wide named character _ more refl wide other
+  flags_before-same named (Spec.unwanted_argument name argument form kind) =
+      absurd (not_long name (Some argument) form.dashes form.before form.word_is)
+  flags_before-same named (Spec.long_unfinished name form kind ended) =
+      absurd (not_long name None form.dashes form.before form.word_is)
+  flags_before-same named (Spec.short_unfinished option other kind ended) =
+      same_bytes other option [] refl (λ flag. cc (kind, flag))
+
+flags_before-names : {grammar : Grammar} → HasTextNames grammar → {word : Text} (names : Text) → names ≢ []
+    → (has : Spec.HasAfterFlags grammar word names)
+    → ((byte : ℕ) (rest : Text) → names ≡ byte ∷ rest → grammar.kind (byte ∷ []) ≢ Some No)
+    → {after : List Text} {fault : Fault} (at : Spec.IsFaultAt grammar word after fault) → flags_before at ≡ has.bytes
+flags_before-names named [] filled has plain at = absurd (filled refl)
+flags_before-names named (byte ∷ rest) filled has plain at =
+    flags_before-same byte rest refl (plain byte rest refl) has named at
+
+-- a word in long form isn't in short form
+not_short : {grammar : Grammar} (dashes : Spec.Dashes) {word long text : Text} → IsInLongForm grammar dashes word long
+    → Spec.HasAfterFlags grammar word text → ⊥
+not_short Spec.one form has = search rules
+not_short Spec.two form has = search rules
+
+-- no flags precede its error
+flags_before-long : {grammar : Grammar} (dashes : Spec.Dashes) {word long : Text} → IsInLongForm grammar dashes word long
+    → {after : List Text} {fault : Fault} (at : Spec.IsFaultAt grammar word after fault) → flags_before at ≡ []
+flags_before-long dashes form (Spec.unknown_byte byte more ascii has unknown) = absurd (not_short dashes form has)
+flags_before-long dashes form (Spec.wide_character character more scalar wide has) = absurd (not_short dashes form has)
+flags_before-long dashes form (Spec.short_unfinished option has kind ended) = absurd (not_short dashes form has)
+flags_before-long dashes form at = refl
+
 -- Words, of which one is left if more may follow.
 module _ {grammar : Grammar} (named : HasTextNames grammar) (more_follow : Bool) (words : List Text)
     (few : more_follow ≡ true → words ≢ []) where
@@ -375,22 +465,29 @@ module _ {grammar : Grammar} (named : HasTextNames grammar) (more_follow : Bool)
         → IsNextFault grammar (record { names = []; words = word ∷ (words ++ more); only_free = false }) fault
     IsNextFault-long dashes word long form utf8 fails =
         let is = step_long-more grammar words more (enough more may) dashes word long form ∙ fails in
-        in_next word (words ++ more) refl refl refl ((rw is at (Steps.step_sound grammar named word (words ++ more))) utf8)
+        let at = (rw is at (Steps.step_sound grammar named word (words ++ more))) utf8 in
+        in_next word (words ++ more) refl refl refl at (flags_before-long dashes form at)
 
-    module _ (names : Text) (utf8 : IsUtf8 names) (fails : (bytes : List ℕ) → cluster_step grammar bytes names words ≡ faults fault)
+    module _ (names : Text) (utf8 : IsUtf8 names)
+        (fails : (bytes : List ℕ) (then : Step) → name_step grammar bytes names words then ≡ faults fault)
         (filled : names ≢ []) where
-      IsFaultAt-names : (word : Text) → Spec.HasAfterFlags grammar word names → Spec.IsFaultAt grammar word (words ++ more) fault
+      IsFaultAt-names : (word : Text) (has : Spec.HasAfterFlags grammar word names)
+          → (at : Spec.IsFaultAt grammar word (words ++ more) fault) × (flags_before at ≡ has.bytes)
       IsFaultAt-names word has =
           let form = Steps.short_of grammar word names has
           (λ none. omega (arith, ap length none, length-append has.bytes names, names_length names filled)) in
           let is = Steps.short_step_flags grammar word has.bytes names (words ++ more) form has.each
-          ∙ cluster_step-more grammar words more (enough more may) has.bytes names ∙ fails has.bytes in
-          (rw is at (Steps.step_sound grammar named word (words ++ more))) (rw has.word_is (Texts.IsUtf8-ascii Spec.dash
-          (has.bytes ++ names) (omega arith) (IsUtf8-flags named has.bytes names has.each utf8)))
+          ∙ cluster_step-more grammar words more (enough more may) has.bytes names
+          ∙ names_cluster grammar has.bytes names words filled (fails has.bytes) in
+          let at = (rw is at (Steps.step_sound grammar named word (words ++ more))) (rw has.word_is (Texts.IsUtf8-ascii Spec.dash
+          (has.bytes ++ names) (omega arith) (IsUtf8-flags named has.bytes names has.each utf8))) in
+          (at, flags_before-names named names filled has (names_plain grammar names words filled (fails [])) at)
 
       pub IsNextFault-short : (word : Text) → IsShortForm grammar word names
           → IsNextFault grammar (record { names = []; words = word ∷ (words ++ more); only_free = false }) fault
-      IsNextFault-short word form = in_next word (words ++ more) refl refl refl (IsFaultAt-names word (unflagged form))
+      IsNextFault-short word form =
+          let at = IsFaultAt-names word (unflagged form) in
+          in_next word (words ++ more) refl refl refl at.0 at.1
 
       pub IsNextFault-within : IsNextFault grammar (record { names = names; words = words ++ more; only_free = false }) fault
       IsNextFault-within = in_this refl filled IsFaultAt-names
@@ -399,7 +496,8 @@ module _ {grammar : Grammar} (named : HasTextNames grammar) (more_follow : Bool)
 pub IsNextFault-options : {grammar : Grammar} {left : Left} {fault : Fault} → left.only_free ≡ false
     → IsNextFault grammar (record { names = left.names; words = left.words; only_free = false }) fault
     → IsNextFault grammar left fault
-IsNextFault-options options (in_next word after is none words_are at) = in_next word after options none words_are at
+IsNextFault-options options (in_next word after is none words_are at first) =
+    in_next word after options none words_are at first
 IsNextFault-options options (in_this is filled at) = in_this options filled at
 
 -- What a whole line gave.
@@ -407,12 +505,12 @@ module _ {grammar : Grammar} {line : List Text} {left : Left} (named : HasTextNa
   -- its error
   pub AreReadTo-fault : {items : List Spec.Item} (fault : Fault) → IsNextFault grammar left fault
       → AreReadTo grammar line items left.names left.words → read grammar line ≡ Err fault
-  AreReadTo-fault fault (in_next word after options none is at) read_to =
+  AreReadTo-fault fault (in_next word after options none is at first) read_to =
       let read : AreRead grammar line _ left.words = AreRead-between none read_to in
       line_fault named line after fault (rw is at read) at
   AreReadTo-fault fault (in_this options filled at) read_to =
       let inside = IsInWord-within filled read_to in
-      line_fault named line left.words fault inside.read_to (at inside.word inside.has)
+      line_fault named line left.words fault inside.read_to (at inside.word inside.has).0
 
   -- all that it gives, if only free words are left
   pub order-ended : {given : List Spec.Given} → left.only_free ≡ true → IsReadTo grammar line given left

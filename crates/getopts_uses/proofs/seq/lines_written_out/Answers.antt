@@ -34,4 +34,5 @@ returns-clause-cluster c = refused _ (record { names = codes "5"; words = codes 
       word_is = refl;
       second = refl;
       each = search rules;
-    }) (λ e. cc e) refl (search rules)) refl) refl (in_this refl (λ e. cc e) (λ word has. unknown_byte 53 [] (lit< tt) has refl))
+    }) (λ e. cc e) refl (search rules)) refl) refl
+    (in_this refl (λ e. cc e) (λ word has. (unknown_byte 53 [] (lit< tt) has refl, refl)))

@@ -15,8 +15,8 @@ returns-then-not-is_ascii-clause-err g c =
     let byte = slice_index c.args.names.now 0 in
     let wide : 128 ≤ byte = search rules in
     IsOutOfMemoryOr-one c.unrecognized_option.result _ _ c.unrecognized_option.ensures
-    (λ bytes. Names.name_unknown (scanner_grammar c.args.self.now) _ c.args.names.now c.requires.filled
-    (wide_unknown c.args.self.now.options.now c.requires.lawful.declared byte wide) bytes
+    (λ bytes more. Names.name_unknown (scanner_grammar c.args.self.now) _ c.args.names.now c.requires.filled
+    (wide_unknown c.args.self.now.options.now c.requires.lawful.declared byte wide) bytes more
     ∙ ap (λ name. faults (unrecognized_option name)) (sym c.first_character-name.ensures))
 
 pub range-name-requires-clause-end_boundary : goal.range-name-requires-clause-end_boundary
@@ -44,8 +44,8 @@ returns-in-None-clause-err g c =
     let is = c.range-name.ensures.value ∙ Names.first_name c.args.names.now c.requires.filled in
     let ascii : slice_index c.args.names.now 0 < 128 = search rules in
     IsOutOfMemoryOr-one c.unrecognized_option-in-None.result _ _ c.unrecognized_option-in-None.ensures
-    (λ bytes. Names.name_unknown (scanner_grammar c.args.self.now) _ c.args.names.now c.requires.filled
-    (rw is at c.in-None.ensures) bytes
+    (λ bytes more. Names.name_unknown (scanner_grammar c.args.self.now) _ c.args.names.now c.requires.filled
+    (rw is at c.in-None.ensures) bytes more
     ∙ ap (λ name. faults (unrecognized_option name)) (Names.name_first _ c.requires.filled ascii ∙ sym is))
 
 pub returns-in-Some-No-clause-ok : goal.returns-in-Some-No-clause-ok
