@@ -20,26 +20,6 @@ one-result unique apart unique′ (Ok x) (Err f) p q = absurd (apart p q)
 one-result unique apart unique′ (Err f) (Ok x) p q = absurd (apart q p)
 one-result unique apart unique′ (Err f) (Err f′) p q = cong Err (unique′ f f′ p q)
 
-Decides : Bool → Set → Set
-Decides true G = G
-Decides false G = ¬ G
-
--- If G is true, the value is h; otherwise, it has the property R. If only one value has R, there
--- is only one such value, and a test of G chooses it.
-Or : {A : Set} → Set → A → (A → Set) → A → Set
-Or G h R a = (G × (a ≡ h)) ⊎ (¬ G × R a)
-
-only-or : ∀ {A : Set} {G : Set} {h y : A} {R : A → Set} b → Decides b G → IsTheOnly R y
-  → IsTheOnly (Or G h R) (if b then h else y)
-only-or true g only a =
-  (λ { (inl (_ , e)) → e ; (inr (n , _)) → absurd (n g) }) , λ { refl → inl (g , refl) }
-only-or false n only a = (λ { (inl (g , _)) → absurd (n g) ; (inr (_ , p)) → only a .proj₁ p })
-  , λ { refl → inr (n , only a .proj₂ refl) }
-
-only-same : ∀ {A : Set} {P Q : A → Set} {x} → (∀ a → P a ↔ Q a) → IsTheOnly Q x → IsTheOnly P x
-only-same same only a =
-  (λ p → only a .proj₁ (same a .proj₁ p)) , λ e → same a .proj₂ (only a .proj₂ e)
-
 -- Main names with `=` -----------------------------------------------------------------------------
 
 -- A text that contains `=` is cut before its end.
@@ -97,37 +77,6 @@ plain-or-not groups (m ∷ ms) with holds-equals (main-at groups (m .$place)) in
 ...   | inl (e , all) = inl (e , refl , all)
 ...   | inr (e , m′ , (k , below , at) , eq) = inr (e , m′ , (suc k , s≤s below , at) , eq)
 
--- Whether a name is given -------------------------------------------------------------------------
-
-decides-iff : ∀ b {G H : Set} → (G → H) → (H → G) → Decides b G → Decides b H
-decides-iff true to from g = to g
-decides-iff false to from n h = n (from h)
-
-Mentioned : ℕ → List Occurrence → Set
-Mentioned p os = Any (λ o → Some p ≡ Some (o .$mention .$place)) os
-
-found? : ∀ p os → Decides (ltb 0 (length (occurrences-mentioning p os))) (Mentioned p os)
-found? p [] (_ , _ , () , _)
-found? p (o ∷ os) with eqb (o .$mention .$place) p in is
-... | true = 0 , o , s≤s z≤n , refl , cong Some (sym (eqb→≡ _ p is))
-... | false with ltb 0 (length (occurrences-mentioning p os)) | found? p os
-...   | true | k , x , below , at , same = suc k , x , s≤s below , at , same
-...   | false | others = λ
-        { (zero , _ , _ , refl , refl) → true≢false (eqb-refl p) is
-        ; (suc k , x , s≤s below , at , same) → others (k , x , below , at , same) }
-
-found-at-place : ∀ k sigs os at {s} → slice-get sigs at ≡ Some s
-  → occurrences-of-group (matched k sigs os) at ≡ occurrences-mentioning (k + at) os
-found-at-place k (x ∷ sigs) os zero e rewrite +-zero k = refl
-found-at-place k (x ∷ sigs) os (suc at) e rewrite +-suc k at | sym (+-comm 1 k) =
-  found-at-place _ sigs os at e
-
-signature-at : ∀ gs n p → resolution (names-of gs) n ≡ Some p
-  → Σ[ s ∈ Signature ] slice-get (signatures-of gs) p ≡ Some s
-signature-at gs n p e with place-valid (names-of gs) n p e
-... | x , at with get-map (λ g → g .$signature .$names) gs p at
-...   | g , here = g .$signature , map-get (λ g → g .$signature) gs p here
-
 -- Any options have at most one result of each call ------------------------------------------------
 
 module _ (options : Declared) (words : List Text) where
@@ -179,44 +128,6 @@ module _ (options : Declared) (words : List Text) where
       one-order _ _ (mk _ p refl _ _) (mk _ q refl _ _) =
         cong (order-of-reading (grammar-of options)) (one-accepted p q)
 
-  -- The result of `parse`, in the type of another call's result.
-  Parses : {X : Set} → (Matched → X) → Result X Fault → Set
-  Parses make a =
-    Σ[ line ∈ _ ] IsParseResult options words line × (a ≡ result-map-both make (λ f → f) line)
-
-  Unless : Text → Result (Option Matched) Fault → Set
-  Unless flag = Or (Gives options words flag) (Ok None) (Parses Some)
-
-  unless-says : ∀ flag a → IsUnlessResult options flag words a ↔ Unless flag a
-  unless-says flag a = to a , from
-    where
-      to : ∀ a → IsUnlessResult options flag words a → Unless flag a
-      to (Ok None) p = inl (p , refl)
-      to (Ok (Some m)) (n , p) = inr (n , Ok m , p , refl)
-      to (Err f) (n , p) = inr (n , Err f , p , refl)
-      from : Unless flag a → IsUnlessResult options flag words a
-      from (inl (p , refl)) = p
-      from (inr (n , Ok m , p , refl)) = n , p
-      from (inr (n , Err f , p , refl)) = n , p
-
-  Requests : Result (Request Matched) Fault → Set
-  Requests = Or (Gives options words (codes "help")) (Ok Help)
-    (Or (Gives options words (codes "version")) (Ok Version) (Parses Parsed))
-
-  request-says : ∀ a → IsRequestResult options words a ↔ Requests a
-  request-says a = to a , from
-    where
-      to : ∀ a → IsRequestResult options words a → Requests a
-      to (Ok Help) p = inl (p , refl)
-      to (Ok Version) (n , p) = inr (n , inl (p , refl))
-      to (Ok (Parsed m)) ((n , n′) , p) = inr (n , inr (n′ , Ok m , p , refl))
-      to (Err f) ((n , n′) , p) = inr (n , inr (n′ , Err f , p , refl))
-      from : Requests a → IsRequestResult options words a
-      from (inl (p , refl)) = p
-      from (inr (n , inl (p , refl))) = n , p
-      from (inr (n , inr (n′ , Ok m , p , refl))) = (n , n′) , p
-      from (inr (n , inr (n′ , Err f , p , refl))) = (n , n′) , p
-
 -- The functions give results ----------------------------------------------------------------------
 
 module _ (options : Declared) (named : Each IsNamed (names-of (options .$groups)))
@@ -250,11 +161,6 @@ module _ (options : Declared) (named : Each IsNamed (names-of (options .$groups)
   only-parse : IsTheOnly (IsParseResult options words) (parse-result options words)
   only-parse = only-by (made-of-line _ (matches-of options) accept) (one-parse-result options words)
 
-  only-parses : ∀ {X : Set} (make : Matched → X) → IsTheOnly (Parses options words make)
-    (result-map-both make (λ f → f) (parse-result options words))
-  only-parses make a = (λ { (line , p , refl) → cong _ (only-parse line .proj₁ p) })
-    , λ { refl → _ , only-parse _ .proj₂ refl , refl }
-
   read-is : IsReadResult options words (parse-ignoring-counts-result options words)
   read-is with read g words | reading-is
   ... | Ok r | p = has-reading r p
@@ -285,44 +191,6 @@ module _ (options : Declared) (named : Each IsNamed (names-of (options .$groups)
       (order-parts g items _ .proj₂
         ∙ cong (free-items items ++_) (only-words (tail-frees t) .proj₂)) }
 
-  present : Reading → Text → Bool
-  present r name = is-present (matches-of options r .$groups) name
-
-  occurs? : ∀ r name → Decides (present r name)
-    (Any (λ o → resolution (names-of gs) name ≡ Some (o .$mention .$place)) (occurrences-of g r))
-  occurs? r name rewrite held-all 0 gs (occurrences-of g r) with resolution (names-of gs) name in e
-  ... | None = λ { (_ , _ , _ , _ , ()) }
-  ... | Some p with signature-at gs name p e
-  ...   | s , at rewrite found-at-place 0 (signatures-of gs) (occurrences-of g r) p at =
-    found? p (occurrences-of g r)
-
-  gives? : ∀ r name → IsReading g r words → Decides (present r name) (Gives options words name)
-  gives? r name p = decides-iff (present r name) (mk r p)
-    (λ { (mk r′ q o) → subst (λ r → Any _ (occurrences-of g r)) (one-reading words r′ r q p) o })
-    (occurs? r name)
-
-  gives-not : ∀ {f name} → IsScanFault g words f → ¬ (Gives options words name)
-  gives-not scan (mk r p _) = not-both g sane words p scan
-
-  only-unless : ∀ flag
-    → IsTheOnly (IsUnlessResult options flag words) (parse-unless-result options flag words)
-  only-unless flag = only-same (unless-says options words flag) chosen
-    where
-      chosen : IsTheOnly (Unless options words flag) (parse-unless-result options flag words)
-      chosen with read g words | decided g sane words texts | only-parses Some
-      ... | Err f | scan | line = only-or false (gives-not scan) line
-      ... | Ok r | p | line = only-or _ (gives? r flag p) line
-
-  only-request : IsTheOnly (IsRequestResult options words) (parse-request-result options words)
-  only-request = only-same (request-says options words) chosen
-    where
-      chosen : IsTheOnly (Requests options words) (parse-request-result options words)
-      chosen with read g words | decided g sane words texts | only-parses Parsed
-      ... | Err f | scan | line =
-        only-or false (gives-not scan) (only-or false (gives-not scan) line)
-      ... | Ok r | p | line = only-or _ (gives? r (codes "help") p)
-        (only-or _ (gives? r (codes "version") p) line)
-
   -- Each result is right, and at most one is.
   has-results : HasResults options words
   has-results = mk
@@ -334,4 +202,3 @@ module _ (options : Declared) (named : Each IsNamed (names-of (options .$groups)
     (only-by read-is (one-read-result options words))
     (only-by canonical-is (one-canonical-result options words))
     (only-by order-is (one-order-result options words))
-    only-unless only-request

@@ -228,11 +228,9 @@ class Session:
             return [line("case", *fields)] if word == "case" else []
         if word in ("keep", "same"):
             return self.compared(word, *fields)
-        if word in ("words", "ignoring_counts"):
+        if word in ("words", "ignoring_counts", "check_counts"):
             self.read = self.options.parse(fields, word != "ignoring_counts")
             return [self.result("accepted", self.read)]
-        if word in ("parse_request", "parse_unless"):
-            return [self.unless(word, fields)]
         if word == "canonical":
             return [self.canonical(fields)]
         if word == "error" and not fields:
@@ -295,16 +293,6 @@ class Session:
         rows = list(self.options.usage_rows(USUAL_COLUMNS))
         return line(word, *([b"%d rows" % len(rows)] if word == "rows" else []), *rows)
 
-    def unless(self, word, fields):
-        """The result of words, unless they give a flag: help and then the version in a request, or the first field."""
-        flags, words = ([b"help", b"version"], fields) if word == "parse_request" else (fields[:1], fields[1:])
-        self.read = self.options.parse(words, with_counts=False)
-        asked = [flag for flag in flags if len(self.read) > 2 and self.given(flag)]
-        self.read = None if asked else self.options.parse(words)
-        if asked:
-            return line("requested" if word == "parse_request" else "given", asked[0])
-        return self.result("accepted", self.read)
-
     def taken_off(self, word):
         """Takes all words off the free ones or, for `take_trailing`, those from the trailing start on."""
         if len(self.read) == 2:
@@ -365,8 +353,8 @@ def rows_of(text):
 
 
 def answer_rows(rows, stored=True):
-    """Answers rows. Returns three things: the rows, with more rows added (for all words, whether they give a flag or request
-    help, their canonical line and their order; for all names, their positions); the number of stored answers that were
+    """Answers rows. Returns three things: the rows, with more rows added (for all words, their result by
+    `check_counts`, their canonical line and their order; for all names, their positions); the number of stored answers that were
     checked; and the rows whose stored answers are wrong. If none are stored, the rows have the answers that the rules
     determine, and rows without one are left out."""
     session, beyond, given, differ, case = Session(), [], 0, [], b""
@@ -375,8 +363,8 @@ def answer_rows(rows, stored=True):
         case = one if word == "case" else case
         names = list({name: 0 for group in session.options.groups for name in (group.short, group.long) if name})
         if word == "words" and names:  # The words themselves follow, and have the last result.
-            for asked in line("parse_unless", names[len(beyond) % len(names)], *fields), line("parse_request", *fields):
-                beyond.append((asked, session.answer(*parts(asked))))
+            asked = line("check_counts", *fields)
+            beyond.append((asked, session.answer(*parts(asked))))
         expected = session.answer(word, fields)
         if stored or expected != [None]:
             beyond.append((one, answers if stored or word == "case" else expected))
@@ -384,7 +372,7 @@ def answer_rows(rows, stored=True):
             given += len(answers)
             if expected != answers:
                 differ.append((case, one, b"model: " + b" / ".join(expected), b"stored: " + b" / ".join(answers)))
-        if word in ("words", "ignoring_counts"):
+        if word in ("words", "ignoring_counts", "check_counts"):
             asked = [line("canonical", *fields), line("parse_in_order", *fields)]
             if len(session.read) > 2:
                 asked += [line("positions", name) for name in names]

@@ -260,8 +260,8 @@ def variants():
 
 # The calls that callers use most, each with the clauses that they cite.
 CITED = {"Options::parse_words": ["result", "accepted", "declared"],
-         "Options::parse_request": ["result", "accepted", "parsed", "refused", "declared", "laws"],
-         "Options::parse_unless": ["result"],
+         "Options::parse_ignoring_counts": ["result", "given", "counted", "same_error", "accepted", "declared"],
+         "Matches::check_counts": ["result", "kept", "broken"],
          "Options::parse_in_order": ["result", "order", "declared", "same_error", "refused"],
          "Reader::next": ["some", "declared", "less", "none", "ended", "err", "next_word"],
          "Matches::opt_present": ["present"], "Matches::opt_count": ["count"], "Matches::opt_str": ["value"],

@@ -11,7 +11,7 @@ from model import CALLS, KINDS, OCCURS, answer_rows, parts, rows_of
 # Errors, with rows that cause them below a case of four lines.
 ROW_ERRORS = {
     "unknown word or wrong number of fields": [
-        "nope", "mode", "opt_str", "optflag\ta", "optopt\ta\tall\tall", "occurrences_at", "keep\tit", "parse_unless",
+        "nope", "mode", "opt_str", "optflag\ta", "optopt\ta\tall\tall", "occurrences_at", "keep\tit",
         "case"],
     "wrong fields": [
         "style\tother", "opt\ta\tall\tall\tH\tyess\tmulti", "opt\ta\tall\tall\tH\tyes\toften", "same\toptions",

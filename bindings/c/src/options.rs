@@ -115,7 +115,7 @@ impl Getopts {
     /// The error of the first option, in order of declaration, that is missing or was given too
     /// often. The library doesn't know which options must be given at least once.
     fn count_error(&self, matches: &Matches) -> AllocResult<Option<Fail>> {
-        let error = matches.count_error();
+        let error = matches.check_counts(Global).err();
         let name = error.as_ref().map(|fail| fail.parts().1);
         let first = name.map_or(usize::MAX, |name| matches.opt_place(name).unwrap_or(0));
         let mut kinds = self.table.kinds.iter().enumerate().take(first);

@@ -42,9 +42,10 @@ The program passes `args_os()`, because `std::env::args()` would panic if an arg
 an element of the command line, such as `-ofile`, and a *free word* a positional argument.
 
 If a required option is missing, `parse` rejects even `join --help`. To print help anyway, use
-[`parse_ignoring_counts`](Options::parse_ignoring_counts). If the order of options and positional
-arguments matters, use [`parse_in_order`](Options::parse_in_order), and to decide while reading what
-the next words mean, [`read`](Options::read).
+[`parse_ignoring_counts`](Options::parse_ignoring_counts), and then
+[`check_counts`](Matches::check_counts). If the order of options and positional arguments matters,
+use [`parse_in_order`](Options::parse_in_order), and to decide while reading what the next words
+mean, [`read`](Options::read).
 "
 )]
 //!

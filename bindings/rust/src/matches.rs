@@ -2,7 +2,7 @@
 
 use crate::alloc::Global;
 use crate::debug::{Optval, opts_of};
-use crate::fail::granted;
+use crate::fail::{Fail, granted};
 use crate::fallible::TryClone;
 use crate::iter::{Occurrences, Values};
 use crate::proved;
@@ -107,6 +107,19 @@ impl Matches {
         });
         shown.field("opts", &opts_of(&self.held)).field("vals", &vals);
         shown.field("free", free).field("args_end", &self.free_trailing_start()).finish()
+    }
+
+    /// Checks how often options occur, in matches of
+    /// [`parse_ignoring_counts`](crate::Options::parse_ignoring_counts), whose documentation has an
+    /// example. Not in the crate getopts.
+    ///
+    /// Together, the two calls return what [`parse`](crate::Options::parse) does.
+    ///
+    /// # Errors
+    /// Fails with `OptionMissing` or `OptionDuplicated` for the first option, in order of
+    /// declaration, that is missing or was given too often.
+    pub fn check_counts(&self) -> Result<(), Fail> {
+        self.held.check_counts(Global).map_err(Fail::of)
     }
 
     /// Borrows the value of an option's first occurrence. To copy it, use

@@ -31,25 +31,6 @@ impl Options {
     }
 }
 
-#[cfg(feature = "proved")]
-impl crate::proved::Matches {
-    /// The error of the first option, in order of declaration, that is missing or was given too
-    /// often. Not in Rattle.
-    ///
-    /// ```
-    /// use getopts::proved::{Fail, Options};
-    /// let alloc = getopts::alloc::Global;
-    /// let mut options = Options::new(alloc);
-    /// options.reqopt("o", "output", "set the output file", "FILE").unwrap();
-    /// let matches = options.parse_ignoring_counts(alloc, &["in.txt"]).unwrap();
-    /// assert_eq!(matches.count_error(), Some(Fail::OptionMissing("output".into())));
-    /// ```
-    #[doc(hidden)]
-    pub fn count_error(&self) -> Option<crate::proved::Fail> {
-        self.check_counts(crate::alloc::Global).err()
-    }
-}
-
 /// Panics with the message of the crate getopts about invalid names, and the name.
 #[cold]
 #[track_caller]

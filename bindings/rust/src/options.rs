@@ -405,7 +405,8 @@ impl Options {
     /// occur: a required option may be missing, and an option that may occur once may occur several
     /// times. Not in the crate getopts.
     ///
-    /// Use it to print help even if a required option is missing:
+    /// Use it to print help even if a required option is missing, before
+    /// [`check_counts`](crate::Matches::check_counts):
     ///
     /// ```
     /// use getopts::{Fail, Options};
@@ -413,10 +414,11 @@ impl Options {
     /// fn run(words: &[&str]) -> Result<String, Fail> {
     ///     let mut options = Options::new();
     ///     options.optflag("h", "help", "print this help").reqopt("o", "output", "", "NAME");
-    ///     if options.parse_ignoring_counts(words)?.opt_present("help") {
+    ///     let matches = options.parse_ignoring_counts(words)?;
+    ///     if matches.opt_present("help") {
     ///         return Ok(options.usage("Usage: copy -o NAME"));
     ///     }
-    ///     let matches = options.parse(words)?;
+    ///     matches.check_counts()?;
     ///     Ok(matches.opt_str("output").unwrap_or_default())
     /// }
     /// assert!(run(&["--help"]).unwrap().starts_with("Usage: copy -o NAME"));

@@ -115,8 +115,8 @@ impl Options {
     /// ```
     /// let mut options = getopts::Options::new();
     /// options.optflag("h", "help", "print this help").reqopt("o", "output", "", "NAME");
-    /// assert!(options.parse_os(["-h"]).is_err());
-    /// assert!(options.parse_os_ignoring_counts(["-h"]).unwrap().opt_present("help"));
+    /// let matches = options.parse_os_ignoring_counts(["-h"]).unwrap();
+    /// assert!(matches.opt_present("help") && matches.check_counts().is_err());
     /// ```
     ///
     /// # Errors
@@ -208,6 +208,15 @@ impl OsMatches {
         let values =
             matches.of_each(|place| matches.given_at(place), |(_, value)| value.map(os_of));
         OsMatches { free, matches, values }
+    }
+
+    /// Checks how often options occur, as [`Matches::check_counts`] does, in matches of
+    /// [`parse_os_ignoring_counts`](Options::parse_os_ignoring_counts).
+    ///
+    /// # Errors
+    /// See [`Matches::check_counts`].
+    pub fn check_counts(&self) -> Result<(), Fail> {
+        self.matches.check_counts()
     }
 
     /// Whether an option has this name.

@@ -183,8 +183,6 @@ fn parse_reports_every_failed_allocation() {
         reports_failures(&options, |o| o.parse_ignoring_counts(Global, &WORDS));
         reports_failures(&options, |o| o.canonical_words(Global, &WORDS));
         reports_failures(&options, |o| o.parse_in_order(Global, &WORDS));
-        reports_failures(&options, |o| o.parse_unless(Global, &WORDS[1..], "v"));
-        reports_failures(&options, |o| o.parse_request(Global, &WORDS));
         reports_failures(&options, |o| o.canonical(Global, WORDS.iter().copied()));
         assert!(fail_each_of(&options, |o| o.reader(Global).map(drop)) > 1);
     }
@@ -223,13 +221,21 @@ fn invalid_words_report_error_or_out_of_memory() {
         ("-o", "o"),
     ] {
         let words: Vec<&str> = line.split(' ').collect();
-        for granted in 0.. {
-            let (result, _) = failing(granted, false, || options.parse_words(Global, &words));
-            let fail = result.unwrap_err();
-            if !matches!(fail, Fail::OutOfMemory) {
-                assert!(granted > 0 && fail.to_string().contains(wanted), "{fail}");
-                assert_eq!(fail_each_of(&fail, |fail| fail.try_clone()), 1);
-                break;
+        let by_two_calls = || {
+            let matches = options.parse_ignoring_counts(Global, &words)?;
+            matches.check_counts(Global).map(|()| matches)
+        };
+        let calls: [&dyn Fn() -> Result<Matches, Fail>; 2] =
+            [&|| options.parse_words(Global, &words), &by_two_calls];
+        for call in calls {
+            for granted in 0.. {
+                let (result, _) = failing(granted, false, call);
+                let fail = result.unwrap_err();
+                if !matches!(fail, Fail::OutOfMemory) {
+                    assert!(granted > 0 && fail.to_string().contains(wanted), "{fail}");
+                    assert_eq!(fail_each_of(&fail, |fail| fail.try_clone()), 1);
+                    break;
+                }
             }
         }
     }

@@ -172,7 +172,7 @@ mod of_the_proved_source {
     use super::*;
     use getopts::alloc::Global;
     use getopts::proved::wrap::each_split_within;
-    use getopts::proved::{HasArg, Occur, Options, Request, Unread, names_lawful};
+    use getopts::proved::{HasArg, Occur, Options, Unread, names_lawful};
     use std::cell::Cell;
 
     /// Options with a required option `o`, and the names in `VALID`.
@@ -222,14 +222,11 @@ mod of_the_proved_source {
             assert_eq!(matches.opt_default(Global, name, "default"), Ok(None));
             assert_eq!(matches.opt_get::<u8>(name), Ok(None));
             assert_eq!(matches.opt_get_default(name, 7), Ok(7));
-            assert!(options.parse_unless(Global, &["-ox"], name).unwrap().is_some());
         }
         assert!(!matches.opts_present(&names.map(String::from)));
         assert!(!matches.opts_present_any(&names));
         assert_eq!(matches.opts_str(Global, &["p", "o"].map(String::from)), Ok(Some("x".into())));
         assert_eq!(matches.opts_str_first(Global, &names), Ok(None));
-        // Neither help nor version is declared.
-        assert!(matches!(options.parse_request(Global, &["-ox"]), Ok(Request::Parsed(_))));
     }
 
     /// A word whose text changes from call to call.

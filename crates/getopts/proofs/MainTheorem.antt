@@ -1,6 +1,5 @@
 -- The main theorem, and lemmas for callers.
 pub mod Theorem
-pub mod Given
 pub mod Results
 pub mod Counted
 pub mod Accepted

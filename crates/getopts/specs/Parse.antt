@@ -2,18 +2,18 @@
 -- promises; `Results` defines the same results as functions. If options may be declared and words
 -- are UTF-8, exactly one of these is true: the words are accepted, break a count, or have no
 -- reading.
-use Rattle.std.specs.Prelude.{◌≡◌, ◌⊎◌, List, Option, MatchOption, Result, MatchResult, ⊤, codes}
+use Rattle.std.specs.Prelude.{◌≡◌, ◌⊎◌, List, Option, MatchOption, Result, MatchResult, ⊤}
 use Rattle.std.specs.Prelude.{Some, None, Ok, Err, ◌<◌, ℕ, [], ◌∷◌, ◌++◌, drop, length, map, IfSome}
 use Rattle.std.specs.Prelude.{IsSome, slice_get}
-use Rattle.std.specs.List.{Any, AllByRecursion}
+use Rattle.std.specs.List.{AllByRecursion}
 use Rattle.std.specs.Option.{option_map}
 use Rattle.getopts.specs.Only.{IsTheOnly}
-use Rattle.getopts.specs.Names.{Text, resolution}
-use Rattle.getopts.specs.Options.{Declared, grammar_of, names_of, Declares, Group, signatures_of}
+use Rattle.getopts.specs.Names.{Text}
+use Rattle.getopts.specs.Options.{Declared, grammar_of, Declares, Group, signatures_of}
 use Rattle.getopts.specs.Options.{kind_of, occur_of}
 use Rattle.getopts.specs.Fail.{Fault, IsOutOfMemoryOr}
 use Rattle.getopts.specs.Reading.{Reading, IsReading, IsScanFault, Given, order_of_reading}
-use Rattle.getopts.specs.Reading.{options_in, frees_in, occurrences_of, FitsKind, stop_word, option}
+use Rattle.getopts.specs.Reading.{options_in, frees_in, FitsKind, stop_word, option}
 use Rattle.getopts.specs.Reading.{free_word}
 use Rattle.getopts.specs.ReadingLaws.{HavePositionsInOrder, HavePositionsBelow}
 use Rattle.getopts.specs.Matches.{Matched, matches_of, KeepsCounts, IsCountFault, MatchedGroup}
@@ -22,9 +22,6 @@ use Rattle.getopts.specs.Canon.{Content, IsPlain, IsSound, canonical_line, HasCa
 use Rattle.getopts.specs.Canon.{HasUnwritable, IsCountKeeping, content_of}
 use Rattle.getopts.specs.Results.{parse_ignoring_counts_result, parse_result, reading_or_error}
 use Rattle.getopts.specs.Results.{accepted_reading, canonical_result, parse_in_order_result}
-use Rattle.getopts.specs.Results.{parse_unless_result, parse_request_result}
-use Rattle.getopts.specs.declared.request.Request.{Request}
-use Rattle.getopts.specs.declared.request.Request.TheVariants.{Help, Version, Parsed}
 use Rattle.getopts.specs.declared.fail.Fail.{Fail}
 use Rattle.getopts.specs.declared.kinds.HasArg.{HasArg}
 use Rattle.getopts.specs.declared.kinds.HasArg.TheVariants.{Yes}
@@ -101,25 +98,6 @@ pub record IsOrder (options : Declared) (words : List Text) (order : List Given)
   pub options_are : options_in order ≡ content.mentions
   pub frees_are : frees_in order ≡ content.free
 
--- ---- help and version
-
--- The words give this name's option: they have a reading in which it occurs.
-pub record Gives (options : Declared) (words : List Text) (name : Text) : Type 0 where
-  pub reading : Reading
-  pub reads : Reads options words reading
-  pub occurs : Any (λ o. resolution (names_of options.groups) name ≡ Some o.mention.place)
-      (occurrences_of (grammar_of options) reading)
-
--- The words give neither `help` nor `version`.
-abbrev pub RequestsNeither : Declared → List Text → Type 0
-RequestsNeither options words =
-    ¬ (Gives options words (codes "help")) × ¬ (Gives options words (codes "version"))
-
--- If neither help nor the version is requested, what was parsed has this property.
-abbrev pub IfParsed : {T : Type 0} → Request T → (T → Type 0) → Type 0
-IfParsed (Parsed it) P = P it
-IfParsed request P = ⊤
-
 -- ---- the result of each call
 -- Any call may also return out of memory (see `ReturnsResult`).
 
@@ -155,24 +133,6 @@ abbrev pub IsOrderResult : Declared → List Text → Result (List Given) Fault 
 IsOrderResult options words result =
     MatchResult result (IsOrder options words) (IsRefused options words)
 
--- This is the result of `parse_unless`, which checks the counts unless the flag is given.
-abbrev pub IsUnlessResult : Declared → Text → List Text → Result (Option Matched) Fault → Type 0
-IsUnlessResult options flag words (Ok None) = Gives options words flag
-IsUnlessResult options flag words (Ok (Some matches)) =
-    ¬ (Gives options words flag) × IsAccepted options words matches
-IsUnlessResult options flag words (Err fault) =
-    ¬ (Gives options words flag) × IsRefused options words fault
-
--- This is the result of `parse_request`, which checks the counts unless there is a request.
-abbrev pub IsRequestResult : Declared → List Text → Result (Request Matched) Fault → Type 0
-IsRequestResult options words (Ok Help) = Gives options words (codes "help")
-IsRequestResult options words (Ok Version) =
-    ¬ (Gives options words (codes "help")) × Gives options words (codes "version")
-IsRequestResult options words (Ok (Parsed matches)) =
-    RequestsNeither options words × IsAccepted options words matches
-IsRequestResult options words (Err fault) =
-    RequestsNeither options words × IsRefused options words fault
-
 -- Each function computes the only result that its relation allows.
 pub record HasResults (options : Declared) (words : List Text) : Type 0 where
   pub reading : IsTheOnly (IsReadingOf options words) (reading_or_error options words)
@@ -181,9 +141,6 @@ pub record HasResults (options : Declared) (words : List Text) : Type 0 where
   pub read : IsTheOnly (IsReadResult options words) (parse_ignoring_counts_result options words)
   pub canonical : IsTheOnly (IsCanonicalResult options words) (canonical_result options words)
   pub order : IsTheOnly (IsOrderResult options words) (parse_in_order_result options words)
-  pub unless : (flag : Text)
-      → IsTheOnly (IsUnlessResult options flag words) (parse_unless_result options flag words)
-  pub request : IsTheOnly (IsRequestResult options words) (parse_request_result options words)
 
 -- The call returns out of memory or, with its value converted, a result with the property `Is`.
 abbrev pub ReturnsConverted : {A X : Type 0} → (A → X) → Result A Fail → (Result X Fault → Type 0)

@@ -13,8 +13,8 @@ pub use Rattle.getopts.specs.Accessors.{borrowed_given, borrowed_group, occurren
 pub use Rattle.getopts.specs.Accessors.{free_before_trailing, is_present, trailing_words, values_of}
 pub use Rattle.getopts.specs.Reading.{Given, option, free_word}
 pub use Rattle.getopts.specs.Reader.{IsNextFault, IsReadTo, left_in, size_of}
-pub use Rattle.getopts.specs.Results.{order_or_error, parse_in_order_result, parse_result, parse_request_result}
-pub use Rattle.getopts.specs.Results.{parse_unless_result}
-pub use Rattle.getopts.specs.Parse.{IfParsed, EndsInTrailing, FitOptions, FitOptionsAndCounts}
+pub use Rattle.getopts.specs.Results.{order_or_error, parse_ignoring_counts_result, parse_in_order_result}
+pub use Rattle.getopts.specs.Results.{parse_result}
+pub use Rattle.getopts.specs.Parse.{EndsInTrailing, FitOptions, FitOptionsAndCounts}
 pub use Rattle.getopts.specs.Parse.{EndsInFreeWords, ReturnsResult}
 pub use Rattle.getopts.specs.UsageResults.{usage_result}

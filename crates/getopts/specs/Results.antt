@@ -1,22 +1,18 @@
 -- The results of the calls that read a command line, as functions. Nobody has to trust these
 -- definitions: `HasResults` says that each function gives what a relation of `Parse` describes.
 use Rattle.std.specs.Prelude.{◌==◌, if◌then◌else◌, not, List, [], ◌∷◌, ◌++◌, length, Option, Some}
-use Rattle.std.specs.Prelude.{None, Result, Ok, Err, codes}
+use Rattle.std.specs.Prelude.{None, Result, Ok, Err}
 use Rattle.std.specs.List.{list_all}
-use Rattle.std.specs.Result.{result_map_both}
 use Rattle.getopts.specs.Names.{Text, main_name}
 use Rattle.getopts.specs.Options.{Group, Grammar, Declared, grammar_of}
 use Rattle.getopts.specs.Fail.{Fault}
 use Rattle.getopts.specs.Reading.{dash, none, separate, one, two, Item, free, line_end, stop, rest}
 use Rattle.getopts.specs.Reading.{Reading, holds_equals, Given, order_of_reading}
 use Rattle.getopts.specs.Matches.{MatchedGroup, Matched, matches_of, fits_count, count_fault}
-use Rattle.getopts.specs.Accessors.{is_present}
 use Rattle.getopts.specs.Canon.{Content, content_of, main_at, canonical_line}
 use Rattle.getopts.specs.Step.{Step, ends, takes, faults, long_step, cluster_step}
 use Rattle.getopts.specs.declared.kinds.ParsingStyle.{ParsingStyle}
 use Rattle.getopts.specs.declared.kinds.ParsingStyle.TheVariants.{FloatingFrees, StopAtFirstFree}
-use Rattle.getopts.specs.declared.request.Request.{Request}
-use Rattle.getopts.specs.declared.request.Request.TheVariants.{Help, Version, Parsed}
 
 abbrev pub free_step : ParsingStyle → Text → List Text → Step
 free_step FloatingFrees word more = takes (free word) none
@@ -74,9 +70,9 @@ first_count_fault (group ∷ groups) =
     if fits_count group.signature.occur (length group.occurrences) then first_count_fault
     groups else Some (broken_count group)
 
-abbrev pub unless_fault : Reading → Option Fault → Result Reading Fault
-unless_fault reading None = Ok reading
-unless_fault reading (Some fault) = Err fault
+abbrev pub unless_fault : {X : Type 0} → X → Option Fault → Result X Fault
+unless_fault value None = Ok value
+unless_fault value (Some fault) = Err fault
 
 abbrev pub with_counts_kept : Declared → Result Reading Fault → Result Reading Fault
 with_counts_kept options (Ok reading) =
@@ -106,6 +102,10 @@ parse_ignoring_counts_result options words =
 abbrev pub parse_result : Declared → List Text → Result Matched Fault
 parse_result options words = made_of (matches_of options) (accepted_reading options words)
 
+-- the matches, or their count error
+unfoldable pub counted_result : Matched → Result Matched Fault
+counted_result matches = unless_fault matches (first_count_fault matches.groups)
+
 abbrev pub canonical_result : Declared → List Text → Result (Option (List Text)) Fault
 canonical_result options words =
     made_of (λ reading. written_line options.groups (content_of options reading))
@@ -119,25 +119,3 @@ order_or_error options words =
 abbrev pub parse_in_order_result : Declared → List Text → Result (List Given) Fault
 parse_in_order_result options words =
     made_of (order_of_reading (grammar_of options)) (accepted_reading options words)
-
--- the result of `parse_unless`, by the results of `parse_ignoring_counts` and `parse`
-abbrev pub unless_given : Text → Result Matched Fault → Result Matched Fault
-    → Result (Option Matched) Fault
-unless_given flag (Err fault) line = Err fault
-unless_given flag (Ok read) line = if is_present read.groups flag then Ok None
-    else result_map_both Some (λ fault. fault) line
-
-abbrev pub parse_unless_result : Declared → Text → List Text → Result (Option Matched) Fault
-parse_unless_result options flag words =
-    unless_given flag (parse_ignoring_counts_result options words) (parse_result options words)
-
--- the result of `parse_request`, by the results of `parse_ignoring_counts` and `parse`
-abbrev pub request_of : Result Matched Fault → Result Matched Fault → Result (Request Matched) Fault
-request_of (Err fault) line = Err fault
-request_of (Ok read) line = if is_present read.groups (codes "help") then Ok Help
-    else (if is_present read.groups (codes "version") then Ok Version
-    else result_map_both Parsed (λ fault. fault) line)
-
-abbrev pub parse_request_result : Declared → List Text → Result (Request Matched) Fault
-parse_request_result options words =
-    request_of (parse_ignoring_counts_result options words) (parse_result options words)

@@ -40,7 +40,6 @@ mod canon;
 mod matches;
 mod parse;
 mod reader;
-mod request;
 
 // Help texts.
 mod row;
@@ -59,7 +58,6 @@ pub use names::names_lawful;
 pub use occurrences::{Occurrences, OccurrencesIter};
 pub use options::Options;
 pub use reader::{Reader, Unread};
-pub use request::Request;
 pub use scan::Given;
 pub use usage::UsageRows;
 

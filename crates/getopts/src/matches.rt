@@ -8,8 +8,9 @@ ghost use Rattle.std.proofs.Common.{rules};
 ghost use Rattle.getopts.specs.Accessors.{HaveLawfulNames, occurrences_of_group};
 ghost use Rattle.getopts.specs.Accessors.{occurrences_of_name, opt_place};
 ghost use Rattle.getopts.specs.Fail.{IsOutOfMemoryOr};
-ghost use Rattle.getopts.specs.Matches.{matched};
-ghost use Rattle.getopts.specs.Results.{first_count_fault};
+ghost use Rattle.getopts.specs.Matches.{KeepsCounts, IsCountFault, matched};
+ghost use Rattle.getopts.specs.Parse.{ReturnsConverted};
+ghost use Rattle.getopts.specs.Results.{counted_result, first_count_fault};
 ghost use Rattle.getopts.specs.Stored.Index.{index_of, indices_in};
 ghost use Rattle.getopts.specs.Stored.Signatures.{names_in};
 ghost use Rattle.getopts.specs.Stored.Table.{IsTableOf};
@@ -78,14 +79,18 @@ impl Matches {
         }
     }
 
-    /// Checks how often each option occurs, in order of declaration.
-    #[tactic(auto, using(crate::proofs::counts::Groups::first_wrong_matched))]
-    pub(crate) fn check_counts(&self, alloc: Global) -> Result<(), Fail>
-        ensures ok { OnOk result (first_count_fault self.now.groups ≡ None) }
-        ensures err { IfErr result (λ fail. IsOutOfMemoryOr fail
-            (λ fault. first_count_fault self.now.groups ≡ Some fault)) }
+    /// Checks how often options occur in matches of `parse_ignoring_counts`, as `parse_words` does.
+    ///
+    /// Returns the error of the first option, in order of declaration, that is missing or was given
+    /// too often. Matches of `parse_words` have no such error. The Rust crate has no such method.
+    pub fn check_counts(&self, alloc: Global) -> Result<(), Fail>
+        ensures result { ReturnsConverted (λ _. self.now) result
+            (λ returned. counted_result self.now ≡ returned) }
+        ensures kept { OnOk result (KeepsCounts self.now.groups) }
+        ensures broken { IfErr result
+            (λ fail. IsOutOfMemoryOr fail (IsCountFault self.now.groups)) }
     {
-        check_counts(alloc, &self.held.signatures, &self.held.index)
+        self.held.check_counts(alloc)
     }
 }
 
@@ -199,6 +204,16 @@ impl MatchedOptions {
             Some(place) => self.occurrences_of_group(place),
             None => Occurrences::of(&self.found, &[]),
         }
+    }
+
+    /// Checks how often each option occurs, in order of declaration.
+    #[tactic(auto, using(crate::proofs::counts::Groups::first_wrong_matched))]
+    pub(crate) fn check_counts(&self, alloc: Global) -> Result<(), Fail>
+        ensures ok { OnOk result (first_count_fault self.now ≡ None) }
+        ensures err { IfErr result (λ fail. IsOutOfMemoryOr fail
+            (λ fault. first_count_fault self.now ≡ Some fault)) }
+    {
+        check_counts(alloc, &self.signatures, &self.index)
     }
 
     // Inlined, it would slow down its caller.

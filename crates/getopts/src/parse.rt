@@ -24,8 +24,8 @@ impl Options {
     ghost use Rattle.getopts.specs.Parse.{Accepts, EndsInTrailing, IsDeclared};
     ghost use Rattle.getopts.specs.ReadingLaws.{KeepsReadingLaws};
     ghost use Rattle.getopts.specs.Results.{parse_result, parse_ignoring_counts_result};
-    ghost use Rattle.getopts.specs.Results.{parse_in_order_result};
-    ghost use Rattle.getopts.specs.Matches.{matches_of};
+    ghost use Rattle.getopts.specs.Results.{counted_result, parse_in_order_result};
+    ghost use Rattle.getopts.specs.Matches.{KeepsCounts, matches_of};
     ghost use Rattle.getopts.specs.Results.{made_of};
     ghost use Rattle.getopts.specs.Stored.Scan.{IsLeft, reading_if};
     ghost use Rattle.getopts.specs.Stored.Table.{IsTableOf};
@@ -61,11 +61,13 @@ impl Options {
 
     /// Parses a command line like `parse_words`, but doesn't check how often options occur.
     ///
-    /// Use it to print help even if a required option is missing: call it first, print help if the
-    /// help option was given, and otherwise call `parse_words`. It succeeds if and only if every
-    /// word can be read. Required options may then be missing, and options may occur too often. If
-    /// a word can't be read, it returns the same error as `parse_words`. The Rust crate has no such
-    /// method.
+    /// Use it to print help even if a required option is missing: print help if the matches have
+    /// the help option, and otherwise call `matches.check_counts(alloc)?`. Both calls together
+    /// return what `parse_words` does.
+    ///
+    /// It succeeds if and only if every word can be read. Required options may then be missing, and
+    /// options may occur too often. If a word can't be read, it returns the same error as
+    /// `parse_words`. The Rust crate has no such method.
     pub fn parse_ignoring_counts<S: AsStr>(&self, alloc: Global, words: &[S]) -> crate::Result
         ensures result { ReturnsResult result
             (parse_ignoring_counts_result self.now (map S.text words.now)) }
@@ -75,6 +77,16 @@ impl Options {
         ensures given { IfOk result (λ matches. FitOptions self.now matches.groups) }
         ensures trailing { IfOk result (λ matches. IfSome matches.trailing_start
             (EndsInTrailing (map S.text words.now) matches)) }
+
+        // With `check_counts`, the result is that of `parse_words`.
+        ensures counted { IfOk result
+            (λ matches. parse_result self.now (map S.text words.now) ≡ counted_result matches) }
+        ensures same_error { IfErr result (λ fail. IsOutOfMemoryOr fail (λ fault.
+            parse_result self.now (map S.text words.now) ≡ Err fault)) }
+        ensures accepted { IfOk result (λ matches. KeepsCounts matches.groups
+            → Accepts self.now (map S.text words.now) matches) }
+        ensures declared { IfOk result (λ matches. KeepsCounts matches.groups
+            → FitOptionsAndCounts self.now matches.groups) }
     {
         self.read_matches(alloc, words, false)
     }

@@ -3,14 +3,13 @@ use Rattle.std.specs.Prelude.{◌≡◌, ℕ, List, ◌++◌, codes, Option, Res
 use Rattle.std.specs.List.{repeat}
 use Rattle.std.specs.Io.KnownBytes.{Appends}
 use Rattle.std.specs.String.{string_bytes}
-use Rattle.getopts.specs.Prelude.{Text, fail_text, parse_request_result}
-use Rattle.getopts.specs.declared.request.Request.{Request}
-use Rattle.getopts.specs.declared.request.Request.TheVariants.{Help, Parsed, Version}
-use Rattle.getopts_greet.specs.Greeting.{IsAskedOrError, greeter_help, greeter_options}
-use Rattle.getopts_greet.specs.Greeting.{greeter_version}
+use Rattle.getopts.specs.Prelude.{Text, fail_text}
+use Rattle.getopts_greet.specs.Greeting.{IsAskedOrError, asked_result, greeter_help, greeter_version}
 use Rattle.getopts_greet.specs.declared.greeting.Greeting.{Greeting}
 use Rattle.getopts_greet.specs.declared.greeting.Refusal.{Refusal}
 use Rattle.getopts_greet.specs.declared.greeting.Refusal.TheVariants.{Line, Number, OutOfMemory}
+use Rattle.getopts_greet.specs.declared.greeting.Request.{Request}
+use Rattle.getopts_greet.specs.declared.greeting.Request.TheVariants.{Help, Parsed, Version}
 
 -- the greeting, repeated as often as requested, or once
 abbrev pub greeting_text : Greeting → Text
@@ -35,8 +34,7 @@ IsAnswerOf (Err (Number error)) text status =
 -- This is the text and the status for these words.
 abbrev pub IsAnswerTo : List Text → Text → ℕ → Type 0
 IsAnswerTo words text status = (asked : Result (Request Greeting) Refusal)
-    × IsAskedOrError (parse_request_result greeter_options words) asked
-    × IsAnswerOf asked text status
+    × IsAskedOrError (asked_result words) asked × IsAnswerOf asked text status
 
 -- The writer has received the text for these words, which have this status.
 abbrev pub Shows : Option (List ℕ) → Option (List ℕ) → List Text → ℕ → Type 0

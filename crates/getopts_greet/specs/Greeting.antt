@@ -1,19 +1,21 @@
 -- The greeter's options, and what a command line asks for.
-use Rattle.std.specs.Prelude.{◌≡◌, ⊤, ℕ, [], ◌∷◌, ◌++◌, codes}
+use Rattle.std.specs.Prelude.{◌≡◌, ⊤, if◌then◌else◌, ℕ, List, [], ◌∷◌, ◌++◌, codes}
 use Rattle.std.specs.Prelude.{Some, Result, Ok, Err}
 use Rattle.std.specs.Option.{option_map}
+use Rattle.std.specs.Result.{result_map_both}
 use Rattle.std.specs.Str.Parse.{ParsesUnsigned}
 use Rattle.std.specs.String.{string_bytes}
 use Rattle.std.specs.declared.num.ParseIntError.{ParseIntError}
 use Rattle.getopts.specs.Prelude.{Declared, Fault, IsParsedAs, Matched, Text, fault_of, first_value}
-use Rattle.getopts.specs.Prelude.{occurrences_of_name, optflag, options_of, optopt, reqopt}
+use Rattle.getopts.specs.Prelude.{is_present, occurrences_of_name, optflag, options_of, optopt}
+use Rattle.getopts.specs.Prelude.{parse_ignoring_counts_result, parse_result, reqopt}
 use Rattle.getopts.specs.declared.fail.Fail.{Fail}
 use Rattle.getopts.specs.declared.fail.Fail.TheVariants as fail
-use Rattle.getopts.specs.declared.request.Request.{Request}
-use Rattle.getopts.specs.declared.request.Request.TheVariants.{Help, Parsed, Version}
 use Rattle.getopts_greet.specs.declared.greeting.Greeting.{Greeting}
 use Rattle.getopts_greet.specs.declared.greeting.Refusal.{Refusal}
 use Rattle.getopts_greet.specs.declared.greeting.Refusal.TheVariants.{Line, Number, OutOfMemory}
+use Rattle.getopts_greet.specs.declared.greeting.Request.{Request}
+use Rattle.getopts_greet.specs.declared.greeting.Request.TheVariants.{Help, Parsed, Version}
 
 -- the greeter's options
 abbrev pub greeter_options : Declared
@@ -56,6 +58,18 @@ IsGreetingOrError matches (Err (Number error)) = IsParsedAs {T = ℕ} (ParsesUns
     (first_value (occurrences_of_name matches.groups (codes "times"))) (Err error)
 IsGreetingOrError matches (Err (Line fail)) = ⊥
 IsGreetingOrError matches (Ok greeting) = IsGreetingOf matches greeting
+
+-- what a command line asks for, by its matches with counts ignored and by its result
+abbrev pub asked_of : Result Matched Fault → Result Matched Fault → Result (Request Matched) Fault
+asked_of (Err fault) line = Err fault
+asked_of (Ok read) line = if is_present read.groups (codes "help") then Ok Help
+    else (if is_present read.groups (codes "version") then Ok Version
+    else result_map_both Parsed (λ fault. fault) line)
+
+-- what these words ask for, or their error
+abbrev pub asked_result : List Text → Result (Request Matched) Fault
+asked_result words = asked_of (parse_ignoring_counts_result greeter_options words)
+    (parse_result greeter_options words)
 
 -- This is what a command line asks for, or why it asks for nothing.
 abbrev pub IsAskedOrError : Result (Request Matched) Fault → Result (Request Greeting) Refusal

@@ -5,8 +5,7 @@ ghost use Rattle.std.specs.Io.KnownBytes.{Appends};
 ghost use Rattle.std.specs.String.{string_bytes};
 ghost use Rattle.getopts_greet.specs.Answer.{IsAnswerOf, IsAnswerTo, Shows, asked_text, greeting_text};
 
-use crate::greeting::{Greeting, Refusal, help_text, read};
-use getopts::Request;
+use crate::greeting::{Greeting, Refusal, Request, help_text, read};
 use std::alloc::{AllocError, Global};
 use std::convert::AsStr;
 use std::io;

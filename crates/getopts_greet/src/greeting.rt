@@ -4,17 +4,24 @@ ghost use Rattle.std.specs.Prelude.{◌≡◌, [], ◌∷◌, codes, map, IfOk, 
 ghost use Rattle.std.specs.Str.Parse.{ParsesUnsigned};
 ghost use Rattle.std.specs.String.{string_bytes};
 ghost use Rattle.getopts.specs.Prelude.{FitOptionsAndCounts, IsDefined, IsParsedAs, Matched};
-ghost use Rattle.getopts.specs.Prelude.{first_value, occurrences_of_name, parse_request_result};
-ghost use Rattle.getopts.specs.Prelude.{usage_result};
-ghost use Rattle.getopts.specs.declared.request.Request.TheVariants.{Help, Parsed};
-ghost use Rattle.getopts_greet.specs.Greeting.{IsAskedOrError, IsGreetingOrError, greeter_help};
-ghost use Rattle.getopts_greet.specs.Greeting.{greeter_options, refusal_of};
+ghost use Rattle.getopts.specs.Prelude.{first_value, occurrences_of_name, usage_result};
+ghost use Rattle.getopts_greet.specs.Greeting.{IsAskedOrError, IsGreetingOrError, asked_result};
+ghost use Rattle.getopts_greet.specs.Greeting.{greeter_help, greeter_options, refusal_of};
 ghost use Rattle.getopts_greet.specs.declared.greeting.Refusal.TheVariants.{Number, OutOfMemory};
+ghost use Rattle.getopts_greet.specs.declared.greeting.Request.TheVariants.{Help, Parsed};
 
-use getopts::{Fail, Matches, Options, Request};
+use getopts::{Fail, Matches, Options};
 use std::alloc::{AllocError, Global};
 use std::convert::AsStr;
 use std::num::ParseIntError;
+
+/// What a command line requests: help, the version, or what was parsed.
+#[derive(Debug, Drop)]
+pub enum Request<T> {
+    Help,
+    Version,
+    Parsed(T),
+}
 
 /// Whom to greet, and how often.
 #[derive(Debug, Drop)]
@@ -94,24 +101,28 @@ fn usage(alloc: Global) -> Result<String, AllocError>
 /// What a command line asks for: help and the version are printed even if an option is missing, but
 /// not if a word can't be read.
 pub fn read<S: AsStr>(alloc: Global, words: &[S]) -> Result<Request<Greeting>, Refusal>
-    ensures result { IsAskedOrError (parse_request_result greeter_options (map S.text words.now)) result }
+    ensures result { IsAskedOrError (asked_result (map S.text words.now)) result }
 {
     let options = options(alloc)?;
-    match options.parse_request(alloc, words)? {
-        Request::Help => Ok(Request::Help),
-        Request::Version => Ok(Request::Version),
-        Request::Parsed(matches) => Ok(Request::Parsed(greeting_of(alloc, &matches)?)),
+    let matches = options.parse_ignoring_counts(alloc, words)?;
+    if matches.opt_present("help") {
+        return Ok(Request::Help);
     }
+    if matches.opt_present("version") {
+        return Ok(Request::Version);
+    }
+    matches.check_counts(alloc)?;
+    Ok(Request::Parsed(greeting_of(alloc, &matches)?))
 }
 
 /// Two command lines written out: whether the contract of `read` is right can be seen before it is
 /// proved.
 fn lines_written_out()
     ensures greeting { (matches : Matched)
-        × (parse_request_result greeter_options (codes "-nAnn" ∷ codes "-t2" ∷ []) ≡ Ok (Parsed matches))
+        × (asked_result (codes "-nAnn" ∷ codes "-t2" ∷ []) ≡ Ok (Parsed matches))
         × (first_value (occurrences_of_name matches.groups (codes "name")) ≡ Some (codes "Ann"))
         × (first_value (occurrences_of_name matches.groups (codes "times")) ≡ Some (codes "2")) }
-    ensures help { parse_request_result greeter_options (codes "-Vh" ∷ []) ≡ Ok Help }
+    ensures help { asked_result (codes "-Vh" ∷ []) ≡ Ok Help }
 {}
 
 /// The greeting that matches ask for.

@@ -1,11 +1,13 @@
 -- A program with subcommands: its options and theirs, their help, and what a command line runs.
-use Rattle.std.specs.Prelude.{◌≡◌, ◌≢◌, ⊤, ◌⊎◌, List, [], ◌∷◌, true, false, map, codes}
-use Rattle.std.specs.Prelude.{Option, Some, None, Result, Ok, Err}
+use Rattle.std.specs.Prelude.{◌≡◌, ◌≢◌, ⊤, ◌⊎◌, if◌then◌else◌, List, [], ◌∷◌, true, false, map}
+use Rattle.std.specs.Prelude.{codes, Option, Some, None, Result, Ok, Err}
 use Rattle.std.specs.Option.{option_map}
+use Rattle.std.specs.Result.{result_map_both}
 use Rattle.std.specs.String.{string_bytes}
 use Rattle.getopts.specs.Prelude.{Declared, Fault, IsOutOfMemoryOr, Matched, Text, first_value}
 use Rattle.getopts.specs.Prelude.{is_present, occurrences_of_name, optflag, optmulti, optopt}
-use Rattle.getopts.specs.Prelude.{options_of, parse_unless_result, reqopt, values_of}
+use Rattle.getopts.specs.Prelude.{options_of, parse_ignoring_counts_result, parse_result, reqopt}
+use Rattle.getopts.specs.Prelude.{values_of}
 use Rattle.getopts.specs.declared.kinds.ParsingStyle.TheVariants.{StopAtFirstFree}
 use Rattle.getopts_uses.specs.Driver.{names_none}
 use Rattle.getopts_uses.specs.declared.subcommand.Add.{Add}
@@ -50,9 +52,16 @@ narrow_add_help = codes "Usage: add [options] FILE..\n\nOptions:\n    -f, --forc
 abbrev pub log_help : Text
 log_help = codes "Usage: log -n NUMBER [options] FILE..\n\nOptions:\n    -n, --max-count NUMBER\n                        show NUMBER entries\n        --grep TEXT     show those that have TEXT\n    -h, --help          print this help\n"
 
+-- none if help is given, by matches with counts ignored, and otherwise the result of a command line
+abbrev pub unless_help : Result Matched Fault → Result Matched Fault → Result (Option Matched) Fault
+unless_help (Err fault) line = Err fault
+unless_help (Ok read) line = if is_present read.groups (codes "help") then Ok None
+    else result_map_both Some (λ fault. fault) line
+
 -- what a subcommand's own words ask for, by its options
 abbrev pub parse_unless_help : Declared → List Text → Result (Option Matched) Fault
-parse_unless_help options words = parse_unless_result options (codes "help") words
+parse_unless_help options words =
+    unless_help (parse_ignoring_counts_result options words) (parse_result options words)
 
 -- This is what matches of `add` ask for, which need a file.
 abbrev pub IsAddOf : Matched → Result Add Refusal → Type 0

@@ -7,10 +7,10 @@ use Rattle.getopts.specs.Prelude.{borrowed_given, free_word, optflagmulti, optio
 use Rattle.getopts.specs.Prelude.{optmulti, order_or_error}
 use Rattle.getopts.specs.Reader.{Left}
 use Rattle.getopts.specs.declared.kinds.ParsingStyle.TheVariants.{StopAtFirstFree}
-use Rattle.getopts.specs.declared.request.Request.{Request}
-use Rattle.getopts.specs.declared.request.Request.TheVariants.{Help, Parsed, Version}
 use Rattle.getopts_uses.specs.declared.launcher.Command.{Command}
 use Rattle.getopts_uses.specs.declared.launcher.Launch.{Launch}
+use Rattle.getopts_uses.specs.declared.request.Request.{Request}
+use Rattle.getopts_uses.specs.declared.request.Request.TheVariants.{Help, Parsed}
 
 -- variables to unset, whether to begin without any, and help; options precede the command
 abbrev pub launch_options : Declared
@@ -40,7 +40,6 @@ IsAsked text line Help = (others : List Given) × (value : Option Text) × (left
 IsAsked text line (Parsed launch) = AllByRecursion IsOther (map borrowed_given launch.options.items)
     × (order_or_error launch_options line
     ≡ Ok (map borrowed_given launch.options.items ++ map free_word (command_words text launch.command)))
-IsAsked text line Version = ⊥
 
 -- This is the error of a command line, and no help precedes it.
 abbrev pub IsRefusedFor : List Text → Fault → Type 0

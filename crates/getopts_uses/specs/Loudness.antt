@@ -2,18 +2,20 @@
 use Rattle.std.specs.Prelude.{◌≡◌, ◌==◌, ⊤, if◌then◌else◌, false, ℕ, List, [], ◌∷◌, codes, map}
 use Rattle.std.specs.Prelude.{Option, Some, None, Result, Ok, Err, unwrap_or}
 use Rattle.std.specs.Option.{option_map}
+use Rattle.std.specs.Result.{result_map_both}
 use Rattle.std.specs.String.{string_bytes}
-use Rattle.getopts.specs.Prelude.{Declared, Fault, IsOutOfMemoryOr, Matched, first_value, group_of}
-use Rattle.getopts.specs.Prelude.{occurrences_of_name, Given, option, free_word}
+use Rattle.getopts.specs.Prelude.{Declared, Fault, IsOutOfMemoryOr, Matched, Text, first_value}
+use Rattle.getopts.specs.Prelude.{group_of, is_present, occurrences_of_name, Given, option, free_word}
+use Rattle.getopts.specs.Prelude.{parse_ignoring_counts_result, parse_result}
 use Rattle.getopts.specs.declared.fail.Fail.{Fail}
 use Rattle.getopts.specs.declared.kinds.HasArg.TheVariants.{No, Yes}
 use Rattle.getopts.specs.declared.kinds.Occur.TheVariants.{Optional, Multi}
 use Rattle.getopts.specs.declared.kinds.ParsingStyle.TheVariants.{FloatingFrees}
-use Rattle.getopts.specs.declared.request.Request.{Request}
-use Rattle.getopts.specs.declared.request.Request.TheVariants.{Help, Parsed}
 use Rattle.getopts_uses.specs.declared.loudness.Loudness.{Loudness}
 use Rattle.getopts_uses.specs.declared.loudness.Loudness.TheVariants.{Normal, Quiet, Verbose}
 use Rattle.getopts_uses.specs.declared.loudness.Report.{Report}
+use Rattle.getopts_uses.specs.declared.request.Request.{Request}
+use Rattle.getopts_uses.specs.declared.request.Request.TheVariants.{Help, Parsed}
 
 -- two flags, an option with a value, and help
 abbrev pub report_options : Declared
@@ -50,6 +52,17 @@ pub record IsReportOf (matches : Matched) (loudness : Loudness) (report : Report
   pub output : option_map string_bytes report.output
       ≡ first_value (occurrences_of_name matches.groups (codes "output"))
   pub files : map string_bytes report.files.items ≡ matches.free
+
+-- what a command line asks for, by its matches with counts ignored and by its result
+abbrev pub asked_of : Result Matched Fault → Result Matched Fault → Result (Request Matched) Fault
+asked_of (Err fault) line = Err fault
+asked_of (Ok read) line = if is_present read.groups (codes "help") then Ok Help
+    else result_map_both Parsed (λ fault. fault) line
+
+-- what these words ask for, or their error
+abbrev pub asked_result : List Text → Result (Request Matched) Fault
+asked_result words =
+    asked_of (parse_ignoring_counts_result report_options words) (parse_result report_options words)
 
 -- This is what a command line asks for, or its error.
 abbrev pub IsAskedOrError : Result (Request Matched) Fault → Result (List Given) Fault

@@ -6,7 +6,8 @@ ghost use Rattle.std.specs.Prelude.{◌≡◌, IfErr, IfOk, map};
 ghost use Rattle.getopts.specs.Prelude.{IsOutOfMemoryOr};
 ghost use Rattle.getopts_uses.specs.Launcher.{IsAsked, IsRefusedFor, launch_options};
 
-use getopts::{Fail, Given, Options, ParsingStyle, Request, Unread};
+use crate::request::Request;
+use getopts::{Fail, Given, Options, ParsingStyle, Unread};
 use std::alloc::{AllocError, Global};
 use std::convert::AsStr;
 

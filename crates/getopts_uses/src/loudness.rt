@@ -4,14 +4,15 @@
 ghost use Rattle.std.specs.Prelude.{◌≡◌, List, [], ◌∷◌, ◌++◌, codes, map, Err, IfErr, IfOk, Ok};
 ghost use Rattle.std.specs.Result.{result_map_both};
 ghost use Rattle.getopts.specs.Prelude.{FitOptionsAndCounts, IsOutOfMemoryOr, Text};
-ghost use Rattle.getopts.specs.Prelude.{parse_in_order_result, parse_request_result, parse_result};
-ghost use Rattle.getopts.specs.Prelude.{borrowed_given, unrecognized_option};
-ghost use Rattle.getopts.specs.declared.request.Request.TheVariants.{Help};
+ghost use Rattle.getopts.specs.Prelude.{parse_in_order_result, parse_result, borrowed_given};
+ghost use Rattle.getopts.specs.Prelude.{unrecognized_option};
 ghost use Rattle.getopts_uses.specs.Loudness.{IsAskedOrError, IsLoudnessOrError, IsReportOf, after};
-ghost use Rattle.getopts_uses.specs.Loudness.{loudness_at, report_options};
+ghost use Rattle.getopts_uses.specs.Loudness.{asked_result, loudness_at, report_options};
 ghost use Rattle.getopts_uses.specs.declared.loudness.Loudness.TheVariants.{Normal, Quiet, Verbose};
+ghost use Rattle.getopts_uses.specs.declared.request.Request.TheVariants.{Help};
 
-use getopts::{Fail, Given, Matches, Options, Request};
+use crate::request::Request;
+use getopts::{Fail, Given, Matches, Options};
 use std::alloc::{AllocError, Global};
 use std::convert::AsStr;
 
@@ -52,26 +53,25 @@ fn lines_written_out()
         report_options (codes "-qv" ∷ codes "x" ∷ [])) ≡ Ok Verbose }
     ensures quiet { result_map_both (after Normal) (λ fault. fault) (parse_in_order_result
         report_options (codes "-vq" ∷ codes "-o" ∷ codes "-v" ∷ [])) ≡ Ok Quiet }
-    ensures help { parse_request_result report_options (codes "-vh" ∷ codes "-ox" ∷ []) ≡ Ok Help }
+    ensures help { asked_result (codes "-vh" ∷ codes "-ox" ∷ []) ≡ Ok Help }
     ensures number { (text : Text) (words : List Text) → parse_result report_options
         ((codes "-5" ++ text) ∷ words) ≡ Err (unrecognized_option (codes "5")) }
 {}
 
-/// What a command line asks for: help, or a report. The words are parsed twice. By the clauses
-/// `parsed` and `same_error`, the second call fails only if memory runs out.
+/// What a command line asks for: help, or a report. Unless it asks for help, the words are parsed
+/// twice. By the clauses `counted` and `same_error`, the second call fails only if memory runs out.
 pub fn read_report<S: AsStr>(alloc: Global, words: &[S]) -> Result<Request<Report>, Fail>
-    ensures result { IsAskedOrError (parse_request_result report_options (map S.text words.now))
+    ensures result { IsAskedOrError (asked_result (map S.text words.now))
         (parse_in_order_result report_options (map S.text words.now)) result }
 {
     let options = options(alloc)?;
-    match options.parse_request(alloc, words)? {
-        Request::Help => Ok(Request::Help),
-        Request::Version => Ok(Request::Version),
-        Request::Parsed(matches) => {
-            let loudness = loudness_of(alloc, &options, words)?;
-            Ok(Request::Parsed(report_of(alloc, matches, loudness)?))
-        }
+    let matches = options.parse_ignoring_counts(alloc, words)?;
+    if matches.opt_present("help") {
+        return Ok(Request::Help);
     }
+    matches.check_counts(alloc)?;
+    let loudness = loudness_of(alloc, &options, words)?;
+    Ok(Request::Parsed(report_of(alloc, matches, loudness)?))
 }
 
 /// How much output a command line asks for: the last of `-q` and `-v` wins, even in `-qv`, in which

@@ -8,6 +8,7 @@
 mod archive;
 mod cases;
 mod checked;
+mod counted;
 mod cut;
 mod driver;
 mod flag;
@@ -18,6 +19,7 @@ mod lists;
 mod logged;
 mod loudness;
 mod plugin;
+mod request;
 mod seq;
 mod short_help;
 mod subcommand;

@@ -1,10 +1,11 @@
 //! A program with subcommands, each with its own options, help and errors: options before the
 //! subcommand's name belong to the program, and options after it to the subcommand.
 
-ghost use Rattle.std.specs.Prelude.{◌≡◌, codes, map, IfOk, Ok, OnOk};
+ghost use Rattle.std.specs.Prelude.{◌≡◌, codes, map, IfOk, IfSome, Ok, OnOk};
 ghost use Rattle.std.specs.String.{string_bytes};
 ghost use Rattle.getopts.specs.Parse.{EndsInFreeWords};
-ghost use Rattle.getopts.specs.Prelude.{FitOptions, FitOptionsAndCounts, Matched, parse_result};
+ghost use Rattle.getopts.specs.Prelude.{Declares, FitOptions, FitOptionsAndCounts, Matched};
+ghost use Rattle.getopts.specs.Prelude.{ReturnsResult, parse_result};
 ghost use Rattle.getopts.specs.UsageResults.{usage_in_result, usage_result};
 ghost use Rattle.getopts_uses.specs.Command.{IsAddOf, IsAddOrError, IsCommandOrError, IsLogOf};
 ghost use Rattle.getopts_uses.specs.Command.{IsLogOrError, IsRunOf, IsRunOrError, add_help, add_options};
@@ -191,11 +192,32 @@ fn read_command(alloc: Global, name: &str, words: &[String]) -> Result<Command, 
     }
 }
 
+/// The matches of a subcommand's own words, or none if they ask for help, even if a required option
+/// is missing.
+fn parse_unless_help(
+    alloc: Global,
+    options: &Options,
+    words: &[String],
+) -> Result<Option<Matches>, Fail>
+    requires { Declares options.now (codes "help") }
+    ensures result { ReturnsResult result
+        (parse_unless_help options.now (map string_bytes words.now)) }
+    ensures declared { IfOk result (λ returned. IfSome returned (λ matches.
+        FitOptionsAndCounts options.now matches.groups)) }
+{
+    let matches = options.parse_ignoring_counts(alloc, words)?;
+    if matches.opt_present("help") {
+        return Ok(None);
+    }
+    matches.check_counts(alloc)?;
+    Ok(Some(matches))
+}
+
 /// What the words after `add` ask for, or none if they ask for help.
 fn read_add(alloc: Global, words: &[String]) -> Result<Option<Add>, Refusal>
     ensures { IsAddOrError (parse_unless_help add_options (map string_bytes words.now)) result }
 {
-    match add_options(alloc)?.parse_unless(alloc, words, "help") {
+    match parse_unless_help(alloc, &add_options(alloc)?, words) {
         Ok(Some(matches)) => Ok(Some(add_of(matches)?)),
         Ok(None) => Ok(None),
         Err(fail) => Err(Refusal::Own("add", fail)),
@@ -220,7 +242,7 @@ fn add_of(matches: Matches) -> Result<Add, Refusal>
 fn read_log(alloc: Global, words: &[String]) -> Result<Option<Log>, Refusal>
     ensures { IsLogOrError (parse_unless_help log_options (map string_bytes words.now)) result }
 {
-    match log_options(alloc)?.parse_unless(alloc, words, "help") {
+    match parse_unless_help(alloc, &log_options(alloc)?, words) {
         Ok(Some(matches)) => Ok(Some(log_of(alloc, matches)?)),
         Ok(None) => Ok(None),
         Err(fail) => Err(Refusal::Own("log", fail)),

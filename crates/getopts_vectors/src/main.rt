@@ -36,11 +36,9 @@
 //!
 //! - `words WORD..`: `accepted START FREE..`, where START is `-` or the trailing start, or
 //!   `refused FAULT NAME`
-//! - `parse_words WORD..`, `parse_promised WORD..` and `ignoring_counts WORD..`: like `words`, with
-//!   `parse_words`, with `parse` of an iterator that promises too many words, and with
-//!   `parse_ignoring_counts`
-//! - `parse_request WORD..`: `requested help` or `requested version` if the words request it, and
-//!   `parse_unless FLAG WORD..`: `given FLAG` if they give the flag. There are no last `words` then
+//! - `parse_words WORD..`, `parse_promised WORD..`, `ignoring_counts WORD..` and `check_counts
+//!   WORD..`: like `words`, with `parse_words`, with `parse` of an iterator that promises too many
+//!   words, with `parse_ignoring_counts`, and with `parse_ignoring_counts` and then `check_counts`
 //! - `take_trailing`: the words that the call takes off the free words of the last `words`; then a
 //!   line `free` with the free words that are left
 //! - `option NAME DEFAULT`: `option NAME present COUNT STR DEFAULTED` or `option NAME absent ..`,

@@ -1,13 +1,17 @@
 //! The state of a case, and what each line does to it.
 
+ghost use Rattle.std.specs.Prelude.{map};
+ghost use Rattle.std.specs.String.{string_bytes};
 ghost use Rattle.getopts.specs.Names.{AreLawful};
+ghost use Rattle.getopts.specs.Parse.{ReturnsResult};
+ghost use Rattle.getopts.specs.Results.{parse_result};
 
 use crate::errors::put_fault;
 use crate::form::{Answer, Field};
 use crate::iterators::promised;
 use crate::stop::{NO_CASE, Stop, UNKNOWN_LINE, UNLAWFUL_NAMES, WRONG_FIELDS};
 use crate::{accessors, asks};
-use getopts::{HasArg, Occur, Options, ParsingStyle, Request, names_lawful};
+use getopts::{HasArg, Occur, Options, ParsingStyle, names_lawful};
 use std::alloc::{AllocError, Global};
 use std::cell::Cell;
 
@@ -105,9 +109,10 @@ impl Session {
             ("chained", []) => chained(&mut self.side.options)?,
             ("clear", []) => self.clear(answer)?,
             ("take_trailing", []) => self.take_trailing(answer)?,
-            ("parse_request", words) => self.request(alloc, words, answer),
-            ("parse_unless", [flag, words @ ..]) => self.read_unless(alloc, flag, words, answer),
-            ("words" | "parse_words" | "parse_promised" | "ignoring_counts", words) => {
+            (
+                "words" | "parse_words" | "parse_promised" | "ignoring_counts" | "check_counts",
+                words,
+            ) => {
                 let read = read_by(alloc, &self.side.options, word, words);
                 self.keep_read(read, answer);
             }
@@ -139,33 +144,6 @@ impl Session {
     fn keep_read(&mut self, read: getopts::Result, answer: &mut Answer) {
         put_read(&read, answer);
         self.side.read = Some(read);
-    }
-
-    /// Parses words that may request help or the version, and answers their result.
-    fn request(&mut self, alloc: Global, words: &[String], answer: &mut Answer) {
-        match self.side.options.parse_request(alloc, words) {
-            Ok(Request::Help) => self.forget_read("requested", "help", answer),
-            Ok(Request::Version) => self.forget_read("requested", "version", answer),
-            Ok(Request::Parsed(matches)) => self.keep_read(Ok(matches), answer),
-            Err(fail) => self.keep_read(Err(fail), answer),
-        }
-    }
-
-    /// Parses the words after a flag unless they give it, and answers their result.
-    fn read_unless(&mut self, alloc: Global, flag: &str, words: &[String], answer: &mut Answer) {
-        match self.side.options.parse_unless(alloc, words, flag) {
-            Ok(None) => self.forget_read("given", flag, answer),
-            Ok(Some(matches)) => self.keep_read(Ok(matches), answer),
-            Err(fail) => self.keep_read(Err(fail), answer),
-        }
-    }
-
-    /// Answers words that have no result of their own with a line.
-    fn forget_read(&mut self, word: &str, flag: &str, answer: &mut Answer) {
-        self.side.read = None;
-        answer.word(word);
-        answer.field(flag);
-        answer.end();
     }
 
     /// Empties the free words, and answers the result of the last words.
@@ -257,8 +235,19 @@ fn read_by(alloc: Global, options: &Options, word: &str, words: &[String]) -> ge
         "words" => options.parse(alloc, words.iter().map(|word| word.as_str())),
         "parse_promised" => options.parse(alloc, promised(words, usize::MAX, &Cell::new(0))),
         "parse_words" => options.parse_words(alloc, words),
+        "check_counts" => read_and_counted(alloc, options, words),
         _ => options.parse_ignoring_counts(alloc, words),
     }
+}
+
+/// What `parse_words` returns, by two calls.
+fn read_and_counted(alloc: Global, options: &Options, words: &[String]) -> getopts::Result
+    ensures result { ReturnsResult result
+        (parse_result options.now (map string_bytes words.now)) }
+{
+    let matches = options.parse_ignoring_counts(alloc, words)?;
+    matches.check_counts(alloc)?;
+    Ok(matches)
 }
 
 /// Whether a line with this word adds a group.

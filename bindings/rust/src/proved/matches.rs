@@ -49,9 +49,12 @@ impl Matches {
         }
     }
 
-    /// Checks how often each option occurs, in order of declaration.
-    pub(crate) fn check_counts(&self, alloc: Global) -> Result<(), Fail> {
-        check_counts(alloc, &self.held.signatures, &self.held.index)
+    /// Checks how often options occur in matches of `parse_ignoring_counts`, as `parse_words` does.
+    ///
+    /// Returns the error of the first option, in order of declaration, that is missing or was given
+    /// too often. Matches of `parse_words` have no such error. The Rust crate has no such method.
+    pub fn check_counts(&self, alloc: Global) -> Result<(), Fail> {
+        self.held.check_counts(alloc)
     }
 }
 
@@ -113,6 +116,11 @@ impl MatchedOptions {
             Some(place) => self.occurrences_of_group(place),
             None => Occurrences::of(&self.found, &[]),
         }
+    }
+
+    /// Checks how often each option occurs, in order of declaration.
+    pub(crate) fn check_counts(&self, alloc: Global) -> Result<(), Fail> {
+        check_counts(alloc, &self.signatures, &self.index)
     }
 
     // Inlined, it would slow down its caller.

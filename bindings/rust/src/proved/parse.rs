@@ -33,11 +33,13 @@ impl Options {
 
     /// Parses a command line like `parse_words`, but doesn't check how often options occur.
     ///
-    /// Use it to print help even if a required option is missing: call it first, print help if the
-    /// help option was given, and otherwise call `parse_words`. It succeeds if and only if every
-    /// word can be read. Required options may then be missing, and options may occur too often. If
-    /// a word can't be read, it returns the same error as `parse_words`. The Rust crate has no such
-    /// method.
+    /// Use it to print help even if a required option is missing: print help if the matches have
+    /// the help option, and otherwise call `matches.check_counts(alloc)?`. Both calls together
+    /// return what `parse_words` does.
+    ///
+    /// It succeeds if and only if every word can be read. Required options may then be missing, and
+    /// options may occur too often. If a word can't be read, it returns the same error as
+    /// `parse_words`. The Rust crate has no such method.
     pub fn parse_ignoring_counts<S: AsStr>(&self, alloc: Global, words: &[S]) -> super::Result {
         self.read_matches(alloc, words, false)
     }

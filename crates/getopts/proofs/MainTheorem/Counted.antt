@@ -1,30 +1,60 @@
--- The result of words whose matches, with counts ignored, are known.
-use Rattle.std.proofs.Common.{◌≡◌, List, Option, Some, None, Ok, Err, rules}
+-- The result of words whose matches, with counts ignored, are known, and the result of checking
+-- counts.
+use Rattle.std.proofs.Common.{◌≡◌, List, Option, Some, None, Result, Ok, Err, refl, rules}
 use Rattle.getopts.specs.Names.{Text}
 use Rattle.getopts.specs.Options.{Declared}
-use Rattle.getopts.specs.Fail.{Fault, IsOutOfMemoryOr}
+use Rattle.getopts.specs.Fail.{Fault}
 use Rattle.getopts.specs.Reading.{Reading}
-use Rattle.getopts.specs.Matches.{Matched, matches_of}
+use Rattle.getopts.specs.Matches.{Matched, MatchedGroup, KeepsCounts, IsCountFault, matches_of}
 use Rattle.getopts.specs.Results as Spec
-use Rattle.getopts.specs.declared.fail.Fail.{Fail}
-use Rattle.getopts.proofs.Reading.Readings.{made_of-ok}
-use Rattle.getopts.proofs.Weaker.{IsOutOfMemoryOr-weaker}
+use Rattle.getopts.proofs.counts.FirstFault.{first_count_fault-is}
 
-module _ (options : Declared) (words : List Text) (matches : Matched)
-    (read : Spec.parse_ignoring_counts_result options words ≡ Ok matches) where
-  counted : (fault : Option Fault) → Spec.first_count_fault matches.groups ≡ fault → (reading : Reading)
-      × (Spec.parse_result options words ≡ Spec.made_of (matches_of options) (Spec.unless_fault reading fault))
-      × (matches_of options reading ≡ matches)
+-- a value made of a reading has the same error as the reading
+made_of-unless : {X : Type 0} (make : Reading → X) (reading : Reading) (fault : Option Fault)
+    → Spec.made_of make (Spec.unless_fault reading fault) ≡ Spec.unless_fault (make reading) fault
+made_of-unless make reading None = refl
+made_of-unless make reading (Some fault) = refl
+
+module _ (options : Declared) where
+  counted : (matches : Matched) (result : Result Reading Fault)
+      → Spec.made_of (matches_of options) result ≡ Ok matches
+      → Spec.made_of (matches_of options) (Spec.with_counts_kept options result) ≡ Spec.counted_result matches
+  unfolding Spec.counted_result
+  counted matches (Ok reading) is =
+      let same : matches_of options reading ≡ matches = cc is in
+      rw (← same) (made_of-unless (matches_of options) reading _)
+  counted matches (Err fault) is = cc is
+
+  -- if words can be read, their result is that of checking the counts
+  pub parse_result-counted : (words : List Text) (matches : Matched)
+      → Spec.parse_ignoring_counts_result options words ≡ Ok matches
+      → Spec.parse_result options words ≡ Spec.counted_result matches
   unfolding Spec.reading_or_error Spec.accepted_reading
-  counted fault first = search (rules, made_of-ok)
+  parse_result-counted words matches is = counted matches _ is
 
-  -- if these matches keep the counts, they are the result
-  pub parse_result-kept : Spec.first_count_fault matches.groups ≡ None → Spec.parse_result options words ≡ Ok matches
-  parse_result-kept kept = search (rules, counted None kept)
+  -- and otherwise the scan error is
+  pub parse_result-unread : (words : List Text) (fault : Fault)
+      → Spec.parse_ignoring_counts_result options words ≡ Err fault → Spec.parse_result options words ≡ Err fault
+  unfolding Spec.reading_or_error Spec.accepted_reading
+  parse_result-unread words fault is = search rules
 
-  -- and otherwise their count error is
-  pub parse_result-broken : (fail : Fail)
-      → IsOutOfMemoryOr fail (λ fault. Spec.first_count_fault matches.groups ≡ Some fault)
-      → IsOutOfMemoryOr fail (λ fault. Spec.parse_result options words ≡ Err fault)
-  parse_result-broken fail broken = IsOutOfMemoryOr-weaker fail _ _ broken
-      (λ fault first. (counted (Some fault) first).1)
+-- matches without a count error are the result of checking the counts
+pub counted_result-kept : (matches : Matched) → Spec.first_count_fault matches.groups ≡ None
+    → Spec.counted_result matches ≡ Ok matches
+unfolding Spec.counted_result
+counted_result-kept matches kept = rw kept refl
+
+-- and otherwise their count error is
+pub counted_result-broken : (matches : Matched) (fault : Fault) → Spec.first_count_fault matches.groups ≡ Some fault
+    → Spec.counted_result matches ≡ Err fault
+unfolding Spec.counted_result
+counted_result-broken matches fault broken = rw broken refl
+
+-- groups without a count error keep their counts
+pub KeepsCounts-kept : (groups : List MatchedGroup) → Spec.first_count_fault groups ≡ None → KeepsCounts groups
+KeepsCounts-kept groups kept = rw kept at (first_count_fault-is groups)
+
+-- and the computed error is theirs
+pub IsCountFault-broken : (groups : List MatchedGroup) (fault : Fault) → Spec.first_count_fault groups ≡ Some fault
+    → IsCountFault groups fault
+IsCountFault-broken groups fault broken = rw broken at (first_count_fault-is groups)

@@ -18,7 +18,6 @@ use Rattle.getopts.proofs.canon.Lines.{HasUnwritable-content}
 use Rattle.getopts.proofs.canon.OneResult as OneResult
 use Rattle.getopts.proofs.counts.FirstFault.{HaveFault, first_count_fault-is}
 use Rattle.getopts.proofs.MainTheorem.BeforeFree.{Accepts-accepted}
-use Rattle.getopts.proofs.MainTheorem.Given.{only_unless, only_request}
 use Rattle.getopts.proofs.Only.{IsTheOnly-from}
 use Rattle.getopts.proofs.parse.Parsed.{only_reads, text_names_here, HasNoReading-fault, HasReading-reading, IsAccepted-reading}
 use Rattle.getopts.proofs.Reading.Positions.{options_in-order, frees_in-order}
@@ -86,15 +85,14 @@ module _ (options : Declared) (declared : MayBeDeclared options.groups) (words :
       let reading = MatchResult-weaker (Spec.read (grammar_of options) words) sound (λ r reads. reads)
       (HasNoReading-fault options declared words) in
       let line = line_result (Spec.read (grammar_of options) words) sound in
-      let parse = the_only (OneResult.only_parse_result options words) (Spec.parse_result options words)
-      (search (rules, made_of-is, IsAccepted-reading)) in
       let matches = made_of-is (HasReading options words) (HasNoReading options words) (Reads options words)
       (matches_of options) (Spec.reading_or_error options words)
       (HasReading-reading options declared words) reading in
       record {
         reading = search (rules, the_only, OneResult.only_of_reading, once);
         line = search (rules, the_only, OneResult.only_accepted, once);
-        parse = parse;
+        parse = the_only (OneResult.only_parse_result options words) (Spec.parse_result options words)
+            (search (rules, made_of-is, IsAccepted-reading));
         read = search (rules, the_only, OneResult.only_read_result);
         canonical =
             search (rules, the_only, OneResult.only_canonical_result, made_of-is, written_result, with_content);
@@ -107,8 +105,6 @@ module _ (options : Declared) (declared : MayBeDeclared options.groups) (words :
               options_are = options_in-order (grammar_of options) r;
               frees_are = frees_in-order (grammar_of options) r;
             }) line);
-        unless = λ flag. only_unless options words _ parse flag _ matches;
-        request = only_request options words _ parse _ matches;
       }
 
 -- What the result of a call says about the words, as lemmas for `search`.
@@ -123,11 +119,6 @@ module _ (options : Declared) (words : List Text) where
   pub isnt_read : (fault : Fault) → Spec.parse_ignoring_counts_result options words ≡ Err fault
       → MayBeDeclared options.groups → AreTexts words → HasNoReading options words fault
   isnt_read fault is declared texts = ((HasResults-declared options declared words texts).read (Err fault)).1 (sym is)
-
-  -- which rejects the words
-  pub unread_refused : (fault : Fault) → Spec.parse_ignoring_counts_result options words ≡ Err fault
-      → MayBeDeclared options.groups → AreTexts words → IsRefused options words fault
-  unread_refused fault is declared texts = inl (isnt_read fault is declared texts)
 
   -- matches accept the words
   pub is_accepted : (matches : Matched) → Spec.parse_result options words ≡ Ok matches

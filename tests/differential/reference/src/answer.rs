@@ -70,6 +70,11 @@ impl Session {
             "words" => self.side.read = Some(options.parse(fields)),
             #[cfg(feature = "canonical")]
             "ignoring_counts" => self.side.read = Some(options.parse_ignoring_counts(fields)),
+            #[cfg(feature = "canonical")]
+            "check_counts" => {
+                let read = options.parse_ignoring_counts(fields);
+                self.side.read = Some(read.and_then(|read| read.check_counts().map(|()| read)));
+            }
             "clear" => {
                 if let Some(Ok(matches)) = &mut self.side.read {
                     matches.free.clear();
@@ -82,7 +87,7 @@ impl Session {
             },
         }
         match asked.word() {
-            "words" | "ignoring_counts" | "clear" => self.side.result(),
+            "words" | "ignoring_counts" | "check_counts" | "clear" => self.side.result(),
             _ => String::new(),
         }
     }

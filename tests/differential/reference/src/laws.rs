@@ -7,7 +7,7 @@ use crate::options::Group;
 use getopts::alloc::Global;
 use getopts::fallible::TryClone;
 use getopts::proved::wrap::each_split_within;
-use getopts::proved::{Fail, Given, HasArg, Matches, Occur, Options, ParsingStyle, Request};
+use getopts::proved::{Fail, Given, HasArg, Matches, Occur, Options, ParsingStyle};
 use std::fmt::Display;
 use unicode_width::UnicodeWidthStr;
 
@@ -54,10 +54,9 @@ pub fn check(rows: &str) -> usize {
             ("keep", []) => kept = declared.clone(),
             ("same", [..]) => equality(&declared, &kept),
             (
-                "words" | "ignoring_counts" | "canonical" | "parse_in_order" | "parse_request",
+                "words" | "ignoring_counts" | "canonical" | "parse_in_order" | "check_counts",
                 words,
-            )
-            | ("parse_unless", [_, words @ ..]) => {
+            ) => {
                 declared.words = words.to_vec();
                 of_line(&declared, words);
                 lines += 1;
@@ -163,8 +162,9 @@ fn of_line(declared: &Declared, words: &[String]) {
     any_bytes(&package, words);
     without_dashes(&options, words);
     let uncounted = options.parse_ignoring_counts(Global, words);
-    law!(parsed.is_err() || parsed == uncounted, declared, words);
-    requests(declared, &options, words, &parsed, uncounted.as_ref().ok());
+    let fail = uncounted.as_ref().map_or(None, |read| read.check_counts(Global).err());
+    let counted = uncounted.as_ref().and_then(|read| fail.as_ref().map_or(Ok(read), Err));
+    law!(parsed.as_ref() == counted, declared, words);
     match (&uncounted, &package.parse_ignoring_counts(words)) {
         (Ok(matches), Ok(same)) => {
             law!(matches.free == same.free, words);
@@ -175,32 +175,6 @@ fn of_line(declared: &Declared, words: &[String]) {
             trailing(matches, words);
         }
         (ours, theirs) => law!(ours.is_err() && theirs.is_err(), declared, words),
-    }
-}
-
-/// Words that give a flag, or request help or the version, aren't parsed further.
-fn requests(
-    declared: &Declared,
-    options: &Options,
-    words: &[String],
-    parsed: &getopts::proved::Result,
-    read: Option<&Matches>,
-) {
-    let gives = |flag: &str| read.map_or(false, |read| read.opt_present(flag));
-    let (asked, result) = match options.parse_request(Global, words) {
-        Ok(Request::Help) => (Some("help"), None),
-        Ok(Request::Version) => (Some("version"), None),
-        Ok(Request::Parsed(matches)) => (None, Some(Ok(matches))),
-        Err(fail) => (None, Some(Err(fail))),
-    };
-    law!(asked == ["help", "version"].into_iter().find(|flag| gives(flag)), declared, words);
-    law!(result.is_none() == asked.is_some(), words);
-    law!(result.map_or(true, |result| result == *parsed), declared, words);
-    let names = declared.groups.iter().flat_map(|group| [&group.short[..], &group.long]);
-    for flag in names.chain(["nope"]) {
-        let result = options.parse_unless(Global, words, flag).transpose();
-        law!(result.is_none() == gives(flag), flag, words);
-        law!(result.map_or(true, |result| result == *parsed), flag, declared, words);
     }
 }
 

@@ -1,8 +1,11 @@
 -- The result is the only one, and its matches fit the options and end in the words after the stop.
+-- If they keep the counts, they are what `parse` returns.
 use Rattle.std.proofs.Common.{rules}
 use Rattle.std.proofs.lemmas.Result.{IfOk-weaker, MatchResult-weaker}
+use Rattle.getopts.proofs.MainTheorem.BeforeFree.{Accepts-accepted}
+use Rattle.getopts.proofs.MainTheorem.Counted.{parse_result-counted, parse_result-unread}
 use Rattle.getopts.proofs.MainTheorem.Results.{is_read, isnt_read}
-use Rattle.getopts.proofs.parse.Holds.{FitOptions-read, EndsInTrailing-read}
+use Rattle.getopts.proofs.parse.Holds.{FitOptions-read, FitOptionsAndCounts-accepted, EndsInTrailing-read}
 use Rattle.getopts.proofs.Weaker.{IsOutOfMemoryOr-weaker}
 use Rattle.getopts.proofs.options.Options.parse_ignoring_counts.Goals as goal
 
@@ -25,3 +28,23 @@ pub returns-clause-trailing : goal.returns-clause-trailing
 returns-clause-trailing g c =
     IfOk-weaker c.read_matches.result _ _ (λ matches. EndsInTrailing-read _ _ matches)
     (returns-clause-read g c)
+
+pub returns-clause-counted : goal.returns-clause-counted
+returns-clause-counted g c =
+    MatchResult-weaker c.read_matches.result c.read_matches.ensures.result
+    (λ matches is. parse_result-counted _ _ matches is) (λ fail told. tt)
+
+pub returns-clause-same_error : goal.returns-clause-same_error
+returns-clause-same_error g c =
+    MatchResult-weaker c.read_matches.result c.read_matches.ensures.result (λ matches is. tt)
+    (λ fail told. IsOutOfMemoryOr-weaker fail _ _ told (parse_result-unread _ _))
+
+pub returns-clause-accepted : goal.returns-clause-accepted
+returns-clause-accepted g c =
+    IfOk-weaker c.read_matches.result _ _ (λ matches has kept. Accepts-accepted _ c.read_matches.ensures.declared _
+    matches (record { read = has; counts = kept })) (returns-clause-read g c)
+
+pub returns-clause-declared : goal.returns-clause-declared
+returns-clause-declared g c =
+    IfOk-weaker c.read_matches.result _ _ (λ matches has kept. FitOptionsAndCounts-accepted _ _ matches
+    (record { read = has; counts = kept })) (returns-clause-read g c)
