@@ -106,7 +106,7 @@ KNOWN_CALLS = set("""all alloc allocator and any arg as_bytes as_slice as_str bi
     extend_from_slice first flush format get into_iter is_ascii is_ascii_alphanumeric is_ascii_digit is_empty is_eq is_lt
     is_some iter iter_mut kind len len_utf8 map_or matches max min next parse position push push_reserved
     push_str reserve resize rsplit_once saturating_add saturating_mul saturating_sub shrink_to_fit size_hint
-    sort_by split split_at split_at_mut split_first split_off split_once split_whitespace starts_with stderr strip_prefix strip_suffix
+    sort_by split split_at split_at_mut split_first split_last split_off split_once split_whitespace starts_with stderr strip_prefix strip_suffix
     then_some trim_ascii truncate unreachable unwrap_or vec width wrapping_add write writeln Err FnMut Ok Some bytes""".split())
 # Functions that are called by type, as in `u32::from(..)`.
 KNOWN_TYPE_CALLS = set("""Error::from String::new String::from_str String::with_capacity Vec::new Vec::with_capacity

@@ -1,7 +1,8 @@
 //! Errors.
 
+use crate::Matches;
 use crate::alloc::AllocError;
-use crate::{Matches, proved};
+use crate::proved::Fail as Proved;
 use std::error::Error;
 use std::fmt;
 use std::io::Write;
@@ -49,28 +50,30 @@ impl Error for Fail {}
 
 impl fmt::Display for Fail {
     fn fmt(&self, f: &mut fmt::Formatter<'_>) -> fmt::Result {
-        match self {
-            Fail::ArgumentMissing(name) => write!(f, "Argument to option '{name}' missing"),
-            Fail::UnrecognizedOption(name) => write!(f, "Unrecognized option: '{name}'"),
-            Fail::OptionMissing(name) => write!(f, "Required option '{name}' missing"),
-            Fail::OptionDuplicated(name) => write!(f, "Option '{name}' given more than once"),
-            Fail::UnexpectedArgument(of) => write!(f, "Option '{of}' does not take an argument"),
-        }
+        self.clone().into_proved().fmt(f)
     }
 }
 
-impl Fail {
-    pub(crate) fn of(fail: proved::Fail) -> Fail {
-        match fail {
-            proved::Fail::ArgumentMissing(name) => Fail::ArgumentMissing(name),
-            proved::Fail::UnrecognizedOption(name) => Fail::UnrecognizedOption(name),
-            proved::Fail::OptionMissing(name) => Fail::OptionMissing(name),
-            proved::Fail::OptionDuplicated(name) => Fail::OptionDuplicated(name),
-            proved::Fail::UnexpectedArgument(name) => Fail::UnexpectedArgument(name),
-            proved::Fail::OutOfMemory => out_of_memory(),
+/// Converts each error to the one of the same name.
+macro_rules! conversions {
+    ($($name:ident)*) => {
+        impl Fail {
+            pub(crate) fn of(fail: Proved) -> Fail {
+                match fail {
+                    $(Proved::$name(name) => Fail::$name(name),)*
+                    Proved::OutOfMemory => out_of_memory(),
+                }
+            }
+
+            fn into_proved(self) -> Proved {
+                match self {
+                    $(Fail::$name(name) => Proved::$name(name),)*
+                }
+            }
         }
-    }
+    };
 }
+conversions!(ArgumentMissing UnrecognizedOption OptionMissing OptionDuplicated UnexpectedArgument);
 
 /// Aborts the process, like any failed allocation in Rust. The size isn't known here.
 #[cold]

@@ -2,13 +2,12 @@
 
 use crate::alloc::Global;
 use crate::fail::granted;
-use crate::proved::matches::MatchedOptions;
 use crate::proved::{self, Unread};
 use crate::{Fail, Given};
 use std::ffi::{OsStr, OsString};
 use std::fmt;
 use std::iter::FusedIterator;
-use std::ops::Range;
+use std::slice;
 
 /// Iterates over the options and positional arguments of a command line. [`Options::read`] returns
 /// it.
@@ -135,24 +134,12 @@ impl<S: fmt::Debug> fmt::Debug for Reader<'_, '_, S> {
 /// assert_eq!(folders.rev().next(), Some((1, Some("b"))));
 /// ```
 #[must_use = "iterators are lazy and do nothing unless consumed"]
-#[derive(Clone)]
-pub struct Occurrences<'m> {
-    held: &'m MatchedOptions,
-    place: usize,
-    /// The numbers of the occurrences that are left.
-    left: Range<usize>,
-}
+pub struct Occurrences<'m>(pub(crate) proved::Occurrences<'m>);
 
-impl<'m> Occurrences<'m> {
-    /// The occurrences of the option at this place.
+impl Clone for Occurrences<'_> {
     #[inline]
-    pub(crate) fn of(held: &'m MatchedOptions, place: usize) -> Occurrences<'m> {
-        Occurrences { held, place, left: 0..held.occurrences_of_group(place).len() }
-    }
-
-    #[inline]
-    fn get(&self, nth: usize) -> Option<(usize, Option<&'m str>)> {
-        self.held.occurrences_of_group(self.place).get(nth)
+    fn clone(&self) -> Self {
+        Occurrences(self.0.again())
     }
 }
 
@@ -161,21 +148,19 @@ impl<'m> Iterator for Occurrences<'m> {
 
     #[inline]
     fn next(&mut self) -> Option<Self::Item> {
-        let nth = self.left.next()?;
-        self.get(nth)
+        self.0.take_first()
     }
 
     #[inline]
     fn size_hint(&self) -> (usize, Option<usize>) {
-        self.left.size_hint()
+        (self.0.len(), Some(self.0.len()))
     }
 }
 
 impl DoubleEndedIterator for Occurrences<'_> {
     #[inline]
     fn next_back(&mut self) -> Option<Self::Item> {
-        let nth = self.left.next_back()?;
-        self.get(nth)
+        self.0.take_last()
     }
 }
 
@@ -205,21 +190,13 @@ impl fmt::Debug for Occurrences<'_> {
 pub struct OsOccurrences<'m> {
     texts: Occurrences<'m>,
     /// The values, decoded, if a word wasn't text.
-    decoded: Option<&'m [Option<OsString>]>,
+    decoded: Option<slice::Iter<'m, Option<OsString>>>,
 }
 
 impl<'m> OsOccurrences<'m> {
     #[inline]
     pub(crate) fn of(texts: Occurrences<'m>, decoded: Option<&'m [Option<OsString>]>) -> Self {
-        OsOccurrences { texts, decoded }
-    }
-
-    #[inline]
-    fn value(&self, nth: usize, text: Option<&'m str>) -> Option<&'m OsStr> {
-        match self.decoded {
-            Some(values) => values[nth].as_deref(),
-            None => text.map(OsStr::new),
-        }
+        OsOccurrences { texts, decoded: decoded.map(<[_]>::iter) }
     }
 }
 
@@ -228,9 +205,12 @@ impl<'m> Iterator for OsOccurrences<'m> {
 
     #[inline]
     fn next(&mut self) -> Option<Self::Item> {
-        let nth = self.texts.left.start;
         let (position, text) = self.texts.next()?;
-        Some((position, self.value(nth, text)))
+        let value = match &mut self.decoded {
+            Some(values) => values.next()?.as_deref(),
+            None => text.map(OsStr::new),
+        };
+        Some((position, value))
     }
 
     #[inline]
@@ -243,7 +223,11 @@ impl DoubleEndedIterator for OsOccurrences<'_> {
     #[inline]
     fn next_back(&mut self) -> Option<Self::Item> {
         let (position, text) = self.texts.next_back()?;
-        Some((position, self.value(self.texts.left.end, text)))
+        let value = match &mut self.decoded {
+            Some(values) => values.next_back()?.as_deref(),
+            None => text.map(OsStr::new),
+        };
+        Some((position, value))
     }
 }
 
@@ -272,30 +256,57 @@ impl fmt::Debug for OsOccurrences<'_> {
 #[derive(Clone)]
 pub struct Values<I>(pub(crate) I);
 
-impl<V, I: Iterator<Item = (usize, Option<V>)>> Iterator for Values<I> {
-    type Item = V;
+impl<'m> Iterator for Values<Occurrences<'m>> {
+    type Item = &'m str;
 
     #[inline]
-    fn next(&mut self) -> Option<V> {
+    fn next(&mut self) -> Option<&'m str> {
+        self.0.0.take_first_value()
+    }
+
+    #[inline]
+    fn size_hint(&self) -> (usize, Option<usize>) {
+        (0, Some(self.0.len()))
+    }
+}
+
+impl DoubleEndedIterator for Values<Occurrences<'_>> {
+    #[inline]
+    fn next_back(&mut self) -> Option<Self::Item> {
+        self.0.0.take_last_value()
+    }
+}
+
+impl FusedIterator for Values<Occurrences<'_>> {}
+
+impl<'m> Iterator for Values<OsOccurrences<'m>> {
+    type Item = &'m OsStr;
+
+    #[inline]
+    fn next(&mut self) -> Option<&'m OsStr> {
         self.0.find_map(|(_, value)| value)
     }
 
     #[inline]
     fn size_hint(&self) -> (usize, Option<usize>) {
-        (0, self.0.size_hint().1)
+        (0, Some(self.0.len()))
     }
 }
 
-impl<V, I: DoubleEndedIterator<Item = (usize, Option<V>)>> DoubleEndedIterator for Values<I> {
+impl DoubleEndedIterator for Values<OsOccurrences<'_>> {
     #[inline]
-    fn next_back(&mut self) -> Option<V> {
+    fn next_back(&mut self) -> Option<Self::Item> {
         self.0.by_ref().rev().find_map(|(_, value)| value)
     }
 }
 
-impl<V, I: FusedIterator<Item = (usize, Option<V>)>> FusedIterator for Values<I> {}
+impl FusedIterator for Values<OsOccurrences<'_>> {}
 
-impl<V: fmt::Debug, I: Iterator<Item = (usize, Option<V>)> + Clone> fmt::Debug for Values<I> {
+impl<I: Clone> fmt::Debug for Values<I>
+where
+    Values<I>: Iterator,
+    <Values<I> as Iterator>::Item: fmt::Debug,
+{
     fn fmt(&self, f: &mut fmt::Formatter<'_>) -> fmt::Result {
         f.debug_list().entries(self.clone()).finish()
     }

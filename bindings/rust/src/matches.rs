@@ -29,6 +29,7 @@ use std::str::FromStr;
 /// Methods panic if no option has the given name, with a message such as `No option 'zzz' defined`,
 /// except [`opt_defined`](Self::opt_defined) and [`opts_present`](Self::opts_present). Methods that
 /// stop at the first match ignore the names after it.
+#[derive(Clone, PartialEq, Eq)]
 pub struct Matches {
     /// The positional arguments (*free words*), in command-line order.
     pub free: Vec<String>,
@@ -37,25 +38,19 @@ pub struct Matches {
     trailing_start: Option<usize>,
 }
 
-impl Clone for Matches {
-    fn clone(&self) -> Matches {
-        Matches {
-            free: self.free.clone(),
-            held: granted(self.held.try_clone()),
-            trailing_start: self.trailing_start,
-        }
+impl Clone for MatchedOptions {
+    fn clone(&self) -> MatchedOptions {
+        granted(self.try_clone())
     }
 }
 
-impl PartialEq for Matches {
-    fn eq(&self, other: &Matches) -> bool {
-        self.held.same(&other.held)
-            && self.free == other.free
-            && self.trailing_start == other.trailing_start
+impl PartialEq for MatchedOptions {
+    fn eq(&self, other: &MatchedOptions) -> bool {
+        self.same(other)
     }
 }
 
-impl Eq for Matches {}
+impl Eq for MatchedOptions {}
 
 impl Matches {
     #[inline]
@@ -63,25 +58,32 @@ impl Matches {
         Matches { free: proved.free, held: proved.held, trailing_start: proved.trailing_start }
     }
 
-    /// The place of the option with this name.
+    /// What the proved source found for a name. It finds something if an option has the name.
     #[inline]
     #[track_caller]
-    pub(crate) fn place(&self, name: &str) -> usize {
-        match self.held.opt_place(name) {
-            Some(place) => place,
+    fn found<T>(name: &str, found: Option<T>) -> T {
+        match found {
+            Some(found) => found,
             None => panic!("No option '{name}' defined"),
         }
     }
 
+    /// The place of the option with this name.
+    #[inline]
+    #[track_caller]
+    pub(crate) fn place(&self, name: &str) -> usize {
+        Matches::found(name, self.held.opt_place(name))
+    }
+
     #[inline]
     pub(crate) fn given_at(&self, place: usize) -> Occurrences<'_> {
-        Occurrences::of(&self.held, place)
+        Occurrences(self.held.occurrences_of_group(place))
     }
 
     #[inline]
     #[track_caller]
     fn given(&self, name: &str) -> proved::Occurrences<'_> {
-        self.held.occurrences_of_group(self.place(name))
+        Matches::found(name, self.held.occurrences(name))
     }
 
     /// For each option, the list of what `each` returns for its occurrences.
@@ -162,7 +164,7 @@ impl Matches {
     #[inline]
     #[track_caller]
     pub fn occurrences(&self, name: &str) -> Occurrences<'_> {
-        self.given_at(self.place(name))
+        Occurrences(self.given(name))
     }
 
     /// Whether an option has this name. If not, most other methods panic.
@@ -225,8 +227,7 @@ impl Matches {
     /// assert!(options.parse(["-b"]).unwrap().opts_present(&names));
     /// ```
     pub fn opts_present(&self, names: &[String]) -> bool {
-        let given = |name: &String| !self.held.occurrences_of_name(name).is_empty();
-        names.iter().any(given)
+        self.held.opts_present(names)
     }
 
     /// Whether any of the named options was given. Stops at the first one that was.
@@ -279,8 +280,8 @@ impl Matches {
         C::Item: AsRef<str>,
     {
         for name in names {
-            if let Some(value) = self.value(name.as_ref()) {
-                return Some(value.to_string());
+            if let Some(value) = self.opt_str(name.as_ref()) {
+                return Some(value);
             }
         }
         None
@@ -296,16 +297,7 @@ impl Matches {
     /// ```
     #[track_caller]
     pub fn opt_strs(&self, name: &str) -> Vec<String> {
-        let given = self.given(name);
-        let (count, mut values) = (given.len(), Vec::new());
-        for value in given.into_iter().filter_map(|(_, value)| value) {
-            // Most options that have a value have one in each occurrence.
-            if values.is_empty() {
-                values.reserve_exact(count);
-            }
-            values.push(value.to_string());
-        }
-        values
+        granted(self.given(name).values(Global))
     }
 
     /// The position and value of each occurrence that has a value.
@@ -330,7 +322,7 @@ impl Matches {
     /// ```
     #[track_caller]
     pub fn opt_str(&self, name: &str) -> Option<String> {
-        self.value(name).map(str::to_string)
+        granted(self.given(name).first_copy(Global))
     }
 
     /// The value of an option's first occurrence, or `def` if that occurrence has no value. Returns
@@ -344,8 +336,7 @@ impl Matches {
     /// ```
     #[track_caller]
     pub fn opt_default(&self, name: &str, def: &str) -> Option<String> {
-        let value = self.given(name).first_value_or(def);
-        value.map(str::to_string)
+        granted(self.given(name).first_copy_or(Global, def))
     }
 
     /// Parses the value of an option's first occurrence as a `T`.
@@ -363,7 +354,7 @@ impl Matches {
     /// Fails if the value can't be parsed as a `T`.
     #[track_caller]
     pub fn opt_get<T: FromStr>(&self, name: &str) -> Result<Option<T>, T::Err> {
-        self.value(name).map(str::parse).transpose()
+        self.given(name).first_parsed()
     }
 
     /// Parses the value of an option's first occurrence as a `T`, or returns `def` if there is
@@ -380,7 +371,7 @@ impl Matches {
     /// Fails if the value can't be parsed as a `T`.
     #[track_caller]
     pub fn opt_get_default<T: FromStr>(&self, name: &str, def: T) -> Result<T, T::Err> {
-        self.value(name).map_or(Ok(def), str::parse)
+        self.given(name).first_parsed_or(def)
     }
 
     /// The index in `free` of the first word after the `--` that ends the options, or `None` if

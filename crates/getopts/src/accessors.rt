@@ -13,25 +13,10 @@ ghost use Rattle.getopts.specs.Accessors.{positions_of, trailing_words, values_o
 ghost use Rattle.getopts.specs.Names.{texts};
 
 use crate::matches::Matches;
-use crate::occurrences::Occurrences;
+use crate::occurrences::{Occurrences, Values, copied};
 use std::alloc::{AllocError, Global};
 use std::convert::AsStr;
 use std::str::FromStr;
-
-fn copied(alloc: Global, text: Option<&str>) -> Result<Option<String>, AllocError>
-    ensures copy { IfOk result (λ copy. option_map string_bytes copy ≡ option_copied text.entry) }
-    ensures absent { IfSome (option_copied text.entry) (λ text. text ≡ []) → IsOk result }
-{
-    match text {
-        Some(text) => {
-            // `String::from_str` promises no success, even for an empty text.
-            let mut copy = String::with_capacity(alloc, text.len())?;
-            copy.push_str(text)?;
-            Ok(Some(copy))
-        }
-        None => Ok(None),
-    }
-}
 
 impl Matches {
     /// Returns the index of the option group that a name resolves to, in the order of declaration.
@@ -58,11 +43,48 @@ impl Matches {
         self.held.occurrences_of_group(place)
     }
 
+    /// Borrows the occurrences of an option, in command-line order.
+    ///
+    /// The result is empty if the option wasn't given. After `-v -o x`, `occurrences("o")` has one
+    /// occurrence, with position 1 and the value `x`. Requires a defined name (see `opt_defined`).
+    /// The Rust crate has no such method.
+    #[inline]
+    pub fn occurrences(&self, name: &str) -> Occurrences<'_>
+        requires { IsDefined self.now.groups name.now }
+        ensures occurrences { result ≡ occurrences_of_name self.now.groups name.now }
+    {
+        self.held.occurrences_of_name(name)
+    }
+
+    /// Borrows the value of an option's first occurrence.
+    ///
+    /// Like `opt_str`, but copies nothing, and can't fail. Requires a defined name (see
+    /// `opt_defined`). The Rust crate has no such method.
+    pub fn value(&self, name: &str) -> Option<&str>
+        requires { IsDefined self.now.groups name.now }
+        ensures value { option_copied result
+            ≡ first_value (occurrences_of_name self.now.groups name.now) }
+    {
+        self.held.occurrences_of_name(name).first_value()
+    }
+
+    /// Iterates over the values of an option's occurrences, in command-line order.
+    ///
+    /// Like `opt_strs`, but copies nothing, and can't fail. After `-La -L b`, `values("L")` yields
+    /// `a` and `b`. Requires a defined name (see `opt_defined`). The Rust crate has no such method.
+    #[inline]
+    pub fn values(&self, name: &str) -> Values<'_>
+        requires { IsDefined self.now.groups name.now }
+        ensures values { result ≡ values_of (occurrences_of_name self.now.groups name.now) }
+    {
+        Values::of(self.held.occurrences_of_name(name))
+    }
+
     /// Whether an option was given. An undefined option counts as not given.
     pub(crate) fn has(&self, name: &str) -> bool
         ensures { result ≡ is_present self.now.groups name.now }
     {
-        !self.held.occurrences_of_name(name).is_empty()
+        self.held.has(name)
     }
 
     /// Whether a name resolves to a group.
@@ -169,7 +191,7 @@ impl Matches {
         ensures absent { IfSome (first_value (occurrences_of_name self.now.groups name.now))
             (λ value. value ≡ []) → IsOk result }
     {
-        copied(alloc, self.held.occurrences_of_name(name).first_value())
+        self.held.occurrences_of_name(name).first_copy(alloc)
     }
 
     /// Returns the value of an option's first occurrence, or `def` if it has no value.
@@ -189,10 +211,9 @@ impl Matches {
         ensures absent { IfSome (first_value_or (occurrences_of_name self.now.groups name.now) def.now)
             (λ value. value ≡ []) → IsOk result }
     {
-        copied(
-            alloc,
-            self.held.occurrences_of_name(name).first_value_or(def),
-        )
+        self.held
+            .occurrences_of_name(name)
+            .first_copy_or(alloc, def)
     }
 
     /// Parses the value of an option's first occurrence as a `T`.
@@ -206,10 +227,7 @@ impl Matches {
         ensures parsed { IsParsedAs T.from_str_gives
             (first_value (occurrences_of_name self.now.groups name.now)) result }
     {
-        match self.held.occurrences_of_name(name).first_value() {
-            Some(text) => Ok(Some(text.parse()?)),
-            None => Ok(None),
-        }
+        self.held.occurrences_of_name(name).first_parsed()
     }
 
     /// Parses the value of an option's first occurrence as a `T`, or returns `def` if there is no
@@ -223,10 +241,7 @@ impl Matches {
         ensures parsed { IsParsedOr T.from_str_gives
             (first_value (occurrences_of_name self.now.groups name.now)) def result }
     {
-        match self.held.occurrences_of_name(name).first_value() {
-            Some(text) => text.parse(),
-            None => Ok(def),
-        }
+        self.held.occurrences_of_name(name).first_parsed_or(def)
     }
 
     /// Returns the index, among the free words, of the first word after `--`.
@@ -265,7 +280,7 @@ impl Matches {
         ensures present { result
             ≡ list_any (λ name. is_present self.now.groups (string_bytes name)) names.now }
     {
-        names.iter().any(|name| self.has(name.as_str()))
+        self.held.opts_present(names)
     }
 
     /// Whether any of the named options was given, for defined names.

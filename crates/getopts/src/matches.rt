@@ -3,9 +3,11 @@
 ghost use Rattle.std.specs.Prelude.{◌≡◌, ◌==◌, ◌↔◌, IsTrue, length, map, IfErr, IfOk, OnOk, Some, None};
 ghost use Rattle.std.specs.Cmp.Lexicographic.{pointwise};
 ghost use Rattle.std.specs.Cmp.Rules.{comparing};
+ghost use Rattle.std.specs.List.{list_any};
+ghost use Rattle.std.specs.Option.{option_map};
 ghost use Rattle.std.specs.String.{string_bytes};
 ghost use Rattle.std.proofs.Common.{rules};
-ghost use Rattle.getopts.specs.Accessors.{HaveLawfulNames, occurrences_of_group};
+ghost use Rattle.getopts.specs.Accessors.{HaveLawfulNames, is_present, occurrences_of_group};
 ghost use Rattle.getopts.specs.Accessors.{occurrences_of_name, opt_place};
 ghost use Rattle.getopts.specs.Fail.{IsOutOfMemoryOr};
 ghost use Rattle.getopts.specs.Matches.{KeepsCounts, IsCountFault, matched};
@@ -197,11 +199,20 @@ impl MatchedOptions {
         Occurrences::of(&self.found, self.index.indices(place))
     }
 
+    /// The occurrences of the option with this name, or `None` if the name isn't defined.
+    #[inline]
+    pub(crate) fn occurrences(&self, name: &str) -> Option<Occurrences<'_>>
+        ensures { result ≡ option_map (occurrences_of_group self.now) (opt_place self.now name.now) }
+    {
+        let place = self.opt_place(name)?;
+        Some(self.occurrences_of_group(place))
+    }
+
     pub(crate) fn occurrences_of_name(&self, name: &str) -> Occurrences<'_>
         ensures { result ≡ occurrences_of_name self.now name.now }
     {
-        match self.opt_place(name) {
-            Some(place) => self.occurrences_of_group(place),
+        match self.occurrences(name) {
+            Some(occurrences) => occurrences,
             None => Occurrences::of(&self.found, &[]),
         }
     }
@@ -214,6 +225,20 @@ impl MatchedOptions {
             (λ fault. first_count_fault self.now ≡ Some fault)) }
     {
         check_counts(alloc, &self.signatures, &self.index)
+    }
+
+    /// Whether an option was given. An undefined option counts as not given.
+    pub(crate) fn has(&self, name: &str) -> bool
+        ensures { result ≡ is_present self.now name.now }
+    {
+        !self.occurrences_of_name(name).is_empty()
+    }
+
+    /// Whether any of the named options was given.
+    pub(crate) fn opts_present(&self, names: &[String]) -> bool
+        ensures { result ≡ list_any (λ name. is_present self.now (string_bytes name)) names.now }
+    {
+        names.iter().any(|name| self.has(name.as_str()))
     }
 
     // Inlined, it would slow down its caller.

@@ -1,14 +1,17 @@
 //! The options in a command line, with their values: all together, and by group.
 
 ghost use Rattle.std.specs.Prelude.{◌≡◌, ◌↔◌, ◌<◌, ◌∷◌, ◌++◌};
-ghost use Rattle.std.specs.Prelude.{[], Some, IfOk, IsOk, OnOk, OnErr, IsTrue, map, length, slice_get};
+ghost use Rattle.std.specs.Prelude.{[], Some, IfOk, IfSome, IsOk, OnOk, OnErr, IsTrue, map, length};
+ghost use Rattle.std.specs.Prelude.{slice_get};
 ghost use Rattle.std.specs.Cmp.Lexicographic.{pointwise};
-ghost use Rattle.std.specs.Iterator.{YieldsFirstBy, item_count};
+ghost use Rattle.std.specs.Iterator.{YieldsFirstBy, YieldsFirstRef, YieldsLastBy, YieldsLastRef};
+ghost use Rattle.std.specs.Iterator.{item_count};
 ghost use Rattle.std.specs.Option.{option_copied, option_map};
 ghost use Rattle.std.specs.Str.{IsCharBoundary, IsUtf8};
 ghost use Rattle.std.specs.String.{string_bytes};
-ghost use Rattle.getopts.specs.Accessors.{borrowed_occurrence, first_value, first_value_or};
-ghost use Rattle.getopts.specs.Accessors.{pair_view, pairs_of, positions_of, values_of};
+ghost use Rattle.getopts.specs.Accessors.{IsParsedAs, IsParsedOr, borrowed_occurrence, first_value};
+ghost use Rattle.getopts.specs.Accessors.{first_value_or, pair_view, pairs_of, positions_of};
+ghost use Rattle.getopts.specs.Accessors.{values_of};
 ghost use Rattle.getopts.specs.Reading.{at_position};
 ghost use Rattle.getopts.specs.Same.{same_group_occurrence};
 ghost use Rattle.getopts.specs.Stored.Occurrences.{IsAdded, end_by, text_between};
@@ -16,6 +19,7 @@ ghost use Rattle.getopts.specs.Stored.Occurrences.{occurrences_at_indices, AreIn
 
 use std::alloc::{AllocError, Global};
 use std::marker::Model;
+use std::str::FromStr;
 
 /// An occurrence of an option, as it is stored.
 ///
@@ -273,6 +277,62 @@ impl<'m> Occurrences<'m> {
         self.found.at(self.indices[nth])
     }
 
+    /// Borrows the same occurrences again.
+    #[inline]
+    pub(crate) fn again(&self) -> Occurrences<'m>
+        ensures { result ≡ self.now }
+    {
+        Occurrences::of(self.found, self.indices)
+    }
+
+    /// Takes off the first occurrence.
+    #[inline]
+    pub(crate) fn take_first(&mut self) -> Option<(usize, Option<&'m str>)>
+        ensures { YieldsFirstBy borrowed_occurrence (λ rest. rest) self.old result self.new }
+    {
+        let (first, others) = self.indices.split_first()?;
+        let occurrence = self.found.at(*first);
+        self.indices = others;
+        Some((occurrence.position, occurrence.value))
+    }
+
+    /// Takes off the last occurrence.
+    #[inline]
+    pub(crate) fn take_last(&mut self) -> Option<(usize, Option<&'m str>)>
+        ensures { YieldsLastBy borrowed_occurrence (λ rest. rest) self.old result self.new }
+    {
+        let (last, others) = self.indices.split_last()?;
+        let occurrence = self.found.at(*last);
+        self.indices = others;
+        Some((occurrence.position, occurrence.value))
+    }
+
+    /// Takes off the occurrences up to the first one that has a value.
+    #[inline]
+    pub(crate) fn take_first_value(&mut self) -> Option<&'m str>
+        ensures { YieldsFirstRef values_of self.old result self.new }
+    {
+        while let Some((_, value)) = self.take_first() {
+            if value.is_some() {
+                return value;
+            }
+        }
+        None
+    }
+
+    /// Takes off the occurrences from the last one that has a value.
+    #[inline]
+    pub(crate) fn take_last_value(&mut self) -> Option<&'m str>
+        ensures { YieldsLastRef values_of self.old result self.new }
+    {
+        while let Some((_, value)) = self.take_last() {
+            if value.is_some() {
+                return value;
+            }
+        }
+        None
+    }
+
     pub(crate) fn positions(&self, alloc: Global) -> Result<Vec<usize>, AllocError>
         ensures positions { IfOk result (λ positions. positions.items ≡ positions_of self.now) }
         ensures absent { self.now ≡ [] → IsOk result }
@@ -284,6 +344,7 @@ impl<'m> Occurrences<'m> {
         Ok(positions)
     }
 
+    #[inline]
     pub(crate) fn values(&self, alloc: Global) -> Result<Vec<String>, AllocError>
         ensures values { IfOk result (λ values. map string_bytes values.items ≡ values_of self.now) }
         ensures absent { values_of self.now ≡ [] → IsOk result }
@@ -325,6 +386,48 @@ impl<'m> Occurrences<'m> {
         Some(value.unwrap_or(fallback))
     }
 
+    /// Copies the value of the first occurrence.
+    pub(crate) fn first_copy(&self, alloc: Global) -> Result<Option<String>, AllocError>
+        ensures value { IfOk result (λ value. option_map string_bytes value ≡ first_value self.now) }
+        ensures absent { IfSome (first_value self.now) (λ value. value ≡ []) → IsOk result }
+    {
+        copied(alloc, self.first_value())
+    }
+
+    /// Copies the value of the first occurrence, or `fallback` if it has no value.
+    pub(crate) fn first_copy_or(
+        &self,
+        alloc: Global,
+        fallback: &'m str,
+    ) -> Result<Option<String>, AllocError>
+        ensures value { IfOk result (λ value. option_map string_bytes value
+            ≡ first_value_or self.now fallback.now) }
+        ensures absent { IfSome (first_value_or self.now fallback.now) (λ value. value ≡ [])
+            → IsOk result }
+    {
+        copied(alloc, self.first_value_or(fallback))
+    }
+
+    /// Parses the value of the first occurrence, if it has one.
+    pub(crate) fn first_parsed<T: FromStr>(&self) -> Result<Option<T>, T::Err>
+        ensures { IsParsedAs T.from_str_gives (first_value self.now) result }
+    {
+        match self.first_value() {
+            Some(text) => Ok(Some(text.parse()?)),
+            None => Ok(None),
+        }
+    }
+
+    /// Parses the value of the first occurrence, or returns `def` if it has none.
+    pub(crate) fn first_parsed_or<T: FromStr + Drop>(&self, def: T) -> Result<T, T::Err>
+        ensures { IsParsedOr T.from_str_gives (first_value self.now) def result }
+    {
+        match self.first_value() {
+            Some(text) => text.parse(),
+            None => Ok(def),
+        }
+    }
+
     #[inline]
     pub(crate) fn same(&self, other: &Occurrences<'_>) -> bool
         ensures { result ≡ pointwise same_group_occurrence self.now other.now }
@@ -344,6 +447,22 @@ impl<'m> Occurrences<'m> {
     }
 }
 
+/// Copies a text, if there is one.
+pub(crate) fn copied(alloc: Global, text: Option<&str>) -> Result<Option<String>, AllocError>
+    ensures copy { IfOk result (λ copy. option_map string_bytes copy ≡ option_copied text.entry) }
+    ensures absent { IfSome (option_copied text.entry) (λ text. text ≡ []) → IsOk result }
+{
+    match text {
+        Some(text) => {
+            // `String::from_str` promises no success, even for an empty text.
+            let mut copy = String::with_capacity(alloc, text.len())?;
+            copy.push_str(text)?;
+            Ok(Some(copy))
+        }
+        None => Ok(None),
+    }
+}
+
 impl<'m> IntoIterator for Occurrences<'m> {
     type Item = (usize, Option<&'m str>);
 
@@ -353,27 +472,23 @@ impl<'m> IntoIterator for Occurrences<'m> {
 
     #[inline]
     fn into_iter(self) -> OccurrencesIter<'m> {
-        OccurrencesIter {
-            occurrences: self,
-            next: 0,
-        }
+        OccurrencesIter { left: self }
     }
 }
 
 /// Iterates over the occurrences of one option group, each with its position and value.
 #[derive(Debug, Drop)]
 pub struct OccurrencesIter<'m> {
-    occurrences: Occurrences<'m>,
-    next: usize,
+    left: Occurrences<'m>,
 }
 
 impl<'m> Model for OccurrencesIter<'m> {
-    ghost use Rattle.std.specs.Prelude.{List, drop};
+    ghost use Rattle.std.specs.Prelude.{List};
     ghost use Rattle.getopts.specs.Matches.{GroupOccurrence};
 
     ghost Value = { List GroupOccurrence };
 
-    ghost view = { λ a. drop a.next a.occurrences };
+    ghost view = { λ a. a.left };
 }
 
 impl<'m> Iterator for OccurrencesIter<'m> {
@@ -385,11 +500,62 @@ impl<'m> Iterator for OccurrencesIter<'m> {
 
     #[inline]
     fn next(&mut self) -> Option<(usize, Option<&'m str>)> {
-        if self.next >= self.occurrences.len() {
-            return None;
-        }
-        let occurrence = self.occurrences.at(self.next);
-        self.next += 1;
-        Some((occurrence.position, occurrence.value))
+        self.left.take_first()
+    }
+}
+
+impl<'m> DoubleEndedIterator for OccurrencesIter<'m> {
+    ghost next_back_gives = { YieldsLastBy borrowed_occurrence (λ rest. rest) };
+
+    #[inline]
+    fn next_back(&mut self) -> Option<(usize, Option<&'m str>)> {
+        self.left.take_last()
+    }
+}
+
+/// Iterates over the values of those occurrences of one option group that have one.
+#[derive(Debug, Drop)]
+pub struct Values<'m> {
+    left: Occurrences<'m>,
+}
+
+impl<'m> Model for Values<'m> {
+    ghost use Rattle.std.specs.Prelude.{List};
+    ghost use Rattle.getopts.specs.Accessors.{values_of};
+    ghost use Rattle.getopts.specs.Names.{Text};
+
+    ghost Value = { List Text };
+
+    ghost view = { λ a. values_of a.left };
+}
+
+impl<'m> Values<'m> {
+    #[inline]
+    pub(crate) fn of(occurrences: Occurrences<'m>) -> Values<'m>
+        ensures { result ≡ values_of occurrences.entry }
+    {
+        Values { left: occurrences }
+    }
+}
+
+impl<'m> Iterator for Values<'m> {
+    type Item = &'m str;
+
+    ghost next_gives = { YieldsFirstRef (λ rest. rest) };
+
+    ghost remaining = { item_count (λ rest. rest) };
+
+    #[inline]
+    fn next(&mut self) -> Option<&'m str> {
+        self.left.take_first_value()
+    }
+}
+
+impl<'m> DoubleEndedIterator for Values<'m> {
+    ghost next_back_gives = { YieldsLastRef (λ rest. rest) };
+
+    #[inline]
+    fn next_back(&mut self) -> Option<&'m str> {
+        self.left.take_last_value()
     }
 }

@@ -1,7 +1,7 @@
 //! Checked values: a number within bounds, a choice whose value may be left out, and pairs.
 
 ghost use Rattle.std.specs.Prelude.{◌≡◌, ◌∷◌, ◌++◌, [], codes, map, IfOk, OnOk};
-ghost use Rattle.std.specs.Option.{option_copied, option_map};
+ghost use Rattle.std.specs.Option.{option_map};
 ghost use Rattle.std.specs.Str.Parse.{ParsesUnsigned};
 ghost use Rattle.std.specs.String.{string_bytes};
 ghost use Rattle.getopts.specs.Prelude.{IsDefined, first_value, first_value_or};
@@ -113,19 +113,6 @@ pub fn read_settings<S: AsStr>(alloc: Global, words: &[S]) -> Result<Settings, R
     })
 }
 
-/// An option's value, borrowed, if it has one.
-pub fn value_of<'m>(matches: &'m Matches, option: &str) -> Option<&'m str>
-    requires { IsDefined matches.now.groups option.now }
-    ensures { option_copied result
-        ≡ first_value (occurrences_of_name matches.now.groups option.now) }
-{
-    let place = matches.opt_place(option)?;
-    match matches.occurrences_at(place).get(0) {
-        Some((_, value)) => value,
-        None => None,
-    }
-}
-
 /// An option's number from `low` to `high`, or the default if it isn't given.
 fn number_of(
     alloc: Global,
@@ -139,7 +126,7 @@ fn number_of(
     ensures { IsNumberOrError option.now low high default
         (first_value (occurrences_of_name matches.now.groups option.now)) result }
 {
-    let Some(text) = value_of(matches, option) else {
+    let Some(text) = matches.value(option) else {
         return Ok(default);
     };
     match read_number(text) {

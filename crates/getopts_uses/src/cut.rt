@@ -12,7 +12,6 @@ ghost use Rattle.getopts_uses.specs.Cut.{AreRangesOrError, IsCutOrError, IsRange
 ghost use Rattle.getopts_uses.specs.Cut.{cut_options, ends, only_list, parts_of, refusal_of, refusal_text};
 ghost use Rattle.getopts_uses.specs.declared.cut.Refusal.TheVariants.{OutOfMemory};
 
-use crate::checked::value_of;
 use getopts::{Fail, Matches, Options};
 use std::alloc::{AllocError, Global};
 use std::convert::AsStr;
@@ -130,9 +129,9 @@ fn only_list(matches: &Matches) -> Result<(Unit, &str), Refusal>
         ≡ only_list (value_of matches.now (codes "bytes")) (value_of matches.now (codes "characters"))
         (value_of matches.now (codes "fields")) }
 {
-    let bytes = value_of(matches, "bytes");
-    let characters = value_of(matches, "characters");
-    let fields = value_of(matches, "fields");
+    let bytes = matches.value("bytes");
+    let characters = matches.value("characters");
+    let fields = matches.value("fields");
     match (bytes, characters, fields) {
         (Some(list), None, None) => Ok((Unit::Bytes, list)),
         (None, Some(list), None) => Ok((Unit::Characters, list)),

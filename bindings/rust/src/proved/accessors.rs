@@ -4,22 +4,10 @@
 use crate::fallible::*;
 
 use super::matches::Matches;
-use super::occurrences::Occurrences;
+use super::occurrences::{Occurrences, Values, copied};
 use crate::alloc::{AllocError, Global};
 use crate::convert::AsStr;
 use core::str::FromStr;
-
-fn copied(alloc: Global, text: Option<&str>) -> Result<Option<String>, AllocError> {
-    match text {
-        Some(text) => {
-            // `String::from_str` promises no success, even for an empty text.
-            let mut copy = String::of_capacity(alloc, text.len())?;
-            copy.try_push_str(text)?;
-            Ok(Some(copy))
-        }
-        None => Ok(None),
-    }
-}
 
 impl Matches {
     /// Returns the index of the option group that a name resolves to, in the order of declaration.
@@ -41,9 +29,36 @@ impl Matches {
         self.held.occurrences_of_group(place)
     }
 
+    /// Borrows the occurrences of an option, in command-line order.
+    ///
+    /// The result is empty if the option wasn't given. After `-v -o x`, `occurrences("o")` has one
+    /// occurrence, with position 1 and the value `x`. Requires a defined name (see `opt_defined`).
+    /// The Rust crate has no such method.
+    #[inline]
+    pub fn occurrences(&self, name: &str) -> Occurrences<'_> {
+        self.held.occurrences_of_name(name)
+    }
+
+    /// Borrows the value of an option's first occurrence.
+    ///
+    /// Like `opt_str`, but copies nothing, and can't fail. Requires a defined name (see
+    /// `opt_defined`). The Rust crate has no such method.
+    pub fn value(&self, name: &str) -> Option<&str> {
+        self.held.occurrences_of_name(name).first_value()
+    }
+
+    /// Iterates over the values of an option's occurrences, in command-line order.
+    ///
+    /// Like `opt_strs`, but copies nothing, and can't fail. After `-La -L b`, `values("L")` yields
+    /// `a` and `b`. Requires a defined name (see `opt_defined`). The Rust crate has no such method.
+    #[inline]
+    pub fn values(&self, name: &str) -> Values<'_> {
+        Values::of(self.held.occurrences_of_name(name))
+    }
+
     /// Whether an option was given. An undefined option counts as not given.
     pub(crate) fn has(&self, name: &str) -> bool {
-        !self.held.occurrences_of_name(name).is_empty()
+        self.held.has(name)
     }
 
     /// Whether a name resolves to a group.
@@ -112,7 +127,7 @@ impl Matches {
     /// After `parse`, a required option with a mandatory argument has a value. Requires a defined
     /// name (see `opt_defined`). Fails only if an allocation fails.
     pub fn opt_str(&self, alloc: Global, name: &str) -> Result<Option<String>, AllocError> {
-        copied(alloc, self.held.occurrences_of_name(name).first_value())
+        self.held.occurrences_of_name(name).first_copy(alloc)
     }
 
     /// Returns the value of an option's first occurrence, or `def` if it has no value.
@@ -126,10 +141,9 @@ impl Matches {
         name: &str,
         def: &str,
     ) -> Result<Option<String>, AllocError> {
-        copied(
-            alloc,
-            self.held.occurrences_of_name(name).first_value_or(def),
-        )
+        self.held
+            .occurrences_of_name(name)
+            .first_copy_or(alloc, def)
     }
 
     /// Parses the value of an option's first occurrence as a `T`.
@@ -139,10 +153,7 @@ impl Matches {
     /// Requires a defined name (see `opt_defined`). Parses the text in place; the Rust crate copies
     /// it first.
     pub fn opt_get<T: FromStr>(&self, name: &str) -> Result<Option<T>, T::Err> {
-        match self.held.occurrences_of_name(name).first_value() {
-            Some(text) => Ok(Some(text.parse()?)),
-            None => Ok(None),
-        }
+        self.held.occurrences_of_name(name).first_parsed()
     }
 
     /// Parses the value of an option's first occurrence as a `T`, or returns `def` if there is no
@@ -152,10 +163,7 @@ impl Matches {
     /// parsed. Requires a defined name (see `opt_defined`). Parses the text in place; the Rust
     /// crate copies it first.
     pub fn opt_get_default<T: FromStr>(&self, name: &str, def: T) -> Result<T, T::Err> {
-        match self.held.occurrences_of_name(name).first_value() {
-            Some(text) => text.parse(),
-            None => Ok(def),
-        }
+        self.held.occurrences_of_name(name).first_parsed_or(def)
     }
 
     /// Returns the index, among the free words, of the first word after `--`.
@@ -182,7 +190,7 @@ impl Matches {
     ///
     /// Accepts any names; undefined names count as not given.
     pub fn opts_present(&self, names: &[String]) -> bool {
-        names.iter().any(|name| self.has(name.as_str()))
+        self.held.opts_present(names)
     }
 
     /// Whether any of the named options was given, for defined names.

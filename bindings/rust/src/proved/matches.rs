@@ -111,9 +111,16 @@ impl MatchedOptions {
         Occurrences::of(&self.found, self.index.indices(place))
     }
 
+    /// The occurrences of the option with this name, or `None` if the name isn't defined.
+    #[inline]
+    pub(crate) fn occurrences(&self, name: &str) -> Option<Occurrences<'_>> {
+        let place = self.opt_place(name)?;
+        Some(self.occurrences_of_group(place))
+    }
+
     pub(crate) fn occurrences_of_name(&self, name: &str) -> Occurrences<'_> {
-        match self.opt_place(name) {
-            Some(place) => self.occurrences_of_group(place),
+        match self.occurrences(name) {
+            Some(occurrences) => occurrences,
             None => Occurrences::of(&self.found, &[]),
         }
     }
@@ -121,6 +128,16 @@ impl MatchedOptions {
     /// Checks how often each option occurs, in order of declaration.
     pub(crate) fn check_counts(&self, alloc: Global) -> Result<(), Fail> {
         check_counts(alloc, &self.signatures, &self.index)
+    }
+
+    /// Whether an option was given. An undefined option counts as not given.
+    pub(crate) fn has(&self, name: &str) -> bool {
+        !self.occurrences_of_name(name).is_empty()
+    }
+
+    /// Whether any of the named options was given.
+    pub(crate) fn opts_present(&self, names: &[String]) -> bool {
+        names.iter().any(|name| self.has(name.as_str()))
     }
 
     // Inlined, it would slow down its caller.

@@ -4,6 +4,7 @@
 use crate::fallible::*;
 
 use crate::alloc::{AllocError, Global};
+use core::str::FromStr;
 
 /// An occurrence of an option, as it is stored.
 ///
@@ -187,6 +188,52 @@ impl<'m> Occurrences<'m> {
         self.found.at(self.indices[nth])
     }
 
+    /// Borrows the same occurrences again.
+    #[inline]
+    pub(crate) fn again(&self) -> Occurrences<'m> {
+        Occurrences::of(self.found, self.indices)
+    }
+
+    /// Takes off the first occurrence.
+    #[inline]
+    pub(crate) fn take_first(&mut self) -> Option<(usize, Option<&'m str>)> {
+        let (first, others) = self.indices.split_first()?;
+        let occurrence = self.found.at(*first);
+        self.indices = others;
+        Some((occurrence.position, occurrence.value))
+    }
+
+    /// Takes off the last occurrence.
+    #[inline]
+    pub(crate) fn take_last(&mut self) -> Option<(usize, Option<&'m str>)> {
+        let (last, others) = self.indices.split_last()?;
+        let occurrence = self.found.at(*last);
+        self.indices = others;
+        Some((occurrence.position, occurrence.value))
+    }
+
+    /// Takes off the occurrences up to the first one that has a value.
+    #[inline]
+    pub(crate) fn take_first_value(&mut self) -> Option<&'m str> {
+        while let Some((_, value)) = self.take_first() {
+            if value.is_some() {
+                return value;
+            }
+        }
+        None
+    }
+
+    /// Takes off the occurrences from the last one that has a value.
+    #[inline]
+    pub(crate) fn take_last_value(&mut self) -> Option<&'m str> {
+        while let Some((_, value)) = self.take_last() {
+            if value.is_some() {
+                return value;
+            }
+        }
+        None
+    }
+
     pub(crate) fn positions(&self, alloc: Global) -> Result<Vec<usize>, AllocError> {
         let mut positions = Vec::of_capacity(alloc, self.len())?;
         for nth in 0..self.len() {
@@ -195,6 +242,7 @@ impl<'m> Occurrences<'m> {
         Ok(positions)
     }
 
+    #[inline]
     pub(crate) fn values(&self, alloc: Global) -> Result<Vec<String>, AllocError> {
         let mut values = Vec::empty(alloc);
         for nth in 0..self.len() {
@@ -226,6 +274,36 @@ impl<'m> Occurrences<'m> {
         Some(value.unwrap_or(fallback))
     }
 
+    /// Copies the value of the first occurrence.
+    pub(crate) fn first_copy(&self, alloc: Global) -> Result<Option<String>, AllocError> {
+        copied(alloc, self.first_value())
+    }
+
+    /// Copies the value of the first occurrence, or `fallback` if it has no value.
+    pub(crate) fn first_copy_or(
+        &self,
+        alloc: Global,
+        fallback: &'m str,
+    ) -> Result<Option<String>, AllocError> {
+        copied(alloc, self.first_value_or(fallback))
+    }
+
+    /// Parses the value of the first occurrence, if it has one.
+    pub(crate) fn first_parsed<T: FromStr>(&self) -> Result<Option<T>, T::Err> {
+        match self.first_value() {
+            Some(text) => Ok(Some(text.parse()?)),
+            None => Ok(None),
+        }
+    }
+
+    /// Parses the value of the first occurrence, or returns `def` if it has none.
+    pub(crate) fn first_parsed_or<T: FromStr>(&self, def: T) -> Result<T, T::Err> {
+        match self.first_value() {
+            Some(text) => text.parse(),
+            None => Ok(def),
+        }
+    }
+
     #[inline]
     pub(crate) fn same(&self, other: &Occurrences<'_>) -> bool {
         if self.is_empty() && other.is_empty() {
@@ -243,6 +321,19 @@ impl<'m> Occurrences<'m> {
     }
 }
 
+/// Copies a text, if there is one.
+pub(crate) fn copied(alloc: Global, text: Option<&str>) -> Result<Option<String>, AllocError> {
+    match text {
+        Some(text) => {
+            // `String::from_str` promises no success, even for an empty text.
+            let mut copy = String::of_capacity(alloc, text.len())?;
+            copy.try_push_str(text)?;
+            Ok(Some(copy))
+        }
+        None => Ok(None),
+    }
+}
+
 impl<'m> IntoIterator for Occurrences<'m> {
     type Item = (usize, Option<&'m str>);
 
@@ -250,18 +341,14 @@ impl<'m> IntoIterator for Occurrences<'m> {
 
     #[inline]
     fn into_iter(self) -> OccurrencesIter<'m> {
-        OccurrencesIter {
-            occurrences: self,
-            next: 0,
-        }
+        OccurrencesIter { left: self }
     }
 }
 
 /// Iterates over the occurrences of one option group, each with its position and value.
 #[derive(Debug)]
 pub struct OccurrencesIter<'m> {
-    occurrences: Occurrences<'m>,
-    next: usize,
+    left: Occurrences<'m>,
 }
 
 impl<'m> Iterator for OccurrencesIter<'m> {
@@ -269,11 +356,42 @@ impl<'m> Iterator for OccurrencesIter<'m> {
 
     #[inline]
     fn next(&mut self) -> Option<(usize, Option<&'m str>)> {
-        if self.next >= self.occurrences.len() {
-            return None;
-        }
-        let occurrence = self.occurrences.at(self.next);
-        self.next += 1;
-        Some((occurrence.position, occurrence.value))
+        self.left.take_first()
+    }
+}
+
+impl<'m> DoubleEndedIterator for OccurrencesIter<'m> {
+    #[inline]
+    fn next_back(&mut self) -> Option<(usize, Option<&'m str>)> {
+        self.left.take_last()
+    }
+}
+
+/// Iterates over the values of those occurrences of one option group that have one.
+#[derive(Debug)]
+pub struct Values<'m> {
+    left: Occurrences<'m>,
+}
+
+impl<'m> Values<'m> {
+    #[inline]
+    pub(crate) fn of(occurrences: Occurrences<'m>) -> Values<'m> {
+        Values { left: occurrences }
+    }
+}
+
+impl<'m> Iterator for Values<'m> {
+    type Item = &'m str;
+
+    #[inline]
+    fn next(&mut self) -> Option<&'m str> {
+        self.left.take_first_value()
+    }
+}
+
+impl<'m> DoubleEndedIterator for Values<'m> {
+    #[inline]
+    fn next_back(&mut self) -> Option<&'m str> {
+        self.left.take_last_value()
     }
 }
