@@ -72,7 +72,7 @@ DISPLAY = {"fmt<W: fmt::Write>": "fmt", "fmt::Formatter<W>": "fmt::Formatter<'_>
 LIBRARY = {f"std::{name}": f"crate::{name}" for name in ("alloc", "convert", "error")} | {
     "std::": "core::", "std::vec": "crate::heap::vec", "str::from_utf8": "core::str::from_utf8",
     "crate::": "super::", "unicode_width": "crate::width", "mod matches;": "pub(crate) mod matches;",
-    "mod scan;": "pub(crate) mod scan;", "mod table;": "pub(crate) mod table;",
+    "mod scan;": "pub(crate) mod scan;",
     # `names.rs` has a function of the old name, which checks the precondition.
     "pub fn add_group": "pub(crate) fn add_valid_group",
 }

@@ -4,13 +4,11 @@ use crate::alloc::Global;
 use crate::fail::granted;
 use crate::fallible::TryClone;
 use crate::iter::Reader;
-use crate::proved::scan::{Line, Scanner};
-use crate::proved::table::Table;
 use crate::{Fail, HasArg, Matches, Occur, OptGroup, ParsingStyle, Result, proved};
 use std::collections::HashSet;
 use std::ffi::OsStr;
 use std::fmt;
-use std::mem::{forget, replace, size_of};
+use std::mem::size_of;
 
 /// The options that a program accepts, and how to parse them.
 ///
@@ -119,84 +117,44 @@ impl<'o, T> Given<'o, T> {
     }
 }
 
-/// The first `FEW` items stay on the stack, unless each has more than `SMALL` bytes.
+/// How many items and texts stay on the stack.
 const FEW: usize = 16;
-const SMALL: usize = 64;
-/// With more words than `MANY`, memory is given back early: `parse` reads words in parts, and drops
-/// each part before it takes more. A list of words is parsed after its iterator was dropped.
-const MANY: usize = 1024;
 /// The most bytes of a list because of `size_hint`, which may promise too many items.
 const MOST: usize = 1 << 22;
 
-/// Calls `ask` with the words as texts. Stops at the first word that isn't text: calls `otherwise`
-/// with the texts before it, this word, and the iterator.
-#[inline]
-pub(crate) fn read_words<A: AsRef<OsStr>, I: Iterator<Item = A>, T>(
-    words: I,
+/// Calls `ask` with the texts of all words or, if a word has none, `otherwise` with the words and
+/// the index of the first such word. The iterator is dropped last, because malloc takes longer if a
+/// large block is freed before.
+pub(crate) fn read_words<A: AsRef<OsStr>, T>(
+    mut words: impl Iterator<Item = A>,
     text_of: impl Fn(&OsStr) -> Option<&str>,
     ask: impl FnOnce(&[&str]) -> T,
-    otherwise: impl FnOnce(&[&str], &OsStr, I) -> T,
+    otherwise: impl FnOnce(&[&OsStr], usize) -> T,
 ) -> T {
-    if size_of::<A>() > SMALL {
-        read_list(&[], words, text_of, ask, otherwise)
-    } else {
-        read_few(words, text_of, ask, otherwise)
-    }
-}
-
-/// Reads the first `FEW` words without a `Vec`. Items over `SMALL` bytes would take too much stack.
-fn read_few<A: AsRef<OsStr>, I: Iterator<Item = A>, T>(
-    mut words: I,
-    text_of: impl Fn(&OsStr) -> Option<&str>,
-    ask: impl FnOnce(&[&str]) -> T,
-    otherwise: impl FnOnce(&[&str], &OsStr, I) -> T,
-) -> T {
-    let (mut items, mut texts) = (<[Option<A>; FEW]>::default(), [""; FEW]);
-    for (nth, item) in items.iter_mut().enumerate() {
+    let (mut few, mut texts, mut count) = (<[Option<A>; FEW]>::default(), [""; FEW], 0);
+    for item in &mut few {
         *item = words.next();
-        match item {
-            None => return ask(&texts[..nth]),
-            Some(word) => match text_of(A::as_ref(word)) {
-                Some(text) => texts[nth] = text,
-                None => return otherwise(&texts[..nth], A::as_ref(word), words),
-            },
+        match item.as_ref().map(|word| text_of(word.as_ref())) {
+            None => return ask(&texts[..count]),
+            Some(Some(text)) => texts[count] = text,
+            Some(None) => break,
+        }
+        count += 1;
+    }
+    let mut others = Vec::new();
+    others.reserve_exact(words.size_hint().0.min(MOST / size_of::<A>().max(1)));
+    words.by_ref().for_each(|word| others.push(word));
+    if count == FEW {
+        let mut texts = texts.to_vec();
+        texts.reserve_exact(others.len());
+        texts.extend(others.iter().map_while(|word| text_of(word.as_ref())));
+        count = texts.len();
+        if count == FEW + others.len() {
+            return ask(&texts);
         }
     }
-    read_list(&texts, words, text_of, ask, otherwise)
-}
-
-/// Reads the words after those with the texts `first`. An item can't move once its text is
-/// borrowed: if the list has no room for it, calls itself with a larger one.
-fn read_list<A: AsRef<OsStr>, I: Iterator<Item = A>, T>(
-    first: &[&str],
-    mut words: I,
-    text_of: impl Fn(&OsStr) -> Option<&str>,
-    ask: impl FnOnce(&[&str]) -> T,
-    otherwise: impl FnOnce(&[&str], &OsStr, I) -> T,
-) -> T {
-    let promised = words.size_hint().0.min(MOST / size_of::<Option<A>>().max(1));
-    let room = promised.max(first.len()).max(FEW);
-    let (mut items, mut texts) = (Vec::new(), Vec::with_capacity(first.len() + room));
-    // The last item is for the end of the iterator.
-    items.resize_with(room + 1, || None);
-    texts.extend_from_slice(first);
-    for item in &mut items {
-        // An assignment would check whether the old item, `None`, has to be dropped.
-        forget(replace(item, words.next()));
-        match item {
-            None => {
-                if room > MANY {
-                    drop(words);
-                }
-                return ask(&texts);
-            }
-            Some(word) => match text_of(A::as_ref(word)) {
-                Some(text) => texts.push(text),
-                None => return otherwise(&texts, A::as_ref(word), words),
-            },
-        }
-    }
-    read_list(&texts, words, text_of, ask, otherwise)
+    let words = few.iter().flatten().chain(&others);
+    otherwise(&words.map(A::as_ref).collect::<Vec<_>>(), count)
 }
 
 impl Options {
@@ -347,7 +305,7 @@ impl Options {
     ///
     /// For a program's own arguments, pass `std::env::args_os().skip(1)`; `std::env::args()` panics
     /// if an argument isn't UTF-8 ([`parse_os`](Self::parse_os) accepts these). All items are
-    /// taken, but none after one that isn't UTF-8.
+    /// taken, except perhaps those after one that isn't UTF-8.
     ///
     /// # Errors
     /// See [`Fail`].
@@ -355,50 +313,7 @@ impl Options {
     where
         C::Item: AsRef<OsStr>,
     {
-        let words = args.into_iter();
-        if words.size_hint().0 > MANY && size_of::<C::Item>() <= SMALL {
-            return self.parse_many(words);
-        }
-        self.with_texts(words, parse_texts)
-    }
-
-    /// Parses a command line of many words: reads the items of some words, and drops these before
-    /// it takes more.
-    #[inline(never)]
-    fn parse_many<A: AsRef<OsStr>>(&self, mut words: impl Iterator<Item = A>) -> Result {
-        let table = granted(Table::of(Global, self.proved.signatures()));
-        let scanner = Scanner { options: &self.proved, table: &table };
-        let mut line = granted(Line::for_words::<&str>(Global, &[], self.proved.style()));
-        let (mut items, mut before, mut kept) = (<[Option<A>; FEW]>::default(), 0, 0);
-        loop {
-            let (mut texts, mut count) = ([""; FEW], 0);
-            for item in &mut items {
-                if count >= kept {
-                    *item = words.next();
-                }
-                match item.as_ref().map(A::as_ref) {
-                    None => return parse_rest(&self.proved, table, line, before, &texts[..count]),
-                    Some(word) => texts[count] = word.to_str().ok_or_else(|| not_text(word))?,
-                }
-                count += 1;
-            }
-            let used = scan_texts(scanner, &texts, before, &mut line)
-                .map_err(|fail| first_fail(fail, &mut words))?;
-            before += used;
-            kept = FEW - used;
-            if kept > 1 {
-                // The options ended, so all words that follow are free.
-                let mut matches = parse_rest(&self.proved, table, line, before, &texts[used..])
-                    .map_err(|fail| first_fail(fail, &mut words))?;
-                matches.free.reserve(words.size_hint().0.min(MOST / size_of::<String>()));
-                for word in words {
-                    let text = word.as_ref().to_str().ok_or_else(|| not_text(word.as_ref()))?;
-                    matches.free.push(text.to_string());
-                }
-                return Ok(matches);
-            }
-            items.swap(0, FEW - 1);
-        }
+        self.with_texts(args, parse_texts)
     }
 
     /// Parses a command line like [`parse`](Self::parse), but doesn't check how often options
@@ -519,7 +434,7 @@ impl Options {
             args.into_iter(),
             OsStr::to_str,
             |texts| ask(&self.proved, texts),
-            |_, word, _| Err(not_text(word)),
+            |words, nth| Err(not_text(words[nth])),
         )
     }
 
@@ -650,13 +565,6 @@ impl Options {
     }
 }
 
-/// The error of a line if parsing failed before these words, of which one that isn't UTF-8 is
-/// reported first.
-fn first_fail<A: AsRef<OsStr>>(fail: Fail, words: &mut impl Iterator<Item = A>) -> Fail {
-    let other = words.find(|word| word.as_ref().to_str().is_none());
-    other.map_or(fail, |word| not_text(word.as_ref()))
-}
-
 /// The error of a word that isn't UTF-8.
 pub(crate) fn not_text(word: &OsStr) -> Fail {
     Fail::UnrecognizedOption(format!("{word:?}"))
@@ -667,26 +575,6 @@ pub(crate) fn not_text(word: &OsStr) -> Fail {
 
 pub(crate) fn parse_texts(options: &proved::Options, words: &[&str]) -> Result {
     options.parse_words(Global, words).map(Matches::of).map_err(Fail::of)
-}
-
-fn scan_texts(
-    scanner: Scanner<'_>,
-    words: &[&str],
-    before: usize,
-    line: &mut Line,
-) -> std::result::Result<usize, Fail> {
-    let left = scanner.scan(Global, words, before, true, line).map_err(Fail::of)?;
-    Ok(words.len() - left.len())
-}
-
-fn parse_rest(
-    options: &proved::Options,
-    table: Table,
-    line: Line,
-    before: usize,
-    words: &[&str],
-) -> Result {
-    options.read_rest(Global, table, line, before, words, true).map(Matches::of).map_err(Fail::of)
 }
 
 pub(crate) fn read_texts(options: &proved::Options, words: &[&str]) -> Result {

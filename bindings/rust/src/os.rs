@@ -175,10 +175,7 @@ impl Options {
             args.into_iter(),
             plain,
             |texts| result_of(texts, false),
-            |texts, word, others| {
-                let (first, others) = (texts.iter().map(OsStr::new), others.collect::<Vec<_>>());
-                let others = others.iter().map(|word| word.as_ref());
-                let words: Vec<_> = first.chain([word]).chain(others).collect();
+            |words, _| {
                 let texts =
                     words.iter().map(|word| text_of(word)).collect::<Result<Vec<_>, _>>()?;
                 let given = result_of(&borrowed(&texts), true);

@@ -1,10 +1,10 @@
 //! Parsing a command line: its words are scanned, then its counts are checked.
 
-ghost use Rattle.std.specs.Prelude.{◌≡◌, ◌<◌, ◌+◌, ◌^◌, List, All, IfOk, IfErr, IfSome, OnOk, Ok, Err, length, map};
+ghost use Rattle.std.specs.Prelude.{◌≡◌, [], All, IfOk, IfErr, IfSome, OnOk, Ok, Err, map};
 ghost use Rattle.std.specs.Iterator.{IsFinite};
 ghost use Rattle.std.specs.Iterator.Runs.{WholeRun};
 ghost use Rattle.getopts.specs.Fail.{IsOutOfMemoryOr};
-ghost use Rattle.getopts.specs.Names.{AreTexts, Text, texts};
+ghost use Rattle.getopts.specs.Names.{AreTexts, texts};
 
 use crate::counts::{check_counts, check_counts_in_order};
 use crate::fail::Fail;
@@ -27,7 +27,8 @@ impl Options {
     ghost use Rattle.getopts.specs.Results.{counted_result, parse_in_order_result};
     ghost use Rattle.getopts.specs.Matches.{KeepsCounts, matches_of};
     ghost use Rattle.getopts.specs.Results.{made_of};
-    ghost use Rattle.getopts.specs.Stored.Scan.{IsLeft, reading_if};
+    ghost use Rattle.getopts.specs.Stored.Scan.{parts_of, reading_if, with_tail};
+    ghost use Rattle.getopts.specs.Reading.{line_end};
     ghost use Rattle.getopts.specs.Stored.Table.{IsTableOf};
     ghost use Rattle.getopts.specs.Accessors.{borrowed_given};
 
@@ -177,26 +178,24 @@ impl Options {
         words_are_texts(words);
         let table = Table::of(alloc, self.signatures())?;
         let line = Line::for_words(alloc, words, self.style())?;
-        self.read_rest(alloc, table, line, 0, words, counted)
+        self.read_line(alloc, table, line, words, counted)
     }
 
-    /// Reads the last words of a command line, and returns the matches of the whole line. `line`
-    /// has what the words before them, `before` in number, gave. Checks the counts if `counted`.
+    /// Reads a command line into an empty line, and returns its matches. Checks the counts if
+    /// `counted`.
     #[inline(always)]
-    pub(crate) fn read_rest<S: AsStr>(
+    fn read_line<S: AsStr>(
         &self,
         alloc: Global,
         table: Table,
         line: Line,
-        before: usize,
         words: &[S],
         counted: bool,
     ) -> crate::Result
         requires table { IsTableOf (names_of self.now.groups) table }
-        requires count { before + length words.now < 2 ^ 64 }
-        ensures { (whole : List Text) → IsLeft self.now before line whole (map S.text words.now)
-            → ReturnsResult result
-            (made_of (matches_of self.now) (reading_if counted self.now whole)) }
+        requires empty { parts_of line ≡ with_tail [] [] line_end }
+        ensures { ReturnsResult result
+            (made_of (matches_of self.now) (reading_if counted self.now (map S.text words.now))) }
     {
         let signatures = self.signatures();
         let mut line = line;
@@ -204,7 +203,7 @@ impl Options {
             options: self,
             table: &table,
         };
-        let left = scanner.scan(alloc, words, before, false, &mut line)?;
+        let left = scanner.scan(alloc, words, &mut line)?;
         line.end(alloc, left)?;
         let index = Index::of(alloc, signatures.len(), &line.found)?;
         if counted {

@@ -1,6 +1,6 @@
 //! Reading a command line, one option or free word at a time.
 
-ghost use Rattle.std.specs.Prelude.{◌≡◌, ◌≢◌, ◌<◌, ◌≤◌, ◌+◌, ◌-◌, ◌^◌, ◌∷◌, ◌++◌, [], List, ℕ, MatchOption};
+ghost use Rattle.std.specs.Prelude.{◌≡◌, ◌≢◌, ◌-◌, ◌∷◌, ◌++◌, [], List, ℕ, MatchOption};
 ghost use Rattle.std.specs.Prelude.{OnOk, IfOk, IfErr, IfSome, IfNone, Some, None, Ok, Err, true, false, length};
 ghost use Rattle.std.specs.Prelude.{map};
 ghost use Rattle.std.specs.String.{string_bytes};
@@ -145,10 +145,6 @@ pub(crate) struct Steps<'w, S> {
     pub names: &'w str,
     /// How many words follow the first word of the item that was read last.
     pub after: usize,
-    /// Whether more words may follow `left`. If so, no item begins in its last word, because the
-    /// item's argument may be in the word after it. In this library, no more words follow: only the
-    /// Rust package's `parse_many`, which reads long command lines in parts, passes `true`.
-    pub more_follow: bool,
 }
 
 /// How a word is read.
@@ -328,7 +324,7 @@ impl<'o> Scanner<'o> {
     ghost use Rattle.getopts.specs.Stored.Scan.{HasShape, given_with};
     ghost use Rattle.getopts.specs.Reading.{order_of_reading, IsLawfulTail};
     ghost use Rattle.getopts.specs.Results.{made_of, read};
-    ghost use Rattle.getopts.specs.Stored.Scan.{IsNext, ReadsOne};
+    ghost use Rattle.getopts.specs.Stored.Scan.{ReadsOne};
 
     /// The option that a name resolves to.
     #[inline(always)]
@@ -453,31 +449,27 @@ impl<'o> Scanner<'o> {
         alloc: Global,
         steps: &mut Steps<'w, S>,
     ) -> Result<Option<Given<'w>>, Fail>
-        requires lawful { IsLawfulScanner self.now }
-        requires next { IsNext steps.old.more_follow steps.old.names.now
-            (map S.text steps.old.left.now) }
-        ensures more { steps.new.more_follow ≡ steps.old.more_follow }
+        requires { IsLawfulScanner self.now }
         ensures some { IfOk result (λ given. IfSome given (λ given.
-            ReadsOne (scanner_grammar self.now) steps.old.more_follow steps.new.after
+            ReadsOne (scanner_grammar self.now) steps.new.after
             steps.old.names.now (map S.text steps.old.left.now)
             steps.new.names.now (map S.text steps.new.left.now) (borrowed_given given))) }
         ensures none { IfOk result (λ given. IfNone given
             ((steps.old.names.now ≡ []) × (steps.new.left.now ≡ steps.old.left.now)
             × (steps.new.names.now ≡ []))) }
         ensures tail { IfOk result (λ given. IfNone given
-            ((steps.old.more_follow ≡ true → 1 < length steps.old.left.now)
-            → IsLawfulTail (scanner_grammar self.now) (tail_of (map S.text steps.old.left.now)))) }
-        ensures err { let left = map S.text steps.old.left.now in
-            IfErr result (λ fail. IsOutOfMemoryOr fail (λ fault. (more : List Text)
-            → (steps.old.more_follow ≡ false → more ≡ []) → IsNextFault (scanner_grammar self.now)
-            (record { names = steps.old.names.now; words = left ++ more; only_free = false }) fault)) }
+            (IsLawfulTail (scanner_grammar self.now) (tail_of (map S.text steps.old.left.now)))) }
+        ensures err { IfErr result (λ fail. IsOutOfMemoryOr fail
+            (IsNextFault (scanner_grammar self.now) (record {
+              names = steps.old.names.now;
+              words = map S.text steps.old.left.now;
+              only_free = false;
+            }))) }
     {
         if steps.names.is_empty() {
             let (word, after) = match steps.left.split_first() {
-                Some((word, after)) if !(steps.more_follow && after.is_empty()) => {
-                    (word.as_str(), after)
-                }
-                _ => return Ok(None),
+                Some((word, after)) => (word.as_str(), after),
+                None => return Ok(None),
             };
             steps.after = after.len();
             match self.shape(word) {
@@ -514,43 +506,35 @@ impl<'o> Scanner<'o> {
         }))
     }
 
-    /// Reads items up to `--` or, if options stop there, the first free word. If more words may
-    /// follow, reads no item that begins in the last word. Adds the items to the line, and returns
-    /// the words that are left. `before` is the number of words that were read before these.
+    /// Reads items up to `--` or, if options stop there, the first free word. Adds the items to the
+    /// line, and returns the words that are left.
     #[inline(always)]
     pub(crate) fn scan<'w, S: AsStr>(
         &self,
         alloc: Global,
         words: &'w [S],
-        before: usize,
-        more_follow: bool,
         line: &mut Line,
     ) -> Result<&'w [S], Fail>
-        requires lawful { IsLawfulScanner self.now }
-        requires count { before + length words.now < 2 ^ 64 }
+        requires { IsLawfulScanner self.now }
         ensures ok { let grammar = scanner_grammar self.now in
-            IfOk result (λ left. (more : List Text) → (more_follow ≡ false → more ≡ [])
-            → given_with grammar before line.old (map S.text words.now ++ more)
-            ≡ given_with grammar (before + length words.now - length left.now) line.new
-            (map S.text left.now ++ more)) }
-        ensures within { IfOk result (λ left. length left.now ≤ length words.now) }
-        ensures tail { IfOk result (λ left. (more_follow ≡ true → 1 < length left.now)
-            → IsLawfulTail (scanner_grammar self.now) (tail_of (map S.text left.now))) }
+            IfOk result (λ left. given_with grammar 0 line.old (map S.text words.now)
+            ≡ given_with grammar (length words.now - length left.now) line.new
+            (map S.text left.now)) }
+        ensures tail { IfOk result (λ left.
+            IsLawfulTail (scanner_grammar self.now) (tail_of (map S.text left.now))) }
         ensures err { let grammar = scanner_grammar self.now in
             IfErr result (λ fail. IsOutOfMemoryOr fail
-            (λ fault. (more : List Text) → (more_follow ≡ false → more ≡ [])
-            → given_with grammar before line.old (map S.text words.now ++ more) ≡ Err fault)) }
+            (λ fault. given_with grammar 0 line.old (map S.text words.now) ≡ Err fault)) }
     {
         let mut steps = Steps {
             left: words,
             names: "",
             after: 0,
-            more_follow,
         };
         'items: while let Some(given) = self.next(alloc, &mut steps)? {
             match given {
                 Given::Option { place, value } => {
-                    let position = before + (words.len() - (steps.after + 1));
+                    let position = words.len() - steps.after - 1;
                     line.found.push(place, position, value)?
                 }
                 Given::Free(word) => push_copy(alloc, &mut line.free, word)?,

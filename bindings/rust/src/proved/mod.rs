@@ -32,7 +32,7 @@ mod fail;
 mod index;
 mod occurrences;
 pub(crate) mod scan;
-pub(crate) mod table;
+mod table;
 
 // What callers get.
 mod accessors;

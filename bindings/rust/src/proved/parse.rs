@@ -92,18 +92,17 @@ impl Options {
     ) -> super::Result {
         let table = Table::of(alloc, self.signatures())?;
         let line = Line::for_words(alloc, words, self.style())?;
-        self.read_rest(alloc, table, line, 0, words, counted)
+        self.read_line(alloc, table, line, words, counted)
     }
 
-    /// Reads the last words of a command line, and returns the matches of the whole line. `line`
-    /// has what the words before them, `before` in number, gave. Checks the counts if `counted`.
+    /// Reads a command line into an empty line, and returns its matches. Checks the counts if
+    /// `counted`.
     #[inline(always)]
-    pub(crate) fn read_rest<S: AsStr>(
+    fn read_line<S: AsStr>(
         &self,
         alloc: Global,
         table: Table,
         line: Line,
-        before: usize,
         words: &[S],
         counted: bool,
     ) -> super::Result {
@@ -113,7 +112,7 @@ impl Options {
             options: self,
             table: &table,
         };
-        let left = scanner.scan(alloc, words, before, false, &mut line)?;
+        let left = scanner.scan(alloc, words, &mut line)?;
         line.end(alloc, left)?;
         let index = Index::of(alloc, signatures.len(), &line.found)?;
         if counted {

@@ -98,7 +98,6 @@ impl<'o> Reader<'o> {
                 left: unread.words,
                 names: unread.names,
                 after: 0,
-                more_follow: false,
             };
             if let Some(given) = scanner.next(alloc, &mut steps)? {
                 unread.words = steps.left;

@@ -111,10 +111,6 @@ pub(crate) struct Steps<'w, S> {
     pub names: &'w str,
     /// How many words follow the first word of the item that was read last.
     pub after: usize,
-    /// Whether more words may follow `left`. If so, no item begins in its last word, because the
-    /// item's argument may be in the word after it. In this library, no more words follow: only the
-    /// Rust package's `parse_many`, which reads long command lines in parts, passes `true`.
-    pub more_follow: bool,
 }
 
 /// How a word is read.
@@ -355,10 +351,8 @@ impl<'o> Scanner<'o> {
     ) -> Result<Option<Given<'w>>, Fail> {
         if steps.names.is_empty() {
             let (word, after) = match steps.left.split_first() {
-                Some((word, after)) if !(steps.more_follow && after.is_empty()) => {
-                    (word.as_str(), after)
-                }
-                _ => return Ok(None),
+                Some((word, after)) => (word.as_str(), after),
+                None => return Ok(None),
             };
             steps.after = after.len();
             match self.shape(word) {
@@ -395,28 +389,24 @@ impl<'o> Scanner<'o> {
         }))
     }
 
-    /// Reads items up to `--` or, if options stop there, the first free word. If more words may
-    /// follow, reads no item that begins in the last word. Adds the items to the line, and returns
-    /// the words that are left. `before` is the number of words that were read before these.
+    /// Reads items up to `--` or, if options stop there, the first free word. Adds the items to the
+    /// line, and returns the words that are left.
     #[inline(always)]
     pub(crate) fn scan<'w, S: AsStr>(
         &self,
         alloc: Global,
         words: &'w [S],
-        before: usize,
-        more_follow: bool,
         line: &mut Line,
     ) -> Result<&'w [S], Fail> {
         let mut steps = Steps {
             left: words,
             names: "",
             after: 0,
-            more_follow,
         };
         'items: while let Some(given) = self.next(alloc, &mut steps)? {
             match given {
                 Given::Option { place, value } => {
-                    let position = before + (words.len() - (steps.after + 1));
+                    let position = words.len() - steps.after - 1;
                     line.found.try_push(place, position, value)?
                 }
                 Given::Free(word) => push_copy(alloc, &mut line.free, word)?,

@@ -1,6 +1,6 @@
 -- A line that was read up to a place: what it has so far, one more item, and all ways in which it
 -- ends.
-use Rattle.std.proofs.Common.{Err, ◌≡◌, ℕ, List, [], ◌∷◌, ◌++◌, rules}
+use Rattle.std.proofs.Common.{Err, ◌≡◌, ℕ, List, [], ◌∷◌, rules}
 use Rattle.std.proofs.Common.{false, Ok, refl}
 use Rattle.getopts.specs.Names.{Text}
 use Rattle.getopts.specs.Options.{Grammar}
@@ -8,26 +8,11 @@ use Rattle.getopts.specs.Fail.{Fault}
 use Rattle.getopts.specs.Reading as Spec
 use Rattle.std.specs.Str.{bytes_eq}
 use Rattle.getopts.specs.Results.{made_of}
-use Rattle.getopts.specs.Step.{long_step, cluster_step, IsInLongForm}
 use Rattle.getopts.specs.Stored.Scan.{with_tail, with_reading, given_with, GivesLine, parts_of, tail_of}
 use Rattle.getopts.specs.declared.scan.Line.{Line}
 use Rattle.getopts.specs.declared.kinds.ParsingStyle.TheVariants.{StopAtFirstFree}
-use Rattle.getopts.proofs.Reading.Reader.{HasTextNames, step, read}
+use Rattle.getopts.proofs.Reading.Reader.{HasTextNames, read}
 use Rattle.getopts.proofs.Reading.Readings.{reading_read}
-use Rattle.getopts.proofs.Reading.Steps.{step_long}
-
--- Only the next word may be an option's argument. If there is none, this is the last word.
-module _ (grammar : Grammar) (after more : List Text) (enough : after ≡ [] → more ≡ []) where
-  pub cluster_step-more : (bytes : List ℕ) (text : Text)
-      → cluster_step grammar bytes text (after ++ more) ≡ cluster_step grammar bytes text after
-  unfolding cluster_step
-  cluster_step-more bytes [] = search rules
-  cluster_step-more bytes (byte ∷ text) = search (rules, cluster_step-more (bytes ++ byte ∷ []) text)
-
-  -- the step of a word in long form
-  pub step_long-more : (dashes : Spec.Dashes) (word text : Text) → IsInLongForm grammar dashes word text
-      → step grammar word (after ++ more) ≡ long_step grammar dashes text after
-  step_long-more dashes word text form = search (rules, step_long grammar dashes word text (after ++ more) form)
 
 -- a word that isn't dashed isn't the stop
 plain-stop : (word : Text) → Spec.is_dashed word ≡ false → bytes_eq word Spec.stop_word ≡ false
@@ -61,14 +46,14 @@ module _ (grammar : Grammar) (whole words : List Text) (before : ℕ) (line : Li
     (left : made_of (with_reading grammar 0 [] []) (read grammar whole) ≡ given_with grammar before line words) where
   -- its result is a reading that gives the line, which ended with the tail
   pub GivesLine-ended : (found : List Spec.Occurrence) (frees : List Text) (at : ℕ) (last : List Text) (ended : Line)
-      → given_with grammar before line (words ++ [])
-      ≡ made_of (with_reading grammar at found frees) (read grammar (last ++ []))
+      → given_with grammar before line words
+      ≡ made_of (with_reading grammar at found frees) (read grammar last)
       → read grammar last ≡ Ok (record { items = []; tail = tail_of last })
       → parts_of ended ≡ with_tail found frees (tail_of last)
       → GivesLine grammar (read grammar whole) ended
   GivesLine-ended found frees at last ended read_is tail_is parts = search rules
 
   -- or the error that they have
-  pub read-ended : (fault : Fault) → given_with grammar before line (words ++ []) ≡ Err fault
+  pub read-ended : (fault : Fault) → given_with grammar before line words ≡ Err fault
       → read grammar whole ≡ Err fault
   read-ended fault is = search rules

@@ -1,9 +1,9 @@
 -- A line that is read one option or free word at a time: a name in long form, a name of a cluster,
 -- and a free word.
 use Rattle.std.proofs.Common.{Err, ◌≡◌, ◌≢◌, ◌+◌, ◌-◌, ◌<◌, ◌≤◌, ℕ, List, [], ◌∷◌, ◌++◌, length, rules, drop, refl}
-use Rattle.std.proofs.Common.{◌∙◌, ap, sym, Ok, Option, Some, None, arith, ◌==◌, Bool, true, false, map, append_assoc}
+use Rattle.std.proofs.Common.{◌∙◌, ap, sym, Ok, Option, Some, None, arith, ◌==◌, true, false, map, append_assoc}
 use Rattle.std.proofs.Common.{slice_index, slice_range, length-append}
-use Rattle.std.proofs.lemmas.Bool.{false_from_ne_true, false≢true}
+use Rattle.std.proofs.lemmas.Bool.{false≢true}
 use Rattle.std.proofs.lemmas.List.{append-nil, map-append}
 use Rattle.std.proofs.Math.Seq.{drop-append_seam}
 use Rattle.std.proofs.Permutation.{every_append}
@@ -14,7 +14,6 @@ use Rattle.getopts.specs.Names.{Text}
 use Rattle.getopts.specs.Options.{Grammar}
 use Rattle.getopts.specs.Fail.{Fault, unrecognized_option}
 use Rattle.getopts.specs.Reading as Spec
-use Rattle.getopts.specs.Reading.{spelled_all}
 use Rattle.getopts.specs.Reader.{AreRead, AreReadTo, IsReadTo, Left, between_words, within_word, words_size}
 use Rattle.getopts.specs.Reader.{among_frees, among_options}
 use Rattle.getopts.specs.Reader.{IsNextFault, flags_before, in_next, in_this}
@@ -32,7 +31,7 @@ use Rattle.getopts.proofs.Reading.Positions.{order_of_items-append, occurrences_
 use Rattle.getopts.proofs.Reading.Positions.{options_in-append, options_in-options, options_in-given_by}
 use Rattle.getopts.proofs.Reading.Steps as Steps
 use Rattle.getopts.proofs.Reading.Texts as Texts
-use Rattle.getopts.proofs.scan.Loop.{cluster_step-more, step_long-more, tail_words-tail_of}
+use Rattle.getopts.proofs.scan.Loop.{tail_words-tail_of}
 
 -- what a dashed item gives
 given_by-dashed : (grammar : Grammar) (item : Spec.Item) → Spec.free_items (item ∷ []) ≡ []
@@ -363,36 +362,21 @@ flags_before-long dashes form (Spec.wide_character character more scalar wide ha
 flags_before-long dashes form (Spec.short_unfinished option has kind ended) = absurd (not_short dashes form has)
 flags_before-long dashes form at = refl
 
--- Words, of which one is left if more may follow.
-module _ {grammar : Grammar} (named : HasTextNames grammar) (more_follow : Bool) (words : List Text)
-    (few : more_follow ≡ true → words ≢ []) where
-  -- after the last word, none follow
-  enough : (more : List Text) → (more_follow ≡ false → more ≡ []) → words ≡ [] → more ≡ []
-  enough more may none = may (false_from_ne_true _ (λ follow. few follow none))
-
-  -- the words after the one that is being read
-  here : (line more : List Text) → length line - (1 + length words + length more) ≡ length line - (1 + length (words ++ more))
-  here line more = omega (arith, length-append words more)
-
-  -- an argument doesn't depend on the words after the next
-  Chooses-more : (kind : HasArg) (name text : Text) (more : List Text) → (more_follow ≡ false → more ≡ [])
-      → {value : Option Text} {left : List Text} → Chooses (chosen_end kind name text words) words value left
-      → Chooses (chosen_end kind name text (words ++ more)) (words ++ more) value (left ++ more)
-  Chooses-more kind name text more may {value} {left} chooses = search (rules, enough more may)
-
+-- The words after the one that is being read.
+module _ {grammar : Grammar} (named : HasTextNames grammar) (words : List Text) where
   -- the first name of a cluster
-  ReadsOne-name : {names_old : Text} {words_old : List Text} (names : Text) → ((line more : List Text)
-      (items : List Spec.Item) → AreReadTo grammar line items names_old (words_old ++ more)
-      → IsInWord grammar line items names (words ++ more))
+  ReadsOne-name : {names_old : Text} {words_old : List Text} (names : Text) → ((line : List Text)
+      (items : List Spec.Item) → AreReadTo grammar line items names_old words_old
+      → IsInWord grammar line items names words)
       → 1 + length words ≡ words_left names_old words_old
       → length names + words_size words ≤ length names_old + words_size words_old
       → {place : ℕ} {value : Option Text} {names_left : Text} {left : List Text}
       → TakesName grammar names words place value names_left left
-      → ReadsOne grammar more_follow (length words) names_old words_old names_left left (Spec.option place value)
+      → ReadsOne grammar (length words) names_old words_old names_left left (Spec.option place value)
   ReadsOne-name names inside begins less {place} {value} {names_left} {left}
       (takes_last byte rest kind names_are none place_is other kind_is chooses) = rw none (record {
-        reads = λ line more items may read_to. HasOneMore-last named line (words ++ more) (here line more) byte place rest kind
-            place_is other kind_is (Chooses-more kind (byte ∷ []) rest more may chooses) (rw names_are at inside line more items read_to);
+        reads = λ line items read_to. HasOneMore-last named line words refl byte place rest kind
+            place_is other kind_is chooses (rw names_are at inside line items read_to);
         begins = begins;
         less = omega (
           arith,
@@ -401,95 +385,89 @@ module _ {grammar : Grammar} (named : HasTextNames grammar) (more_follow : Bool)
           ap words_size chooses.after_is,
           words_size-left (Spec.argument_words chooses.argument) left,
         );
-        next = λ filled. absurd (filled refl);
       })
   ReadsOne-name names inside begins less {place} {value} {names_left}
       (takes_flag byte names_are flag place_is value_is left_is) = rw (left_is, value_is) (record {
-        reads = λ line more items may read_to. HasOneMore-flag named line (words ++ more) (here line more) byte place
-            names_left flag place_is (rw names_are at inside line more items read_to);
+        reads = λ line items read_to. HasOneMore-flag named line words refl byte place
+            names_left flag place_is (rw names_are at inside line items read_to);
         begins = begins;
         less = omega (arith, less, ap length names_are);
-        next = λ filled. few;
       })
 
   -- Words that begin with this one.
   module _ (word : Text) where
     -- it is free
     pub ReadsOne-free : Spec.is_dashed word ≡ false → grammar.style ≡ FloatingFrees
-        → ReadsOne grammar more_follow (length words) [] (word ∷ words) [] words (Spec.free_word word)
+        → ReadsOne grammar (length words) [] (word ∷ words) [] words (Spec.free_word word)
     ReadsOne-free plain floating = record {
-      reads = λ line more items may read_to. HasOneMore-word named line (words ++ more) (here line more) word
-          (Spec.free word) Spec.none (Steps.step_free grammar word (words ++ more) plain ∙ rw floating refl) refl refl read_to;
+      reads = λ line items read_to. HasOneMore-word named line words refl word
+          (Spec.free word) Spec.none (Steps.step_free grammar word words plain ∙ rw floating refl) refl refl read_to;
       begins = search rules;
       less = omega arith;
-      next = λ filled. absurd (filled refl);
     }
 
     -- it is in long form
     pub ReadsOne-long : (dashes : Spec.Dashes) (long : Text) → IsInLongForm grammar dashes word long
         → {place : ℕ} {value : Option Text} {left : List Text}
         → TakesOne grammar (long_step grammar dashes long words) words place value left
-        → ReadsOne grammar more_follow (length words) [] (word ∷ words) [] left (Spec.option place value)
+        → ReadsOne grammar (length words) [] (word ∷ words) [] left (Spec.option place value)
     ReadsOne-long dashes long form {left = left} takes_one = record {
-      reads = λ line more items may read_to.
-          HasOneMore-word named line (words ++ more) (here line more) word takes_one.item takes_one.argument
-          (step_long-more grammar words more (enough more may) dashes word long form ∙ takes_one.step_is)
-          (ap (λ words. words ++ more) takes_one.after_is ∙ append_assoc (Spec.argument_words takes_one.argument) left more)
+      reads = λ line items read_to.
+          HasOneMore-word named line words refl word takes_one.item takes_one.argument
+          (Steps.step_long grammar dashes word long words form ∙ takes_one.step_is) takes_one.after_is
           (given_by-dashed grammar takes_one.item takes_one.no_free ∙ rw takes_one.mentioned refl) read_to;
       begins = search rules;
       less = rw takes_one.after_is (omega (arith, words_size-left (Spec.argument_words takes_one.argument) left));
-      next = λ filled. absurd (filled refl);
     }
 
     -- it is in short form
     pub ReadsOne-short : (names : Text) → IsShortForm grammar word names
         → {names_left : Text} {left : List Text} {place : ℕ} {value : Option Text}
         → TakesName grammar names words place value names_left left
-        → ReadsOne grammar more_follow (length words) [] (word ∷ words) names_left left (Spec.option place value)
-    ReadsOne-short names form = ReadsOne-name names (λ line more items read_to. IsInWord-begins form read_to) (search rules)
+        → ReadsOne grammar (length words) [] (word ∷ words) names_left left (Spec.option place value)
+    ReadsOne-short names form = ReadsOne-name names (λ line items read_to. IsInWord-begins form read_to) (search rules)
         (rw form.word_is (omega arith))
 
   -- names are left
   pub ReadsOne-within : (names : Text) → names ≢ []
       → {names_left : Text} {left : List Text} {place : ℕ} {value : Option Text}
       → TakesName grammar names words place value names_left left
-      → ReadsOne grammar more_follow (length words) names words names_left left (Spec.option place value)
+      → ReadsOne grammar (length words) names words names_left left (Spec.option place value)
   ReadsOne-within [] filled = absurd (filled refl)
-  ReadsOne-within (c ∷ names) filled = ReadsOne-name (c ∷ names) (λ line more items read_to. IsInWord-within filled read_to) refl
+  ReadsOne-within (c ∷ names) filled = ReadsOne-name (c ∷ names) (λ line items read_to. IsInWord-within filled read_to) refl
       (omega arith)
 
   -- an error in long form, and of names in a cluster
-  module _ (fault : Fault) (more : List Text) (may : more_follow ≡ false → more ≡ []) where
+  module _ (fault : Fault) where
     pub IsNextFault-long : (dashes : Spec.Dashes) (word long : Text) → IsInLongForm grammar dashes word long → IsUtf8 word
         → long_step grammar dashes long words ≡ faults fault
-        → IsNextFault grammar (record { names = []; words = word ∷ (words ++ more); only_free = false }) fault
+        → IsNextFault grammar (record { names = []; words = word ∷ words; only_free = false }) fault
     IsNextFault-long dashes word long form utf8 fails =
-        let is = step_long-more grammar words more (enough more may) dashes word long form ∙ fails in
-        let at = (rw is at (Steps.step_sound grammar named word (words ++ more))) utf8 in
-        in_next word (words ++ more) refl refl refl at (flags_before-long dashes form at)
+        let is = Steps.step_long grammar dashes word long words form ∙ fails in
+        let at = (rw is at (Steps.step_sound grammar named word words)) utf8 in
+        in_next word words refl refl refl at (flags_before-long dashes form at)
 
     module _ (names : Text) (utf8 : IsUtf8 names)
         (fails : (bytes : List ℕ) (then : Step) → name_step grammar bytes names words then ≡ faults fault)
         (filled : names ≢ []) where
       IsFaultAt-names : (word : Text) (has : Spec.HasAfterFlags grammar word names)
-          → (at : Spec.IsFaultAt grammar word (words ++ more) fault) × (flags_before at ≡ has.bytes)
+          → (at : Spec.IsFaultAt grammar word words fault) × (flags_before at ≡ has.bytes)
       IsFaultAt-names word has =
           let form = Steps.short_of grammar word names has
           (λ none. omega (arith, ap length none, length-append has.bytes names, names_length names filled)) in
-          let is = Steps.short_step_flags grammar word has.bytes names (words ++ more) form has.each
-          ∙ cluster_step-more grammar words more (enough more may) has.bytes names
+          let is = Steps.short_step_flags grammar word has.bytes names words form has.each
           ∙ names_cluster grammar has.bytes names words filled (fails has.bytes) in
-          let at = (rw is at (Steps.step_sound grammar named word (words ++ more))) (rw has.word_is (Texts.IsUtf8-ascii Spec.dash
+          let at = (rw is at (Steps.step_sound grammar named word words)) (rw has.word_is (Texts.IsUtf8-ascii Spec.dash
           (has.bytes ++ names) (omega arith) (IsUtf8-flags named has.bytes names has.each utf8))) in
           (at, flags_before-names named names filled has (names_plain grammar names words filled (fails [])) at)
 
       pub IsNextFault-short : (word : Text) → IsShortForm grammar word names
-          → IsNextFault grammar (record { names = []; words = word ∷ (words ++ more); only_free = false }) fault
+          → IsNextFault grammar (record { names = []; words = word ∷ words; only_free = false }) fault
       IsNextFault-short word form =
           let at = IsFaultAt-names word (unflagged form) in
-          in_next word (words ++ more) refl refl refl at.0 at.1
+          in_next word words refl refl refl at.0 at.1
 
-      pub IsNextFault-within : IsNextFault grammar (record { names = names; words = words ++ more; only_free = false }) fault
+      pub IsNextFault-within : IsNextFault grammar (record { names = names; words = words; only_free = false }) fault
       IsNextFault-within = in_this refl filled IsFaultAt-names
 
 -- If options may follow, an error is that of the next word.
@@ -532,13 +510,13 @@ module _ {grammar : Grammar} {line : List Text} {left : Left} where
 -- One option or free word more of a line.
 module _ {grammar : Grammar} {line : List Text} {before : List Spec.Given} {left : Left} where
   -- while options may follow
-  pub IsReadTo-next : {more_follow : Bool} {after : ℕ} {given : Spec.Given} {names : Text} {words : List Text}
-      → left.only_free ≡ false → ReadsOne grammar more_follow after left.names left.words names words given
+  pub IsReadTo-next : {after : ℕ} {given : Spec.Given} {names : Text} {words : List Text}
+      → left.only_free ≡ false → ReadsOne grammar after left.names left.words names words given
       → IsReadTo grammar line before left
       → IsReadTo grammar line (before ++ given ∷ []) (record { names = names; words = words; only_free = left.only_free })
   IsReadTo-next options reads (among_options items may read_to given_is) =
-      let one = reads.reads line [] items (λ none. refl) (rw append-nil read_to) in
-      among_options one.all options (rw append-nil at one.read) (rw given_is (sym one.order))
+      let one = reads.reads line items read_to in
+      among_options one.all options one.read (rw given_is (sym one.order))
   IsReadTo-next options reads (among_frees reading frees only is frees_are given_is) =
       absurd (false≢true (sym options ∙ only))
 

@@ -1,7 +1,6 @@
 -- A line that was read up to a place: what it has so far.
 use Rattle.std.proofs.Common.{Err, ◌≡◌, ◌+◌, ◌-◌, ◌≤◌, ℕ, List, [], ◌∷◌, ◌++◌, rules, refl, length}
 use Rattle.std.proofs.Common.{sym, Ok, Result, append_assoc}
-use Rattle.std.proofs.lemmas.List.{append-nil}
 use Rattle.getopts.specs.Names.{Text}
 use Rattle.getopts.specs.Options.{Grammar}
 use Rattle.getopts.specs.Fail.{Fault}
@@ -63,7 +62,6 @@ module _ {grammar : Grammar} {before : ℕ} {found_old found : List Spec.Occurre
 -- no more words are left than the line has
 pub SoFar-within : {grammar : Grammar} {before : ℕ} {found_old found : List Spec.Occurrence}
     {frees_old frees : List Text} (whole : List Text) (names : Text) (words : List Text)
-    → SoFar grammar before found_old frees_old found frees (whole ++ []) names (words ++ [])
+    → SoFar grammar before found_old frees_old found frees whole names words
     → words_left names words ≤ length whole
-SoFar-within whole names words so_far =
-    words_left-within names words (rw (append-nil, append-nil) at so_far.read_to)
+SoFar-within whole names words so_far = words_left-within names words so_far.read_to

@@ -93,12 +93,6 @@ given_with grammar at line words =
     made_of (with_reading grammar at line.found (map string_bytes line.free.items))
     (read grammar words)
 
--- The first words of a command line were read into a line, and these words are left.
-abbrev pub IsLeft : Declared → ℕ → Line → List Text → List Text → Type 0
-IsLeft options count line whole left =
-    made_of (with_reading (grammar_of options) 0 [] []) (read (grammar_of options) whole)
-    ≡ given_with (grammar_of options) count line left
-
 -- a tail of these words: free words, or a stop and free words
 abbrev pub tail_of : List Text → Tail
 tail_of [] = line_end
@@ -127,17 +121,10 @@ abbrev pub words_left : Text → List Text → ℕ
 words_left [] words = length words
 words_left (byte ∷ names) words = 1 + length words
 
--- If names are left, and more words may follow, a word is left.
-abbrev pub IsNext : Bool → Text → List Text → Type 0
-IsNext more_follow names words = names ≢ [] → more_follow ≡ true → words ≢ []
-
--- If more words may follow, this is true whatever they are.
 -- An option or a free word was read, and `after` words follow the first word of its item.
-pub record ReadsOne (grammar : Grammar) (more_follow : Bool) (after : ℕ) (names : Text) (words : List Text)
+pub record ReadsOne (grammar : Grammar) (after : ℕ) (names : Text) (words : List Text)
     (names_new : Text) (words_new : List Text) (given : Given) : Type 0 where
-  pub reads : (line more : List Text) (items : List Item) → (more_follow ≡ false → more ≡ [])
-      → AreReadTo grammar line items names (words ++ more)
-      → HasOneMore grammar line items (length line - (1 + after + length more)) given names_new (words_new ++ more)
+  pub reads : (line : List Text) (items : List Item) → AreReadTo grammar line items names words
+      → HasOneMore grammar line items (length line - (1 + after)) given names_new words_new
   pub begins : 1 + after ≡ words_left names words
   pub less : length names_new + words_size words_new < length names + words_size words
-  pub next : IsNext more_follow names_new words_new

@@ -1,6 +1,5 @@
 -- While options may follow, the scanner's steps are the reader's. After that, each word is free.
-use Rattle.std.proofs.Common.{◌≡◌, List, ap, false, true, refl, rules, [], append-nil}
-use Rattle.std.proofs.lemmas.Bool.{false≢true}
+use Rattle.std.proofs.Common.{◌≡◌, List, ap, false, true, refl, rules, append-nil}
 use Rattle.std.proofs.lemmas.List.{nil_from_length}
 use Rattle.getopts.specs.Names.{Text}
 use Rattle.getopts.specs.Options.{MayBeDeclared, grammar_of}
@@ -20,7 +19,7 @@ returns-in_err-given-clause-next_word g c =
     let options : c.args.unread.now.only_free ≡ false = search rules in
     rw (← c.self.view_is)
     (IsOutOfMemoryOr-exit _ c.in_err-given.field-0.0 _ _ c.from_residual.ensures.1 c.in_err-given.ensures.err
-    (λ fault told. IsNextFault-options options (rw append-nil at (told [] (λ none. refl)))))
+    (λ fault told. IsNextFault-options options told))
 
 pub returns-in_err-given-clause-err : goal.returns-in_err-given-clause-err
 unfolding reading_or_error
@@ -29,7 +28,7 @@ returns-in_err-given-clause-err g c =
     rw (← c.self.view_is)
     (IsOutOfMemoryOr-exit _ c.in_err-given.field-0.0 _ _ c.from_residual.ensures.1 c.in_err-given.ensures.err
     (λ fault told line before read_to. ap (made_of _) (IsReadTo-fault (has_text_names _ c.self.invariant.0) fault options
-    (rw append-nil at (told [] (λ none. refl))) read_to)))
+    told read_to)))
 
 pub returns-in-Some-clause-some : goal.returns-in-Some-clause-some
 returns-in-Some-clause-some g c =
@@ -60,7 +59,7 @@ read_free g c = rw (← c.self.view_is) (λ line before read_to. elim c.if-not-u
       let none = rw w.in_default.is at w.in_ok-given.ensures.none in
       let tail = rw w.in_default.is at w.in_ok-given.ensures.tail in
       rw (w.unread-is, w.free_words-unread.ensures)
-      (IsReadTo-tail options none.0 (tail (λ follow. absurd (false≢true follow))) read_to)
+      (IsReadTo-tail options none.0 tail read_to)
   | goal.else-not-unread w ↦ rw w.unread-is read_to
 ])
 
