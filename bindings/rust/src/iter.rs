@@ -2,8 +2,11 @@
 
 use crate::alloc::Global;
 use crate::fail::granted;
+use crate::os::{os_of, shown, text_of};
+use crate::proved::scan::FIRST_ROOM;
 use crate::proved::{self, Unread};
 use crate::{Fail, Given};
+use std::borrow::Cow;
 use std::ffi::{OsStr, OsString};
 use std::fmt;
 use std::iter::FusedIterator;
@@ -117,6 +120,155 @@ impl<S: fmt::Debug> fmt::Debug for Reader<'_, '_, S> {
     fn fmt(&self, f: &mut fmt::Formatter<'_>) -> fmt::Result {
         let Unread { names, words, .. } = &self.unread;
         f.debug_struct("Reader").field("names", names).field("rest", words).finish_non_exhaustive()
+    }
+}
+
+/// Iterates over the options and positional arguments of a command line, which needn't be UTF-8.
+/// [`Options::read_os`] returns it. It is like a [`Reader`], with other items.
+///
+/// Values and positional arguments are borrowed from the words, except a value that is part of a
+/// word that isn't UTF-8, as in `-oNAME`, which is copied.
+///
+/// [`Options::read_os`]: crate::Options::read_os
+///
+/// ```
+/// use getopts::Given;
+/// use std::ffi::OsString;
+/// use std::path::PathBuf;
+///
+/// let mut options = getopts::Options::new();
+/// options.optopt("o", "", "write to NAME", "NAME");
+/// let words = ["-ofile", "in.txt", "--", "-x"].map(OsString::from);
+/// let (mut output, mut inputs) = (None, Vec::new());
+/// for given in options.read_os(&words) {
+///     match given.unwrap() {
+///         Given::Option { value, .. } => output = value,
+///         Given::Free(name) => inputs.push(PathBuf::from(&name)),
+///     }
+/// }
+/// assert_eq!(output.unwrap().to_str(), Some("file"));
+/// assert_eq!(inputs, ["in.txt", "-x"].map(PathBuf::from));
+/// ```
+#[must_use = "iterators are lazy and do nothing unless consumed"]
+pub struct OsReader<'o, 'w, S> {
+    options: &'o proved::Options,
+    proved: proved::Reader<'o>,
+    words: &'w [S],
+    /// The texts of the first words, as far as they were needed.
+    texts: Vec<Cow<'w, str>>,
+    /// How many words were read, and how many bytes of names are left in the last one's text.
+    read: usize,
+    left: usize,
+    /// Whether only free words are left.
+    only_free: bool,
+    /// Whether a word couldn't be read.
+    failed: bool,
+}
+
+impl<'o, 'w, S: AsRef<OsStr>> OsReader<'o, 'w, S> {
+    pub(crate) fn of(options: &'o proved::Options, words: &'w [S]) -> OsReader<'o, 'w, S> {
+        let proved = granted(options.reader(Global));
+        let texts = Vec::with_capacity(words.len().min(FIRST_ROOM));
+        let (only_free, failed) = (false, false);
+        OsReader { options, proved, words, texts, read: 0, left: 0, only_free, failed }
+    }
+
+    /// The words that weren't read yet, as [`Reader::rest`] returns them.
+    ///
+    /// ```
+    /// let mut options = getopts::Options::new();
+    /// options.optflag("v", "", "say more");
+    /// let mut reader = options.read_os(&["-v", "run", "--", "-x"]);
+    /// assert!(reader.nth(1).unwrap().is_ok());
+    /// assert_eq!(reader.rest(), ["--", "-x"]);
+    /// ```
+    #[inline]
+    pub fn rest(&self) -> &'w [S] {
+        &self.words[self.read..]
+    }
+
+    /// Takes the next word as it was given, if the closure returns true for it, as
+    /// [`Reader::next_word_if`] does.
+    ///
+    /// ```
+    /// let mut options = getopts::Options::new();
+    /// options.optopt("x", "exec", "run PROGRAM with the words up to `;`", "PROGRAM");
+    /// let mut reader = options.read_os(&["-x", "rm", "-f", ";", "in.txt"]);
+    /// assert!(reader.next().unwrap().is_ok());
+    /// assert_eq!(reader.next_word_if(|word| word != ";").unwrap(), "-f");
+    /// assert_eq!(reader.next_word_if(|word| word != ";"), None);
+    /// ```
+    #[inline]
+    pub fn next_word_if(&mut self, take: impl FnOnce(&OsStr) -> bool) -> Option<&'w OsStr> {
+        let word = self.rest().first()?.as_ref();
+        if self.left > 0 || !take(word) {
+            return None;
+        }
+        self.read += 1;
+        Some(word)
+    }
+
+    /// Reads what is next from the texts of two words, because no item takes more.
+    fn read(&mut self) -> Result<Option<Given<'o, Cow<'w, OsStr>>>, Fail> {
+        let end = self.words.len().min(self.read + 2);
+        while self.texts.len() < end {
+            self.texts.push(text_of(self.words[self.texts.len()].as_ref())?);
+        }
+        let (words, names) = (&self.texts[self.read..end], self.end(self.left));
+        let mut unread = Unread { words, names, only_free: self.only_free };
+        let given = self.proved.next(Global, &mut unread).map_err(|fail| {
+            let text = if names.is_empty() { &words[0] } else { names };
+            shown(text, Fail::of(fail))
+        })?;
+        let (read, left) = (words.len() - unread.words.len(), unread.names.len());
+        let given = given.map(|given| Given::of(self.options, given, str::len));
+        self.only_free = unread.only_free;
+        (self.read, self.left) = (self.read + read, left);
+        Ok(given.map(|given| given.map(|len| self.value(len))))
+    }
+
+    /// The word that was read last or, if this is longer than the value, its end.
+    fn value(&self, len: usize) -> Cow<'w, OsStr> {
+        match &self.texts[self.read - 1] {
+            Cow::Borrowed(text) => Cow::Borrowed(OsStr::new(&text[text.len() - len..])),
+            Cow::Owned(text) if text.len() == len => {
+                Cow::Borrowed(self.words[self.read - 1].as_ref())
+            }
+            Cow::Owned(_) => Cow::Owned(os_of(self.end(len))),
+        }
+    }
+}
+
+impl<S> OsReader<'_, '_, S> {
+    /// The end of the text of the word that was read last.
+    fn end(&self, len: usize) -> &str {
+        // A word that was taken as it was given may have no text.
+        let text = self.texts.get(self.read.wrapping_sub(1)).map_or("", |text| text);
+        &text[text.len() - len..]
+    }
+}
+
+impl<'o, 'w, S: AsRef<OsStr>> Iterator for OsReader<'o, 'w, S> {
+    type Item = Result<Given<'o, Cow<'w, OsStr>>, Fail>;
+
+    #[inline]
+    fn next(&mut self) -> Option<Self::Item> {
+        if self.failed {
+            return None;
+        }
+        let item = self.read().transpose()?;
+        self.failed = item.is_err();
+        Some(item)
+    }
+}
+
+impl<S: AsRef<OsStr>> FusedIterator for OsReader<'_, '_, S> {}
+
+impl<S: fmt::Debug> fmt::Debug for OsReader<'_, '_, S> {
+    fn fmt(&self, f: &mut fmt::Formatter<'_>) -> fmt::Result {
+        let (names, rest) = (os_of(self.end(self.left)), &self.words[self.read..]);
+        let mut shown = f.debug_struct("OsReader");
+        shown.field("names", &names).field("rest", &rest).finish_non_exhaustive()
     }
 }
 

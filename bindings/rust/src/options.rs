@@ -56,7 +56,8 @@ impl fmt::Debug for Options {
 }
 
 /// An option or a positional argument, as [`Options::parse_in_order`] returns it. `T` is `OsString`
-/// from [`parse_os_in_order`](Options::parse_os_in_order), and `&str` from [`read`](Options::read).
+/// from [`parse_os_in_order`](Options::parse_os_in_order), `&str` from [`read`](Options::read), and
+/// `Cow<OsStr>` from [`read_os`](Options::read_os).
 ///
 /// ```
 /// use getopts::{Given, Options};
@@ -415,7 +416,8 @@ impl Options {
     /// ```
     ///
     /// For a program's own arguments, collect `args_os().skip(1).map(OsString::into_string)` into a
-    /// `Result<Vec<String>, OsString>`. Its error is the first argument that isn't UTF-8.
+    /// `Result<Vec<String>, OsString>`. Its error is the first argument that isn't UTF-8, which
+    /// [`read_os`](Self::read_os) accepts.
     ///
     /// # Errors
     /// If a word can't be read, the last item is an `ArgumentMissing`, `UnrecognizedOption` or

@@ -2,7 +2,7 @@
 
 use crate::bytes::{plain_text, push_bytes, push_text};
 use crate::fail::granted;
-use crate::iter::{OsOccurrences, Values};
+use crate::iter::{OsOccurrences, OsReader, Values};
 use crate::options::{parse_texts, read_texts, read_words, texts_in_order};
 use crate::{Fail, Given, Matches, Options, proved};
 use std::borrow::Cow;
@@ -159,6 +159,39 @@ impl Options {
         })
     }
 
+    /// Reads a command line in a loop of yours, as [`read`](Self::read) does, but also accepts
+    /// arguments that aren't UTF-8.
+    ///
+    /// ```
+    /// use getopts::{Fail, Given, Options};
+    /// use std::ffi::{OsStr, OsString};
+    ///
+    /// /// Reads `launch [-C DIR] COMMAND [WORD]..`.
+    /// fn launch(options: &Options, words: &[OsString]) -> Result<String, Fail> {
+    ///     let (mut reader, mut dir) = (options.read_os(words), OsStr::new(".").into());
+    ///     while let Some(given) = reader.next() {
+    ///         match given? {
+    ///             Given::Option { value, .. } => dir = value.unwrap(),
+    ///             Given::Free(it) => return Ok(format!("{dir:?}: {it:?} {:?}", reader.rest())),
+    ///         }
+    ///     }
+    ///     Ok("no command".to_string())
+    /// }
+    /// let mut options = Options::new();
+    /// options.optopt("C", "", "run it in DIR", "DIR");
+    /// let words = ["-Csrc", "make", "-j", "4"].map(OsString::from);
+    /// assert_eq!(launch(&options, &words).unwrap(), r#""src": "make" ["-j", "4"]"#);
+    /// ```
+    ///
+    /// For a program's own arguments, collect `args_os().skip(1)` into a `Vec<OsString>`.
+    ///
+    /// # Errors
+    /// As in `read`. What [`parse_os`](Self::parse_os) says of arguments, errors and names that
+    /// aren't UTF-8 applies here, too.
+    pub fn read_os<'o, 'w, S: AsRef<OsStr>>(&'o self, words: &'w [S]) -> OsReader<'o, 'w, S> {
+        OsReader::of(&self.proved, words)
+    }
+
     /// Calls `ask` with the proved options and the words, and `of` with its result and whether a
     /// word wasn't text.
     fn with_os_texts<'o, T, U>(
@@ -167,28 +200,20 @@ impl Options {
         ask: impl Fn(&'o proved::Options, &[&str]) -> Result<T, Fail>,
         of: impl Fn(T, bool) -> U,
     ) -> Result<U, Fail> {
-        let result_of = |texts: &[&str], marked| match ask(&self.proved, texts) {
-            Ok(given) => Ok(of(given, marked)),
-            Err(fail) => Err(shown(fail)),
-        };
         read_words(
             args.into_iter(),
             plain,
-            |texts| result_of(texts, false),
+            |texts| ask(&self.proved, texts).map(|given| of(given, false)),
             |words, _| {
                 let texts =
                     words.iter().map(|word| text_of(word)).collect::<Result<Vec<_>, _>>()?;
-                let given = result_of(&borrowed(&texts), true);
-                // In a cluster, the name is only a character's first mark: name the character.
-                if matches!(&given, Err(Fail::UnrecognizedOption(name)) if name == "\u{FFFD}") {
-                    let texts: Vec<_> = words.iter().map(|word| word.to_string_lossy()).collect();
-                    if let Err(fail @ Fail::UnrecognizedOption(_)) =
-                        ask(&self.proved, &borrowed(&texts))
-                    {
-                        return Err(fail);
-                    }
+                let texts: Vec<_> = texts.iter().map(|text| &**text).collect();
+                match ask(&self.proved, &texts) {
+                    Ok(given) => Ok(of(given, true)),
+                    // The loop has the same error, with a name that can be shown, except for an
+                    // error of counts, whose name is declared.
+                    Err(fail) => Err(self.read_os(words).find_map(Result::err).unwrap_or(fail)),
                 }
-                given
             },
         )
     }
@@ -376,12 +401,8 @@ fn plain(word: &OsStr) -> Option<&str> {
     word.to_str().filter(is_plain)
 }
 
-fn borrowed<'t>(texts: &'t [Cow<'_, str>]) -> Vec<&'t str> {
-    texts.iter().map(|text| &**text).collect()
-}
-
 /// A word as text: itself, or encoded by marks.
-fn text_of(word: &OsStr) -> Result<Cow<'_, str>, Fail> {
+pub(crate) fn text_of(word: &OsStr) -> Result<Cow<'_, str>, Fail> {
     if let Some(text) = plain(word) {
         return Ok(Cow::Borrowed(text));
     }
@@ -391,14 +412,15 @@ fn text_of(word: &OsStr) -> Result<Cow<'_, str>, Fail> {
 }
 
 /// The word that a text encodes.
-fn os_of(text: &str) -> OsString {
+pub(crate) fn os_of(text: &str) -> OsString {
     let mut bytes = Vec::new();
     granted(push_bytes(&mut bytes, text));
     word_of(bytes)
 }
 
-/// The error with its marks decoded, and U+FFFD in place of what isn't Unicode.
-fn shown(mut fail: Fail) -> Fail {
+/// The error at the start of this text, which is a word or the rest of a cluster, with U+FFFD in
+/// place of what isn't Unicode.
+pub(crate) fn shown(text: &str, mut fail: Fail) -> Fail {
     match &mut fail {
         Fail::ArgumentMissing(name)
         | Fail::UnrecognizedOption(name)
@@ -406,8 +428,11 @@ fn shown(mut fail: Fail) -> Fail {
             let mut bytes = Vec::new();
             granted(push_bytes(&mut bytes, name));
             *name = match bytes[..] {
-                // The first byte of a character in a cluster isn't a word.
-                [_] => String::from_utf8_lossy(&bytes).into_owned(),
+                // The first byte of a character in a cluster isn't a word: show the character.
+                [byte] if !byte.is_ascii() => {
+                    let name = os_of(text.trim_start_matches('-'));
+                    name.to_string_lossy().chars().take(1).collect()
+                }
                 _ => word_of(bytes).to_string_lossy().into_owned(),
             };
         }

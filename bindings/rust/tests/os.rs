@@ -1,7 +1,8 @@
 //! Arguments of any bytes, borrowed values, and methods of matches.
 
 use getopts::iter::{Occurrences, OsOccurrences, Values};
-use getopts::{Fail, Given, HasArg, Occur, Options, OsGetError};
+use getopts::{Fail, Given, HasArg, Occur, Options, OsGetError, ParsingStyle};
+use std::borrow::Cow;
 use std::cell::Cell;
 use std::ffi::{OsStr, OsString};
 use std::iter::{once, repeat};
@@ -20,7 +21,8 @@ fn not_unicode() -> Vec<OsString> {
     #[cfg(unix)]
     {
         use std::os::unix::ffi::OsStringExt;
-        let words: [&[u8]; 9] = [
+        let words: [&[u8]; 10] = [
+            b"\xff",
             b"\xff.txt",
             b"caf\xe9",
             b"a\x80",
@@ -120,6 +122,101 @@ fn parse_os_in_order_returns_words_as_given() {
     let output = ("o", "output", Some("file".into()));
     assert_eq!(given, [("", "", Some("in.txt".into())), output, ("v", "verbose", None)]);
     assert_eq!(options.parse_os_in_order(["-x"]), Err(Fail::UnrecognizedOption("x".into())));
+}
+
+/// Words of any bytes, in names, values, clusters and free words.
+fn any_line(random: &mut impl FnMut(usize) -> usize) -> Vec<OsString> {
+    let pieces = "- - -- v v o c = verbose output größe --größe= x é 日本 \u{FFFD} \u{10FF80}";
+    let pieces: Vec<_> = pieces.split(' ').collect();
+    let others = not_unicode();
+    let mut word = || {
+        let mut word = OsString::from(["", "-", "-v", "-vo", "--", "--output=", "-c"][random(7)]);
+        for _ in 0..random(4) {
+            match random(3) {
+                0 => word.push(&others[random(others.len())]),
+                _ => word.push(pieces[random(pieces.len())]),
+            }
+        }
+        word
+    };
+    let words = (0..6).map(|_| word()).collect::<Vec<_>>();
+    let count = random(7);
+    words.into_iter().take(count).collect()
+}
+
+#[test]
+fn a_loop_gives_what_parse_os_in_order_gives() {
+    let mut options = Options::new();
+    options.optflagmulti("v", "verbose", "").optmulti("o", "output", "", "NAME");
+    options.opt("c", "größe", "", "N", HasArg::Maybe, Occur::Multi);
+    let mut state = 1_u64;
+    let mut random = |below: usize| {
+        state = state.wrapping_mul(0x5851_F42D_4C95_7F2D).wrapping_add(1);
+        (state >> 33) as usize % below
+    };
+    let (mut accepted, mut marked) = (0, 0);
+    for _ in 0..40_000 {
+        let line = any_line(&mut random);
+        let style = [ParsingStyle::FloatingFrees, ParsingStyle::StopAtFirstFree][random(2)];
+        options.parsing_style(style).long_only(random(4) == 0);
+        let texts: Option<Vec<&str>> = line.iter().map(|word| word.to_str()).collect();
+        let texts = texts.filter(|line| line.concat().chars().all(|char| char < '\u{10FF80}'));
+        let mut of_texts = texts.as_ref().map(|line| options.read(line));
+        let mut reader = options.read_os(&line);
+        let (mut given, mut fail) = (Vec::new(), None);
+        while let Some(item) = reader.next() {
+            assert!(fail.is_none() && line.ends_with(reader.rest()));
+            if let Some(of_texts) = &mut of_texts {
+                // The loop over texts stops and goes on at the same words.
+                assert_eq!(of_texts.next().unwrap().is_err(), item.is_err());
+                assert_eq!(of_texts.rest().len(), reader.rest().len());
+                assert_eq!(format!("Os{of_texts:?}"), format!("{reader:?}"));
+            }
+            match item {
+                Ok(Given::Option { short, long, value, .. }) => {
+                    given.push((short, long, value.map(|value| value.into_owned())));
+                }
+                Ok(Given::Free(word)) => given.push(("", "", Some(word.into_owned()))),
+                Err(error) => fail = Some(error),
+            }
+        }
+        assert!(reader.next().is_none() && (fail.is_some() || reader.rest().is_empty()));
+        // No name has an invalid byte, so an error shows the same as that of the texts.
+        let lossy = line.iter().map(|word| word.to_string_lossy().into_owned());
+        assert_eq!(fail, options.parse_in_order(lossy).err(), "{line:?}");
+        let order = options.parse_os_in_order(&line).map(parts);
+        accepted += usize::from(order.is_ok());
+        marked += usize::from(line.iter().any(|word| word.to_str().is_none()));
+        assert_eq!(fail.map_or(Ok(given), Err), order, "{line:?}");
+    }
+    assert!(accepted > 4_000 && (marked > 4_000 || cfg!(not(any(unix, windows)))));
+}
+
+#[test]
+fn a_loop_borrows_what_it_can() {
+    let mut options = options();
+    options.parsing_style(ParsingStyle::StopAtFirstFree);
+    for word in not_unicode() {
+        let words = [joined("-vo", &word), "-o".into(), word.clone(), word.clone(), "-v".into()];
+        let mut reader = options.read_os(&words);
+        assert!(matches!(reader.next(), Some(Ok(Given::Option { short: "v", .. }))));
+        assert_eq!(reader.next_word_if(|_| unreachable!()), None);
+        let shown = format!("OsReader {{ names: {:?}, rest: ", joined("o", &word));
+        assert!(format!("{reader:?}").starts_with(&shown));
+        for (rest, may_copy) in [(&words[1..], true), (&words[3..], false)] {
+            match reader.next() {
+                Some(Ok(Given::Option { short: "o", value: Some(value), .. })) => {
+                    assert_eq!((&*value, reader.rest()), (&*word, rest));
+                    assert!(may_copy || matches!(value, Cow::Borrowed(_)));
+                }
+                item => panic!("{item:?}"),
+            }
+        }
+        assert_eq!(reader.next_word_if(|next| next != word), None);
+        assert_eq!(reader.next_word_if(|next| next == word), Some(&*words[3]));
+        assert!(matches!(reader.next(), Some(Ok(Given::Option { short: "v", .. }))));
+        assert!(reader.next().is_none() && reader.rest().is_empty());
+    }
 }
 
 #[test]
@@ -311,6 +408,14 @@ fn errors_show_marks() {
         let mark = "\u{FFFD}".to_string();
         if lossy.starts_with(&mark) {
             assert_eq!(shown(joined("-v", &word)), Fail::UnrecognizedOption(mark));
+        }
+        if word.to_str().is_none() {
+            let mut options = options();
+            options.optflag("", "\u{FFFD}", "");
+            for other in ["--zzz", "--\u{10FFFF}"] {
+                let fail = options.parse_os([joined("--", &word), other.into()]).unwrap_err();
+                assert_eq!(fail, Fail::UnrecognizedOption(name.to_string()));
+            }
         }
     }
 }
