@@ -118,15 +118,31 @@ impl<'o, T> Given<'o, T> {
     }
 }
 
-/// How many items and texts stay on the stack.
+/// How many items and texts stay on the stack, and the most bytes of an item that may.
 const FEW: usize = 16;
+const SMALL: usize = 64;
 /// The most bytes of a list because of `size_hint`, which may promise too many items.
 const MOST: usize = 1 << 22;
 
 /// Calls `ask` with the texts of all words or, if a word has none, `otherwise` with the words and
-/// the index of the first such word. The iterator is dropped last, because malloc takes longer if a
-/// large block is freed before.
+/// the index of the first such word.
 pub(crate) fn read_words<A: AsRef<OsStr>, T>(
+    words: impl Iterator<Item = A>,
+    text_of: impl Fn(&OsStr) -> Option<&str>,
+    ask: impl FnOnce(&[&str]) -> T,
+    otherwise: impl FnOnce(&[&OsStr], usize) -> T,
+) -> T {
+    if size_of::<A>() <= SMALL {
+        return read_small(words, text_of, ask, otherwise);
+    }
+    let mut list = Vec::new();
+    words.for_each(|word| list.push(word));
+    read_small(list.iter().map(A::as_ref), text_of, ask, otherwise)
+}
+
+/// The same, with the first `FEW` items on the stack. The iterator is dropped last, because malloc
+/// takes longer if a large block is freed before.
+fn read_small<A: AsRef<OsStr>, T>(
     mut words: impl Iterator<Item = A>,
     text_of: impl Fn(&OsStr) -> Option<&str>,
     ask: impl FnOnce(&[&str]) -> T,
@@ -306,7 +322,7 @@ impl Options {
     ///
     /// For a program's own arguments, pass `std::env::args_os().skip(1)`; `std::env::args()` panics
     /// if an argument isn't UTF-8 ([`parse_os`](Self::parse_os) accepts these). All items are
-    /// taken, except perhaps those after one that isn't UTF-8.
+    /// taken, even after one that isn't UTF-8.
     ///
     /// # Errors
     /// See [`Fail`].

@@ -348,7 +348,7 @@ fn parse_takes_any_iterator() {
         assert_eq!(options().parse(words()).unwrap().free, vec!["x"; count]);
         assert_eq!(options().parse_os(words()).unwrap().free, vec!["x"; count]);
     }
-    let large = || (0..20).map(|_| Large("xxx".as_ref(), [0; 2_000]));
+    let large = || (0..20).map(|_| Large("xxx".as_ref(), [0; 200_000]));
     assert_eq!(options().parse(large()).unwrap().free, ["xxx"; 20]);
     assert_eq!(options().parse_os(large()).unwrap().free, ["xxx"; 20]);
     assert_eq!(options().parse(Promised(large(), usize::MAX)).unwrap().free, ["xxx"; 20]);
@@ -367,7 +367,9 @@ fn for_each_promise(test: impl Fn(usize, usize)) {
 #[test]
 fn parse_takes_all_items_and_asks_for_no_more() {
     for_each_promise(|count, promised| {
-        for word in ["x", "--unknown"] {
+        let others = not_unicode();
+        let others = others.iter().filter(|word| word.to_str().is_none()).map(|word| &**word);
+        for word in ["x", "--unknown"].into_iter().map(OsStr::new).chain(others) {
             let mut left = (0..=count).rev();
             let words = std::iter::from_fn(|| (left.next().unwrap() > 0).then_some(word));
             let result = options().parse(Promised(words, promised));
