@@ -48,13 +48,8 @@ pub type Result = std::result::Result<Matches, Fail>;
 
 impl Error for Fail {}
 
-impl fmt::Display for Fail {
-    fn fmt(&self, f: &mut fmt::Formatter<'_>) -> fmt::Result {
-        self.clone().into_proved().fmt(f)
-    }
-}
-
-/// Converts each error to the one of the same name.
+/// Converts each error of the proved source to the one of the same name, and prints it by the
+/// proved parts of its message.
 macro_rules! conversions {
     ($($name:ident)*) => {
         impl Fail {
@@ -64,11 +59,15 @@ macro_rules! conversions {
                     Proved::OutOfMemory => out_of_memory(),
                 }
             }
+        }
 
-            fn into_proved(self) -> Proved {
-                match self {
-                    $(Fail::$name(name) => Proved::$name(name),)*
-                }
+        impl fmt::Display for Fail {
+            fn fmt(&self, f: &mut fmt::Formatter<'_>) -> fmt::Result {
+                let (unnamed, name) = match self {
+                    $(Fail::$name(name) => (Proved::$name(String::new()), name),)*
+                };
+                let (before, _, after) = unnamed.parts();
+                write!(f, "{before}{name}{after}")
             }
         }
     };
