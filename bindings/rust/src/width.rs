@@ -1,18 +1,19 @@
 //! The widths of texts: measured by the crate `unicode-width` or, without the feature `unicode`, in
 //! bytes.
 
+#[cfg(feature = "unicode")]
+pub use unicode_width::UnicodeWidthStr;
+
 /// Texts with a width.
+#[cfg(not(feature = "unicode"))]
 pub trait UnicodeWidthStr {
-    /// How many columns a text takes. Printable ASCII takes one column per byte.
+    /// How many columns a text takes: one for each byte.
     fn width(&self) -> usize;
 }
 
+#[cfg(not(feature = "unicode"))]
 impl UnicodeWidthStr for str {
     fn width(&self) -> usize {
-        #[cfg(feature = "unicode")]
-        if !self.bytes().all(|byte| matches!(byte, b' '..=b'~')) {
-            return unicode_width::UnicodeWidthStr::width(self);
-        }
         self.len()
     }
 }
