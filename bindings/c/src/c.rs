@@ -52,23 +52,9 @@ fn panic(_: &core::panic::PanicInfo<'_>) -> ! {
     unsafe { abort() }
 }
 
-/// Whether all bytes are ASCII. Tests eight or four at a time; the last group may overlap the one
-/// before.
-fn is_ascii(bytes: &[u8]) -> bool {
-    const HIGH: u64 = 0x8080_8080_8080_8080;
-    let eight = |at: usize| bytes[at..at + 8].try_into().map_or(HIGH, u64::from_ne_bytes);
-    let four = |at: usize| bytes[at..at + 4].try_into().map_or(!0, u32::from_ne_bytes);
-    let all = match bytes.len() {
-        0..=3 => bytes.iter().fold(0, |all, byte| all | u64::from(*byte)),
-        len @ 4..=7 => u64::from(four(0) | four(len - 4)),
-        len => (0..len / 8).fold(eight(len - 8), |all, nth| all | eight(8 * nth)),
-    };
-    all & HIGH == 0
-}
-
 /// Bytes as text, if they are UTF-8 below U+10FF80.
 pub fn text(bytes: &[u8]) -> Option<&str> {
-    if is_ascii(bytes) {
+    if bytes.is_ascii() {
         // SAFETY: ASCII is UTF-8.
         Some(unsafe { core::str::from_utf8_unchecked(bytes) })
     } else {
