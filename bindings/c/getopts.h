@@ -173,7 +173,7 @@ const char *getopts_message_name(const struct getopts *options);
 
 /* In the next functions, `name` is the short or long name of an option, and nth counts from 0. If
  * nothing was read, if the name is unknown or NULL (see GETOPTS_STRICT), or if nth is out of range,
- * getopts_values returns an empty list, getopts_long_value true, and the others 0, -1 or NULL. */
+ * getopts_long_value returns true, and the others 0, -1 or NULL. */
 
 /* Pass this as nth for the last occurrence. */
 #define GETOPTS_LAST SIZE_MAX
@@ -188,14 +188,9 @@ size_t getopts_count(const struct getopts *options, const char *name);
 /* The index of the word with the option's nth occurrence, from 0 for the first word read. */
 int getopts_position(const struct getopts *options, const char *name, size_t nth);
 
-/* The value of the option's nth occurrence, or NULL if it has none. Valid until the next
- * getopts_read. */
+/* The value of the option's nth occurrence, or NULL if it has none, as it may with GETOPTS_MAYBE:
+ * so loop up to the count, not to NULL. Valid until the next getopts_read. */
 const char *getopts_value(const struct getopts *options, const char *name, size_t nth);
-
-/* The values of the option's getopts_count occurrences, followed by NULL. An occurrence without a
- * value is a NULL in the list. The list is never NULL. Don't change the list or the values, which
- * are valid until the next getopts_read. */
-const char *const *getopts_values(const struct getopts *options, const char *name);
 
 /* What getopts_nth returns for a free word. No row has this number. */
 #define GETOPTS_FREE_WORD 0x7fffffff

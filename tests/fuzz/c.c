@@ -67,16 +67,17 @@ static void look_at(const void *list, size_t count) {
 /* Asks for the occurrences of an option. */
 static void ask_for(const struct getopts *options, const char *name) {
     size_t count = getopts_count(options, name);
-    const char *const *values = getopts_values(options, name);
+    const char *value = NULL;
     long number;
-    look_at(values, count);
     for (size_t nth = 0; nth < count; nth++) {
-        CHECK(getopts_value(options, name, nth) == values[nth] && getopts_position(options, name, nth) >= 0);
+        value = getopts_value(options, name, nth);
+        looked_at += value != NULL ? strlen(value) : 0;
+        CHECK(getopts_position(options, name, nth) >= 0);
         CHECK(getopts_long_value(options, name, nth, &number) == getopts_long_value(options, name, nth, NULL));
     }
     CHECK(getopts_value(options, name, count) == NULL && getopts_position(options, name, count) == -1);
     CHECK(getopts_value(options, name, GETOPTS_LAST - 1) == NULL && getopts_long_value(options, name, count, &number));
-    CHECK(getopts_value(options, name, GETOPTS_LAST) == (count ? values[count - 1] : NULL));
+    CHECK(getopts_value(options, name, GETOPTS_LAST) == value);
     CHECK(count == 0 || getopts_defined(options, name));
 }
 

@@ -305,11 +305,6 @@ unsafe extern "C" fn getopts_value(options: Option<&Getopts>, name: Text, nth: u
 }
 
 #[no_mangle]
-unsafe extern "C" fn getopts_values(options: Option<&Getopts>, name: Text) -> *const Text {
-    unsafe { given(options, name) }.map_or(none(), |given| given.values())
-}
-
-#[no_mangle]
 unsafe extern "C" fn getopts_nth(options: Option<&Getopts>, nth: usize, value: *mut Text) -> c_int {
     let given = options.and_then(|options| options.reading.nth(nth));
     if given.is_none() && options.map_or(false, Getopts::misses_order) {

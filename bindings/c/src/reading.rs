@@ -10,7 +10,7 @@ use core::ptr::null;
 use library::alloc::Global;
 use library::bytes::push_bytes;
 use library::fallible::{TryCopies, TryList, Vec};
-use library::proved::{self, Fail, Matches};
+use library::proved::{self, Fail, Matches, Occurrences};
 
 /// Stands for the row of a free word: `GETOPTS_FREE_WORD`.
 const FREE_WORD: usize = c_int::MAX as usize;
@@ -25,8 +25,8 @@ pub struct Reading {
     texts: Vec<u8>,
     /// The index in `texts` of the message's name.
     name: usize,
-    /// For each option, the values of its occurrences and then NULL; an occurrence without a value
-    /// is NULL too. After all options the free words, then NULL.
+    /// For each option, the values of its occurrences, with NULL for one that has none. After all
+    /// options the free words, then NULL.
     lists: Vec<Text>,
     /// The index in `lists` at which the values of each option begin, and then the free words.
     starts: Vec<usize>,
@@ -46,30 +46,28 @@ pub struct Given<'r> {
     reading: &'r Reading,
     /// The place of the option.
     pub place: usize,
-    /// The index in the lists of the first value.
-    start: usize,
+    all: Occurrences<'r>,
+    /// How many of all count.
     pub count: usize,
 }
 
 impl Given<'_> {
     pub fn keep_last(&mut self) {
-        self.start += self.count.saturating_sub(1);
         self.count = self.count.min(1);
     }
 
-    /// The values, and NULL after them.
-    pub fn values(&self) -> *const Text {
-        self.reading.lists[self.start..].as_ptr()
+    /// The index, among all occurrences, of the nth one that counts.
+    fn index(&self, nth: usize) -> Option<usize> {
+        Some(self.all.len() - self.count + nth_of(nth, self.count)?)
     }
 
     pub fn value(&self, nth: usize) -> Option<Text> {
-        self.reading.lists.get(self.start + nth_of(nth, self.count)?).copied()
+        let start = self.reading.starts.get(self.place)?;
+        self.reading.lists.get(start + self.index(nth)?).copied()
     }
 
     pub fn position(&self, nth: usize) -> Option<usize> {
-        let all = self.reading.matches.as_ref()?.occurrences_at(self.place);
-        let (position, _) = all.get(all.len() - self.count + nth_of(nth, self.count)?)?;
-        Some(position)
+        Some(self.all.get(self.index(nth)?)?.0)
     }
 }
 
@@ -101,7 +99,7 @@ impl Reading {
             let (mut starts, mut len) = (Vec::of_capacity(Global, groups + 1)?, 0);
             for place in 0..groups {
                 starts.push(len);
-                len += matches.occurrences_at(place).len() + 1;
+                len += matches.occurrences_at(place).len();
             }
             starts.push(len);
             let mut lists = Vec::filled(Global, null(), len + free.len() + 1)?;
@@ -154,10 +152,10 @@ impl Reading {
     /// What was given of an option, if words were read and it is declared.
     #[inline(always)]
     pub fn given(&self, name: Option<&[u8]>) -> Option<Given<'_>> {
-        let place = self.matches.as_ref()?.opt_place(text(name?)?)?;
-        // NULL ends the list of an option, and then the next one begins.
-        let (start, next) = (*self.starts.get(place)?, *self.starts.get(place + 1)?);
-        Some(Given { reading: self, place, start, count: next - 1 - start })
+        let matches = self.matches.as_ref()?;
+        let place = matches.opt_place(text(name?)?)?;
+        let all = matches.occurrences_at(place);
+        Some(Given { reading: self, place, count: all.len(), all })
     }
 
     /// The free words, and NULL after them.

@@ -69,7 +69,6 @@ static void say_reading(const struct getopts *options) {
         size_t times = getopts_count(options, *name);
         say_number(getopts_defined(options, *name));
         say_number((long)times);
-        say_list(getopts_values(options, *name), times);
         for (size_t step = 0; step <= times + 1; step++) {
             size_t nth = step <= times ? step : GETOPTS_LAST;
             long number = 42;

@@ -176,7 +176,7 @@ static void null_options_mean_no_memory(void) {
     expect(getopts_usage_in(NULL, "brief", 40) == NULL, "a usage of NULL within 40 columns");
     expect(!getopts_defined(NULL, "v") && getopts_count(NULL, "v") == 0, "a name without options");
     expect(getopts_position(NULL, "v", 0) == -1 && getopts_value(NULL, "v", GETOPTS_LAST) == NULL, "what it was given");
-    expect(getopts_values(NULL, "v")[0] == NULL && getopts_free_words(NULL)[0] == NULL, "lists without options");
+    expect(getopts_free_words(NULL)[0] == NULL, "a list without options");
     expect(getopts_long_value(NULL, "v", 0, &value) && value == 42, "a number without options");
     expect(getopts_nth(NULL, 0, &text) == -1 && text == NULL, "a row without options");
     expect(getopts_free_count(NULL) == 0 && getopts_trailing_start(NULL) == -1, "free words without options");
@@ -248,7 +248,6 @@ static int misspell(char function, int count, char **words) {
     case 'c': return (int)getopts_count(options, "hepl");
     case 'p': return getopts_position(options, "hepl", 0);
     case 'v': return getopts_value(options, "hepl", 0) != NULL;
-    case 'V': return getopts_values(options, "hepl")[0] != NULL;
     case 'l': return getopts_long_value(options, "hepl", 0, NULL);
     case 'N': return (int)getopts_count(options, NULL);
     case 'o': return getopts_nth(options, 0, NULL);
