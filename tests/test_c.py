@@ -921,7 +921,11 @@ def test_example_that_stops_at_a_word(library, tmp_path):
 
 
 def test_page():
-    """The page shows parts of head.c, and lists all functions."""
-    assert sorted(re.findall(r"^- `(\w+)\(", PAGE, re.M)) == sorted(FUNCTIONS)
+    """The page shows parts of head.c, and lists all functions with their results, and all kinds, modes and statuses."""
+    listed = re.findall(r"^- `(\w.*\W)(getopts_\w+)\(", PAGE, re.M)
+    assert sorted(listed) == sorted(re.findall(r"^([a-z].*\W)(getopts_\w+)\(", HEADER, re.M)) and len(listed) == len(FUNCTIONS)
+    rows = "".join(re.findall(r"^\|.*GETOPTS_.*\n", PAGE.partition("\n## Use\n")[2], re.M))
+    constants = re.findall(r"^    (GETOPTS_\w+)\b", HEADER, re.M)
+    assert {*re.findall(r"GETOPTS_\w+", rows)} == {it for it in constants if not it.endswith("_MAX")} and len(constants) == 21
     example = re.search(r"^```c\n(.*?)^```", PAGE, re.M | re.S)[1]
     assert all(part in (C / "head.c").read_text() for part in example.split("\n\n")) and len(example.splitlines()) < 40
