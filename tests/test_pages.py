@@ -236,6 +236,31 @@ def to_read():
                  ["proved source", source, total(source, *sources), total(source, sources[0]), total(source, sources[0])])
 
 
+def lines_of(language, name):
+    """The lines of a file of the hand-written Rust or C, or of a function or type in it with all methods, without tests."""
+    start, found = f"bindings/{language.lower()}/src/", []
+    item = rf"^( *)(?!//)[^\n]*\b(?:fn {name}|struct {name}|impl[^\n{{]*\b{name})\b(?:[^\n]*(?:\{{\}}|;)|.*?^\1\}})$"
+    for file in (it for it in tracked if it.startswith(start) and not it[len(start):].startswith(("proved", "bytes"))):
+        text = read(file).partition("#[cfg(test)]\nmod")[0]
+        found += [text] if file == start + name else [it[0] for it in re.finditer(item, text, re.M | re.S)]
+    assert found, f"{start} has no {name}"
+    return sum(len(code_in(".rs", it)) for it in found)
+
+
+def decided():
+    """PROOFS: what hand-written Rust and C decide, with the lines of what each row names."""
+    rows = re.search(r"^<!-- generated: decided -->\n(.*?)\n<!-- end -->$", pages["docs/PROOFS.md"], re.M | re.S)[1]
+    return re.sub(r"^\| (Rust|C) \| (.*?) \| \d+ \|", lambda it: f"| {it[1]} | {it[2]} | "
+                  f"{sum(lines_of(it[1], name) for name in re.findall('`(.*?)`', it[2]))} |", rows, flags=re.M)
+
+
+def test_lines_of_named_code():
+    """Of a type, the lines are those of the definition and the methods."""
+    methods = sum(lines_of("C", name) for name in ("keep_last", "index", "value", "position"))
+    assert lines_of("C", "keep_last") == 3 and lines_of("C", "Given") == methods + 6 + 2
+    assert methods < lines_of("C", "reading.rs")
+
+
 def calls():
     """CALLING: all calls with their parameters, each with the first sentence of its documentation."""
     rows = []
@@ -280,7 +305,7 @@ def cited_clauses():
 
 # What --fix writes between `<!-- generated: NAME -->` and `<!-- end -->`.
 GENERATED = {make.__name__: make for make in (usage_example, moving, speed, costs, speed_in_c, in_order, behind, memory,
-                                              first_output, promises, compared, sizes, to_read, calls, variants, cited_clauses)}
+                                              first_output, promises, compared, sizes, to_read, decided, calls, variants, cited_clauses)}
 
 
 @pytest.mark.parametrize("page", pages)
