@@ -5,8 +5,9 @@ import re
 import pytest
 from conftest import ROOT, answer, copy_tree
 
-# The rows of the only table with four columns.
-ROWS = re.findall(r"^\| ([^|]*)(?: \| [^|]*){3} \|$", (ROOT / "docs/PROOFS.md").read_text(encoding="utf-8"), re.M)[1:]
+# The rows of the table in this section.
+SECTION = (ROOT / "docs/PROOFS.md").read_text(encoding="utf-8").partition("\n### Why each condition is needed\n")[2].partition("\n#")[0]
+ROWS = re.findall(r"^\| ([^|]*)(?: \| [^|]*){3} \|$", SECTION, re.M)[1:]
 # Their lines in files of `specs`, in this order: in brackets what states each, and what to write instead.
 LINES = """\
 IsLawfulItem grammar (free word) = ⟨(is_dashed word ≡ false) × |⟩(grammar.style ≡ FloatingFrees)

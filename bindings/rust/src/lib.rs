@@ -45,7 +45,7 @@ If a required option is missing, `parse` rejects even `join --help`. To print he
 [`parse_ignoring_counts`](Options::parse_ignoring_counts), and then
 [`check_counts`](Matches::check_counts). If the order of options and positional arguments matters,
 use [`parse_in_order`](Options::parse_in_order), and to decide while reading what the next words
-mean, [`read`](Options::read).
+mean, [`read`](Options::read), or [`read_os`](Options::read_os) if an argument may not be UTF-8.
 "
 )]
 //!
