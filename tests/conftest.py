@@ -1,8 +1,10 @@
 """What the tests share: how to require tools, how to run programs, and the programs that `rt ci` builds."""
 
 import collections
+import contextlib
 import functools
 import itertools
+import multiprocessing
 import os
 import platform
 import re
@@ -31,6 +33,9 @@ ROWS = [VECTORS / f"data/{name}.rows" for name in ("rules", "recorded")]
 # Command lines for which the example in each language has to print the same as getopts_show.
 LINES = ["--output=x.txt --verbose in.txt", "-vvLd -La -Lb -c auto -o x.txt f -- g -v", "-v --help", "--nope", "-o",
          "-o a -o b", "--verbose=x", "", "-c", "--output= é --color=日本"]
+
+# A user who isn't root.
+NOBODY = 65534
 
 # What man writes before a paragraph.
 MARGIN = " " * 7
@@ -246,6 +251,12 @@ def copy_tree(to, *folders):
     return to
 
 
+def files_in(folder):
+    """The files of a folder: the mode and the contents of each."""
+    return {str(path.relative_to(folder)): (path.stat().st_mode & 0o777, path.read_bytes())
+            for path in folder.rglob("*") if not path.is_dir()}
+
+
 def read_only(folder):
     """Makes a folder read-only. Returns what has to precede a command that can't write there, even root's."""
     for path in [folder, *folder.rglob("*")]:
@@ -254,6 +265,35 @@ def read_only(folder):
         return []
     need("setpriv")
     return ["setpriv", "--bounding-set", "-dac_override"]
+
+
+@contextlib.contextmanager
+def planted_links(folder, more=()):
+    """While this runs, links to a private file are planted in the places of a folder's files, and in more places, whenever
+    there is nothing: by another user, if root runs the tests. The file has to stay as it is."""
+    target, places = folder.with_name("private"), [path.relative_to(folder) for path in folder.rglob("*") if not path.is_dir()]
+    target.write_text("others'")
+    target.chmod(0o600)
+
+    def plant():
+        os.chdir(folder)
+        if os.getuid() == 0:
+            os.setgroups([]), os.setgid(NOBODY), os.setuid(NOBODY)
+        while True:
+            for place in [*places, *more]:
+                with contextlib.suppress(OSError):
+                    os.symlink(target, place)
+
+    for path in [folder, *folder.rglob("*")] if os.getuid() == 0 else []:
+        os.chown(path, NOBODY, NOBODY, follow_symlinks=False)
+    planting = multiprocessing.get_context("fork").Process(target=plant)
+    planting.start()
+    try:
+        yield
+    finally:
+        planting.kill()
+        planting.join()
+    assert (target.read_text(), target.stat().st_mode & 0o777) == ("others'", 0o600)
 
 
 def preload_library(source, room):

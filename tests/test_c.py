@@ -15,7 +15,8 @@ import generate
 import model
 import pytest
 import texts
-from conftest import MARGIN, ROOT, answer, check_page, copy_tree, need, need_compiler, read_only, run, script
+from conftest import (MARGIN, ROOT, answer, check_page, copy_tree, files_in, need, need_compiler, planted_links, read_only, run,
+                      script)
 from targets import OLD, TARGETS, cargo, cargo_for, need_cargo, need_target, runner, rust_minor, shared_folder
 
 C = ROOT / "bindings/c"
@@ -844,6 +845,17 @@ def test_uninstall_keeps_other_files(copies, tmp_path):
     assert left == {other: "others'" for other in others}
     (to / "include/getopts.h").mkdir()
     assert "include/getopts.h" in run("sh", C / "install.sh", to, status=1, env=copies)[1]
+
+
+def test_links_of_another_user(copies, tmp_path):
+    """Another user who can write in PREFIX, and plants links while the script runs, changes nothing that it installs."""
+    need_install()
+    run("sh", C / "install.sh", tmp_path / "to", env=copies)
+    files = files_in(tmp_path / "to")
+    with planted_links(tmp_path / "to"):
+        for _ in range(3):
+            run("sh", C / "install.sh", tmp_path / "to", env=copies)
+    assert files_in(tmp_path / "to") == files
 
 
 @pytest.mark.parametrize("shell", ["sh", "busybox sh"])

@@ -16,8 +16,8 @@ import textwrap
 from pathlib import Path
 
 import pytest
-from conftest import (MACHINE, MARGIN, ROOT, answer, check_page, copy_tree, need, need_compiler, other_version, read_only,
-                      rows_in, run, script)
+from conftest import (MACHINE, MARGIN, ROOT, answer, check_page, copy_tree, files_in, need, need_compiler, other_version,
+                      planted_links, read_only, rows_in, run, script)
 from shell import lines
 from targets import cargo, cargo_for, commit_repository, need_cargo, offline, passed, runner, rust_minor
 
@@ -375,11 +375,6 @@ def test_functions_of_start_c(compiler, tmp_path):
 LICENCES = [SHELL / "LICENSE-musl", SHELL / "LICENSE-unicode", ROOT / "LICENSE-MIT", ROOT / "LICENSE-APACHE", ROOT / "NOTICE"]
 
 
-def files_in(folder):
-    return {str(path.relative_to(folder)): (path.stat().st_mode & 0o777, path.read_bytes())
-            for path in folder.rglob("*") if not path.is_dir()}
-
-
 def files_of(program, licences=LICENCES):
     """What is installed. The page, from which the manual page is generated, names the examples."""
     page, papers = SHELL / "README.md", "share/doc/getopts_shell"
@@ -427,6 +422,15 @@ def test_install_of_own_program(install, tmp_path):
         (tmp_path / "to" / name).symlink_to(page)
     install("to", PROGRAM="built")
     assert files_in(tmp_path / "to") == files_of(program, LICENCES[1:]) and page.read_text() == "others'"
+
+
+def test_links_of_another_user(install, tmp_path):
+    """Nothing is written through links that another user, who can write in PREFIX, plants while the script runs."""
+    install("to", PROGRAM=str(script(tmp_path / "built", "own")))
+    with planted_links(tmp_path / "to", ["bin/getopts_shell.new"]):
+        for _ in range(20):
+            install("to", PROGRAM="built")
+    assert (tmp_path / "to/bin/getopts_shell").read_text() == "own"
 
 
 def test_failed_installations(install, checked_in, tmp_path):

@@ -180,17 +180,26 @@ CARGO_BUILD_TARGET=x86_64-pc-windows-gnu CC=x86_64-w64-mingw32-gcc"
 [ -f "$built" ] || fail "cargo built no libgetopts.a${target:+ for $target}. If cargo's configuration sets another
 target, set CARGO_BUILD_TARGET to it, and CC to its C compiler"
 
-# put PLACE [MODE]: writes standard input to PLACE. A link at PLACE is replaced, but not the file that it points to.
-put() {
+# With -T, mv enters no folder, and with -Z, SELinux labels a file by its new place. Not every mv has them.
+for exact in -TZ -T ''; do : >"$room/old"; ! mv $exact "$room/old" "$room/new" 2>/dev/null || break; done
+# place PLACE: moves what was made in the temporary folder to PLACE, since other users who can write in PREFIX could plant
+# links there. A link at PLACE is replaced, but not what it points to.
+place() {
     mkdir -p "$(dirname "$to/$1")"
     rm -f "$to/$1"
-    cat >"$to/$1"
-    chmod "${2:-644}" "$to/$1"
+    # shellcheck disable=SC2086
+    mv -f $exact "$room/new" "$to/$1"
 }
-# link FILE PLACE: makes PLACE a link to FILE. A link at PLACE is replaced, also one to a folder.
+# put PLACE [MODE]: writes standard input to PLACE.
+put() {
+    cat >"$room/new"
+    chmod "${2:-644}" "$room/new"
+    place "$1"
+}
+# link FILE PLACE: makes PLACE a link to FILE.
 link() {
-    rm -f "$to/$2"
-    ln -s "$1" "$to/$2"
+    ln -s -f "$1" "$room/new"
+    place "$2"
 }
 # describe NAME: writes the file for pkg-config of the library with this name.
 describe() {

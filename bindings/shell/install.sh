@@ -70,12 +70,20 @@ else
         fail "$source is damaged: run 'git checkout -- $machine' in $PWD, or clone the repository again"
 fi
 mkdir -p "$to/bin" "$to/share/man/man1" "$papers/examples"
-# put FILE PLACE MODE: replaces a file only once the new one is complete. FILE may be - for standard input. Links at PLACE
-# and PLACE.new are replaced, but not what they point to.
+room=$(mktemp -d)
+trap 'rm -rf "$room"' EXIT
+trap 'exit 1' HUP INT TERM
+# With -T, mv enters no folder, and with -Z, SELinux labels a file by its new place. Not every mv has them.
+for exact in -TZ -T ''; do : >"$room/old"; ! mv $exact "$room/old" "$room/new" 2>/dev/null || break; done
+# shellcheck disable=SC2086
+move() { mv -f $exact "$1" "$2"; }
+# put FILE PLACE MODE: replaces a file only once the new one is complete. FILE may be - for standard input. The new one is
+# made in the temporary folder, since other users who can write in PREFIX could plant links there. Links at PLACE and
+# PLACE.new are replaced, but not what they point to.
 put() {
     [ ! -d "$2" ] || fail "$2 is a folder"
     rm -f "$2.new"
-    if ! { cat "$1" >"$2.new" && chmod "$3" "$2.new" && mv -f "$2.new" "$2"; }; then
+    if ! { cat "$1" >"$room/new" && chmod "$3" "$room/new" && move "$room/new" "$2.new" && move "$2.new" "$2"; }; then
         rm -f "$2.new"
         fail "can't write $2"
     fi
