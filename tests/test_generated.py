@@ -6,7 +6,7 @@ import importlib.util
 from pathlib import Path
 
 import pytest
-from conftest import MACHINE, ROOT, answer, copy_tree, kit, need_compiler, need_rustfmt, other_version, run
+from conftest import MACHINE, ROOT, answer, copy_tree, kit, need_compiler, need_rustfmt, other_version, run, shell_binary
 
 BUILD = "bindings/build.py"
 UP_TO_DATE = "bindings/shell is up to date\n", ""
@@ -31,6 +31,7 @@ def check_sums(folder):
 
 
 def test_binaries_match_checksums():
+    shell_binary()
     check_sums(ROOT / "bindings/shell")
 
 

@@ -15,7 +15,7 @@ import bench as bench_py
 import chart
 import pytest
 import reading
-from conftest import MACHINE, ROOT, answer, copy_tree, kit, need, need_rustfmt, run
+from conftest import ROOT, answer, copy_tree, kit, need, need_rustfmt, run, shell_binary
 from conftest import tracked as all_tracked
 from model import TEXTS, Group, Options
 from targets import REGISTRY, need_cargo, offline
@@ -466,8 +466,8 @@ def test_doors(language, folder, tmp_path):
     if folder:
         need_cargo(ROOT / "bindings" / folder)
         need("ld", "objcopy", "ar")
-    elif not (ROOT / f"bindings/shell/{MACHINE}/getopts_shell").exists():
-        pytest.skip(f"bindings/shell has no program for {MACHINE}")
+    else:
+        shell_binary()
     commands, printed = doors()[language]
     copy = copy_tree(tmp_path / "clone")
     if offline():

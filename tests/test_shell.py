@@ -17,7 +17,7 @@ from pathlib import Path
 
 import pytest
 from conftest import (MACHINE, MARGIN, ROOT, answer, check_page, copy_tree, files_in, need, need_compiler, other_version,
-                      planted_links, read_only, rows_in, run, script)
+                      planted_links, read_only, rows_in, run, script, shell_binary)
 from shell import lines
 from targets import cargo, cargo_for, commit_repository, need_cargo, offline, passed, runner, rust_minor
 
@@ -65,7 +65,7 @@ def by_qemu(tmp_path_factory):
     if MACHINE == "aarch64":
         pytest.skip("this machine is an aarch64")
     need("qemu-aarch64")
-    text = f'#!/bin/sh\nexec qemu-aarch64 "{SHELL}/aarch64/getopts_shell" "$@"\n'
+    text = f'#!/bin/sh\nexec qemu-aarch64 "{shell_binary("aarch64")}" "$@"\n'
     return script(tmp_path_factory.mktemp("qemu") / "by_qemu", text)
 
 
@@ -407,9 +407,9 @@ def test_install(install, checked_in, tmp_path):
 
 
 def test_install_for_each_machine(install, tmp_path):
-    for machine in ("x86_64", "aarch64"):
-        install("/usr", DESTDIR="stage\n", MACHINE=machine)
-        assert files_in(tmp_path / "stage\n/usr") == files_of(SHELL / machine / "getopts_shell")
+    for program in map(shell_binary, ("x86_64", "aarch64")):
+        install("/usr", DESTDIR="stage\n", MACHINE=program.parent.name)
+        assert files_in(tmp_path / "stage\n/usr") == files_of(program)
     install("--uninstall", "/usr", DESTDIR="stage\n/")
     assert not files_in(tmp_path) and not (tmp_path / "stage\n/usr/share/doc/getopts_shell").exists()
 
@@ -441,11 +441,12 @@ def test_failed_installations(install, checked_in, tmp_path):
     script(tmp_path / "own/uname", '#!/bin/sh\n[ "$1" = -s ] && echo FreeBSD || echo amd64\n')
     script(tmp_path / "own/cat", '#!/bin/sh\nhead -c 9 "$1"; echo "no space left" >&2; exit 1\n')
     path = {"PATH": f"{tmp_path}/own:{os.environ['PATH']}"}
+    build = "build the program with cargo, and set PROGRAM (see README.md)"
     for prefix, env, error in [
             ("folder", {}, f"install.sh: {tmp_path}/folder/bin/getopts_shell is a folder"),
-            ("to", {"MACHINE": "m68k"}, "install.sh: no binary for m68k, only for aarch64 x86_64"),
+            ("to", {"MACHINE": "m68k"}, f"install.sh: no binary for m68k: {build}"),
             ("to", {"PROGRAM": "built"}, f"install.sh: no file {tmp_path}/built"),
-            ("to", path, "install.sh: no binary for FreeBSD, only for Linux; see README.md for building with cargo"),
+            ("to", path, f"install.sh: no binary for FreeBSD: {build}"),
             ("to", path | {"MACHINE": MACHINE}, f"no space left\ninstall.sh: can't write {tmp_path}/to/bin/getopts_shell")]:
         assert install(prefix, status=1, **env) == ("", f"{error}\n")
     (tmp_path / "link").symlink_to(SHELL / "install.sh")
@@ -496,7 +497,7 @@ def page_blocks(readme):
 @pytest.mark.parametrize("machine", ["x86_64", "aarch64"])
 def test_size_of_binary(machine):
     least, most = map(int, re.search(r"static binary of (\d+) to (\d+) KB", (SHELL / "README.md").read_text()).groups())
-    assert least <= round((SHELL / machine / "getopts_shell").stat().st_size / 1000) <= most
+    assert least <= round(shell_binary(machine).stat().st_size / 1000) <= most
 
 
 def test_manual_page(tmp_path):

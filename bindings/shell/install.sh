@@ -54,16 +54,11 @@ if [ -n "$source" ]; then
     licences=${licences#LICENSE-musl }
     [ -f "$source" ] || fail "no file $source"
 else
-    if [ -z "${MACHINE-}" ] && [ "$(uname -s)" != Linux ]; then
-        fail "no binary for $(uname -s), only for Linux; see README.md for building with cargo"
-    fi
     machine=${MACHINE:-$(uname -m)}
+    [ -n "${MACHINE-}" ] || [ "$(uname -s)" = Linux ] || machine=$(uname -s)
     case $machine in amd64) machine=x86_64 ;; arm64) machine=aarch64 ;; esac
     source=$machine/getopts_shell
-    if [ ! -f "$source" ]; then
-        echo "install.sh: no binary for $machine, only for" */getopts_shell | sed 's|/getopts_shell||g' >&2
-        exit 1
-    fi
+    [ -f "$source" ] || fail "no binary for $machine: build the program with cargo, and set PROGRAM (see README.md)"
     sum=$(sha256sum <"$source")
     read -r wanted _ <"$source.sha256"
     [ "${sum%% *}" = "$wanted" ] ||
