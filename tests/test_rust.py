@@ -201,7 +201,7 @@ def test_package(folder, tmp_path):
     assert set("README.md CHANGELOG.md LICENSE-MIT LICENSE-APACHE NOTICE src/proved/mod.rs src/bytes/mod.rs".split()) <= set(names)
     for name in set(names) - {"Cargo.lock", "Cargo.toml.orig", ".cargo_vcs_info.json"}:
         (RUST / name).read_text(encoding="utf-8")
-    tree = cargo(folder, "tree", "--edges", "normal", "--prefix", "none")[0].splitlines()
+    tree = cargo(folder, "tree", "--edges", "normal,build", "--prefix", "none")[0].splitlines()
     assert {line.split()[0] for line in tree} == {"proved-getopts", "unicode-width"}
     cargo(folder, "package", "--allow-dirty")
     for crate in REGISTRY.glob("unicode-width-*"):
@@ -215,17 +215,27 @@ def test_package(folder, tmp_path):
     assert {"LICENSE-MIT", "LICENSE-APACHE", "NOTICE", "src/lib.rs"} <= set(names)
 
 
-def test_newest_unicode_width(folder, tmp_path):
-    """From a registry with unicode-width 0.1.10 and 0.2 (stand-ins), cargo takes 0.2."""
+@pytest.mark.parametrize("package", ["rust", "rust/getopts", "c", "shell"])
+def test_no_build_script(package, tmp_path):
+    """A file build.rs is no part of a package, although cargo would run it by default, in dependencies, too."""
+    folder = copy_tree(tmp_path, "bindings") / "bindings" / package
+    (folder / "build.rs").write_text("")
+    need_cargo(folder)
+    assert "build.rs" not in run("cargo", "metadata", "--no-deps", "--format-version=1", cwd=folder)[0]
+
+
+@pytest.mark.parametrize("package, taken", [("rust", "0.2.9"), ("c", "0.2.0"), ("shell", "0.2.0")])
+def test_newest_unicode_width(package, taken, tmp_path):
+    """From a registry with unicode-width 0.1.10, 0.2.0 and 0.2.9 (stand-ins), cargo takes the newest that the manifest allows."""
     need_cargo(RUST)
-    for version in ("0.1.10", "0.2.0"):
+    for version in ("0.1.10", "0.2.0", "0.2.9"):
         (tmp_path / version / "src").mkdir(parents=True)
         (tmp_path / version / "src/lib.rs").write_text("")
         (tmp_path / version / ".cargo-checksum.json").write_text('{"files": {}}')
         (tmp_path / version / "Cargo.toml").write_text(f'package = {{ name = "unicode-width", version = "{version}" }}\n')
     flags = ["--config", 'source.crates-io.replace-with="debian"', "--config", f'source.debian.directory="{tmp_path}"']
-    said, _ = run("cargo", "tree", "--offline", *flags, cwd=copy_tree(tmp_path / "copy", "bindings/rust") / "bindings/rust")
-    assert "unicode-width v0.2.0" in said
+    said, _ = run("cargo", "tree", "--offline", *flags, cwd=copy_tree(tmp_path / "copy", "bindings") / "bindings" / package)
+    assert {*re.findall("unicode-width v([0-9.]*)", said)} == {taken}
 
 
 def test_git_dependency(tmp_path):
