@@ -14,8 +14,11 @@ case $#${1:-} in 0 | 1[!-]*) ;; *) stop "usage: tests/fresh.sh [COMMAND]" ;; esa
 [ "$(id -u)" = 0 ] || stop "needs root, for chroot"
 command -v debootstrap >/dev/null || stop "debootstrap not found: apt-get install debootstrap"
 command -v rt >/dev/null || stop "rt not found: put the toolchain's bin folder on the path"
-kit=$(dirname "$(rt doc)") base=tests/out/fresh.tar root=$(mktemp -d)
-trap 'rm -rf "$root"' EXIT
+# The system has set-uid programs, so that other users mustn't reach it.
+kit=$(dirname "$(rt doc)") base=tests/out/fresh.tar room=$(mktemp -d)
+trap 'rm -rf "$room"' EXIT
+root=$room/root
+mkdir "$root"
 command=${1:-$(sed -n '/^ *(cd .*rt try/{s/^ *//p;q;}' README.md) && bash test.sh --quick}
 if [ ! -f "$base" ]; then
     mkdir -p tests/out
