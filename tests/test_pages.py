@@ -1,12 +1,10 @@
-"""The pages: their names, quotations and figures match the sources, the proofs and the records. Also: no circular
-imports, and well-formed scripts and Rust.
+"""The pages: their names, quotations and figures match the sources, the proofs and the records. Also: well-formed scripts
+and Rust.
 
 --fix writes the tables of figures, and what else GENERATED lists. Prose has no figures that change.
 """
 
-import ast
 import functools
-import graphlib
 import os
 import re
 import textwrap
@@ -19,7 +17,7 @@ from conftest import ROOT, answer, copy_tree, kit, need, need_rustfmt, run, shel
 from conftest import tracked as all_tracked
 from model import TEXTS, Group, Options
 from targets import REGISTRY, need_cargo, offline
-from test_mutants import MUTANTS, body_of, functions_in
+from test_mutants import body_of, functions_in
 from test_unproved import rt_try
 
 
@@ -172,68 +170,32 @@ def promises():
     return "\n".join(textwrap.fill(line, 120, subsequent_indent="   ") for line in re.sub("\n {3}", " ", part).split("\n"))
 
 
-def compared():
-    """The library's page: the recorded cases, which the Rust crate answered."""
-    cases = len(re.findall(r"^case\t", read("crates/getopts_vectors/data/recorded.rows"), re.M))
-    return f"- On {cases:,} recorded cases, and on random ones, the definitions give the answers that the original gave."
-
-
-def code_in(name, text):
-    """The lines of a file with this text, without comments, imports and blank lines."""
-    if name.endswith(".py"):
-        # A string such as "/*" begins no comment, and a string that is a statement is one.
-        lines = text.split("\n")
-        for it in ast.walk(ast.parse(text)):
-            if isinstance(it, (ast.Import, ast.ImportFrom)) or isinstance(it, ast.Expr) and isinstance(it.value, ast.Constant):
-                lines[it.lineno - 1:it.end_lineno] = [""] * (it.end_lineno - it.lineno + 1)
-        return [line for line in lines if not re.match(" *(#|$)", line)]
-    lines = re.sub(r"/\*.*?\*/", "", text, flags=re.S).split("\n") if not name.endswith(".antt") else text.split("\n")
-    return [line for line in lines if not re.match(" *(//|--|#include|(pub )?(ghost )?(use|mod) |$)", line)]
-
-
-def test_lines_of_code():
-    python = '"""About\nthis."""\nimport re\n\n# Why.\nBEGINS, ENDS = "/*", "*/"\n\n\ndef f():\n    """Is\n    f."""\n    return 1\n'
-    assert code_in("a.py", python) == ['BEGINS, ENDS = "/*", "*/"', "def f():", "    return 1"]
-    assert code_in("a.rs", "//! A.\nuse b;\n\n/* C\n   d. */\nfn e() {} // f\n") == ["fn e() {} // f"]
-    assert code_in("a.antt", "use B\n-- C /* d\ne : F\n-- */\n") == ["e : F"]
+def code_in(text):
+    """How many lines of a text aren't comments, imports or blank."""
+    code = re.compile(r"(?! *(//|--|# |#!|#include|(import|from|(pub )?(ghost )?(use|mod)) |$))")
+    lines = re.sub(r'^ *(/\*.*?\*/|""".*?""")', "", text, flags=re.M | re.S).split("\n")
+    return sum(bool(code.match(line)) for line in lines)
 
 
 def lines_in(start, *omitted):
-    """The lines of these files, rounded to hundreds, without comments, imports and blank lines."""
+    """The lines of code in these files, rounded to hundreds."""
     kept = [name for name in tracked if name.startswith(start) and not name[len(start):].startswith(omitted)]
-    return f"{round(sum(len(code_in(name, read(name))) for name in kept), -2):,}"
-
-
-def sizes():
-    """PROOFS: the lines of the library and of the unproved code, and the mutants of all crates."""
-    library = [lines_in("crates/getopts/specs/", "Results", "Step", "Stored", "UsageResults"),
-               lines_in("crates/getopts/src/"), lines_in("crates/getopts/proofs/")]
-    unproved = [lines_in("bindings/rust/erase.py"), lines_in("bindings/rust/src/", "proved", "bytes"), lines_in("bindings/c/src/"),
-                lines_in(("bindings/shell/start", "bindings/shell/src/host"))]
-    return table(["definitions", "source", "proofs", "mutants", "unproved: `erase.py`", "for Rust", "for C", "for shell"],
-                 [*library, str(len(MUTANTS)), *unproved])
+    return round(sum(code_in(read(name)) for name in kept), -2)
 
 
 def to_read():
-    """PROOFS: the lines to read for each way of using the library, counted as in `sizes`."""
-    library = "crates/getopts/specs/", "Results", "Step", "Stored", "UsageResults"
-    bytes_too, rust = "crates/getopts_bytes/", "bindings/rust/src/"
+    """PROOFS: the lines to read for each way of using the library."""
+    specs, source = lines_in("crates/getopts/specs/", "Results", "Step", "Stored", "UsageResults"), lines_in("crates/getopts/src/")
+    (bytes_specs, bytes_source), (shell_specs, shell_source) = (
+        [lines_in(f"crates/{crate}/{part}/") for part in ("specs", "src")] for crate in ("getopts_bytes", "getopts_shell"))
+    eraser, rust = lines_in("bindings/rust/erase.py"), ("bindings/rust/src/", "proved", "bytes")
     # The C library is built without these modules of the Rust package.
-    for_rust_alone = re.findall(r'^#\[cfg\(feature = "std"\)\]\n(?:pub )?mod (\w+);', read(f"{rust}lib.rs"), re.M)
-    assert {"options", "os"} <= set(for_rust_alone)
-
-    def total(*parts):
-        return f"{sum(int(it.replace(',', '')) for it in parts):,}"
-
-    specs, source = lines_in(*library), lines_in("crates/getopts/src/")
-    more = [lines_in(f"{bytes_too}specs/"), lines_in("crates/getopts_shell/specs/")]
-    sources = [lines_in(f"{bytes_too}src/"), lines_in("crates/getopts_shell/src/")]
-    eraser = lines_in("bindings/rust/erase.py")
-    return table(["lines", "Rattle", "shell binary", "Rust", "C"],
-                 ["definitions", specs, total(specs, *more), total(specs, more[0]), total(specs, more[0])],
-                 ["unproved code", "0", lines_in("bindings/shell/start"), total(eraser, lines_in(rust, "proved", "bytes")),
-                  total(eraser, lines_in(rust, "proved", "bytes", *for_rust_alone), lines_in("bindings/c/src/"))],
-                 ["proved source", source, total(source, *sources), total(source, sources[0]), total(source, sources[0])])
+    for_rust_alone = re.findall(r'^#\[cfg\(feature = "std"\)\]\n(?:pub )?mod (\w+);', read("bindings/rust/src/lib.rs"), re.M)
+    rows = {"definitions": [specs, specs + bytes_specs + shell_specs, specs + bytes_specs, specs + bytes_specs],
+            "unproved code": [0, lines_in("bindings/shell/start"), eraser + lines_in(*rust),
+                              eraser + lines_in(*rust, *for_rust_alone) + lines_in("bindings/c/src/")],
+            "proved source": [source, source + bytes_source + shell_source, source + bytes_source, source + bytes_source]}
+    return table(["lines", "Rattle", "shell binary", "Rust", "C"], *([row, *map("{:,}".format, its)] for row, its in rows.items()))
 
 
 def lines_of(language, name):
@@ -244,7 +206,7 @@ def lines_of(language, name):
         text = read(file).partition("#[cfg(test)]\nmod")[0]
         found += [text] if file == start + name else [it[0] for it in re.finditer(item, text, re.M | re.S)]
     assert found, f"{start} has no {name}"
-    return sum(len(code_in(".rs", it)) for it in found)
+    return sum(map(code_in, found))
 
 
 def decided():
@@ -252,13 +214,6 @@ def decided():
     rows = re.search(r"^<!-- generated: decided -->\n(.*?)\n<!-- end -->$", pages["docs/PROOFS.md"], re.M | re.S)[1]
     return re.sub(r"^\| (Rust|C) \| (.*?) \| \d+ \|", lambda it: f"| {it[1]} | {it[2]} | "
                   f"{sum(lines_of(it[1], name) for name in re.findall('`(.*?)`', it[2]))} |", rows, flags=re.M)
-
-
-def test_lines_of_named_code():
-    """Of a type, the lines are those of the definition and the methods."""
-    methods = sum(lines_of("C", name) for name in ("keep_last", "index", "value", "position"))
-    assert lines_of("C", "keep_last") == 3 and lines_of("C", "Given") == methods + 6 + 2
-    assert methods < lines_of("C", "reading.rs")
 
 
 def calls():
@@ -304,8 +259,8 @@ def cited_clauses():
 
 
 # What --fix writes between `<!-- generated: NAME -->` and `<!-- end -->`.
-GENERATED = {make.__name__: make for make in (usage_example, moving, speed, costs, speed_in_c, in_order, behind, memory,
-                                              first_output, promises, compared, sizes, to_read, decided, calls, variants, cited_clauses)}
+GENERATED = {make.__name__: make for make in (usage_example, moving, speed, costs, speed_in_c, in_order, behind, memory, first_output,
+                                              promises, to_read, decided, calls, variants, cited_clauses)}
 
 
 @pytest.mark.parametrize("page", pages)
@@ -328,11 +283,6 @@ def test_copy_of_the_changelog(request):
     if request.config.getoption("--fix"):
         (ROOT / COPY).write_text(pages["CHANGELOG.md"], encoding="utf-8")
     assert read(COPY) == pages["CHANGELOG.md"], "out of date: run 'bash test.sh -k pages --fix'"
-
-
-def test_generated_parts_are_used():
-    used = re.findall(r"^<!-- generated: (\w+) -->$", "\n".join(pages.values()), re.M)
-    assert sorted(used) == sorted(GENERATED)
 
 
 @pytest.mark.parametrize("folder", ["rust", "c", "shell"])
@@ -603,18 +553,6 @@ def test_names_and_links(page):
     assert_none(failures)
 
 
-# ---- modules
-
-def test_no_circular_imports():
-    uses = {}
-    for name, text in sources.items():
-        if not name.endswith(("/lib.rt", "/main.rt")):
-            imported = re.findall(r"^\s*use crate::(\w+)", text, re.M)
-            uses[name] = {f"{os.path.dirname(name)}/{it}.rt" for it in imported} - {name}
-    # Raises an error that names the modules of a circle.
-    graphlib.TopologicalSorter(uses).prepare()
-
-
 # ---- form
 
 @pytest.mark.rt
@@ -622,12 +560,6 @@ def test_sources_are_formatted():
     files = [name for name in tracked if name.endswith((".rt", ".antt"))]
     said, status = answer(kit() / "bin/rattle", "fmt", "--check", *files, cwd=ROOT)
     assert status == 0, f"'rt fmt' in the crate:\n{said.decode()}"
-
-
-def test_width_of_comments():
-    """Comments have at most 100 columns. Formatters leave them as they are."""
-    assert_none(f"{name}:{at}: {len(line)} columns" for name in tracked if re.search(r"\.(rt|antt|rs|c|h)$", name)
-                for at, line in enumerate(read(name).split("\n"), 1) if re.match(r" *(//|--)", line) and len(line) > 100)
 
 
 def test_shell_scripts():
