@@ -386,11 +386,6 @@ def test_random_cases_match_rust_crate(reference, crate, cases, flags, seeds, tm
         assert differences([ours], random_rows(theirs, tmp_path, seed, cases(20_000)).read_bytes(), tmp_path) == []
 
 
-def test_difference_is_found(ours, tmp_path):
-    text = b"case\tone\nlawful\ta\t\n> lawful\ttrue\nlawful\tab\t\n> lawful\ttrue\n"
-    assert differences([ours], text, tmp_path) == [((b"lawful\tab\t", [b"lawful\ttrue"]), [b"lawful\tfalse"])]
-
-
 # ---- other targets
 
 @pytest.mark.full

@@ -1,10 +1,9 @@
-"""Tests without proofs: programs with their stored arguments, the crates' own tests, and a changed program."""
+"""Tests without proofs: programs with their stored arguments, and the crates' own tests."""
 
-import re
 import subprocess
 
 import pytest
-from conftest import ROOT, VECTORS, copy_tree, run
+from conftest import ROOT, VECTORS, run
 from test_rows import all_rows, written
 
 CRATES = sorted(path.parent.name for path in (ROOT / "crates").glob("*/src"))
@@ -39,16 +38,3 @@ def test_stored_answers_without_proofs(tmp_path):
     (tmp_path / "beyond.rows").write_bytes(written(all_rows()))
     files = tmp_path / "beyond.rows", VECTORS / "data/allocations.rows", VECTORS / "data/calls.rows"
     assert rt_try("getopts_vectors", "--", *files)[0].count(" 0 differ\n") == len(files)
-
-
-def test_cases_without_zero_width_character(tmp_path):
-    """Cases with a `{Z}` need a character of width 0. If there is none, they are omitted, and the others are run."""
-    copy = copy_tree(tmp_path / "copy")
-    source = copy / "crates/getopts_vectors/src/short.rt"
-    text = source.read_text(encoding="utf-8")
-    assert text.count(".width() == 0") == 1
-    source.write_text(text.replace(".width() == 0", ".width() == usize::MAX"), encoding="utf-8")
-    case = "case\t{0}\nlawful\ta\t\n> lawful\ttrue\nlawful\t\t{0}\n> lawful\tfalse\n"
-    (tmp_path / "some.rows").write_text("".join(map(case.format, ["one", "two{Z}", "three", "four{Z}"])))
-    said, _ = rt_try("getopts_vectors", "--", tmp_path / "some.rows", status=1, root=copy)
-    assert re.findall(r"line \d+ of (.*), expected:", said) == ["one", "three"] and said.endswith("\n2 differ\n")
