@@ -499,12 +499,13 @@ def test_promised_clauses_exist():
 # ---- names
 
 def test_definitions_are_explained():
-    """Each public definition that states a fact has a comment above it, or its crate's page names it."""
+    """Each public definition that states a fact has one line of comment above it, which `rt lemma` prints, or its crate's page
+    names it."""
     missing = []
     for name in (name for name in tracked if re.match(r"crates/\w+/specs/.*\.antt$", name)):
         page = pages.get(f"crates/{name.split('/')[1]}/README.md", "")
-        for comment, it in re.findall(r"(^--.*\n)?^(?:abbrev |unfoldable )?pub (?:record |data )?([A-Z][\w-]*)", read(name), re.M):
-            missing += [] if comment or f"`{it}`" in page else [f"{it} of {name}"]
+        for comment, it in re.findall(r"((?:^--.*\n)*)^(?:abbrev |unfoldable )?pub (?:record |data )?([A-Z][\w-]*)", read(name), re.M):
+            missing += [] if comment.count("\n") == 1 or f"`{it}`" in page else [f"{it} of {name}"]
     assert_none(missing)
 
 

@@ -3,8 +3,8 @@
 -- A name with a capital letter is a type, of data (`Item`) or of facts (`IsReading`); functions
 -- begin with a small letter. In names, *held* means contained in matches, *lawful* valid, *fault*
 -- an error of a command line, and *refused* rejected.
--- Comments say what names and types don't. The last line above a definition is its summary, which
--- `rt lemma` prints.
+-- Comments say what names and types don't. The line above a definition is its summary, which
+-- `rt lemma` prints. Details are at the parts of a definition that they are about.
 
 pub mod Only
 pub mod Names

@@ -17,12 +17,12 @@ pub record AreRead (grammar : Grammar) (line : List Text) (items : List Item) (w
   pub lawful : AllByRecursion (IsLawfulItem grammar) items
   pub followed : AreWellFollowed items words
 
--- If names are left, flags precede them in their word, and the last item has these flags.
 -- These items begin the line, and these names and words are left.
 pub data AreReadTo (grammar : Grammar) (line : List Text) (items : List Item) (names : Text)
     (words : List Text) : Type 0 where
   between_words : names ≡ [] → AreRead grammar line items words
       → AreReadTo grammar line items names words
+  -- flags precede the names in their word, and the last item has these flags
   within_word : (before : List Item) (word : Text) → names ≢ []
       → (has : HasAfterFlags grammar word names) → has.bytes ≢ []
       → items ≡ before ++ cluster has.bytes flags ∷ [] → AreRead grammar line before (word ∷ words)
@@ -67,12 +67,13 @@ flags_before (wide_character character more scalar wide has) = has.bytes
 flags_before (short_unfinished option has kind ended) = has.bytes
 flags_before in_long_form = []
 
--- Options may follow, and the next word has this error, which no flags precede. Or names are left,
--- and their word has this error, which only the flags that were read precede.
+-- This is the error of the next word or, if names are left, of their word.
 pub data IsNextFault (grammar : Grammar) (left : Left) (fault : Fault) : Type 0 where
+  -- options may follow, and no flags precede the error in its word
   in_next : (word : Text) (after : List Text) → left.only_free ≡ false → left.names ≡ []
       → left.words ≡ word ∷ after → (at : IsFaultAt grammar word after fault)
       → flags_before at ≡ [] → IsNextFault grammar left fault
+  -- only the flags that were read precede the error in its word
   in_this : left.only_free ≡ false → left.names ≢ []
       → ((word : Text) (has : HasAfterFlags grammar word left.names)
       → (at : IsFaultAt grammar word left.words fault) × (flags_before at ≡ has.bytes))

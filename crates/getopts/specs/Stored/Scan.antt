@@ -106,11 +106,11 @@ order_content order = record { mentions = options_in order; free = frees_in orde
 abbrev pub occurrences_at : ℕ → Given → List Occurrence
 occurrences_at position given = map (at_position position) (options_in (given ∷ []))
 
--- These names and words are left.
 -- After these items, an option or a free word was read, in a word at this position.
 pub record HasOneMore (grammar : Grammar) (line : List Text) (items : List Item) (position : ℕ)
     (given : Given) (names : Text) (words : List Text) : Type 0 where
   pub all : List Item
+  -- these names and words are left
   pub read : AreReadTo grammar line all names words
   pub order : order_of_items grammar all ≡ order_of_items grammar items ++ given ∷ []
   pub occurrences : (before : ℕ) → occurrences_after before grammar all
