@@ -67,7 +67,7 @@ def job_of(name):
 # What capacities and `inline` attributes save, in percent of a job's instructions. For each figure, one capacity, or the
 # attributes of these functions, were left out of the source as it was then:
 #
-# - `typical`: `FIRST_GROUPS` 32, `FIRST_TEXT` 15, `FIRST_VALUES` 3.5; `SignatureRecord`, `Signatures`, `Kinds` and the
+# - `typical`: `FIRST_GROUPS` 32, `FIRST_TEXT` 15, `FIRST_VALUES` 3.5; `SignatureRecord`, `Signatures` and the
 #   texts that they store 7; `Signatures::push` and `Groups::push` 3.3; `MatchedOptions::occurrences_of_group`,
 #   `Matches::occurrences_at` and `Index::indices` 2.4
 # - `typical`, in `proved-getopts`: `Entry::order`, `main_entries`, `sort` and `Entry::name_order` (`inline(never)`) 6;

@@ -25,12 +25,13 @@ enum Name<'a> {
 pub(crate) fn opts_of(matches: &MatchedOptions) -> Vec<Opt<'_>> {
     let signatures = matches.signatures();
     let shown = |place| {
-        let (names, kinds) = (signatures.get(place).names, signatures.get(place).kinds);
+        let group = signatures.get(place);
+        let kinds = group.kinds;
         let opt = |name, aliases| Opt { name, hasarg: kinds.kind, occur: kinds.occur, aliases };
-        let short = names.short.chars().next().map(|short| opt(Name::Short(short), vec![]));
+        let short = group.short.chars().next().map(|short| opt(Name::Short(short), vec![]));
         match short {
-            Some(short) if names.long.is_empty() => short,
-            short => opt(Name::Long(names.long), short.into_iter().collect()),
+            Some(short) if group.long.is_empty() => short,
+            short => opt(Name::Long(group.long), short.into_iter().collect()),
         }
     };
     (0..signatures.len()).map(shown).collect()

@@ -99,7 +99,7 @@ impl<'o, T> Given<'o, T> {
     ) -> Given<'o, T> {
         match given {
             proved::Given::Option { place, value } => {
-                let names = options.groups().signatures().names(place);
+                let names = options.groups().signatures().get(place);
                 let value = value.map(convert);
                 Given::Option { short: names.short, long: names.long, value }
             }

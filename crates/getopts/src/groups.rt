@@ -35,9 +35,11 @@ pub struct OptGroup<'o> {
 }
 
 impl<'o> PartialEq for OptGroup<'o> {
-    ghost use Rattle.getopts.specs.Stored.Groups.{same_borrowed_group};
+    ghost use Rattle.std.specs.Ordering.{on};
+    ghost use Rattle.getopts.specs.Accessors.{borrowed_group};
+    ghost use Rattle.getopts.specs.Same.{same_group};
 
-    ghost eq = { same_borrowed_group };
+    ghost eq = { on borrowed_group same_group };
 
     ghost laws = { Prim.search (comparing, rules) depth 12 };
 
@@ -127,8 +129,8 @@ impl Groups {
         let signature = self.signatures.get(place);
         let pair = self.ends[place];
         OptGroup {
-            short_name: signature.names.short,
-            long_name: signature.names.long,
+            short_name: signature.short,
+            long_name: signature.long,
             hint: first_at(&self.texts, pair),
             desc: second_at(&self.texts, pair),
             hasarg: signature.kinds.kind,

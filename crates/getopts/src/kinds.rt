@@ -1,8 +1,5 @@
 //! Parsing styles, and the kinds of an option: its kind of argument and its kind of occurrence.
 
-ghost use Rattle.std.specs.Cmp.Rules.{comparing};
-ghost use Rattle.std.proofs.Common.{rules};
-
 /// Whether options may follow the first free word.
 #[derive(Debug, Clone, Copy, PartialEq, Eq)]
 pub enum ParsingStyle {
@@ -37,21 +34,8 @@ pub enum Occur {
     Multi,
 }
 
-#[derive(Debug, Clone, Copy)]
+#[derive(Debug, Clone, Copy, PartialEq, Eq)]
 pub(crate) struct Kinds {
     pub kind: HasArg,
     pub occur: Occur,
-}
-
-impl PartialEq for Kinds {
-    ghost use Rattle.getopts.specs.Stored.Signatures.{same_kinds};
-
-    ghost eq = { same_kinds };
-
-    ghost laws = { Prim.search (comparing, rules) depth 12 };
-
-    #[inline(always)]
-    fn eq(&self, other: &Kinds) -> bool {
-        self.kind == other.kind && self.occur == other.occur
-    }
 }

@@ -22,12 +22,6 @@ pub fn names_lawful(short: &str, long: &str) -> bool
     short.len() <= 1 && long.len() != 1 && !(short.is_empty() && long.is_empty())
 }
 
-#[derive(Clone, Copy)]
-pub(crate) struct NamesView<'g> {
-    pub short: &'g str,
-    pub long: &'g str,
-}
-
 /// Packs the first seven bytes of a name into a key, and its length (8 if longer) into the lowest
 /// byte. Keys sort as the bytes of the names do. Names under eight bytes are equal if their keys
 /// are.

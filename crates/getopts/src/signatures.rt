@@ -7,12 +7,12 @@ ghost use Rattle.std.specs.Cmp.Lexicographic.{pointwise};
 ghost use Rattle.std.specs.Cmp.Rules.{comparing};
 ghost use Rattle.std.proofs.Common.{rules};
 ghost use Rattle.getopts.specs.Names.{AreLawful, IsLawfullyNamed, main_name};
-ghost use Rattle.getopts.specs.Stored.Signatures.{signature_view, names_view, names_in, signature_with};
+ghost use Rattle.getopts.specs.Stored.Signatures.{signature_view, names_in, signature_with};
 ghost use Rattle.getopts.specs.Stored.Signatures.{HasKeys, ends_of};
 ghost use Rattle.getopts.specs.Stored.Names.{names_at};
 
 use crate::kinds::Kinds;
-use crate::names::{NamesView, key_of, short_byte};
+use crate::names::{key_of, short_byte};
 use crate::pairs::{FIRST_TEXT, PairEnds, first_at, push_pair, second_at};
 use std::alloc::{AllocError, Global};
 use std::marker::Model;
@@ -20,30 +20,18 @@ use std::marker::Model;
 /// Initial capacity: up to this many groups fit without reallocating.
 pub(crate) const FIRST_GROUPS: usize = 32;
 
-#[derive(Clone, Copy)]
+/// A signature, borrowed.
+#[derive(Clone, Copy, PartialEq, Eq)]
 pub(crate) struct SignatureView<'g> {
-    pub names: NamesView<'g>,
+    pub short: &'g str,
+    pub long: &'g str,
     pub kinds: Kinds,
-}
-
-impl<'g> PartialEq for SignatureView<'g> {
-    ghost use Rattle.getopts.specs.Stored.Signatures.{same_signature_view};
-
-    ghost eq = { same_signature_view };
-
-    ghost laws = { Prim.search (comparing, rules) depth 12 };
-
-    fn eq(&self, other: &SignatureView<'g>) -> bool {
-        self.names.short == other.names.short
-            && self.names.long == other.names.long
-            && self.kinds == other.kinds
-    }
 }
 
 /// A group as it is stored. `long` and `end` are where its long name starts and ends in the text of
 /// all names. A record has 32 bytes, so that the first list, of `FIRST_GROUPS` records, fits in
 /// malloc's cache.
-#[derive(Debug, Clone, Copy)]
+#[derive(Debug, Clone, Copy, PartialEq, Eq)]
 pub(crate) struct SignatureRecord {
     pub long: usize,
     pub end: usize,
@@ -53,23 +41,6 @@ pub(crate) struct SignatureRecord {
     pub short: Option<u8>,
     pub has_long: bool,
     pub kinds: Kinds,
-}
-
-impl PartialEq for SignatureRecord {
-    ghost use Rattle.getopts.specs.Stored.Signatures.{same_record};
-
-    ghost eq = { same_record };
-
-    ghost laws = { Prim.search (comparing, rules) depth 12 };
-
-    /// In one text, two short names with the same ends are equal.
-    #[inline(always)]
-    fn eq(&self, other: &SignatureRecord) -> bool {
-        self.long == other.long
-            && self.end == other.end
-            && self.short.is_some() == other.short.is_some()
-            && self.kinds == other.kinds
-    }
 }
 
 impl SignatureRecord {
@@ -166,17 +137,6 @@ impl Signatures {
         second_at(&self.text, self.records[place].ends())
     }
 
-    #[inline]
-    pub(crate) fn names(&self, place: usize) -> NamesView<'_>
-        requires { place < length self.now }
-        ensures { names_view result ≡ names_at (names_in self.now) place }
-    {
-        NamesView {
-            short: self.short(place),
-            long: self.long(place),
-        }
-    }
-
     #[inline(always)]
     pub(crate) fn main(&self, place: usize) -> &str
         requires { place < length self.now }
@@ -207,7 +167,8 @@ impl Signatures {
         ensures { Some (signature_view result) ≡ slice_get self.now place }
     {
         SignatureView {
-            names: self.names(place),
+            short: self.short(place),
+            long: self.long(place),
             kinds: self.record(place).kinds,
         }
     }

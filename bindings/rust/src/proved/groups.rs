@@ -74,8 +74,8 @@ impl Groups {
         let signature = self.signatures.get(place);
         let pair = self.ends[place];
         OptGroup {
-            short_name: signature.names.short,
-            long_name: signature.names.long,
+            short_name: signature.short,
+            long_name: signature.long,
             hint: first_at(&self.texts, pair),
             desc: second_at(&self.texts, pair),
             hasarg: signature.kinds.kind,

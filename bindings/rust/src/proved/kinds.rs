@@ -35,15 +35,8 @@ pub enum Occur {
     Multi,
 }
 
-#[derive(Debug, Clone, Copy)]
+#[derive(Debug, Clone, Copy, PartialEq, Eq)]
 pub(crate) struct Kinds {
     pub kind: HasArg,
     pub occur: Occur,
-}
-
-impl PartialEq for Kinds {
-    #[inline(always)]
-    fn eq(&self, other: &Kinds) -> bool {
-        self.kind == other.kind && self.occur == other.occur
-    }
 }

@@ -4,31 +4,25 @@
 use crate::fallible::*;
 
 use super::kinds::Kinds;
-use super::names::{NamesView, key_of, short_byte};
+use super::names::{key_of, short_byte};
 use super::pairs::{FIRST_TEXT, PairEnds, first_at, push_pair, second_at};
 use crate::alloc::{AllocError, Global};
 
 /// Initial capacity: up to this many groups fit without reallocating.
 pub(crate) const FIRST_GROUPS: usize = 32;
 
-#[derive(Clone, Copy)]
+/// A signature, borrowed.
+#[derive(Clone, Copy, PartialEq, Eq)]
 pub(crate) struct SignatureView<'g> {
-    pub names: NamesView<'g>,
+    pub short: &'g str,
+    pub long: &'g str,
     pub kinds: Kinds,
-}
-
-impl<'g> PartialEq for SignatureView<'g> {
-    fn eq(&self, other: &SignatureView<'g>) -> bool {
-        self.names.short == other.names.short
-            && self.names.long == other.names.long
-            && self.kinds == other.kinds
-    }
 }
 
 /// A group as it is stored. `long` and `end` are where its long name starts and ends in the text of
 /// all names. A record has 32 bytes, so that the first list, of `FIRST_GROUPS` records, fits in
 /// malloc's cache.
-#[derive(Debug, Clone, Copy)]
+#[derive(Debug, Clone, Copy, PartialEq, Eq)]
 pub(crate) struct SignatureRecord {
     pub long: usize,
     pub end: usize,
@@ -38,17 +32,6 @@ pub(crate) struct SignatureRecord {
     pub short: Option<u8>,
     pub has_long: bool,
     pub kinds: Kinds,
-}
-
-impl PartialEq for SignatureRecord {
-    /// In one text, two short names with the same ends are equal.
-    #[inline(always)]
-    fn eq(&self, other: &SignatureRecord) -> bool {
-        self.long == other.long
-            && self.end == other.end
-            && self.short.is_some() == other.short.is_some()
-            && self.kinds == other.kinds
-    }
 }
 
 impl SignatureRecord {
@@ -104,14 +87,6 @@ impl Signatures {
         second_at(&self.text, self.records[place].ends())
     }
 
-    #[inline]
-    pub(crate) fn names(&self, place: usize) -> NamesView<'_> {
-        NamesView {
-            short: self.short(place),
-            long: self.long(place),
-        }
-    }
-
     #[inline(always)]
     pub(crate) fn main(&self, place: usize) -> &str {
         if self.record(place).has_long {
@@ -134,7 +109,8 @@ impl Signatures {
     #[inline(always)]
     pub(crate) fn get(&self, place: usize) -> SignatureView<'_> {
         SignatureView {
-            names: self.names(place),
+            short: self.short(place),
+            long: self.long(place),
             kinds: self.record(place).kinds,
         }
     }

@@ -1,15 +1,11 @@
 -- Groups with their hints and descriptions, as they are stored or borrowed.
-use Rattle.std.specs.Prelude.{◌≡◌, Bool, List, [], ◌∷◌, length, map}
+use Rattle.std.specs.Prelude.{◌≡◌, List, [], ◌∷◌, length, map}
 use Rattle.std.specs.List.{AllByRecursion}
-use Rattle.std.specs.Ordering.{on}
 use Rattle.std.specs.String.{string_bytes}
-use Rattle.getopts.specs.Accessors.{borrowed_group}
 use Rattle.getopts.specs.Names.{Text}
 use Rattle.getopts.specs.Options.{Signature, Group}
-use Rattle.getopts.specs.Same.{same_group}
 use Rattle.getopts.specs.Stored.Pairs.{pair_at, AreEndsOf}
 use Rattle.getopts.specs.Stored.Signatures.{AreLawfulSignatures}
-use Rattle.getopts.specs.declared.groups.OptGroup.{OptGroup}
 use Rattle.getopts.specs.declared.groups.Groups.TheInside.{Inside}
 
 abbrev pub group_with : Signature → Text × Text → Group
@@ -30,6 +26,3 @@ pub record HoldGroups (inside : Inside) : Type 0 where
   pub ends : AllByRecursion (AreEndsOf (string_bytes inside.texts)) inside.ends.items
   pub as_many : length inside.ends.items ≡ length inside.signatures
   pub lawful : AreLawfulSignatures inside.signatures
-
-abbrev pub same_borrowed_group : OptGroup → OptGroup → Bool
-same_borrowed_group = on borrowed_group same_group

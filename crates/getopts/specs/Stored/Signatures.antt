@@ -1,25 +1,18 @@
 -- The names and kinds of groups, as they are stored or borrowed.
-use Rattle.std.specs.Prelude.{◌≡◌, ◌==◌, ◌-◌, Bool, not, is_some, List, [], map, slice_get}
-use Rattle.std.specs.Bool.{beq}
+use Rattle.std.specs.Prelude.{◌≡◌, ◌-◌, not, List, map, slice_get}
 use Rattle.std.specs.List.{AllByRecursion}
 use Rattle.std.specs.Option.{option_map_or}
-use Rattle.std.specs.Ordering.{on, eq_of_both}
 use Rattle.std.specs.Str.{IsUtf8}
 use Rattle.std.specs.String.{string_bytes}
 use Rattle.getopts.specs.Names.{Text, Names, IsLawfullyNamed, is_empty, main_name}
 use Rattle.getopts.specs.Options.{Signature}
-use Rattle.getopts.specs.Same.{same_signature}
 use Rattle.getopts.specs.Stored.Names.{key_of}
 use Rattle.getopts.specs.Stored.Pairs.{pair_at, AreEndsOf}
-use Rattle.getopts.specs.declared.names.NamesView.{NamesView}
 use Rattle.getopts.specs.declared.kinds.Kinds.{Kinds}
 use Rattle.getopts.specs.declared.pairs.PairEnds.{PairEnds}
 use Rattle.getopts.specs.declared.signatures.SignatureRecord.{SignatureRecord}
 use Rattle.getopts.specs.declared.signatures.SignatureView.{SignatureView}
 use Rattle.getopts.specs.declared.signatures.Signatures.TheInside.{Inside}
-
-abbrev pub names_view : NamesView → Names
-names_view borrowed = record { short = borrowed.short.now; long = borrowed.long.now }
 
 abbrev pub signature_with : Kinds → Text → Text → Signature
 signature_with kinds short long = record {
@@ -34,9 +27,6 @@ kinds_of signature = record { kind = signature.kind; occur = signature.occur }
 abbrev pub names_in : List Signature → List Names
 names_in signatures = map (λ signature. signature.names) signatures
 
-abbrev pub same_kinds : Kinds → Kinds → Bool
-same_kinds = on (λ kinds. signature_with kinds [] []) same_signature
-
 -- where the names of a record are; a short name is the byte before the long name
 abbrev pub ends_of : SignatureRecord → PairEnds
 ends_of group = record {
@@ -44,11 +34,6 @@ ends_of group = record {
   middle = group.long;
   end = group.end;
 }
-
-abbrev pub same_record : SignatureRecord → SignatureRecord → Bool
-same_record = eq_of_both (on (λ group. group.long) ◌==◌)
-    (eq_of_both (on (λ group. group.end) ◌==◌)
-    (eq_of_both (on (λ group. is_some group.short) beq) (on (λ group. group.kinds) same_kinds)))
 
 abbrev pub signature_in : Text → SignatureRecord → Signature
 signature_in text group =
@@ -84,7 +69,4 @@ abbrev pub HoldSignatures : Inside → Type 0
 HoldSignatures inside = AllByRecursion (IsStored (string_bytes inside.text)) inside.records.items
 
 abbrev pub signature_view : SignatureView → Signature
-signature_view borrowed = signature_with borrowed.kinds borrowed.names.short.now borrowed.names.long.now
-
-abbrev pub same_signature_view : SignatureView → SignatureView → Bool
-same_signature_view = on signature_view same_signature
+signature_view borrowed = signature_with borrowed.kinds borrowed.short.now borrowed.long.now
