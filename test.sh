@@ -1,5 +1,6 @@
 #!/usr/bin/env bash
 # Tests this repository: proves every crate, tries the mutants in must-fail and, at the same time, runs tests/ with pytest.
+# Then it compares the shell binaries with what their source gives, unless they are those of the last release.
 # usage: test.sh [--quick] [--no-install] [CRATE]
 #        test.sh [--quick] [--no-install] -k NAME [FLAG ..]
 #
@@ -126,6 +127,9 @@ else
     rt ci 2>&1 | tee "$CI_LOG"
     ended proofs "${PIPESTATUS[0]}"
     touch "$CI_LOG.ended"
+    [ "$failed" ] ||
+        git diff --quiet "$(git describe --tags --abbrev=0 2>/dev/null)" -- 'bindings/shell/*/getopts_shell' 2>/dev/null ||
+        { KEPT=$cache bindings/build.py --rebuild; ended "shell binaries" $?; }
     wait $plain; status=$?; cat "$room/said.plain"; ended tests $status
     wait $built; status=$?; cat "$room/said.built"; ended "tests of what is built" $status
 fi

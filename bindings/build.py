@@ -5,10 +5,12 @@ usage: bindings/build.py [--check]
        bindings/build.py --rebuild [x86_64 | aarch64]..
 
 The program is proved with the libraries that `rt ci` left, or that `rt lib` makes now, and built for every processor from
-one proof. proved.sha256 records what the binaries were built from: the program's version and checksums of the toolchain's
-logic, of the sources without their comments, and of the binaries themselves. If nothing of this has changed, nothing is
-rebuilt. With --check, nothing is proved or built, and the status is 1 if anything is out of date. --rebuild proves the
-program, builds it elsewhere, and compares each byte with the binaries that are checked in; the status is 1 if one differs.
+one proof. proved.sha256 records what the binaries were built from: the program's version, the toolchain, and checksums of
+the sources without their comments, of musl, and of the binaries themselves. If nothing of this has changed, nothing is
+rebuilt. With --check, nothing is proved or built, and the status is 1 if anything is out of date; without rt or musl, all
+else is compared. --rebuild then also proves the program, builds it elsewhere, and compares each byte with the binaries that
+are checked in, by default those for which musl is installed; the status is 1 if one differs. In the folder KEPT, if the
+environment names one, it notes what it compared, and compares this only once.
 """
 
 import hashlib
@@ -23,6 +25,8 @@ from pathlib import Path
 ROOT = Path(__file__).resolve().parents[1]
 FOLDER, CRATE = ROOT / "bindings/shell", "getopts_shell"
 PROCESSORS = ["x86_64", "aarch64"]
+# The files of musl that are linked.
+MUSL = ["crt1.o", "crti.o", "crtn.o", "libc.a"]
 # Comments, which don't change the binaries.
 COMMENTS = {".rt": rb"(?m)^ *//.*\n", ".c": rb"(?s)/\*.*?\*/", ".h": rb"(?s)/\*.*?\*/"}
 
@@ -63,9 +67,13 @@ def build(processor, to):
 
 def musl_for(processor):
     """The folder of a processor's musl."""
-    musl = Path(f"/usr/lib/{processor}-linux-musl")
-    (musl / "libc.a").exists() or stop(f"{musl}/libc.a is missing: apt-get install musl-dev, or musl-dev:arm64")
-    return musl
+    return Path(f"/usr/lib/{processor}-linux-musl")
+
+
+def lacks_musl(processor):
+    """What to install before a program can be linked for a processor; None if nothing is missing."""
+    if not (musl_for(processor) / "libc.a").exists():
+        return f"{musl_for(processor)}/libc.a is missing: apt-get install musl-dev, or musl-dev:arm64"
 
 
 def link(processor, to, of):
@@ -88,22 +96,33 @@ def sum_of(file):
     return hashlib.sha256(re.sub(comments, b"", text) if comments else text).hexdigest()
 
 
+def recorded():
+    """The lines of proved.sha256."""
+    kept = FOLDER / "proved.sha256"
+    return kept.read_text().splitlines() if kept.exists() else []
+
+
 def sums():
-    """The lines that proved.sha256 should have now: the version, the toolchain's logic, the binaries and their sources."""
+    """The lines that proved.sha256 should have now: the version, the toolchain, the binaries, their sources, and musl. Lines
+    about what this machine lacks, rt or a processor's musl, stay as they are."""
     files = [*(FOLDER / processor / CRATE for processor in PROCESSORS), FOLDER / "start.c", FOLDER / "start.h"]
     crates = dict.fromkeys([CRATE, *(more for one in libraries(CRATE) for more in (one, *libraries(one)))])
     for crate in crates:
         files += sorted((ROOT / f"crates/{crate}/src").rglob("*.rt"))
     version = re.search(r'^version = "(.*)"', (FOLDER / "Cargo.toml").read_text(), re.M)[1]
-    toolchain = subprocess.run([kit() / "bin/rt", "version"], capture_output=True, text=True, check=True).stdout
-    return [f"# {CRATE} {version}", f"# logic {toolchain.split()[-1]}",
-            *(f"{sum_of(file)}  {file.relative_to(ROOT)}" for file in files)]
+    lines = [f"# {CRATE} {version}", *(line for line in recorded() if " logic " in line)]
+    if shutil.which("rt"):
+        lines[1:] = ["# " + subprocess.run(["rt", "version"], capture_output=True, text=True, check=True).stdout.strip()]
+    lines += [f"{sum_of(file)}  {file.relative_to(ROOT)}" for file in files]
+    for file in (musl_for(processor) / name for processor in PROCESSORS for name in MUSL):
+        lines += [f"{sum_of(file)}  {file}"] if file.exists() else [line for line in recorded() if line.endswith(f"  {file}")]
+    return lines
 
 
 def built_for(processors, room):
     """Each of these processors, with the program built for it in a folder. Proofs begin only if no musl is missing."""
-    for processor in processors:
-        musl_for(processor)
+    for why in filter(None, map(lacks_musl, processors)):
+        stop(why)
     for processor in processors:
         to = Path(room) / processor
         build(processor, f"{to}.o")
@@ -113,19 +132,28 @@ def built_for(processors, room):
 
 def rebuild(processors):
     """Builds the binaries again, and compares them with those that are checked in."""
+    for processor in [] if processors else filter(lacks_musl, PROCESSORS):
+        print(f"bindings/shell/{processor}/{CRATE} isn't compared with its source: {lacks_musl(processor)}")
+    processors = processors or [it for it in PROCESSORS if not lacks_musl(it)]
+    shell(True)
+    key = hashlib.sha256("\n".join([*processors, sum_of(Path(__file__)), *sums()]).encode()).hexdigest()
+    note = Path(os.environ["KEPT"], f"compared-{key}") if "KEPT" in os.environ else None
+    if note and note.exists():
+        return print("the shell binaries were compared with their source earlier")
     with tempfile.TemporaryDirectory() as room:
         for processor, built in built_for(processors, room):
             kept = FOLDER / processor / CRATE
             if built.read_bytes() != kept.read_bytes():
                 stop(f"{kept.relative_to(ROOT)} isn't what its source gives")
             print(f"{kept.relative_to(ROOT)} is what its source gives, byte for byte", flush=True)
+    if note:
+        note.parent.mkdir(parents=True, exist_ok=True)
+        note.touch()
 
 
 def shell(check):
     """Rebuilds the binaries if something has changed, or with --check only reports it."""
-    kept = FOLDER / "proved.sha256"
-    lines = kept.read_text().splitlines() if kept.exists() else []
-    changed = sorted({line.split("  ")[-1].removeprefix("# ") for line in set(lines) ^ set(sums())})
+    changed = sorted({line.split("  ")[-1].removeprefix("# ") for line in set(recorded()) ^ set(sums())})
     if not changed:
         return print("bindings/shell is up to date")
     if check:
@@ -140,7 +168,7 @@ def shell(check):
             os.replace(f"{to}.new", to)
             Path(f"{to}.sha256").write_text(f"{sum_of(to)}  {to.name}\n")
             print(f"built {to.relative_to(ROOT)}")
-    kept.write_text("\n".join(sums()) + "\n")
+    (FOLDER / "proved.sha256").write_text("\n".join(sums()) + "\n")
 
 
 def main(words):
@@ -148,7 +176,7 @@ def main(words):
         case ["--help" | "-h"]:
             print(__doc__.strip())
         case ["--rebuild", *processors] if set(processors) <= set(PROCESSORS):
-            rebuild(processors or PROCESSORS)
+            rebuild(processors)
         case [] | ["--check"]:
             shell(words == ["--check"])
         case _:

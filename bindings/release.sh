@@ -4,7 +4,7 @@
 #
 # CHANGELOG.md must begin with "## VERSION, DATE". CRATE is a folder with the Rust crate getopts 0.2.24, to compare with.
 # It needs rt, cargo 1.84 or later, and root on Debian 12 with the packages debootstrap and musl-dev:arm64. TESTED=1 leaves
-# out the tests, which take hours and need both packages.
+# out what takes hours and needs both packages: the tests, and comparing the shell binaries with their source.
 set -euo pipefail
 unset CDPATH
 stop() { echo "release.sh: $1" >&2; exit 1; }
@@ -30,7 +30,9 @@ cargo package --exclude-lockfile --help >/dev/null 2>&1 ||
 bash test.sh --quick --no-install -k 'versions or changelog' -q
 bindings/build.py --check
 bindings/rust/erase.py --check
+checked="without tests, and without comparing the shell binaries with their source, all"
 if [ -z "${TESTED:-}" ]; then
+    checked=all
     bash test.sh "$crate"
     bindings/build.py --rebuild
     bash test.sh -k '' -m release --release --getopts="$crate" -n 3
@@ -56,4 +58,4 @@ tar --sort=name --owner=0 --group=0 --numeric-owner --mode=u=rwX,go=rX --mtime="
     getopts | gzip -9n >"$out/$name-kit.tar.gz"
 for machine in x86_64 aarch64; do cp "bindings/shell/$machine/getopts_shell" "$out/getopts_shell-$version-$machine"; done
 (cd "$out" && sha256sum -- * >SHA256SUMS && cat SHA256SUMS)
-echo "release.sh: all is checked. Now run: git tag -s $version && gpg --armor --detach-sign '$out/SHA256SUMS'"
+echo "release.sh: $checked is checked. Now run: git tag -s $version && gpg --armor --detach-sign '$out/SHA256SUMS'"

@@ -3,6 +3,7 @@ sources and the toolchain; and the erased Rust, which is generated again, and ha
 
 import hashlib
 import importlib.util
+import shutil
 from pathlib import Path
 
 import pytest
@@ -10,6 +11,7 @@ from conftest import MACHINE, ROOT, answer, copy_tree, kit, need_compiler, need_
 
 BUILD = "bindings/build.py"
 UP_TO_DATE = "bindings/shell is up to date\n", ""
+SAME = "bindings/shell/{}/getopts_shell is what its source gives, byte for byte\n"
 
 
 @pytest.fixture
@@ -18,7 +20,13 @@ def build(tmp_path):
     spec = importlib.util.spec_from_file_location("build", copy_tree(tmp_path / "copy") / BUILD)
     build = importlib.util.module_from_spec(spec)
     spec.loader.exec_module(build)
+    write_sums(build)
     return build
+
+
+def write_sums(build):
+    """Makes the copy's binaries up to date."""
+    (build.FOLDER / "proved.sha256").write_text("\n".join(build.sums()) + "\n")
 
 
 def check_sums(folder):
@@ -35,9 +43,9 @@ def test_binaries_match_checksums():
     check_sums(ROOT / "bindings/shell")
 
 
-@pytest.mark.rt
 def test_binaries_match_source():
     """A release has binaries of its own source. Until then they may be older, if they give the same answers."""
+    shell_binary()
     unreleased = other_version() or "\n## Unreleased\n" in (ROOT / "CHANGELOG.md").read_text()
     if unreleased and answer(ROOT / BUILD, "--check")[1]:
         pytest.skip("the shell binaries were built from older source: bindings/build.py builds them before a release")
@@ -49,7 +57,7 @@ def test_rebuilt_binaries(build, monkeypatch, capsys):
     """After a change, both binaries are replaced by what was built and linked for their processors."""
     with open(build.FOLDER / "start.c", "a") as changed:
         changed.write("int more;\n")
-    monkeypatch.setattr(build, "musl_for", lambda processor: None)
+    monkeypatch.setattr(build, "lacks_musl", lambda processor: None)
     monkeypatch.setattr(build, "build", lambda processor, to: Path(to).write_text(f"object for {processor}\n"))
     monkeypatch.setattr(build, "link", lambda processor, to, of: Path(to).write_text(Path(of).read_text() + processor))
     build.shell(False)
@@ -63,14 +71,19 @@ def test_rebuilt_binaries(build, monkeypatch, capsys):
 
 
 @pytest.mark.rt
-def test_missing_musl(build, monkeypatch):
-    """Nothing is proved if one of the programs couldn't be linked."""
+def test_missing_musl(build, monkeypatch, capsys):
+    """Nothing is proved if one of the programs couldn't be linked. `--rebuild` then compares the other."""
     proved = []
     monkeypatch.setattr(build, "build", lambda processor, to: proved.append(processor))
-    monkeypatch.setattr(build, "musl_for", lambda processor: processor == "x86_64" or build.stop(f"no {processor}"))
-    with pytest.raises(SystemExit, match="^build.py: no aarch64$"):
-        build.main(["--rebuild"])
+    monkeypatch.setattr(build, "link", lambda processor, to, of: shutil.copy(build.FOLDER / processor / "getopts_shell", to))
+    monkeypatch.setattr(build, "lacks_musl", lambda processor: "no musl" if processor == "aarch64" else None)
+    with pytest.raises(SystemExit, match="^build.py: no musl$"):
+        build.main(["--rebuild", "x86_64", "aarch64"])
     assert proved == []
+    capsys.readouterr()
+    build.main(["--rebuild"])
+    assert proved == ["x86_64"] and capsys.readouterr().out == (
+        "bindings/shell/aarch64/getopts_shell isn't compared with its source: no musl\n" + UP_TO_DATE[0] + SAME.format("x86_64"))
 
 
 @pytest.mark.rt
@@ -84,33 +97,50 @@ def test_linked_program(build, tmp_path):
 
 
 @pytest.mark.rt
-def test_changed_binary_is_found(build, monkeypatch, capsys):
-    """`--rebuild` compares the binaries with what their source gives, so a changed checksum doesn't hide a change."""
+def test_changed_binary_is_found(build, monkeypatch, capsys, tmp_path):
+    """`--rebuild` compares the binaries with what their source gives, so a changed checksum doesn't hide a change. With KEPT, it
+    compares the same only once."""
     binaries = {it: (build.FOLDER / it / "getopts_shell").read_bytes() for it in ("x86_64", "aarch64")}
-    monkeypatch.setattr(build, "musl_for", lambda processor: None)
+    monkeypatch.setattr(build, "lacks_musl", lambda processor: None)
     monkeypatch.setattr(build, "build", lambda processor, to: Path(to).write_text("object"))
     monkeypatch.setattr(build, "link", lambda processor, to, of: Path(to).write_bytes(binaries[processor]))
-    build.main(["--rebuild"])
-    same = "bindings/shell/{}/getopts_shell is what its source gives, byte for byte\n"
-    assert capsys.readouterr().out == same.format("x86_64") + same.format("aarch64")
+    monkeypatch.setenv("KEPT", str(tmp_path / "kept"))
+    for said in SAME.format("x86_64") + SAME.format("aarch64"), "the shell binaries were compared with their source earlier\n":
+        build.main(["--rebuild"])
+        assert capsys.readouterr().out == UP_TO_DATE[0] + said
     with open(build.FOLDER / "aarch64/getopts_shell", "ab") as changed:
         changed.write(b"\n")
-    (build.FOLDER / "proved.sha256").write_text("\n".join(build.sums()) + "\n")
+    write_sums(build)
     assert run(build.__file__, "--check") == UP_TO_DATE
     with pytest.raises(SystemExit, match="^build.py: bindings/shell/aarch64/getopts_shell isn't what its source gives$"):
         build.main(["--rebuild"])
-    assert capsys.readouterr().out == same.format("x86_64")
+    assert capsys.readouterr().out == UP_TO_DATE[0] + SAME.format("x86_64")
 
 
-@pytest.mark.rt
+def test_other_musl(build, tmp_path, monkeypatch, capsys):
+    """Another musl isn't mistaken for a changed binary. What this machine lacks, such as rt, isn't compared."""
+    monkeypatch.setattr(build, "musl_for", lambda processor: tmp_path / processor)
+    for file in (tmp_path / it / name for it in build.PROCESSORS for name in build.MUSL):
+        file.parent.mkdir(exist_ok=True)
+        file.write_text("")
+    write_sums(build)
+    (tmp_path / "x86_64/libc.a").write_text("other")
+    with pytest.raises(SystemExit, match=f"changed: {tmp_path}/x86_64/libc.a\\)$"):
+        build.main(["--rebuild"])
+    shutil.rmtree(tmp_path / "x86_64")
+    monkeypatch.setenv("PATH", "/usr/bin:/bin")
+    capsys.readouterr()
+    build.main(["--check"])
+    assert capsys.readouterr().out == UP_TO_DATE[0]
+
+
 @pytest.mark.parametrize("file, text, found", [
     ("crates/getopts/src/scan.rt", "\n", True), ("crates/getopts/src/scan.rt", "    // A comment.\n", False),
     ("bindings/shell/start.c", ";", True), ("bindings/shell/start.h", ";", True), ("bindings/shell/start.c", "/* A */", False),
     ("bindings/shell/x86_64/getopts_shell", "\n", True), ("bindings/shell/Cargo.toml", 'version = "9"\n', True)])
 def test_change_is_found(build, file, text, found):
     """A change of anything but comments requires a new build. Changes of other files make no difference here."""
-    version, *others = build.sums()
-    (build.FOLDER / "proved.sha256").write_text("\n".join([version, *others]) + "\n")
+    version = build.sums()[0]
     (build.ROOT / file).write_bytes(text.encode() + (build.ROOT / file).read_bytes())
     changed = f"{version[2:]}, getopts_shell 9" if file.endswith("Cargo.toml") else file
     out_of_date = f"build.py: bindings/shell is out of date: run bindings/build.py (changed: {changed})\n"

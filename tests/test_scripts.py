@@ -23,6 +23,8 @@ def test_sh(tmp_path):
         (tmp_path / folder).mkdir()
     shutil.copy(ROOT / "test.sh", tmp_path / "copy")
     log = tmp_path / "log"
+    (tmp_path / "copy/bindings").mkdir()
+    script(tmp_path / "copy/bindings/build.py", LOGS.format(name="build.py", log=log))
     for name in ("rt", "python3"):
         # To find pytest, test.sh tries to import it.
         script(tmp_path / "bin" / name, LOGS.format(name=name, log=log).replace("line=", '[ "$1" != -c ] || exit 0\nline=', 1))
@@ -37,12 +39,24 @@ def test_sh(tmp_path):
 
 
 @pytest.mark.parametrize("fail, parts", [
-    ("rt ci", "proofs"), ("-m not built", "tests"), ("-m built", "tests of what is built"),
+    ("rt ci", "proofs"), ("build.py", "shell binaries"), ("-m not built", "tests"), ("-m built", "tests of what is built"),
     ("pytest", "tests; tests of what is built"), (" ", "proofs; tests; tests of what is built")])
 def test_failed_parts_are_reported(test_sh, fail, parts):
     said, _, _ = test_sh("--no-install", FAIL=fail, status=1)
     assert said.splitlines()[-1] == f"failed: {parts}" and "all passed" not in said
     assert re.findall("^== (.*): status 1", said, re.M) == parts.split("; ")
+
+
+def test_changed_shell_binary(test_sh, tmp_path):
+    """The shell binaries are compared with their source, unless they are those of the last release."""
+    binary = tmp_path / "copy/bindings/shell/x86_64/getopts_shell"
+    binary.parent.mkdir(parents=True)
+    binary.write_text("")
+    commit_repository(tmp_path / "copy")
+    for tag, text, compared in [("", "", True), ("1.0.0", "", False), ("", "changed", True)]:
+        run("git", "tag", *tag.split(), cwd=tmp_path / "copy")
+        binary.write_text(text)
+        assert ("build.py --rebuild" in test_sh("--no-install")[2]) == compared
 
 
 def test_clone_in_shared_folder(test_sh, tmp_path):
@@ -86,16 +100,19 @@ OF_KIT = "getopts getopts_uses: rt ci"
 
 
 def release(clone, *words, status=0, **env):
-    """Runs release.sh: its errors, and the calls that it logs."""
+    """Runs release.sh: its errors, the calls that it logs, and its last line."""
     (clone.parent / "log").write_text("")
     env = {"TESTED": "1", "FAIL": "nothing", "PATH": f"{clone.parent}/bin:{os.environ['PATH']}", **env}
-    return run(clone / "bindings/release.sh", *words, status=status, env=env)[1], (clone.parent / "log").read_text().splitlines()
+    said, errors = run(clone / "bindings/release.sh", *words, status=status, env=env)
+    return errors, (clone.parent / "log").read_text().splitlines(), said.rpartition("release.sh: ")[2]
 
 
 def test_files_of_a_release(clone):
     (clone / "tests/out/release").mkdir(parents=True)
     (clone / "tests/out/release/old").write_text("")
-    assert release(clone, VERSION, clone) == ("", [*CHECKS, OF_KIT])
+    errors, calls, said = release(clone, VERSION, clone)
+    assert (errors, calls) == ("", [*CHECKS, OF_KIT])
+    assert said.startswith("without tests, and without comparing the shell binaries with their source, all is checked. ")
     out, name = clone / "tests/out/release", f"getopts-{VERSION}"
     binaries = {f"getopts_shell-{VERSION}-{machine}": machine for machine in ("x86_64", "aarch64")}
     files = {f"{name}.tar.gz", f"{name}-kit.tar.gz", f"proved-getopts-{VERSION}.crate", *binaries}
