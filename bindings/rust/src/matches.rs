@@ -112,10 +112,17 @@ impl Matches {
     }
 
     /// Checks how often options occur, in matches of
-    /// [`parse_ignoring_counts`](crate::Options::parse_ignoring_counts), whose documentation has an
-    /// example. Not in the crate getopts.
+    /// [`parse_ignoring_counts`](crate::Options::parse_ignoring_counts). Not in the crate getopts.
     ///
     /// Together, the two calls return what [`parse`](crate::Options::parse) does.
+    ///
+    /// ```
+    /// let mut options = getopts::Options::new();
+    /// options.optflag("h", "help", "print this help").reqopt("o", "output", "", "NAME");
+    /// let matches = options.parse_ignoring_counts(["-h"]).unwrap();
+    /// let fail = matches.check_counts().unwrap_err();
+    /// assert_eq!(fail.to_string(), "Required option 'output' missing");
+    /// ```
     ///
     /// # Errors
     /// Fails with `OptionMissing` or `OptionDuplicated` for the first option, in order of

@@ -235,6 +235,14 @@ impl OsMatches {
     /// Checks how often options occur, as [`Matches::check_counts`] does, in matches of
     /// [`parse_os_ignoring_counts`](Options::parse_os_ignoring_counts).
     ///
+    /// ```
+    /// let mut options = getopts::Options::new();
+    /// options.optopt("o", "output", "", "NAME");
+    /// let matches = options.parse_os_ignoring_counts(["-oa", "-ob"]).unwrap();
+    /// let fail = matches.check_counts().unwrap_err();
+    /// assert_eq!(fail.to_string(), "Option 'output' given more than once");
+    /// ```
+    ///
     /// # Errors
     /// See [`Matches::check_counts`].
     pub fn check_counts(&self) -> Result<(), Fail> {
