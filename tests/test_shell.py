@@ -322,7 +322,6 @@ def test_same_options_after_a_setting(program, one_shell, setting):
         pytest.skip("needs root, to limit another user's processes")
     user, counted = 100_000 + os.getpid(), """timeout -s KILL 300 "$@"; printf '\\0'; sh -c 'echo $$'; :"""
     with tempfile.TemporaryDirectory(dir="/tmp") as room:
-        os.chmod(room, 0o777)
         shutil.copy2(program, f"{room}/getopts_shell")
         Path(room, "script").write_text(f"""{setting}
 code=$(getopts_shell --variables o_ n "[-v]  say more
@@ -330,6 +329,7 @@ code=$(getopts_shell --variables o_ n "[-v]  say more
 eval "$code"
 printf '%s|' "$o_v" "$o_L" "$1"
 """)
+        os.chown(room, user, user)
         wrote, _ = run("unshare", "--pid", "--fork", "--kill-child=KILL", "setpriv", f"--reuid={user}", f"--regid={user}",
                        "--clear-groups", "prlimit", "--nproc=30", "sh", "-c", counted, "sh", *one_shell, "script",
                        cwd=room, env={"PATH": f"{room}:{os.environ['PATH']}", "TMPDIR": room})
