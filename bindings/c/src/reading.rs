@@ -81,7 +81,7 @@ impl Reading {
         of: &Texts<'_>,
     ) -> AllocResult<()> {
         let (before, name, after) = fail.map_or(("", "", ""), Fail::parts);
-        let message = before.len() + 2 * name.len() + after.len() + 2;
+        let message = name.len().saturating_mul(2).saturating_add(before.len() + after.len() + 2);
         let mut texts = Vec::empty(Global);
         texts.try_grow_exact(of.bytes.saturating_add(message))?;
         if let Some(fail) = fail {
@@ -185,7 +185,7 @@ pub fn nth_of(nth: usize, count: usize) -> Option<usize> {
 /// Stores a text. The space was reserved: each word gives at most one text, which is no longer than
 /// the word.
 fn push_text(texts: &mut Vec<u8>, text: &str, marked: bool) -> AllocResult<Text> {
-    let start = texts.as_ptr().wrapping_add(texts.len());
+    let start = texts.as_mut_ptr().wrapping_add(texts.len());
     match marked {
         true => push_bytes(texts, text)?,
         false => texts.extend_from_slice(text.as_bytes()),
