@@ -153,19 +153,23 @@ def test_erased_rust_matches_source():
 
 
 def test_stale_rust_is_found(tmp_path):
-    """`--check` reports files that differ, are missing or have no source, and changes nothing."""
+    """`--check` reports files that differ, are missing or have no source, also in subfolders, and changes nothing. A carriage
+    return is a difference: rustc doesn't end a comment there, so it could hide code."""
     need_rustfmt()
     folder = copy_tree(tmp_path / "copy") / "bindings/rust/src/proved"
     with open(folder / "scan.rs", "a", encoding="utf-8") as changed:
         changed.write("// A comment.\n")
-    (folder / "more.rs").write_text("")
+    (folder / "counts.rs").write_bytes((folder / "counts.rs").read_bytes().replace(b"\n", b"\r", 1))
+    (folder / "more").mkdir()
+    for file in ("more/mod.rs", "more.inc"):
+        (folder / file).write_text("")
     (folder / "wrap.rs").unlink()
-    before = {path: path.read_bytes() for path in folder.iterdir()}
+    before = {path: path.read_bytes() for path in folder.rglob("*.*")}
     said, _ = run(tmp_path / "copy/bindings/rust/erase.py", "--check", status=1)
-    reported = [f"{folder / file} is out of date: run bindings/rust/erase.py\n" for file in ("more.rs", "scan.rs", "wrap.rs")]
-    assert said == "".join(reported)
+    stale = ("counts.rs", "more.inc", "more/mod.rs", "scan.rs", "wrap.rs")
+    assert said == "".join(f"{folder / file} is out of date: run bindings/rust/erase.py\n" for file in stale)
     assert run(tmp_path / "copy/bindings/rust/erase.py", "--chek", status=2)[1] == "usage: bindings/rust/erase.py [--check]\n"
-    assert {path: path.read_bytes() for path in folder.iterdir()} == before
+    assert {path: path.read_bytes() for path in folder.rglob("*.*")} == before
 
 
 @pytest.mark.parametrize("file", ["LICENSE-MIT", "LICENSE-APACHE", "NOTICE"])

@@ -582,6 +582,11 @@ def test_line_ends():
     assert_none(line for line in lines if not re.search(r"\b(eol=lf|attr/-text)\s", line))
 
 
+def test_carriage_returns():
+    """No text contains one: whether a comment ends there depends on the language."""
+    assert_none(name for name in tracked if b"\r" in (ROOT / name).read_bytes() and not name.endswith("/getopts_shell"))
+
+
 scripts = [name for name in tracked if (ROOT / name).read_bytes().startswith(b"#!")]
 
 

@@ -56,6 +56,19 @@ def test_changed_tokens_are_found(file, right, wrong, tmp_path):
     assert re.fullmatch(rf".*/{file}: differs from its source at '.*'\n", said.decode()) and status == 1
 
 
+def test_hidden_code_is_found(tmp_path):
+    """Rust may include files of any name, and ends no comment at a carriage return."""
+    folder = shutil.copytree(ERASED["getopts"], tmp_path / "changed")
+    (folder / "more").mkdir()
+    for file in ("more/mod.rs", "more.inc"):
+        (folder / file).write_text("")
+    said = "".join(f"{folder / file}: is missing, or has no source\n" for file in ("more.inc", "more/mod.rs"))
+    assert same_tokens(ROOT / "crates/getopts/src", folder) == (said.encode(), 1)
+    edited(folder / "counts.rs", "\n", "\r")
+    said += f"{folder}/counts.rs: contains a carriage return, at which not every program ends a comment\n"
+    assert same_tokens(ROOT / "crates/getopts/src", folder) == (said.encode(), 1)
+
+
 def test_source_that_ends_in_a_clause(tmp_path):
     source = shutil.copytree(ROOT / "crates/getopts/src", tmp_path / "getopts/src")
     text = (source / "names.rt").read_text()
@@ -82,6 +95,7 @@ def erase(tmp_path):
 
 # The sources that erase.py has to reject: names, sources and errors.
 REJECTED = re.findall(r"^(\w+): .*\n((?:  .*\n)+)  (.*)\n", (ROOT / "tests/eraser/rejected.txt").read_text(), re.M)
+REJECTED += [("carriage_return", "// Code after\rfn f() {}\nfn g() {}\n", "'fn': no carriage return may be in it or before it")]
 
 
 def compile_over_types(tmp_path, proved=ERASED["getopts"], program=ERASED["getopts_shell"]):

@@ -158,7 +158,7 @@ class Eraser:
     """The tokens of one file, in which constructs are deleted and names replaced."""
 
     def __init__(self, path):
-        self.file, self.tokens = path.relative_to(TOP), tokens_of(path.read_text(encoding="utf-8"))
+        self.file, self.tokens = path.relative_to(TOP), tokens_of(path.read_bytes().decode("utf-8"))
         self.at, self.lemmas = 0, set()
 
     def stop(self, at, why):
@@ -426,6 +426,8 @@ class Eraser:
         """Parses the whole file, and deletes what has no meaning at run time."""
         for at, text in enumerate([token.text for token in self.tokens]):
             before = self.text(at - 1)
+            if "\r" in self.tokens[at].lead + text:
+                self.stop(at, "no carriage return may be in it or before it")
             if self.has(at, "/*") and not self.tokens[at + 1].lead:
                 self.stop(at, "block comments aren't allowed")
             if NEW_NAMES.fullmatch(text):
@@ -593,16 +595,16 @@ def main(arguments):
         for path, eraser in crates[name].items():
             file = "mod.rs" if path.stem in ("lib", "main") else path.stem + ".rs"
             files[file] = rust_of(path, eraser, module, names)
-        there = {path.name: path.read_text(encoding="utf-8") for end in ("rs", "md") for path in folder.glob(f"*.{end}")}
+        there = {str(path.relative_to(folder)): path.read_bytes() for path in folder.rglob("*") if path.is_file()}
         for file in sorted(files.keys() | there.keys()):
-            if files.get(file) == there.get(file):
+            if file in files and files[file].encode("utf-8") == there.get(file):
                 continue
             if arguments:
                 print(f"{folder / file} is out of date: run bindings/rust/erase.py")
                 status = 1
             elif file in files:
                 folder.mkdir(parents=True, exist_ok=True)
-                (folder / file).write_text(files[file], encoding="utf-8")
+                (folder / file).write_bytes(files[file].encode("utf-8"))
             else:
                 (folder / file).unlink()
     if arguments and status == 0:

@@ -42,7 +42,10 @@ LEMMA = r"(?:pub (?:\( crate \) )?)?fn (\w+) (?:< [^()]*? > )?\( (?:\w+ : & (?!m
 
 
 def tokens(path):
-    return [word for word in re.findall(TOKEN, path.read_text(encoding="utf-8")) if word[:2] != "//"]
+    text = path.read_bytes().decode("utf-8")
+    if "\r" in text:
+        sys.exit(f"{path}: contains a carriage return, at which not every program ends a comment")
+    return [word for word in re.findall(TOKEN, text) if word[:2] != "//"]
 
 
 def lemmas_in(source):
@@ -116,10 +119,12 @@ def main(source, folder):
         names[found] = "# [ track_caller ] " + found
     lemmas = lemmas_in(source)
     imports = f"use crate :: {'fallible' if library else 'host'} :: * ;".split()
-    paths = sorted(Path(folder).glob("*.rs"))
-    there = {path.stem for path in Path(source).glob("*.rt")} - {"lib", "main", "laws"} | {"mod"}
-    wrong = len(there ^ {path.stem for path in paths})
-    for path in paths:
+    there = {str(path.relative_to(folder)) for path in Path(folder).rglob("*") if path.is_file()} - {"README.md"}
+    files = {f"{path.stem}.rs" for path in Path(source).glob("*.rt")} - {"lib.rs", "main.rs", "laws.rs"} | {"mod.rs"}
+    for file in sorted(there ^ files):
+        print(f"{folder}/{file}: is missing, or has no source")
+    wrong = len(there ^ files)
+    for path in sorted(map(Path(folder).joinpath, there & files)):
         of = path.with_suffix(".rt").name if path.stem != "mod" else "main.rt"
         of = Path(source) / of if (Path(source) / of).exists() else Path(source) / "lib.rt"
         tokens_there = without_lemmas(tokens(of), lemmas)
