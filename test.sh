@@ -15,7 +15,7 @@
 set -uo pipefail
 unset CDPATH
 start=$SECONDS quick=() install=1
-stop() { echo "test.sh: $1" >&2; exit 2; }
+stop() { echo "test.sh: $*" >&2; exit 2; }
 for flag; do
     case $flag in
     --help | -h) sed -n '2,/^[^#]/s/^# \{0,1\}//p' "$0"; exit ;;
@@ -33,13 +33,17 @@ case ${XDG_CACHE_HOME:-} in /*) ;; *) unset XDG_CACHE_HOME ;; esac
 cache=${XDG_CACHE_HOME:-${HOME:-}/.cache}/proved-getopts
 rust=$cache/rust agda=$cache/agda
 [ ! -d "${1:-}" ] || set -- "$(cd "$1" && pwd)"
-cd "$(dirname "$0")" || exit
-# Cargo and rustup read configurations, and toolchains, in all folders above. A machine for CI has no other users.
-above=$PWD
+cd -P "$(dirname "$0")" || exit
+# Cargo and rustup read configurations, and toolchains, in the clone and all folders above, which only root and this user may
+# change. A group of the user's name has no other members. A machine for CI has no other users.
+own=0
+[ "$(id -gn)" != "$(id -un)" ] || own=$(id -g)
+above=$PWD/
 while [ "$above" ] && [ "${CI:-}" != true ]; do
     above=${above%/*}
-    [ -z "$(find "${above:-/}" -maxdepth 0 -perm -o+w)" ] ||
-        stop "other users can put programs into $above: clone the repository into a folder where only you can write"
+    [ -z "$(find "${above:-/}" -maxdepth 0 \( -perm -o+w -o -perm -g+w ! -gid 0 ! -gid "$own" -o ! -uid 0 ! -uid "$(id -u)" \))" ] ||
+        stop "other users can put programs into ${above:-/}: clone the repository into a folder where only you can write" \
+            "(or set CI=true, if this machine has no other users)"
 done
 command -v rt >/dev/null || [ ${#quick[@]} = 1 ] || [ "${1:-}" = -k ] ||
     stop "rt not found: put the toolchain's bin folder on the path, or run 'test.sh --quick', which doesn't need it"

@@ -59,11 +59,18 @@ def test_changed_shell_binary(test_sh, tmp_path):
         assert ("build.py --rebuild" in test_sh("--no-install")[2]) == compared
 
 
-def test_clone_in_shared_folder(test_sh, tmp_path):
-    """Cargo and rustup would read what other users put beside the clone."""
-    tmp_path.chmod(0o1777)
-    _, errors, calls = test_sh("--no-install", "--quick", status=2)
-    assert errors.startswith(f"test.sh: other users can put programs into {tmp_path}: ") and calls == []
+@pytest.mark.parametrize("folder, mode, owner, group, shared", [
+    ("", 0o1777, -1, -1, True), ("copy", 0o757, -1, -1, True), ("", 0o775, 0, 100, True), ("", 0o755, 65534, -1, True),
+    ("", 0o775, 0, 0, False), ("", 0o755, 0, 100, False)])
+def test_clone_in_shared_folder(test_sh, tmp_path, folder, mode, owner, group, shared):
+    """Cargo and rustup would read what other users put into the clone, or beside it."""
+    if (owner, group) != (-1, -1) and os.getuid() != 0:
+        pytest.skip("needs root, for chown")
+    os.chown(tmp_path / folder, owner, group)
+    (tmp_path / folder).chmod(mode)
+    _, errors, calls = test_sh("--no-install", "--quick", status=2 * shared)
+    said = f"test.sh: other users can put programs into {tmp_path / folder}: "
+    assert errors.startswith(said if shared else "") and len(calls) == (not shared)
     assert len(test_sh("--no-install", "--quick", CI="true")[2]) == 1
 
 
