@@ -104,7 +104,10 @@ def runner(target, room):
     words = [word.format(room=room) for word in TARGETS[target][1]]
     need(*words[:1])
     if words[:1] == ["wine"]:
-        os.environ.update(WINEPREFIX=str(room / "wine"), WINEDEBUG="-all")
+        # The heap of 64-bit Wine begins at a random address within a GB. In about one of 2,000 runs, it covers the page
+        # that Wine needs at 0x7ffe0000, and Wine ends with status 1, without a message unless err+virtual is set.
+        os.environ.update(WINEPREFIX=str(room / "wine"), WINEDEBUG="-all,err+virtual")
+        words = ["setarch", "-R", *words] if succeeds("setarch", "-R", "true") else words
     os.environ["NODE_NO_WARNINGS"] = "1"
     return words
 

@@ -96,14 +96,8 @@ def for_windows(tmp_path_factory):
 def by_wine(for_windows):
     room, cargo_here = for_windows
     cargo_here("build")
-    wine = shutil.which(runner(WINDOWS, room)[0])
-    by = script(room / "by_wine", f"""#!/usr/bin/env bash
-# Wine's own messages are dropped.
-"{wine}" "{room}/target/{WINDOWS}/release/getopts_shell.exe" "$@" 2>"{room}/errors"
-status=$?
-sed '/^wine: /d' "{room}/errors" >&2
-exit $status
-""")
+    wine = shlex.join(shutil.which(word) or word for word in runner(WINDOWS, room))
+    by = script(room / "by_wine", f'#!/bin/sh\nexec {wine} "{room}/target/{WINDOWS}/release/getopts_shell.exe" "$@"\n')
     # Keep the server running, so that no run meets one that is shutting down. The first run creates wine's folder, and
     # starts processes that would otherwise keep a later run's pipes open.
     (room / "wine").mkdir(exist_ok=True)
