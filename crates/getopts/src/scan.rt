@@ -5,13 +5,13 @@ ghost use Rattle.std.specs.Prelude.{OnOk, IfOk, IfErr, IfSome, IfNone, Some, Non
 ghost use Rattle.std.specs.Prelude.{map};
 ghost use Rattle.std.specs.String.{string_bytes};
 ghost use Rattle.std.specs.Option.{option_copied};
-ghost use Rattle.getopts.specs.Reading.{Dashes, dash, holds_equals, is_dashed, free_word, tail_frees};
+ghost use Rattle.getopts.specs.Reading.{Dashes, holds_equals, is_dashed, free_word, tail_frees};
 ghost use Rattle.getopts.specs.Reader.{IsNextFault};
 ghost use Rattle.getopts.specs.Stored.Scan.{tail_of};
 ghost use Rattle.getopts.specs.Accessors.{borrowed_given};
 ghost use Rattle.getopts.specs.Fail.{IsOutOfMemoryOr};
 ghost use Rattle.std.specs.Str.{IsUtf8};
-ghost use Rattle.getopts.specs.Names.{AreTexts, Text};
+ghost use Rattle.getopts.specs.Names.{AreTexts};
 ghost use Rattle.getopts.specs.Step.{with_equals, first_char, chosen_long, chosen_end, Chooses};
 ghost use Rattle.getopts.specs.Step.{Step, name_step, faults};
 
@@ -194,17 +194,6 @@ pub(crate) fn free_words<S: AsStr>(left: &[S]) -> &[S]
     match left.first() {
         Some(word) if word.as_str() == "--" => &left[1..],
         _ => left,
-    }
-}
-
-/// The text after a leading dash, if there is one.
-fn after_dash(text: &str) -> Option<&str>
-    ensures { MatchOption result ((rest : Text) → text.now ≢ dash ∷ rest)
-        (λ rest. text.now ≡ dash ∷ rest.now) }
-{
-    match text.as_bytes() {
-        [b'-', ..] => Some(&text[1..]),
-        _ => None,
     }
 }
 
@@ -426,18 +415,12 @@ impl<'o> Scanner<'o> {
     fn shape<'w>(&self, word: &'w str) -> Shape<'w>
         ensures { HasShape (scanner_grammar self.now) word.now result }
     {
-        if !is_dashed(word) {
-            return Shape::Free;
-        }
-        let text = match after_dash(word) {
-            Some(text) => text,
-            None => return Shape::Free,
-        };
-        match after_dash(text) {
-            Some(long) if long.is_empty() => Shape::Stop,
-            Some(long) => Shape::Long(long),
-            None if self.options.is_long_only() => Shape::Long(text),
-            None => Shape::Cluster(text),
+        match word.as_bytes() {
+            [b'-', b'-'] => Shape::Stop,
+            [b'-', b'-', ..] => Shape::Long(&word[2..]),
+            [b'-', _, ..] if self.options.is_long_only() => Shape::Long(&word[1..]),
+            [b'-', _, ..] => Shape::Cluster(&word[1..]),
+            _ => Shape::Free,
         }
     }
 

@@ -155,14 +155,6 @@ pub(crate) fn free_words<S: AsStr>(left: &[S]) -> &[S] {
     }
 }
 
-/// The text after a leading dash, if there is one.
-fn after_dash(text: &str) -> Option<&str> {
-    match text.as_bytes() {
-        [b'-', ..] => Some(&text[1..]),
-        _ => None,
-    }
-}
-
 /// The name in the text of a long item, and the attached argument, which follows the first `=`.
 fn name_and_argument(text: &str) -> (&str, Option<&str>) {
     match text.split_once('=') {
@@ -326,18 +318,12 @@ impl<'o> Scanner<'o> {
     /// How a word is read. In long-only mode, a long item may begin with one dash.
     #[inline(always)]
     fn shape<'w>(&self, word: &'w str) -> Shape<'w> {
-        if !is_dashed(word) {
-            return Shape::Free;
-        }
-        let text = match after_dash(word) {
-            Some(text) => text,
-            None => return Shape::Free,
-        };
-        match after_dash(text) {
-            Some(long) if long.is_empty() => Shape::Stop,
-            Some(long) => Shape::Long(long),
-            None if self.options.is_long_only() => Shape::Long(text),
-            None => Shape::Cluster(text),
+        match word.as_bytes() {
+            [b'-', b'-'] => Shape::Stop,
+            [b'-', b'-', ..] => Shape::Long(&word[2..]),
+            [b'-', _, ..] if self.options.is_long_only() => Shape::Long(&word[1..]),
+            [b'-', _, ..] => Shape::Cluster(&word[1..]),
+            _ => Shape::Free,
         }
     }
 
