@@ -1,11 +1,13 @@
 -- What a caller reads in a loop, one option or free word at a time.
 use Rattle.std.proofs.Common.{◌≡◌, ◌≢◌, ◌<◌, ℕ, false, true, List, [], ◌∷◌, ◌++◌, length, Option, Some, None, refl, rules, sym}
-use Rattle.std.proofs.Common.{◌∙◌, encode_utf8, append_assoc, append-nil}
+use Rattle.std.proofs.Common.{◌∙◌, Bool, Ok, encode_utf8, append_assoc, append-nil}
+use Rattle.std.proofs.lemmas.Bool.{false≢true, true_from_ne_false}
 use Rattle.std.specs.List.{AllByRecursion}
 use Rattle.getopts.specs.Options.{Declared, MayBeDeclared, grammar_of}
 use Rattle.getopts.proofs.table.Names.{has_text_names}
 use Rattle.getopts.specs.Fail.{Fault}
 use Rattle.getopts.specs.Reading as Spec
+use Rattle.getopts.specs.Results.{order_or_error}
 use Rattle.getopts.specs.Names.{Text}
 use Rattle.getopts.specs.Options.{Grammar}
 use Rattle.getopts.specs.Reading.{Given, Item, free_items, free_word, frees_in}
@@ -14,7 +16,7 @@ use Rattle.getopts.proofs.Lists.{filled-append}
 use Rattle.getopts.proofs.MainTheorem.BeforeFree.{no_free_items}
 use Rattle.getopts.proofs.Reading.Laws.{free_items-append}
 use Rattle.getopts.proofs.Reading.Positions.{frees_in-append, frees_in-items, order_of_items-append}
-use Rattle.getopts.specs.Reader.{AreReadTo, Left, IsReadTo, among_frees, among_options, between_words, within_word}
+use Rattle.getopts.specs.Reader.{AreReadTo, IsReadInItems, Left, IsReadTo, between_words, within_word}
 use Rattle.getopts.specs.Reader.{IsNextFault, flags_before, in_next, in_this}
 use Rattle.getopts.proofs.Reading.Reader.{HasTextNames}
 use Rattle.getopts.proofs.Reading.Steps as Steps
@@ -26,27 +28,20 @@ free_items-stopped grammar stops (between_words none read) = no_free_items gramm
 free_items-stopped grammar stops (within_word before word filled has begun items_are read) =
     rw (items_are, free_items-append, no_free_items grammar stops before read.lawful) refl
 
-module _ {grammar : Grammar} {line : List Text} {given : List Given} {left : Left} where
-  -- before the first call
-  pub IsReadTo-start : given ≡ [] → left.names ≡ [] → left.words ≡ line → left.only_free ≡ false
-      → IsReadTo grammar line given left
-  IsReadTo-start empty none all options =
-      among_options [] options (between_words none (record { spells = all; lawful = tt; followed = tt })) empty
-
-  -- the same, with equal options and free words
-  pub IsReadTo-same : {before : List Given} → IsReadTo grammar line before left → before ≡ given
-      → IsReadTo grammar line given left
-  IsReadTo-same read_to same = rw same at read_to
+-- up to where options may follow
+pub IsReadTo-items : {options : Declared} {line : List Text} {given : List Given} {left : Left} → left.only_free ≡ false
+    → IsReadInItems (grammar_of options) line given left → IsReadTo options line given left
+IsReadTo-items may read = record { among_options = λ same. read; among_frees = λ only. absurd (false≢true (sym may ∙ only)) }
 
 -- under `StopAtFirstFree`, only free words follow a free word
-pub only_free-stopped : {grammar : Grammar} {line : List Text} (given : List Given) (word : Text) {left : Left}
-    → grammar.style ≡ StopAtFirstFree → IsReadTo grammar line (given ++ free_word word ∷ []) left
+pub only_free-stopped : {options : Declared} {line : List Text} (given : List Given) (word : Text) {left : Left}
+    → options.style ≡ StopAtFirstFree → IsReadTo options line (given ++ free_word word ∷ []) left
     → left.only_free ≡ true
-only_free-stopped given word stops (among_frees reading frees only reads frees_are given_is) = only
-only_free-stopped {grammar} given word stops (among_options items options read_to given_is) =
+only_free-stopped {options} given word {left} stops read_to = true_from_ne_false left.only_free (λ may.
+    let read = read_to.among_options may in
     let none : frees_in (given ++ free_word word ∷ []) ≡ [] =
-    rw (given_is, frees_in-items) (free_items-stopped grammar stops read_to) in
-    absurd (filled-append (frees_in given) word [] (rw frees_in-append at none))
+    rw (read.given_is, frees_in-items) (free_items-stopped (grammar_of options) stops read.read) in
+    filled-append (frees_in given) word [] (rw frees_in-append at none))
 
 -- A word in short form that begins with a flag.
 module _ (grammar : Grammar) (flag : ℕ) (names word : Text) (word_is : word ≡ Spec.dash ∷ flag ∷ names)
@@ -87,16 +82,17 @@ no_fault-flag options flag names after declared ordinary second is left fault no
 no_fault-flag options flag names after declared ordinary second is left fault none words_are (in_this may filled at) =
     filled none
 
+-- what a flag gives
+abbrev first : Grammar → ℕ → Given
+first grammar flag = Spec.given_option (Spec.mention_of grammar (flag ∷ []) None)
+
 -- A line whose first word begins with a flag.
 module _ (grammar : Grammar) (flag : ℕ) (names : Text) (after : List Text) (ordinary : grammar.long_only ≡ false)
     (second : flag ≢ Spec.dash) (is : Spec.IsFlag grammar flag) where
-  abbrev first : Given
-  first = Spec.given_option (Spec.mention_of grammar (flag ∷ []) None)
-
   -- a cluster gives the flag first
   cluster_first : (bytes : List ℕ) (end : Spec.End) → Spec.IsLawfulCluster grammar bytes end
       → bytes ++ Spec.end_text end ≡ flag ∷ names → (others more : List Given) (given : Given)
-      → given ∷ others ≡ Spec.given_by grammar (Spec.cluster bytes end) ++ more → given ≡ first
+      → given ∷ others ≡ Spec.given_by grammar (Spec.cluster bytes end) ++ more → given ≡ first grammar flag
   cluster_first [] Spec.flags lawful same others more given gives = absurd (lawful.last refl)
   cluster_first [] (Spec.ends_in option argument) lawful same others more given gives = search rules
   cluster_first (byte ∷ bytes) end lawful same others more given gives = search rules
@@ -104,7 +100,7 @@ module _ (grammar : Grammar) (flag : ℕ) (names : Text) (after : List Text) (or
   -- so does an item
   item_first : (item : Item) → Spec.IsLawfulItem grammar item → (words : List Text)
       → Spec.item_words item ++ words ≡ (Spec.dash ∷ flag ∷ names) ∷ after → (others more : List Given) (given : Given)
-      → given ∷ others ≡ Spec.given_by grammar item ++ more → given ≡ first
+      → given ∷ others ≡ Spec.given_by grammar item ++ more → given ≡ first grammar flag
   item_first (Spec.free word) lawful words same others more given gives = search rules
   item_first (Spec.long Spec.one name argument) lawful words same others more given gives = search rules
   item_first (Spec.long Spec.two name argument) lawful words same others more given gives = search rules
@@ -114,14 +110,14 @@ module _ (grammar : Grammar) (flag : ℕ) (names : Text) (after : List Text) (or
   -- and items, or flags
   items_first : (items : List Item) → AllByRecursion (Spec.IsLawfulItem grammar) items → (words : List Text)
       → Spec.spelled_all items words ≡ (Spec.dash ∷ flag ∷ names) ∷ after → items ≢ [] → (others more : List Given)
-      (given : Given) → given ∷ others ≡ Spec.order_of_items grammar items ++ more → given ≡ first
+      (given : Given) → given ∷ others ≡ Spec.order_of_items grammar items ++ more → given ≡ first grammar flag
   items_first [] lawful words same filled others more given gives = absurd (filled refl)
   items_first (item ∷ items) lawful words same filled others more given gives =
       item_first item lawful.0 (Spec.spelled_all items words) same others (Spec.order_of_items grammar items ++ more) given
       (search (rules, append_assoc))
 
   begun_first : (bytes left : List ℕ) → bytes ≢ [] → bytes ++ left ≡ flag ∷ names → (others : List Given) (given : Given)
-      → given ∷ others ≡ Spec.order_of_items grammar (Spec.cluster bytes Spec.flags ∷ []) → given ≡ first
+      → given ∷ others ≡ Spec.order_of_items grammar (Spec.cluster bytes Spec.flags ∷ []) → given ≡ first grammar flag
   begun_first [] left filled same others given gives = absurd (filled refl)
   begun_first (byte ∷ bytes) left filled same others given gives = search rules
 
@@ -129,7 +125,7 @@ module _ (grammar : Grammar) (flag : ℕ) (names : Text) (after : List Text) (or
       → word ≡ Spec.dash ∷ (bytes ++ left) → AllByRecursion (Spec.IsLawfulItem grammar) before
       → Spec.spelled_all before (word ∷ words) ≡ (Spec.dash ∷ flag ∷ names) ∷ after → (others : List Given)
       (given : Given) → given ∷ others ≡ Spec.order_of_items grammar (before ++ Spec.cluster bytes Spec.flags ∷ [])
-      → given ≡ first
+      → given ≡ first grammar flag
   within_first [] bytes left word words filled word_is lawful same others given gives =
       begun_first bytes left filled (search rules) others given gives
   within_first (item ∷ before) bytes left word words filled word_is lawful same others given gives =
@@ -139,24 +135,24 @@ module _ (grammar : Grammar) (flag : ℕ) (names : Text) (after : List Text) (or
 
   read_first : {items : List Item} {left : Text} {words : List Text} (others : List Given) (given : Given)
       → AreReadTo grammar ((Spec.dash ∷ flag ∷ names) ∷ after) items left words
-      → given ∷ others ≡ Spec.order_of_items grammar items → given ≡ first
+      → given ∷ others ≡ Spec.order_of_items grammar items → given ≡ first grammar flag
   read_first {items} others given (between_words none read) gives =
       items_first items read.lawful _ read.spells (λ (none : items ≡ []). cc (none, gives)) others [] given
       (gives ∙ sym (append-nil _))
   read_first others given (within_word before word filled has begun items_are read) gives =
       within_first before has.bytes _ word _ begun has.word_is read.lawful read.spells others given (rw items_are at gives)
 
-  pub first_flag : {left : Left} (others : List Given) (given : Given)
-      → IsReadTo grammar ((Spec.dash ∷ flag ∷ names) ∷ after) (given ∷ others) left → given ≡ first
-  first_flag others given (among_options items options read_to given_is) = read_first others given read_to given_is
-  first_flag others given (among_frees reading frees only reads frees_are given_is) =
-      items_first reading.items reads.items _ reads.spells (no_tail reading reads) others _ given given_is where
-        no_tail : (reading : Spec.Reading) → Spec.IsReading grammar reading ((Spec.dash ∷ flag ∷ names) ∷ after)
-            → reading.items ≢ []
-        no_tail reading reads none = ends reading.tail reads.tail (rw none at reads.spells) where
-          ends : (tail : Spec.Tail) → Spec.IsLawfulTail grammar tail
-              → Spec.tail_words tail ≢ (Spec.dash ∷ flag ∷ names) ∷ after
-          ends Spec.line_end lawful same = cc same
-          ends (Spec.stop words) lawful same = search rules
-          ends (Spec.rest []) lawful same = lawful
-          ends (Spec.rest (word ∷ words)) lawful same = search rules
+-- This is what it gives first, if the order of the whole line, where there is one, begins with it.
+pub first_flag : (options : Declared) (flag : ℕ) (names : Text) (after : List Text) → options.long_only ≡ false
+    → flag ≢ Spec.dash → Spec.IsFlag (grammar_of options) flag → (others : List Given) (given : Given)
+    → ((order : List Given) → order_or_error options ((Spec.dash ∷ flag ∷ names) ∷ after) ≡ Ok (given ∷ order)
+    → given ≡ first (grammar_of options) flag)
+    → {left : Left} → IsReadTo options ((Spec.dash ∷ flag ∷ names) ∷ after) (given ∷ others) left
+    → given ≡ first (grammar_of options) flag
+first_flag options flag names after ordinary second is others given whole {left} read_to =
+    by_state left.only_free refl where
+      by_state : (only : Bool) → left.only_free ≡ only → given ≡ first (grammar_of options) flag
+      by_state true only = whole _ (read_to.among_frees only)
+      by_state false may =
+          let read = read_to.among_options may in
+          read_first (grammar_of options) flag names after ordinary second is others given read.read read.given_is

@@ -1,13 +1,13 @@
 -- What a caller has read of a line, one option or free word at a time.
-use Rattle.std.specs.Prelude.{◌≡◌, ◌≢◌, ℕ, ◌+◌, Bool, true, false, List, [], ◌∷◌, ◌++◌, length, map}
+use Rattle.std.specs.Prelude.{◌≡◌, ◌≢◌, ℕ, ◌+◌, Bool, true, false, List, [], ◌∷◌, ◌++◌, length, map, Ok}
 use Rattle.std.specs.List.{AllByRecursion}
 use Rattle.getopts.specs.Names.{Text}
-use Rattle.getopts.specs.Options.{Grammar}
+use Rattle.getopts.specs.Options.{Declared, Grammar, grammar_of}
 use Rattle.getopts.specs.Fail.{Fault}
 use Rattle.getopts.specs.Reading.{Item, cluster, flags, IsLawfulItem, AreWellFollowed, spelled_all}
 use Rattle.getopts.specs.Reading.{Given, free_word, order_of_items, HasAfterFlags, IsFaultAt}
-use Rattle.getopts.specs.Reading.{Reading, IsReading, tail_frees, unknown_byte, wide_character}
-use Rattle.getopts.specs.Reading.{short_unfinished}
+use Rattle.getopts.specs.Reading.{short_unfinished, unknown_byte, wide_character}
+use Rattle.getopts.specs.Results.{order_or_error}
 use Rattle.getopts.specs.declared.reader.Unread.{Unread}
 
 -- These items begin the line, and these words are left.
@@ -41,23 +41,25 @@ left_in text unread = record {
   only_free = unread.only_free;
 }
 
--- The line was read up to what is left, and gave these options and free words.
-pub data IsReadTo (grammar : Grammar) (line : List Text) (given : List Given) (left : Left)
+-- These options and free words are what valid items of the line gave, and options may follow.
+pub record IsReadInItems (grammar : Grammar) (line : List Text) (given : List Given) (left : Left)
     : Type 0 where
-  -- options may follow
-  among_options : (items : List Item) → left.only_free ≡ false
-      → AreReadTo grammar line items left.names left.words → given ≡ order_of_items grammar items
-      → IsReadTo grammar line given left
-  -- only free words follow, and all words can be read
-  among_frees : (reading : Reading) (frees : List Text) → left.only_free ≡ true
-      → IsReading grammar reading line → tail_frees reading.tail ≡ frees ++ left.words
-      → given ≡ order_of_items grammar reading.items ++ map free_word frees
-      → IsReadTo grammar line given left
+  pub items : List Item
+  pub read : AreReadTo grammar line items left.names left.words
+  pub given_is : given ≡ order_of_items grammar items
+
+-- The line was read up to what is left, and gave these options and free words. Once only free words
+-- are left, the whole line gives these, and then the words that are left.
+pub record IsReadTo (options : Declared) (line : List Text) (given : List Given) (left : Left)
+    : Type 0 where
+  pub among_options : left.only_free ≡ false → IsReadInItems (grammar_of options) line given left
+  pub among_frees : left.only_free ≡ true
+      → order_or_error options line ≡ Ok (given ++ map free_word left.words)
 
 -- For each line of which this is left, this is true of the line and of what it gave before.
-abbrev pub IfReadTo : Grammar → Left → (List Text → List Given → Type 0) → Type 0
-IfReadTo grammar left P =
-    (line : List Text) (before : List Given) → IsReadTo grammar line before left → P line before
+abbrev pub IfReadTo : Declared → Left → (List Text → List Given → Type 0) → Type 0
+IfReadTo options left P =
+    (line : List Text) (before : List Given) → IsReadTo options line before left → P line before
 
 -- the flags that precede an error in its word
 abbrev pub flags_before : {grammar : Grammar} {word : Text} {after : List Text} {fault : Fault}

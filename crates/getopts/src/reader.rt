@@ -1,13 +1,12 @@
 //! Reading a command line in a loop of the caller's, one option or free word at a time.
 
 ghost use Rattle.std.specs.Prelude.{◌≡◌, ◌<◌, ◌∷◌, ◌++◌, [], Ok, Err, IfOk, IfErr, OnErr, IfSome, IfNone};
-ghost use Rattle.std.specs.Prelude.{false, map, option_to_list, true};
+ghost use Rattle.std.specs.Prelude.{false, true};
 ghost use Rattle.getopts.specs.Accessors.{borrowed_given};
 ghost use Rattle.getopts.specs.Fail.{IsOutOfMemoryOr};
 ghost use Rattle.getopts.specs.Options.{grammar_of};
 ghost use Rattle.getopts.specs.Parse.{IsDeclared};
 ghost use Rattle.getopts.specs.Reader.{IfReadTo, IsNextFault, IsReadTo, left_in, size_of};
-ghost use Rattle.getopts.specs.Reading.{free_word};
 ghost use Rattle.getopts.specs.Results.{order_or_error};
 
 use crate::fail::Fail;
@@ -118,13 +117,12 @@ impl<'o> Reader<'o> {
         unread: &mut Unread<'w, S>,
     ) -> Result<Option<Given<'w>>, Fail>
         ensures some { IfOk result (λ given. IfSome given (λ given.
-            IfReadTo (grammar_of self.now) (left_in S.text unread.old) (λ line before.
-            IsReadTo (grammar_of self.now) line (before ++ borrowed_given given ∷ [])
-            (left_in S.text unread.new)))) }
+            IfReadTo self.now (left_in S.text unread.old) (λ line before.
+            IsReadTo self.now line (before ++ borrowed_given given ∷ []) (left_in S.text unread.new)))) }
 
         // The place is below the number of options, and the value fits the option's kind.
         ensures declared { IfOk result (λ given. IfSome given (λ given.
-            IfReadTo (grammar_of self.now) (left_in S.text unread.old)
+            IfReadTo self.now (left_in S.text unread.old)
             (λ line before. IsDeclared self.now.groups (borrowed_given given)))) }
 
         // So a loop ends.
@@ -133,14 +131,13 @@ impl<'o> Reader<'o> {
         ensures none { IfOk result (λ given. IfNone given
             ((unread.new.only_free ≡ true) × (unread.new.words.now ≡ []))) }
 
-        // Once only free words are left, the line gives what was given, and then these words.
-        ensures ended { IfOk result (λ given. unread.new.only_free ≡ true
-            → IfReadTo (grammar_of self.now) (left_in S.text unread.old) (λ line before.
-            order_or_error self.now line ≡ Ok (before ++ map borrowed_given (option_to_list given)
-            ++ map free_word (map S.text unread.new.words.now)))) }
+        // At the end, the line gives what was given.
+        ensures ended { IfOk result (λ given. IfNone given
+            (IfReadTo self.now (left_in S.text unread.old)
+            (λ line before. order_or_error self.now line ≡ Ok before))) }
         ensures err { IfErr result (λ fail. IsOutOfMemoryOr fail (λ fault.
-            IfReadTo (grammar_of self.now) (left_in S.text unread.old) (λ line before.
-            order_or_error self.now line ≡ Err fault))) }
+            IfReadTo self.now (left_in S.text unread.old)
+            (λ line before. order_or_error self.now line ≡ Err fault))) }
         ensures next_word { IfErr result (λ fail. IsOutOfMemoryOr fail
             (IsNextFault (grammar_of self.now) (left_in S.text unread.old))) }
         ensures unchanged { OnErr result (unread.new ≡ unread.old) }

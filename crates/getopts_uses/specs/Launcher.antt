@@ -1,13 +1,13 @@
 -- A program that runs another: its options, and what a command line asks for.
-use Rattle.std.specs.Prelude.{◌≡◌, ◌≢◌, ◌++◌, List, [], ◌∷◌, codes, map, Ok, Option, Some, None}
+use Rattle.std.specs.Prelude.{◌≡◌, ◌≢◌, ◌++◌, List, [], ◌∷◌, codes, map, Ok, Option}
 use Rattle.std.specs.List.{AllByRecursion}
-use Rattle.getopts.specs.Options.{Grammar, grammar_of}
+use Rattle.std.specs.Option.{option_map_or}
+use Rattle.getopts.specs.Options.{grammar_of}
 use Rattle.getopts.specs.Prelude.{Declared, Fault, Given, IsNextFault, IsReadTo, Text}
 use Rattle.getopts.specs.Prelude.{borrowed_given, free_word, optflagmulti, option, options_of}
 use Rattle.getopts.specs.Prelude.{optmulti, order_or_error}
 use Rattle.getopts.specs.Reader.{Left}
 use Rattle.getopts.specs.declared.kinds.ParsingStyle.TheVariants.{StopAtFirstFree}
-use Rattle.getopts_uses.specs.declared.launcher.Command.{Command}
 use Rattle.getopts_uses.specs.declared.launcher.Launch.{Launch}
 use Rattle.getopts_uses.specs.declared.request.Request.{Request}
 use Rattle.getopts_uses.specs.declared.request.Request.TheVariants.{Help, Parsed}
@@ -20,28 +20,21 @@ launch_options = record (options_of (
     ∷ optflagmulti [] (codes "help") (codes "print this help")
     ∷ [])) { style = StopAtFirstFree }
 
-abbrev pub launch_grammar : Grammar
-launch_grammar = grammar_of launch_options
-
 -- This is an option, and not help.
 abbrev pub IsOther : Given → Type 0
 IsOther (option place value) = place ≢ 2
 IsOther (free_word word) = ⊥
 
--- the words of a command, if there is one
-abbrev pub command_words : {S : Type 0} → (S → Text) → Option (Command S) → List Text
-command_words text None = []
-command_words text (Some command) = command.program.now ∷ map text command.words.now
-
 -- This is what a command line asks for: help, if no error precedes it, or else to run a command.
 abbrev pub IsAsked : {S : Type 0} → (S → Text) → List Text → Request (Launch S) → Type 0
 IsAsked text line Help = (others : List Given) × (value : Option Text) × (left : Left)
-    × AllByRecursion IsOther others × IsReadTo launch_grammar line (others ++ option 2 value ∷ []) left
+    × AllByRecursion IsOther others × IsReadTo launch_options line (others ++ option 2 value ∷ []) left
 IsAsked text line (Parsed launch) = AllByRecursion IsOther (map borrowed_given launch.options.items)
     × (order_or_error launch_options line
-    ≡ Ok (map borrowed_given launch.options.items ++ map free_word (command_words text launch.command)))
+    ≡ Ok (map borrowed_given launch.options.items ++ map free_word
+    (option_map_or (λ command. command.0.now ∷ map text command.1.now) launch.command [])))
 
 -- This is the error of a command line, and no help precedes it.
 abbrev pub IsRefusedFor : List Text → Fault → Type 0
 IsRefusedFor line fault = (others : List Given) × (left : Left) × AllByRecursion IsOther others
-    × IsReadTo launch_grammar line others left × IsNextFault launch_grammar left fault
+    × IsReadTo launch_options line others left × IsNextFault (grammar_of launch_options) left fault

@@ -1,9 +1,9 @@
 -- The options of `seq`, and its operands, which may be negative numbers.
 use Rattle.std.specs.Prelude.{◌≡◌, ◌++◌, ◌==◌, ◌&&◌, ◌||◌, ℕ, if◌then◌else◌, nat_lt, List, [], ◌∷◌, Bool, true, false}
-use Rattle.std.specs.Prelude.{codes, length, map, Option, None, Result, Ok, Err, unwrap_or}
+use Rattle.std.specs.Prelude.{codes, length, map, Option, None, Ok, unwrap_or}
 use Rattle.std.specs.List.{slice_get, slice_index}
 use Rattle.std.specs.Option.{option_copied}
-use Rattle.getopts.specs.Options.{Grammar, grammar_of}
+use Rattle.getopts.specs.Options.{grammar_of}
 use Rattle.getopts.specs.Prelude.{Declared, Fault, Given, IsNextFault, IsReadTo, Text, free_word}
 use Rattle.getopts.specs.Prelude.{optflagmulti, option, options_of, optmulti, order_or_error, texts}
 use Rattle.getopts.specs.Reader.{Left}
@@ -18,9 +18,6 @@ seq_options = record (options_of (
     ∷ optflagmulti (codes "w") (codes "equal-width") (codes "print leading zeros")
     ∷ [])) { style = StopAtFirstFree }
 
-abbrev pub seq_grammar : Grammar
-seq_grammar = grammar_of seq_options
-
 -- whether a word begins like a negative number: `-` (45), and a digit (48 to 57) or `.` (46)
 abbrev pub is_negative : Text → Bool
 is_negative word = (slice_index word 0 == 45)
@@ -30,16 +27,18 @@ is_negative word = (slice_index word 0 == 45)
 abbrev pub is_at_number : Left → Bool
 is_at_number left = (length left.names == 0) && is_negative (unwrap_or (slice_get left.words 0) [])
 
--- The options and operands of a command line, in order, or its error.
-pub data IsLine (line : List Text) : Result (List Given) Fault → Type 0 where
+-- These are the options and operands of a command line, in order.
+pub data IsLine (line : List Text) (order : List Given) : Type 0 where
   -- a negative number is next: it and the words after it are operands
-  negative : (given : List Given) (left : Left) → IsReadTo seq_grammar line given left
-      → is_at_number left ≡ true → IsLine line (Ok (given ++ map free_word left.words))
+  negative : (given : List Given) (left : Left) → IsReadTo seq_options line given left
+      → is_at_number left ≡ true → order ≡ given ++ map free_word left.words → IsLine line order
   -- no word is an error
-  whole : (order : List Given) → order_or_error seq_options line ≡ Ok order → IsLine line (Ok order)
-  -- the first word that is an error isn't such a number
-  refused : (given : List Given) (left : Left) (fault : Fault) → IsReadTo seq_grammar line given left
-      → is_at_number left ≡ false → IsNextFault seq_grammar left fault → IsLine line (Err fault)
+  whole : order_or_error seq_options line ≡ Ok order → IsLine line order
+
+-- This is the error of a command line: the first word that is an error isn't such a number.
+abbrev pub IsRefusedFor : List Text → Fault → Type 0
+IsRefusedFor line fault = (given : List Given) × (left : Left) × IsReadTo seq_options line given left
+    × (is_at_number left ≡ false) × IsNextFault (grammar_of seq_options) left fault
 
 -- what a command line asks for
 pub record Asked : Type 0 where
@@ -76,5 +75,4 @@ asked_by order =
 
 -- A command line asks for this.
 abbrev pub AsksFor : List Text → Seq → Type 0
-AsksFor line seq =
-    (order : List Given) × IsLine line (Ok order) × (asked_view seq ≡ asked_by order)
+AsksFor line seq = (order : List Given) × IsLine line order × (asked_view seq ≡ asked_by order)

@@ -15,14 +15,8 @@ use std::convert::AsStr;
 #[derive(Debug, Drop)]
 pub struct Launch<'w, S> {
     pub options: Vec<Given<'w>>,
-    pub command: Option<Command<'w, S>>,
-}
-
-/// A program, and its words as they were typed.
-#[derive(Debug, Drop)]
-pub struct Command<'w, S> {
-    pub program: &'w str,
-    pub words: &'w [S],
+    /// The program, and its words as they were typed.
+    pub command: Option<(&'w str, &'w [S])>,
 }
 
 /// The place of the option `help`.
@@ -60,10 +54,7 @@ pub fn read_launch<'w, S: AsStr>(
             Given::Free(program) => {
                 return Ok(Request::Parsed(Launch {
                     options: read,
-                    command: Some(Command {
-                        program,
-                        words: unread.words,
-                    }),
+                    command: Some((program, unread.words)),
                 }));
             }
         }

@@ -1,11 +1,10 @@
 //! Negative numbers as operands, as in `seq -5 5`. If an option is repeated, its last value wins.
 
-ghost use Rattle.std.specs.Prelude.{◌≡◌, [], ◌∷◌, ◌++◌, codes, map, Err, IfErr, IfOk, OnOk, Ok, Some, None};
+ghost use Rattle.std.specs.Prelude.{◌≡◌, [], ◌∷◌, codes, map, IfErr, IfOk, Some, None};
 ghost use Rattle.std.specs.Option.{option_copied};
-ghost use Rattle.getopts.specs.Prelude.{IsOutOfMemoryOr, free_word, left_in, option, texts};
-ghost use Rattle.getopts.specs.Prelude.{unrecognized_option};
-ghost use Rattle.getopts_uses.specs.Seq.{AsksFor, IsLine, asked_view, is_at_number, is_negative};
-ghost use Rattle.getopts_uses.specs.Seq.{seq_options, with_option};
+ghost use Rattle.getopts.specs.Prelude.{IsOutOfMemoryOr, free_word, left_in, option, unrecognized_option};
+ghost use Rattle.getopts_uses.specs.Seq.{AsksFor, IsLine, IsRefusedFor, asked_view, is_at_number};
+ghost use Rattle.getopts_uses.specs.Seq.{is_negative, seq_options, with_option};
 
 use getopts::{Fail, Given, Options, ParsingStyle, Unread};
 use std::alloc::{AllocError, Global};
@@ -43,19 +42,19 @@ fn options(alloc: Global) -> Result<Options, AllocError>
 #[tactic(auto, unfolding(getopts::proofs::OnLiterals::getopts_on_literals))]
 fn lines_written_out()
     ensures operands { IsLine (codes "-5" ∷ codes "5" ∷ [])
-        (Ok (free_word (codes "-5") ∷ free_word (codes "5") ∷ [])) }
+        (free_word (codes "-5") ∷ free_word (codes "5") ∷ []) }
     ensures value { IsLine (codes "-s" ∷ codes "-5" ∷ codes "-.5" ∷ codes "-x" ∷ [])
-        (Ok (option 1 (Some (codes "-5")) ∷ free_word (codes "-.5") ∷ free_word (codes "-x") ∷ [])) }
+        (option 1 (Some (codes "-5")) ∷ free_word (codes "-.5") ∷ free_word (codes "-x") ∷ []) }
     ensures stop { IsLine (codes "-w" ∷ codes "--" ∷ codes "-5" ∷ [])
-        (Ok (option 2 None ∷ free_word (codes "-5") ∷ [])) }
-    ensures cluster { IsLine (codes "-w5" ∷ codes "-5" ∷ []) (Err (unrecognized_option (codes "5"))) }
+        (option 2 None ∷ free_word (codes "-5") ∷ []) }
+    ensures cluster { IsRefusedFor (codes "-w5" ∷ codes "-5" ∷ [])
+        (unrecognized_option (codes "5")) }
 {}
 
 /// What a command line asks for.
 pub fn read_seq<'w, S: AsStr>(alloc: Global, words: &'w [S]) -> Result<Seq<'w>, Fail>
     ensures seq { IfOk result (AsksFor (map S.text words.now)) }
-    ensures err { IfErr result (λ fail. IsOutOfMemoryOr fail
-        (λ fault. IsLine (map S.text words.now) (Err fault))) }
+    ensures err { IfErr result (λ fail. IsOutOfMemoryOr fail (IsRefusedFor (map S.text words.now))) }
 {
     let options = options(alloc)?;
     let reader = options.reader(alloc)?;
@@ -73,19 +72,10 @@ pub fn read_seq<'w, S: AsStr>(alloc: Global, words: &'w [S]) -> Result<Seq<'w>, 
             None => return Ok(seq),
         }
     }
-    push_words(&mut seq.operands, unread.words)?;
-    Ok(seq)
-}
-
-/// Appends words.
-fn push_words<'w, S: AsStr>(operands: &mut Vec<&'w str>, words: &'w [S]) -> Result<(), AllocError>
-    ensures { OnOk result
-        (texts operands.new.items ≡ texts operands.old.items ++ map S.text words.now) }
-{
-    for word in words {
-        operands.push(word.as_str())?;
+    for word in unread.words {
+        seq.operands.push(word.as_str())?;
     }
-    Ok(())
+    Ok(seq)
 }
 
 /// Notes the option at a place, and its value.

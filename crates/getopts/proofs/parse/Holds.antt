@@ -3,7 +3,7 @@ use Rattle.std.proofs.Common.{◌≡◌, ◌<◌, ℕ, zero, suc, true, false, L
 use Rattle.std.proofs.Common.{Option, Some, None, IfSome, IsSome, refl, ap, sym, subst, ◌∙◌, arith, zero-add}
 use Rattle.std.specs.List.{AllByRecursion, flat_map}
 use Rattle.std.specs.Option.{option_and_then, option_map, option_map_or}
-use Rattle.std.proofs.lemmas.Bool.{eqb-true, false≢true}
+use Rattle.std.proofs.lemmas.Bool.{eqb-true}
 use Rattle.std.proofs.lemmas.Option.{option_and_then_some, same_Some}
 use Rattle.getopts.specs.Names.{Text, resolution}
 use Rattle.getopts.specs.Options.{Signature, Group, Declared, names_of, signatures_of, grammar_of, kind_of, occur_of}
@@ -23,7 +23,7 @@ use Rattle.getopts.proofs.counts.Groups.{AllByRecursion-matched}
 use Rattle.getopts.specs.Reading.{Given, option, free_word, Item, mentions, options_in, order_of_reading, Reading}
 use Rattle.getopts.proofs.Reading.Positions.{options_in-order, options_in-items}
 use Rattle.std.proofs.Permutation.{every_append}
-use Rattle.getopts.specs.Reader.{AreReadTo, IsReadTo, Left, among_frees, among_options, between_words, within_word}
+use Rattle.getopts.specs.Reader.{AreReadTo, IsReadTo, Left, between_words, within_word}
 use Rattle.getopts.proofs.canon.Lines.{FitsGroup, FitsGroup-within, IsFitting-reading, IsGood, IsGood-flags, IsGood-items, IsGood-reading}
 use Rattle.getopts.proofs.Stored.Matches.{signatures-matched, occurrences-matched, opt_place-signatures}
 use Rattle.getopts.proofs.Reading.Laws.{TrailingStartIsAfterStop_lem, HavePositionsInOrder-matched}
@@ -202,13 +202,12 @@ IsGood-read options (within_word before word filled has begun items_are read_to)
     )
 
 pub IsDeclared-last : (options : Declared) (before : List Given) (given : Given) {line : List Text} {left : Left}
-    → left.only_free ≡ false → IsReadTo (grammar_of options) line (before ++ given ∷ []) left
+    → left.only_free ≡ false → IsReadTo options line (before ++ given ∷ []) left
     → IsDeclared options.groups given
-IsDeclared-last options before given follow (among_frees reading frees only reads frees_are given_is) =
-    absurd (false≢true (sym follow ∙ only))
-IsDeclared-last options before given follow (among_options items may read_to given_is) =
-    last before (rw given_is (IsDeclared-options options.groups _
-    (rw (options_in-items (grammar_of options) items) (IsGood-read options read_to)))) where
+IsDeclared-last options before given may read_to =
+    let read = read_to.among_options may in
+    last before (rw read.given_is (IsDeclared-options options.groups _
+    (rw (options_in-items (grammar_of options) read.items) (IsGood-read options read.read)))) where
       last : (before : List Given) → AllByRecursion (IsDeclared options.groups) (before ++ given ∷ [])
           → IsDeclared options.groups given
       last [] each = each.0

@@ -1,7 +1,7 @@
 -- A line that is read one option or free word at a time: a name in long form, a name of a cluster,
 -- and a free word.
 use Rattle.std.proofs.Common.{Err, ◌≡◌, ◌≢◌, ◌+◌, ◌-◌, ◌<◌, ◌≤◌, ℕ, List, [], ◌∷◌, ◌++◌, length, rules, drop, refl}
-use Rattle.std.proofs.Common.{◌∙◌, ap, sym, Ok, Option, Some, None, arith, ◌==◌, true, false, map, append_assoc}
+use Rattle.std.proofs.Common.{◌∙◌, ap, sym, Option, Some, None, arith, ◌==◌, true, false, map, append_assoc}
 use Rattle.std.proofs.Common.{slice_index, slice_range, length-append}
 use Rattle.std.proofs.lemmas.Bool.{false≢true}
 use Rattle.std.proofs.lemmas.List.{append-nil, map-append}
@@ -11,13 +11,12 @@ use Rattle.std.specs.List.{AllByRecursion}
 use Rattle.std.specs.Char.{encode_utf8}
 use Rattle.std.specs.Str.{IsUtf8}
 use Rattle.getopts.specs.Names.{Text}
-use Rattle.getopts.specs.Options.{Grammar}
+use Rattle.getopts.specs.Options.{Declared, Grammar, grammar_of}
 use Rattle.getopts.specs.Fail.{Fault, unrecognized_option}
 use Rattle.getopts.specs.Reading as Spec
 use Rattle.getopts.specs.Reader.{AreRead, AreReadTo, IsReadTo, Left, between_words, within_word, words_size}
-use Rattle.getopts.specs.Reader.{among_frees, among_options}
 use Rattle.getopts.specs.Reader.{IsNextFault, flags_before, in_next, in_this}
-use Rattle.getopts.specs.Results.{made_of}
+use Rattle.getopts.specs.Results.{reading_or_error}
 use Rattle.getopts.specs.Step.{Step, takes, faults, name_step, cluster_step, TakesOne, TakesName, takes_last, takes_flag}
 use Rattle.getopts.specs.Step.{chosen_end, chosen_step, first_char, Chooses, long_step, IsInLongForm, IsShortForm}
 use Rattle.getopts.specs.Stored.Scan.{HasOneMore, ReadsOne, tail_of, words_left}
@@ -490,56 +489,51 @@ module _ {grammar : Grammar} {line : List Text} {left : Left} (named : HasTextNa
       let inside = IsInWord-within filled read_to in
       line_fault named line left.words fault inside.read_to (at inside.word inside.has).0
 
-  -- all that it gives, if only free words are left
-  pub order-ended : {given : List Spec.Given} → left.only_free ≡ true → IsReadTo grammar line given left
-      → made_of (Spec.order_of_reading grammar) (read grammar line) ≡ Ok (given ++ map Spec.free_word left.words)
-  order-ended only (among_options items may read_to given_is) = absurd (false≢true (sym may ∙ only))
-  order-ended only (among_frees reading frees is reads frees_are given_is) =
-      rw (reading_read grammar named reading line reads, frees_are, given_is, map-append, append_assoc) refl
-
-module _ {grammar : Grammar} {line : List Text} {left : Left} where
+module _ {options : Declared} {line : List Text} {left : Left} where
   -- its error, whatever it gave before
-  pub IsReadTo-fault : HasTextNames grammar → {given : List Spec.Given} (fault : Fault) → left.only_free ≡ false
-      → IsNextFault grammar (record { names = left.names; words = left.words; only_free = false }) fault
-      → IsReadTo grammar line given left → read grammar line ≡ Err fault
-  IsReadTo-fault named fault options at (among_options items may read_to given_is) =
-      AreReadTo-fault named fault at read_to
-  IsReadTo-fault named fault options at (among_frees reading frees only reads frees_are given_is) =
-      absurd (false≢true (sym options ∙ only))
+  pub IsReadTo-fault : HasTextNames (grammar_of options) → {given : List Spec.Given} (fault : Fault) → left.only_free ≡ false
+      → IsNextFault (grammar_of options) (record { names = left.names; words = left.words; only_free = false }) fault
+      → IsReadTo options line given left → read (grammar_of options) line ≡ Err fault
+  IsReadTo-fault named fault may at read_to = AreReadTo-fault named fault at (read_to.among_options may).read
 
 -- One option or free word more of a line.
-module _ {grammar : Grammar} {line : List Text} {before : List Spec.Given} {left : Left} where
+module _ {options : Declared} {line : List Text} {before : List Spec.Given} {left : Left} where
   -- while options may follow
   pub IsReadTo-next : {after : ℕ} {given : Spec.Given} {names : Text} {words : List Text}
-      → left.only_free ≡ false → ReadsOne grammar after left.names left.words names words given
-      → IsReadTo grammar line before left
-      → IsReadTo grammar line (before ++ given ∷ []) (record { names = names; words = words; only_free = left.only_free })
-  IsReadTo-next options reads (among_options items may read_to given_is) =
-      let one = reads.reads line items read_to in
-      among_options one.all options one.read (rw given_is (sym one.order))
-  IsReadTo-next options reads (among_frees reading frees only is frees_are given_is) =
-      absurd (false≢true (sym options ∙ only))
+      → left.only_free ≡ false → ReadsOne (grammar_of options) after left.names left.words names words given
+      → IsReadTo options line before left
+      → IsReadTo options line (before ++ given ∷ []) (record { names = names; words = words; only_free = left.only_free })
+  IsReadTo-next may reads read_to =
+      let was = read_to.among_options may in
+      let one = reads.reads line was.items was.read in record {
+        among_options = λ same. record { items = one.all; read = one.read; given_is = rw was.given_is (sym one.order) };
+        among_frees = λ only. absurd (false≢true (sym may ∙ only));
+      }
 
   -- where only free words follow
-  pub IsReadTo-tail : left.only_free ≡ false → left.names ≡ [] → Spec.IsLawfulTail grammar (tail_of left.words)
-      → IsReadTo grammar line before left → IsReadTo grammar line before
+  pub IsReadTo-tail : HasTextNames (grammar_of options) → left.only_free ≡ false → left.names ≡ []
+      → Spec.IsLawfulTail (grammar_of options) (tail_of left.words)
+      → IsReadTo options line before left → IsReadTo options line before
       (record { names = left.names; words = Spec.tail_frees (tail_of left.words); only_free = true })
-  IsReadTo-tail options none lawful (among_options items may read_to given_is) =
-      let read = AreRead-between none read_to in
-      among_frees (record { items = items; tail = tail_of left.words }) [] refl (record {
+  unfolding reading_or_error
+  IsReadTo-tail named may none lawful read_to =
+      let was = read_to.among_options may in
+      let read = AreRead-between none was.read in
+      let reads : Spec.IsReading (grammar_of options) (record { items = was.items; tail = tail_of left.words }) line = record {
         spells = rw tail_words-tail_of read.spells;
         items = read.lawful;
         tail = lawful;
         followed = rw tail_words-tail_of read.followed;
-      }) refl (rw append-nil given_is)
-  IsReadTo-tail options none lawful (among_frees reading frees only is frees_are given_is) =
-      absurd (false≢true (sym options ∙ only))
+      } in record {
+        among_options = λ same. absurd (false≢true (sym same));
+        among_frees = λ only. rw (reading_read (grammar_of options) named _ line reads, was.given_is) refl;
+      }
 
   -- after that
   pub IsReadTo-free : (word : Text) {others : List Text} → left.only_free ≡ true → left.words ≡ word ∷ others
-      → IsReadTo grammar line before left → IsReadTo grammar line (before ++ Spec.free_word word ∷ [])
+      → IsReadTo options line before left → IsReadTo options line (before ++ Spec.free_word word ∷ [])
       (record { names = left.names; words = others; only_free = left.only_free })
-  IsReadTo-free word only words_are (among_options items may read_to given_is) = absurd (false≢true (sym may ∙ only))
-  IsReadTo-free word only words_are (among_frees reading frees is reads frees_are given_is) =
-      among_frees reading (frees ++ word ∷ []) is reads (search (rules, append_assoc))
-      (search (rules, map-append, append_assoc))
+  IsReadTo-free word only words_are read_to = record {
+    among_options = λ may. absurd (false≢true (sym may ∙ only));
+    among_frees = λ same. rw append_assoc (rw words_are at (read_to.among_frees only));
+  }

@@ -1,6 +1,6 @@
 -- What the functions of `scan` find in the words that they are given.
 use Rattle.std.specs.Prelude.{◌≡◌, Bool, true, false, Some, List, [], ◌∷◌, ◌++◌, length, map}
-use Rattle.std.specs.Prelude.{Result, Ok, Option, ℕ, ◌≢◌, ◌<◌, ◌+◌, ◌-◌, if◌then◌else◌}
+use Rattle.std.specs.Prelude.{Result, Ok, Option, ℕ, ◌<◌, ◌+◌, ◌-◌, if◌then◌else◌}
 use Rattle.std.specs.Str.{bytes_eq}
 use Rattle.std.specs.String.{string_bytes}
 use Rattle.getopts.specs.Names.{Text}

@@ -1,13 +1,9 @@
 -- Each iteration changes the folder or adds a file.
 use Rattle.std.proofs.Common.{[], append_assoc, refl, rules}
-use Rattle.std.proofs.lemmas.List.{append-nil, map-append}
+use Rattle.std.proofs.lemmas.List.{map-append}
 use Rattle.std.proofs.lemmas.Result.{err_from_is_err_and}
-use Rattle.getopts.proofs.InLoops.{IsReadTo-start}
 use Rattle.getopts.proofs.Weaker.{IsOutOfMemoryOr-weaker}
 use Rattle.getopts_uses.proofs.archive.read_entries.Goals as goal
-
-pub loop-entries-init : goal.loop-entries-init
-loop-entries-init g c = ([], IsReadTo-start (search rules) (search rules) (search rules) (search rules), λ left. search rules)
 
 pub loop-entries-preserved-in-Option : goal.loop-entries-preserved-in-Option
 loop-entries-preserved-in-Option g c =
@@ -32,7 +28,4 @@ pub returns : goal.returns
 returns g c =
     let ended = rw (c.in_default.is, c.in_ok-reader.ensures.options, c.in_ok-options.ensures)
     at c.in_ok-given.ensures.ended in
-    let none = rw c.in_default.is at c.in_ok-given.ensures.none in
-    let order = rw (none.1, append-nil, append-nil) at (ended none.0 _ _ c.loop-entries.invariant.1) in
-    let files = rw (append-nil, append-nil) at (c.loop-entries.invariant.2 []) in
-    rw (order, files) refl
+    rw (ended _ _ c.loop-entries.invariant.1) (search (rules, c.loop-entries.invariant.2 []))

@@ -1,38 +1,46 @@
 -- The checker computes what is read and what is left.
 use Rattle.std.proofs.Common.{false, refl, [], ◌∷◌, rules, lit<, codes}
 use Rattle.getopts.proofs.OnLiterals.{getopts_on_literals}
-use Rattle.getopts.proofs.InLoops.{IsReadTo-start}
-use Rattle.getopts.specs.Reader.{among_options, between_words, in_this, within_word}
+use Rattle.getopts.proofs.InLoops.{IsReadTo-items}
+use Rattle.getopts.specs.Reader.{between_words, in_this, within_word}
 use Rattle.getopts.specs.Reading.{cluster, ends_in, flags, separate, unknown_byte}
-use Rattle.getopts_uses.specs.Seq.{negative, refused, whole}
+use Rattle.getopts_uses.specs.Seq.{negative, whole}
 use Rattle.getopts_uses.proofs.seq.lines_written_out.Goals as goal
 
 pub returns-clause-operands : goal.returns-clause-operands
 unfolding getopts_on_literals
-returns-clause-operands c = negative [] (record {
-  names = [];
-  words = codes "-5" ∷ codes "5" ∷ [];
-  only_free = false;
-}) (IsReadTo-start refl refl refl refl) refl
+returns-clause-operands c =
+    negative [] (record { names = []; words = codes "-5" ∷ codes "5" ∷ []; only_free = false }) (search rules) refl refl
 
 pub returns-clause-value : goal.returns-clause-value
 unfolding getopts_on_literals
 returns-clause-value c =
-    negative _ (record { names = []; words = codes "-.5" ∷ codes "-x" ∷ []; only_free = false })
-    (among_options (cluster [] (ends_in 115 (separate (codes "-5"))) ∷ []) refl (between_words refl (search rules)) refl) refl
+    negative _ (record { names = []; words = codes "-.5" ∷ codes "-x" ∷ []; only_free = false }) (IsReadTo-items refl (record {
+      items = cluster [] (ends_in 115 (separate (codes "-5"))) ∷ [];
+      read = between_words refl (search rules);
+      given_is = refl;
+    })) refl refl
 
 pub returns-clause-stop : goal.returns-clause-stop
 unfolding getopts_on_literals
-returns-clause-stop c = whole _ refl
+returns-clause-stop c = whole refl
 
 pub returns-clause-cluster : goal.returns-clause-cluster
 unfolding getopts_on_literals
-returns-clause-cluster c = refused _ (record { names = codes "5"; words = codes "-5" ∷ []; only_free = false }) _
-    (among_options (cluster (codes "w") flags ∷ []) refl (within_word [] (codes "-w5") (λ e. cc e) (record {
+returns-clause-cluster c = (
+  _,
+  record { names = codes "5"; words = codes "-5" ∷ []; only_free = false },
+  IsReadTo-items refl (record {
+    items = cluster (codes "w") flags ∷ [];
+    read = within_word [] (codes "-w5") (λ e. cc e) (record {
       bytes = codes "w";
       ordinary = refl;
       word_is = refl;
       second = refl;
       each = search rules;
-    }) (λ e. cc e) refl (search rules)) refl) refl
-    (in_this refl (λ e. cc e) (λ word has. (unknown_byte 53 [] (lit< tt) has refl, refl)))
+    }) (λ e. cc e) refl (search rules);
+    given_is = refl;
+  }),
+  refl,
+  in_this refl (λ e. cc e) (λ word has. (unknown_byte 53 [] (lit< tt) has refl, refl)),
+)

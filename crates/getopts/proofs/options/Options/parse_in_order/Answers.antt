@@ -1,7 +1,7 @@
 -- The order is that of the line's reading, if this keeps the counts.
 use Rattle.std.proofs.Common.{◌≡◌, Err, IfErr, List, Ok, Result, map, refl, sym, rules}
 use Rattle.std.specs.List.{AllByRecursion}
-use Rattle.std.proofs.lemmas.List.{append-nil, map-append}
+use Rattle.std.proofs.lemmas.List.{map-append}
 use Rattle.std.proofs.lemmas.List.Elements.{All-from_recursion}
 use Rattle.std.proofs.lemmas.Result.{IfErr-weaker}
 use Rattle.getopts.specs.Accessors.{borrowed_given}
@@ -11,7 +11,6 @@ use Rattle.getopts.specs.Names.{AreTexts, Text}
 use Rattle.getopts.specs.Options.{Declared, MayBeDeclared}
 use Rattle.getopts.specs.Results.{accepted_reading, order_or_error, parse_result, reading_or_error}
 use Rattle.getopts.specs.declared.fail.Fail.{Fail}
-use Rattle.getopts.proofs.InLoops.{IsReadTo-same, IsReadTo-start}
 use Rattle.getopts.proofs.Lists.{AllByRecursion-unmap}
 use Rattle.getopts.proofs.MainTheorem.Results.{HasResults-declared, is_refused}
 use Rattle.getopts.proofs.Weaker.{IsOutOfMemoryOr-exit, IsOutOfMemoryOr-weaker}
@@ -35,16 +34,12 @@ whole : (g : Over) (c : After-check_counts_in_order g) → order_or_error c.args
     ≡ Ok (map borrowed_given c.items.order.items)
 whole g c =
     let ended = rw (c.in_default.is, c.in_ok-reader.ensures.options) at c.in_ok-given.ensures.ended in
-    let none = rw c.in_default.is at c.in_ok-given.ensures.none in
-    rw (none.1, append-nil, append-nil) at (ended none.0 _ _ c.items.invariant)
-
-pub items-init : goal.items-init
-items-init g c = IsReadTo-start (search rules) (search rules) (search rules) (search rules)
+    ended _ _ c.items.invariant
 
 pub items-preserved : goal.items-preserved
 items-preserved g c =
     let read = rw (c.in-Some.is, c.in_ok-reader.ensures.options) at c.in_ok-given.ensures.some in
-    IsReadTo-same (read _ _ c.items.invariant) (search (rules, map-append))
+    search (rules, map-append, read _ _ c.items.invariant)
 
 pub returns-in_err-given-clause-same_error : goal.returns-in_err-given-clause-same_error
 unfolding accepted_reading reading_or_error

@@ -2,13 +2,12 @@
 use Rattle.std.proofs.Common.{◌≡◌, List, ap, false, true, refl, rules, append-nil}
 use Rattle.std.proofs.lemmas.List.{nil_from_length}
 use Rattle.getopts.specs.Names.{Text}
-use Rattle.getopts.specs.Options.{MayBeDeclared, grammar_of}
 use Rattle.getopts.specs.Reader.{IsReadTo, left_in}
 use Rattle.getopts.specs.Reading.{Given}
 use Rattle.getopts.specs.Results.{made_of, reading_or_error}
 use Rattle.getopts.proofs.Weaker.{IsOutOfMemoryOr-exit}
 use Rattle.getopts.proofs.parse.Holds.{IsDeclared-last}
-use Rattle.getopts.proofs.scan.Names.{IsNextFault-options, IsReadTo-fault, IsReadTo-free, IsReadTo-next, IsReadTo-tail, order-ended}
+use Rattle.getopts.proofs.scan.Names.{IsNextFault-options, IsReadTo-fault, IsReadTo-free, IsReadTo-next, IsReadTo-tail}
 use Rattle.getopts.proofs.table.Names.{has_text_names}
 use Rattle.getopts.proofs.reader.Reader.next.Goals as goal
 use Rattle.getopts.proofs.reader.Reader.next.Goals.{After-split_first}
@@ -51,15 +50,15 @@ only_free g c = elim c.if-not-unread.branch [
 ]
 
 read_free : (g : Over) (c : After-split_first g) (line : List Text) (before : List Given)
-    → IsReadTo (grammar_of c.args.self.now) line before (left_in g.S.AsStr.text c.args.unread.now)
-    → IsReadTo (grammar_of c.args.self.now) line before (left_in g.S.AsStr.text c.if-not-unread.unread)
+    → IsReadTo c.args.self.now line before (left_in g.S.AsStr.text c.args.unread.now)
+    → IsReadTo c.args.self.now line before (left_in g.S.AsStr.text c.if-not-unread.unread)
 read_free g c = rw (← c.self.view_is) (λ line before read_to. elim c.if-not-unread.branch [
   | goal.then-not-unread+in_ok-given+in_default w ↦
       let options : c.args.unread.now.only_free ≡ false = search rules in
       let none = rw w.in_default.is at w.in_ok-given.ensures.none in
       let tail = rw w.in_default.is at w.in_ok-given.ensures.tail in
       rw (w.unread-is, w.free_words-unread.ensures)
-      (IsReadTo-tail options none.0 tail read_to)
+      (IsReadTo-tail (has_text_names _ c.self.invariant.0) options none.0 tail read_to)
   | goal.else-not-unread w ↦ rw w.unread-is read_to
 ])
 
@@ -74,17 +73,7 @@ returns-in-None-clause-none g c =
     (only_free g (goal.at.returns-in-None-clause-none g c).After-split_first, nil_from_length _ c.in-None.ensures.cases)
 
 pub returns-in-None-clause-ended : goal.returns-in-None-clause-ended
-unfolding reading_or_error
-returns-in-None-clause-ended g c = λ only line before read_to.
+returns-in-None-clause-ended g c = λ line before read_to.
     let end = (goal.at.returns-in-None-clause-ended g c).After-split_first in
-    let declared : MayBeDeclared c.args.self.now.groups = rw (← c.self.view_is) c.self.invariant.0 in
-    rw append-nil (order-ended (has_text_names _ declared) (only_free g end) (read_free g end line before read_to))
-
-pub returns-in-Some-split_first-clause-ended : goal.returns-in-Some-split_first-clause-ended
-unfolding reading_or_error
-returns-in-Some-split_first-clause-ended g c = λ only line before read_to.
-    let end = (goal.at.returns-in-Some-split_first-clause-ended g c).After-split_first in
-    let declared : MayBeDeclared c.args.self.now.groups = rw (← c.self.view_is) c.self.invariant.0 in
-    rw c.as_str.ensures (order-ended (has_text_names _ declared) only
-    (IsReadTo-free (g.S.AsStr.text c.in-Some-split_first.word.now) (only_free g end)
-    (rw c.in-Some-split_first.ensures.cases.0 refl) (read_free g end line before read_to)))
+    let order = (read_free g end line before read_to).among_frees (only_free g end) in
+    rw (nil_from_length _ c.in-None.ensures.cases, append-nil) at order
