@@ -86,9 +86,9 @@ fn fits_count(occur: Occur, count: usize) -> bool
 fn count_fault(alloc: Global, main: &str, count: usize) -> Fail
     ensures { IsOutOfMemoryOr result (λ fault. fault ≡ count_fault main.now count) }
 {
-    if count == 0 {
-        Fail::option_missing(alloc, main)
-    } else {
-        Fail::option_duplicated(alloc, main)
+    match String::from_str(alloc, main) {
+        Ok(name) if count == 0 => Fail::OptionMissing(name),
+        Ok(name) => Fail::OptionDuplicated(name),
+        Err(_) => Fail::OutOfMemory,
     }
 }

@@ -4,9 +4,7 @@ ghost use Rattle.std.specs.Prelude.{◌≡◌, ◌++◌, ◌↔◌, Some, Ok, If
 ghost use Rattle.std.specs.Cmp.Rules.{comparing};
 ghost use Rattle.std.proofs.Common.{rules};
 ghost use Rattle.getopts.specs.Fail.{IsOutOfMemoryOr, argument_missing, fail_text, fault_name};
-ghost use Rattle.getopts.specs.Fail.{fault_of};
-ghost use Rattle.getopts.specs.Fail.{option_duplicated, option_missing, unexpected_argument};
-ghost use Rattle.getopts.specs.Fail.{unrecognized_option};
+ghost use Rattle.getopts.specs.Fail.{fault_of, unexpected_argument, unrecognized_option};
 ghost use Rattle.getopts.specs.declared.fail.Fail.TheVariants.{OutOfMemory};
 
 use std::alloc::{AllocError, AllocFailed, Global};
@@ -151,18 +149,6 @@ impl Fail {
         ensures { IsOutOfMemoryOr result (λ fault. fault ≡ unrecognized_option name.now) }
     {
         String::from_str(alloc, name).map_or(Fail::OutOfMemory, Fail::UnrecognizedOption)
-    }
-
-    pub(crate) fn option_missing(alloc: Global, name: &str) -> Fail
-        ensures { IsOutOfMemoryOr result (λ fault. fault ≡ option_missing name.now) }
-    {
-        String::from_str(alloc, name).map_or(Fail::OutOfMemory, Fail::OptionMissing)
-    }
-
-    pub(crate) fn option_duplicated(alloc: Global, name: &str) -> Fail
-        ensures { IsOutOfMemoryOr result (λ fault. fault ≡ option_duplicated name.now) }
-    {
-        String::from_str(alloc, name).map_or(Fail::OutOfMemory, Fail::OptionDuplicated)
     }
 
     pub(crate) fn unexpected_argument(alloc: Global, name: &str) -> Fail

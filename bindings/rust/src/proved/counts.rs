@@ -64,9 +64,9 @@ fn fits_count(occur: Occur, count: usize) -> bool {
 }
 
 fn count_fault(alloc: Global, main: &str, count: usize) -> Fail {
-    if count == 0 {
-        Fail::option_missing(alloc, main)
-    } else {
-        Fail::option_duplicated(alloc, main)
+    match String::copy_of(alloc, main) {
+        Ok(name) if count == 0 => Fail::OptionMissing(name),
+        Ok(name) => Fail::OptionDuplicated(name),
+        Err(_) => Fail::OutOfMemory,
     }
 }

@@ -118,14 +118,6 @@ impl Fail {
         String::copy_of(alloc, name).map_or(Fail::OutOfMemory, Fail::UnrecognizedOption)
     }
 
-    pub(crate) fn option_missing(alloc: Global, name: &str) -> Fail {
-        String::copy_of(alloc, name).map_or(Fail::OutOfMemory, Fail::OptionMissing)
-    }
-
-    pub(crate) fn option_duplicated(alloc: Global, name: &str) -> Fail {
-        String::copy_of(alloc, name).map_or(Fail::OutOfMemory, Fail::OptionDuplicated)
-    }
-
     pub(crate) fn unexpected_argument(alloc: Global, name: &str) -> Fail {
         String::copy_of(alloc, name).map_or(Fail::OutOfMemory, Fail::UnexpectedArgument)
     }
