@@ -58,21 +58,11 @@ impl<'o> Eq for OptGroup<'o> {
 
 /// Groups with valid names. `texts` has the hints and descriptions of all groups, and `ends` says
 /// where they are.
-#[derive(Debug)]
+#[derive(Debug, Drop)]
 pub(crate) struct Groups {
     signatures: Signatures,
     texts: String,
     ends: Vec<PairEnds>,
-}
-
-impl Drop for Groups {
-    fn drop(self) {
-        let Groups {
-            signatures: _,
-            texts: _,
-            ends: _,
-        } = self;
-    }
 }
 
 impl Model for Groups {

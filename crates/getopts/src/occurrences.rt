@@ -101,19 +101,10 @@ fn value_from<'v>(
 }
 
 /// The options in a command line, in order, and their values as one text.
-#[derive(Debug)]
+#[derive(Debug, Drop)]
 pub(crate) struct LineOccurrences {
     pub records: Vec<OccurrenceRecord>,
     values: String,
-}
-
-impl Drop for LineOccurrences {
-    fn drop(self) {
-        let LineOccurrences {
-            records: _,
-            values: _,
-        } = self;
-    }
 }
 
 impl Model for LineOccurrences {

@@ -63,19 +63,10 @@ impl SignatureRecord {
 
 /// What parsing needs of groups with valid names. `text` has the short and long name of each group
 /// in turn.
-#[derive(Debug)]
+#[derive(Debug, Drop)]
 pub(crate) struct Signatures {
     text: String,
     records: Vec<SignatureRecord>,
-}
-
-impl Drop for Signatures {
-    fn drop(self) {
-        let Signatures {
-            text: _,
-            records: _,
-        } = self;
-    }
 }
 
 impl Model for Signatures {
