@@ -159,7 +159,11 @@ int getopts_read(struct getopts *options, int count, char *const *words);
 /* Why the last getopts_read failed, such as "Unrecognized option: 'x'". Returns "" if it
  * succeeded, or if nothing was read and the table is valid. The string is valid until the next
  * getopts_read. Of an unknown character from U+10FF80 up in a cluster such as -vx, it shows only
- * the first byte. */
+ * the first byte.
+ *
+ * The message contains words as given, even control characters. If others choose the words, replace
+ * at least the bytes for which iscntrl() is true before a terminal or a log shows the message. In
+ * UTF-8, control characters are also the two bytes 0xC2 and 0x80 to 0x9F. */
 const char *getopts_message(const struct getopts *options);
 
 /* The option's name in getopts_message, such as "x", or "" if the message names no option. With the

@@ -14,6 +14,9 @@ use std::io::Write;
 /// `OptionDuplicated` report the first option, in order of declaration, that occurs the wrong
 /// number of times, by its main name: the long name or, if there is none, the short one.
 ///
+/// A message contains words as given, even control characters. If others choose the words, replace
+/// these before a terminal or a log shows the message, as this example does.
+///
 /// ```
 /// use getopts::{Fail, Options};
 ///
@@ -22,7 +25,7 @@ use std::io::Write;
 /// let problem = |words: &[&str]| match options.parse(words) {
 ///     Ok(_) => "none".to_string(),
 ///     Err(Fail::UnrecognizedOption(name)) => format!("no option is called {name}"),
-///     Err(fail) => fail.to_string(),
+///     Err(fail) => fail.to_string().replace(char::is_control, "?"),
 /// };
 /// assert_eq!(problem(&["--ouput=a"]), "no option is called ouput");
 /// assert_eq!(problem(&["in.txt"]), "Required option 'output' missing");

@@ -15,8 +15,9 @@ use core::fmt;
 /// missing or was given too often. They contain its main name, which is the long name or, if there
 /// is none, the short name.
 ///
-/// Errors are printed as in the Rust crate. The `?` operator turns an `AllocError` into
-/// `OutOfMemory`.
+/// Errors are printed as in the Rust crate, with names as given, even if these contain control
+/// characters. To escape them for a terminal or a log, print the three `parts`. The `?` operator
+/// turns an `AllocError` into `OutOfMemory`.
 #[derive(Debug)]
 pub enum Fail {
     /// The command line ends before the option's argument. Contains the name as typed.
