@@ -152,6 +152,18 @@ def test_stored_answers(program):
 
 
 @EACH
+def test_control_characters(program):
+    """Errors show control characters as octal numbers, and also bytes from 128 to 159 that belong to no character below
+    U+10FF80."""
+    chars = "".join(map(chr, [*range(1, 61), *range(62, 0x180)]))
+    others = b"".join(b"a%c" % byte for byte in range(128, 256)).decode("utf-8", "surrogateescape")
+    for word in [chars, "\udcf4\udc8f\udcbf\udcbf"] + [others] * (program.parent.name != "bin-by_wine"):
+        shown = re.sub("[\1-\x1f\x7f-\x9f\udc80-\udc9f]", lambda it: f"\\{ord(it[0]) & 0xff:03o}", word)
+        line = os.fsencode(f"it: Unrecognized option: '{shown}'\nUsage: it [-a]\n")
+        assert answer(program, "it", "[-a]\tx", f"--{word}") == (line, 2)
+
+
+@EACH
 def test_completion_matches_other_program(program, in_shells):
     for name in ("bash", "zsh", "fish"):
         words = ["--complete", name, "backup", TABLE]

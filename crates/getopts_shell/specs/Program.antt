@@ -1,12 +1,14 @@
 -- The program: what it answers to its words, and with which status.
-use Rattle.std.specs.Prelude.{◌≡◌, ◌≢◌, ◌≤◌, ◌&&◌, ◌||◌, ◌-◌, ℕ, Bool, true, false, List, [], ◌∷◌, ◌++◌}
+use Rattle.std.specs.Prelude.{◌≡◌, ◌≢◌, ◌≤◌, ◌&&◌, ◌||◌, ◌-◌, ◌/◌, ◌%◌, ℕ, Bool, true, false}
+use Rattle.std.specs.Prelude.{List, [], ◌∷◌, ◌++◌}
 use Rattle.std.specs.Prelude.{Option, Some, None, MatchOption, MatchResult, codes, decimal}
 use Rattle.std.specs.Prelude.{if◌then◌else◌, length, map, nat_lt, not, take}
 use Rattle.std.specs.Bool.{MatchBool}
+use Rattle.std.specs.Char.{encode_utf8}
 use Rattle.std.specs.Io.KnownBytes.{Appends}
 use Rattle.std.specs.List.{AllByRecursion, AllZip, find, flat_map, last_or, list_any}
 use Rattle.std.specs.Option.{option_map_or, unwrap_or}
-use Rattle.std.specs.Str.{bytes_eq}
+use Rattle.std.specs.Str.{bytes_eq, chars}
 use Rattle.getopts.specs.Accessors.{first_value, is_present, occurrences_of_name}
 use Rattle.getopts.specs.Canon.{HasCanonicalLine, canonical_word}
 use Rattle.getopts.specs.Parse.{IsWritten}
@@ -22,7 +24,7 @@ use Rattle.getopts.specs.Wrap.{IsDescriptionRows, joined}
 use Rattle.getopts.specs.declared.kinds.HasArg.TheVariants.{Yes, No}
 use Rattle.getopts.specs.declared.kinds.Occur.TheVariants.{Optional}
 use Rattle.getopts.specs.declared.kinds.ParsingStyle.TheVariants.{FloatingFrees, StopAtFirstFree}
-use Rattle.getopts_bytes.specs.Marks.{bytes_of}
+use Rattle.getopts_bytes.specs.Marks.{bytes_of, is_mark}
 use Rattle.getopts_shell.specs.Completion.{functions, offer, stub, takes_argument}
 use Rattle.getopts_shell.specs.Quote.{quoted, shell_words}
 use Rattle.getopts_shell.specs.Table.{Entry, DeclaresOptions, IsTableFault, Operand, TableFault}
@@ -134,13 +136,38 @@ pub record Answer : Type 0 where
 abbrev pub done : Text → Answer
 done text = record { text = text; status = 0 }
 
+-- the number of a character, or the byte that it marks
+abbrev pub number_of : ℕ → ℕ
+number_of char = if is_mark char then char - 0x10_FF00 else char
+
+-- whether it is the number of a control character: one of the first 32, or from 127 to 159
+abbrev pub is_control : ℕ → Bool
+is_control number = nat_lt number 32 || (nat_lt 126 number && nat_lt number 160)
+
+-- a number below 512 as `\` and three octal digits
+abbrev pub octal : ℕ → Text
+octal number = codes "\\"
+    ++ (decimal (number / 64) ++ (decimal (number / 8 % 8) ++ decimal (number % 8)))
+
+-- a character as errors show it: if it is a control character, by its number
+abbrev pub escaped_char : ℕ → Text
+escaped_char char = if is_control (number_of char) then octal (number_of char) else encode_utf8 char
+
+-- a text as errors show it
+abbrev pub escaped : Text → Text
+escaped text = flat_map escaped_char (chars text)
+
+-- the line for an error
+abbrev pub error_line : Text → Text
+error_line text = escaped text ++ codes "\n"
+
 -- an error in how the script calls the program
 abbrev pub misused : Text → Answer
-misused text = record { text = text; status = 5 }
+misused text = record { text = error_line text; status = 5 }
 
--- the line for an error, after a name
+-- the text of an error, after a name
 abbrev pub fault_line : Text → Fault → Text
-fault_line name fault = name ++ (codes ": " ++ (fault_text fault ++ codes "\n"))
+fault_line name fault = name ++ (codes ": " ++ fault_text fault)
 
 -- a message about the table's line with this number
 abbrev pub of_line : ℕ → Text → Text
@@ -151,16 +178,16 @@ of_line number text =
 abbrev pub order_rule : Operand → Text
 order_rule earlier =
     if may_repeat earlier
-    then codes ": no operand may follow '" ++ (earlier.item ++ codes "', which has dots\n")
+    then codes ": no operand may follow '" ++ (earlier.item ++ codes "', which has dots")
     else codes ": no required operand may follow '" ++ (earlier.item
-    ++ codes "', which is optional\n")
+    ++ codes "', which is optional")
 
--- the line for an error in a table
+-- the text of an error in a table
 abbrev pub table_fault_line : TableFault → Text
 table_fault_line (no_option number item) =
-    of_line number (item ++ (codes ": " ++ (reason_of item ++ codes "\n")))
+    of_line number (item ++ (codes ": " ++ reason_of item))
 table_fault_line (name_twice number name) =
-    of_line number (codes "the name '" ++ (name ++ codes "' is already used on an earlier line\n"))
+    of_line number (codes "the name '" ++ (name ++ codes "' is already used on an earlier line"))
 table_fault_line (late_operand number operand earlier) =
     of_line number (operand.item ++ order_rule earlier)
 
@@ -230,7 +257,10 @@ IsHelp script help = (rows : List Text) × IsTheOnly (AllZip IsOperandRow script
 
 -- the answer to rejected words: the line for the error, and the text at the top of the help
 abbrev pub refused_by : Script → Text → Answer
-refused_by script line = record { text = line ++ (brief_text script ++ codes "\n"); status = 2 }
+refused_by script text = record {
+  text = error_line text ++ (brief_text script ++ codes "\n");
+  status = 2;
+}
 
 abbrev pub refused : Script → Fault → Answer
 refused script fault = refused_by script (fault_line script.name fault)
@@ -256,12 +286,12 @@ abbrev pub free_fault : List Operand → List Text → Option OperandFault
 free_fault [] free = None
 free_fault operands free = operand_fault operands free
 
--- the line for an error of free words, after a name
+-- the text of an error of free words, after a name
 abbrev pub operand_fault_line : Text → OperandFault → Text
 operand_fault_line name (missing operand) =
-    name ++ (codes ": Operand '" ++ (operand ++ codes "' missing\n"))
+    name ++ (codes ": Operand '" ++ (operand ++ codes "' missing"))
 operand_fault_line name (unexpected word) =
-    name ++ (codes ": Unexpected operand: '" ++ (word ++ codes "'\n"))
+    name ++ (codes ": Unexpected operand: '" ++ (word ++ codes "'"))
 
 -- A shell reads the text in quotes as one word, the text, and the quoted text's bytes as its bytes.
 pub record IsOneWord (text : Text) : Type 0 where
@@ -294,18 +324,18 @@ is_alone matches entry =
 abbrev pub alone_line : Entry → List Text
 alone_line entry = (codes "--" ++ main_name entry.names) ∷ stop_word ∷ []
 
--- the line for an error about variables
+-- the text of an error about variables
 abbrev pub variable_fault_line : VariableFault → Text
-variable_fault_line arrays_only = codes "getopts_shell: --arrays requires --variables\n"
+variable_fault_line arrays_only = codes "getopts_shell: --arrays requires --variables"
 variable_fault_line (no_prefix prefix) = codes "getopts_shell: the prefix '" ++ (prefix
-    ++ codes "' can't begin a variable name (ASCII letters, digits and '_', no digit first)\n")
+    ++ codes "' can't begin a variable name (ASCII letters, digits and '_', no digit first)")
 variable_fault_line (no_variable number name) = of_line number (codes "the option '" ++ (name
-    ++ codes "' doesn't make a valid variable name (ASCII letters, digits and '_', no digit first)\n"))
+    ++ codes "' doesn't make a valid variable name (ASCII letters, digits and '_', no digit first)"))
 variable_fault_line (shell_variable number name) = of_line number (codes "without a prefix, the option '"
-    ++ (name ++ codes "' may set a variable of the shell: choose a prefix, such as opt_\n"))
+    ++ (name ++ codes "' may set a variable of the shell: choose a prefix, such as opt_"))
 variable_fault_line (variable_twice number earlier name) = of_line number
     (codes "the options '" ++ (earlier ++ (codes "' and '" ++ (name
-    ++ codes "' would have the same variable\n"))))
+    ++ codes "' would have the same variable"))))
 
 -- the error of the variables or arrays that are asked for, with a table of these entries
 abbrev pub asked_fault : Asked → List Entry → Option VariableFault
@@ -323,7 +353,7 @@ pub record IsCanonicalLineOf (options : Declared) (words line : List Text) : Typ
 -- the error for a shell that isn't supported
 abbrev pub no_completion : Text → Answer
 no_completion shell = misused (codes "getopts_shell: no completion for '"
-    ++ (shell ++ codes "': choose bash, zsh or fish\n"))
+    ++ (shell ++ codes "': choose bash, zsh or fish"))
 
 -- the code that completes words in a shell, or the error that it isn't supported
 abbrev pub completion_answer : Asked → Text → Text → Text → Answer
@@ -428,14 +458,14 @@ pub data AnswersTable (asked : Asked) (name table : Text) (words : List Text) (a
 -- the error for a word in place of the table: an option, a script's word, or a part of the table
 abbrev pub no_table : Text → Answer
 no_table word = misused (codes "getopts_shell: '" ++ (word
-    ++ codes "' isn't a table: write options of getopts_shell before NAME, and the table after it, in quotes (a table such as -v needs a line break)\n"))
+    ++ codes "' isn't a table: write options of getopts_shell before NAME, and the table after it, in quotes (a table such as -v needs a line break)"))
 
 -- This is the answer to the free words among the program's own.
 abbrev pub AnswersFree : Asked → List Text → Answer → Type 0
 AnswersFree asked (name ∷ table ∷ words) answer = MatchBool (is_word table)
     (answer ≡ no_table table) (AnswersTable asked name table words answer)
 AnswersFree asked words answer =
-    answer ≡ misused (codes "getopts_shell: NAME and TABLE are required (see --help)\n")
+    answer ≡ misused (codes "getopts_shell: NAME and TABLE are required (see --help)")
 
 -- whether matches contain `--variables` and an option whose text isn't code that sets variables
 abbrev pub sets_nothing : Matched → Bool
@@ -446,7 +476,7 @@ sets_nothing own = is_given own (codes "variables")
 
 -- the error for these, since a script may run the text
 abbrev pub no_code : Answer
-no_code = misused (codes "getopts_shell: --variables can't be given with --help, --version, --usage, --complete or --complete-words; if NAME may begin with '-', write '--' before it\n")
+no_code = misused (codes "getopts_shell: --variables can't be given with --help, --version, --usage, --complete or --complete-words; if NAME may begin with '-', write '--' before it")
 
 -- This is the answer to the program's own words, which have these matches.
 abbrev pub AnswersOwn : Matched → Answer → Type 0

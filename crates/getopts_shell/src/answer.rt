@@ -31,7 +31,7 @@ ghost use Rattle.getopts_shell.specs.Variables.{given_from, line_code};
 
 use crate::complete::{functions, offers, stub};
 use crate::given::{asks_help, first_alone, main_name};
-use crate::message::{fault_line, operand_fault_line, table_refusal, variable_refusal};
+use crate::message::{fault_line, operand_fault_line, push_error, table_refusal, variable_refusal};
 use crate::operand::{OperandError, free_error, push_operands, rows_of};
 use crate::quote::{push_joined, push_line, push_quoted};
 use crate::row::{Frequency, Row};
@@ -64,10 +64,10 @@ const VERSION: &str = "getopts_shell 1.0.0\n";
 
 /// What is written if variables are asked for together with a text that sets none.
 const NO_CODE: &str = "getopts_shell: --variables can't be given with --help, --version, --usage, \
-    --complete or --complete-words; if NAME may begin with '-', write '--' before it\n";
+    --complete or --complete-words; if NAME may begin with '-', write '--' before it";
 
 /// What is written if the name or the table is missing.
-const NEEDED: &str = "getopts_shell: NAME and TABLE are required (see --help)\n";
+const NEEDED: &str = "getopts_shell: NAME and TABLE are required (see --help)";
 
 /// What the program has to write, and its exit status.
 #[derive(Drop)]
@@ -92,13 +92,15 @@ impl Outcome {
     }
 
     /// An error in how the script calls the program.
-    fn misused(text: String) -> Outcome
-        ensures { answer_of result ≡ misused (string_bytes text) }
+    fn misused(alloc: Global, error: String) -> Result<Outcome, AllocError>
+        ensures { IfOk result (λ outcome. answer_of outcome ≡ misused (string_bytes error)) }
     {
-        Outcome {
+        let mut text = String::new(alloc);
+        push_error(&mut text, alloc, error.as_str())?;
+        Ok(Outcome {
             text,
             status: MISUSED,
-        }
+        })
     }
 }
 
@@ -227,7 +229,7 @@ fn answer_to(alloc: Global, words: &[String]) -> Result<Outcome, AllocError>
     let options = own_options(alloc)?;
     match options.parse_words(alloc, words) {
         Ok(own) => own_answer(alloc, &options, &own),
-        Err(fail) => Ok(Outcome::misused(fault_line(alloc, "getopts_shell", &fail)?)),
+        Err(fail) => Outcome::misused(alloc, fault_line(alloc, "getopts_shell", &fail)?),
     }
 }
 
@@ -293,7 +295,7 @@ fn own_answer(alloc: Global, options: &Options, own: &Matches) -> Result<Outcome
     ensures { IfOk result (λ outcome. AnswersOwn own.now (answer_of outcome)) }
 {
     if sets_nothing(own) {
-        return Ok(Outcome::misused(String::from_str(alloc, NO_CODE)?));
+        return Outcome::misused(alloc, String::from_str(alloc, NO_CODE)?);
     }
     if own.opt_present("help") {
         return Ok(Outcome::done(options.usage(alloc, BRIEF)?));
@@ -346,7 +348,7 @@ fn free_answer(alloc: Global, asked: &Asked, words: &[String]) -> Result<Outcome
         [name, table, words @ ..] => {
             table_answer(alloc, asked, name.as_str(), table.as_str(), words)
         }
-        _ => Ok(Outcome::misused(String::from_str(alloc, NEEDED)?)),
+        _ => Outcome::misused(alloc, String::from_str(alloc, NEEDED)?),
     }
 }
 
@@ -357,9 +359,9 @@ fn no_table(alloc: Global, word: &str) -> Result<Outcome, AllocError>
     let text = format!(in alloc;
         "getopts_shell: '{word}' isn't a table: \
          write options of getopts_shell before NAME, and the table after it, in quotes \
-         (a table such as -v needs a line break)\n"
+         (a table such as -v needs a line break)"
     )?;
-    Ok(Outcome::misused(text))
+    Outcome::misused(alloc, text)
 }
 
 /// The answer to a script's name, its table and its words.
@@ -376,7 +378,7 @@ fn table_answer(
 {
     match declared_in(alloc, table) {
         Ok(declared) => declared_answer(alloc, asked, name, table, &declared, words),
-        Err(error) => Ok(Outcome::misused(table_refusal(alloc, error)?)),
+        Err(error) => Outcome::misused(alloc, table_refusal(alloc, error)?),
     }
 }
 
@@ -403,7 +405,7 @@ fn declared_answer(
         return completion_answer(alloc, asked, shell.as_str(), name, text);
     }
     if let Some(error) = asked_error(asked, &table.rows) {
-        return Ok(Outcome::misused(variable_refusal(alloc, error)?));
+        return Outcome::misused(alloc, variable_refusal(alloc, error)?);
     }
     let options = options_of(alloc, asked, &table.rows, false)?;
     let script = Script {
@@ -572,9 +574,9 @@ fn no_completion(alloc: Global, shell: &str) -> Result<Outcome, AllocError>
     ensures { IfOk result (λ outcome. answer_of outcome ≡ no_completion shell.now) }
 {
     let text = format!(in alloc;
-        "getopts_shell: no completion for '{shell}': choose bash, zsh or fish\n"
+        "getopts_shell: no completion for '{shell}': choose bash, zsh or fish"
     )?;
-    Ok(Outcome::misused(text))
+    Outcome::misused(alloc, text)
 }
 
 /// The answer to a shell that asks for completions of the last word.
@@ -811,12 +813,13 @@ fn operand_refusal(
     refused(alloc, script, line)
 }
 
-/// Rejects a script's words with a line, and the text at the top of its help.
-fn refused(alloc: Global, script: Script<'_>, line: String) -> Result<Outcome, AllocError>
+/// Rejects a script's words with an error, and the text at the top of its help.
+fn refused(alloc: Global, script: Script<'_>, error: String) -> Result<Outcome, AllocError>
     ensures { IfOk result (λ outcome.
-        answer_of outcome ≡ refused_by (script_of script.entry) (string_bytes line)) }
+        answer_of outcome ≡ refused_by (script_of script.entry) (string_bytes error)) }
 {
-    let mut text = line;
+    let mut text = String::new(alloc);
+    push_error(&mut text, alloc, error.as_str())?;
     let shown = shown_options(alloc, script)?;
     let brief = brief_text(alloc, script, &shown)?;
     text.push_str(brief.as_str())?;

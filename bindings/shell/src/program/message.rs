@@ -10,24 +10,78 @@ use super::variables::VariableError;
 use ::getopts::proved::Fail;
 use crate::host::alloc::{AllocError, Global};
 
-/// The line for an error, after a name.
-pub(crate) fn fault_line(alloc: Global, name: &str, fail: &Fail) -> Result<String, AllocError> {
-    match fail {
-        Fail::OutOfMemory => Err(AllocError),
-        _ => text!(in alloc; "{name}: {fail}\n"),
+/// The first mark, that of byte 128.
+const FIRST_MARK: u32 = 0x10_FF80;
+
+/// The difference between a mark and its byte.
+const ADDED: u32 = 0x10_FF00;
+
+/// Appends the line for an error.
+pub(crate) fn push_error(text: &mut String, alloc: Global, error: &str) -> Result<(), AllocError> {
+    push_escaped(text, alloc, error)?;
+    text.try_push('\n')
+}
+
+/// Appends a text as errors show it, without control characters.
+fn push_escaped(text: &mut String, alloc: Global, other: &str) -> Result<(), AllocError> {
+    for char in other.chars() {
+        push_escaped_char(text, alloc, char)?;
+    }
+    Ok(())
+}
+
+/// Appends a character as errors show it.
+fn push_escaped_char(text: &mut String, alloc: Global, char: char) -> Result<(), AllocError> {
+    let number = number_of(char);
+    if is_control(number) {
+        let digits = octal(alloc, number)?;
+        text.try_push_str(digits.as_str())
+    } else {
+        text.try_push(char)
     }
 }
 
-/// The line for an error in a table.
+/// The number of a character, or the byte that it marks.
+fn number_of(char: char) -> u32 {
+    let number = u32::from(char);
+    if number >= FIRST_MARK {
+        number - ADDED
+    } else {
+        number
+    }
+}
+
+/// Whether it is the number of a control character.
+fn is_control(number: u32) -> bool {
+    matches!(number, 0..=31 | 127..=159)
+}
+
+/// A number below 512 as `\` and three octal digits.
+fn octal(alloc: Global, number: u32) -> Result<String, AllocError> {
+    let first = number / 64;
+    let second = number / 8 % 8;
+    let third = number % 8;
+    text!(in alloc; "\\{first}{second}{third}")
+}
+
+/// The text of an error, after a name.
+pub(crate) fn fault_line(alloc: Global, name: &str, fail: &Fail) -> Result<String, AllocError> {
+    match fail {
+        Fail::OutOfMemory => Err(AllocError),
+        _ => text!(in alloc; "{name}: {fail}"),
+    }
+}
+
+/// The text of an error in a table.
 pub(crate) fn table_refusal(alloc: Global, error: TableError<'_>) -> Result<String, AllocError> {
     match error {
         TableError::NoOption(number, item) => {
             let reason = reason_of(item);
-            text!(in alloc; "getopts_shell: line {number} of the table: {item}: {reason}\n")
+            text!(in alloc; "getopts_shell: line {number} of the table: {item}: {reason}")
         }
         TableError::NameTwice(number, name) => text!(in alloc;
             "getopts_shell: line {number} of the table: \
-             the name '{name}' is already used on an earlier line\n"
+             the name '{name}' is already used on an earlier line"
         ),
         TableError::LateOperand(number, operand, earlier) => {
             late_operand_line(alloc, number, operand, earlier)
@@ -36,7 +90,7 @@ pub(crate) fn table_refusal(alloc: Global, error: TableError<'_>) -> Result<Stri
     }
 }
 
-/// The line for an operand that can't follow an earlier one.
+/// The text of the error that an operand can't follow an earlier one.
 fn late_operand_line(
     alloc: Global,
     number: usize,
@@ -48,47 +102,47 @@ fn late_operand_line(
     if may_repeat(earlier) {
         text!(in alloc;
             "getopts_shell: line {number} of the table: \
-             {item}: no operand may follow '{other}', which has dots\n"
+             {item}: no operand may follow '{other}', which has dots"
         )
     } else {
         text!(in alloc;
             "getopts_shell: line {number} of the table: \
-             {item}: no required operand may follow '{other}', which is optional\n"
+             {item}: no required operand may follow '{other}', which is optional"
         )
     }
 }
 
-/// The line for an error about variables.
+/// The text of an error about variables.
 pub(crate) fn variable_refusal(
     alloc: Global,
     error: VariableError<'_>,
 ) -> Result<String, AllocError> {
     match error {
         VariableError::ArraysOnly => {
-            text!(in alloc; "getopts_shell: --arrays requires --variables\n")
+            text!(in alloc; "getopts_shell: --arrays requires --variables")
         }
         VariableError::NoPrefix(prefix) => text!(in alloc;
             "getopts_shell: the prefix '{prefix}' can't begin a variable name \
-             (ASCII letters, digits and '_', no digit first)\n"
+             (ASCII letters, digits and '_', no digit first)"
         ),
         VariableError::NoVariable(number, name) => text!(in alloc;
             "getopts_shell: line {number} of the table: \
              the option '{name}' doesn't make a valid variable name \
-             (ASCII letters, digits and '_', no digit first)\n"
+             (ASCII letters, digits and '_', no digit first)"
         ),
         VariableError::ShellVariable(number, name) => text!(in alloc;
             "getopts_shell: line {number} of the table: \
              without a prefix, the option '{name}' may set a variable of the shell: \
-             choose a prefix, such as opt_\n"
+             choose a prefix, such as opt_"
         ),
         VariableError::VariableTwice(number, earlier, name) => text!(in alloc;
             "getopts_shell: line {number} of the table: \
-             the options '{earlier}' and '{name}' would have the same variable\n"
+             the options '{earlier}' and '{name}' would have the same variable"
         ),
     }
 }
 
-/// The line for an error of free words, after a name.
+/// The text of an error of free words, after a name.
 pub(crate) fn operand_fault_line(
     alloc: Global,
     name: &str,
@@ -96,10 +150,10 @@ pub(crate) fn operand_fault_line(
 ) -> Result<String, AllocError> {
     match error {
         OperandError::Missing(operand) => {
-            text!(in alloc; "{name}: Operand '{operand}' missing\n")
+            text!(in alloc; "{name}: Operand '{operand}' missing")
         }
         OperandError::Unexpected(word) => {
-            text!(in alloc; "{name}: Unexpected operand: '{word}'\n")
+            text!(in alloc; "{name}: Unexpected operand: '{word}'")
         }
     }
 }

@@ -20,4 +20,6 @@ returns-in-Ok c =
 pub returns-in_ok-table_refusal-in-Err : goal.returns-in_ok-table_refusal-in-Err
 returns-in_ok-table_refusal-in-Err c =
     let said = c.in_ok-table_refusal-in-Err.ensures in
-    faulty said.0 (rw said.1 at c.in-Err.ensures) (c.misused.ensures ∙ ap misused said.2)
+    IfOk-weaker c.misused.result _ _
+    (λ outcome is. faulty said.0 (rw said.1 at c.in-Err.ensures) (is ∙ ap misused said.2))
+    c.misused.ensures

@@ -8,9 +8,9 @@ use Rattle.getopts_shell.proofs.message.late_operand_line.Goals as goal
 -- the line, by whether the earlier operand has dots
 abbrev line : ℕ → Text → Text → Bool → Text
 line number item earlier dots = of_line number (item
-    ++ (if dots then codes ": no operand may follow '" ++ (earlier ++ codes "', which has dots\n")
+    ++ (if dots then codes ": no operand may follow '" ++ (earlier ++ codes "', which has dots")
     else codes ": no required operand may follow '" ++ (earlier
-    ++ codes "', which is optional\n")))
+    ++ codes "', which is optional")))
 
 pub returns-then-may_repeat : goal.returns-then-may_repeat
 returns-then-may_repeat c =

@@ -12,7 +12,7 @@ returns-in-NoOption c =
     (λ text is.
     let line = λ (reason : Text). codes "getopts_shell: line " ++ (decimal c.in-NoOption.number
     ++ (codes " of the table: " ++ (c.in-NoOption.item.now
-    ++ (codes ": " ++ (reason ++ codes "\n"))))) in
+    ++ (codes ": " ++ reason)))) in
     let text_is : string_bytes text ≡ line c.reason_of-reason.result.now = is in (
       no_option c.in-NoOption.number c.in-NoOption.item.now,
       ap fault_told c.in-NoOption.is,
