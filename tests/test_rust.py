@@ -149,7 +149,7 @@ def folder(tmp_path_factory):
 
 
 @pytest.mark.parametrize("features, tests, programs", [
-    ("std,unicode,proved", [], 8), ("std", ["--tests"], 6), ("proved", [], 4)])
+    ("std,unicode,proved", [], 9), ("std", ["--tests"], 7), ("proved", [], 5)])
 def test_own_tests_of_the_crate(folder, features, tests, programs):
     said, _ = cargo(folder, "test", "--no-default-features", "--features", features, *tests)
     assert len(passed(said)) == programs

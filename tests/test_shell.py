@@ -311,10 +311,15 @@ eval "$code\""""
             (tmp_path / "canary").unlink(missing_ok=True)
 
 
+# Settings that not every shell has; the others go on without them.
+OF_SOME = ["alias set=false unset=false", "(set -k) && set -k", "typeset -i o_v o_L", "typeset -u o_v o_L", "typeset -A o_v o_L",
+           "x=1 && typeset -n o_L=x", "setopt RC_QUOTES KSH_ARRAYS GLOB_SUBST SH_WORD_SPLIT", "emulate ksh",
+           "shopt -s failglob extglob expand_aliases"]
 # Commands that a script may run before it reads its options, each with the shells that fork endlessly after it even
 # without getopts_shell.
 SETTINGS = {"set -eu": [], "set -fx": [], "set -v": [], "IFS=-_o2": [], "PS4='$(date)'; set -x": ["yash"],
-            "trap 'date >/dev/null' CHLD": ["dash", "mksh", "yash", "busybox"]}
+            "trap 'date >/dev/null' CHLD": ["dash", "mksh", "yash", "busybox"],
+            **dict.fromkeys((f"{it} 2>/dev/null || :" for it in OF_SOME), [])}
 SET = [(setting, name) for setting, forking in SETTINGS.items() for name in SHELLS if name.split()[0] not in forking]
 
 
