@@ -43,63 +43,45 @@ void (*__sysv_signal(int number, void (*handler)(int)))(int) {
     return signal(number, handler);
 }
 
-/* The heap. A block has 2^class bytes including its head, and lies in a chunk from the system. A freed block is reused
- * for the next request of its class. malloc would take more instructions than the rest of the program. */
-struct head {
-    size_t class;
-    struct head *next;
-};
-
+/* The heap: blocks lie one after the other in chunks from the system, and only the last one can be freed or grow in place.
+ * With musl's malloc, a call would take a quarter longer. */
 enum { CHUNK = 1 << 18 };
 
-static struct head *freed[64];
-static unsigned char *unused;
-static size_t unused_len;
+static unsigned char nothing, *last, *unused = &nothing, *end = &nothing;
 
-/* Allocates a block of a class; NULL if there is no memory. */
-static struct head *taken(size_t class) {
-    size_t len = (size_t)1 << class;
-    struct head *head = freed[class];
-    if (head != NULL) {
-        freed[class] = head->next;
-        return head;
-    }
-    if (len > unused_len) {
-        size_t chunk_len = len > CHUNK ? len : CHUNK;
-        void *chunk = mmap(NULL, chunk_len, PROT_READ | PROT_WRITE, MAP_PRIVATE | MAP_ANONYMOUS, -1, 0);
-        if (chunk == MAP_FAILED)
-            return NULL;
-        unused = chunk;
-        unused_len = chunk_len;
-    }
-    head = (struct head *)(void *)unused;
-    head->class = class;
-    unused += len;
-    unused_len -= len;
-    return head;
+static size_t rounded(size_t len) {
+    return (len + 15) / 16 * 16;
 }
 
 struct block rattle_alloc(size_t size, size_t align) {
-    static const char nothing;
-    size_t class = 64 - (size_t)__builtin_clzl((size != 0 ? size : align) + sizeof(struct head) - 1);
-    struct head *head = class < 63 ? taken(class) : NULL;
-    return (struct block){ head != NULL, head != NULL ? head + 1 : (void *)&nothing };
+    size_t len = size != 0 ? size : align;
+    if (len > (size_t)(end - unused)) {
+        size_t chunk_len = len > CHUNK ? len : CHUNK;
+        void *chunk = mmap(NULL, chunk_len, PROT_READ | PROT_WRITE, MAP_PRIVATE | MAP_ANONYMOUS, -1, 0);
+        if (chunk == MAP_FAILED)
+            return (struct block){ false, &nothing };
+        unused = chunk;
+        end = unused + rounded(chunk_len);
+    }
+    last = unused;
+    unused += rounded(len);
+    return (struct block){ true, last };
 }
 
 void rattle_dealloc(void *block) {
-    struct head *head = (struct head *)block - 1;
-    head->next = freed[head->class];
-    freed[head->class] = head;
+    if (block == last)
+        unused = last;
 }
 
 struct block rattle_realloc(void *block, size_t kept, size_t size, size_t align) {
-    struct head *head = (struct head *)block - 1;
-    if (size <= ((size_t)1 << head->class) - sizeof *head)
+    if (size <= kept)
         return (struct block){ true, block };
+    unsigned char *was = unused;
+    rattle_dealloc(block);
     struct block moved = rattle_alloc(size, align);
-    if (moved.ok) {
+    if (!moved.ok)
+        unused = was;
+    else if (moved.block != block)
         memcpy(moved.block, block, kept);
-        rattle_dealloc(block);
-    }
     return moved;
 }

@@ -46,7 +46,7 @@ static void errors_and_signals(void) {
 }
 
 /* Allocated blocks, each with the byte that fills it. */
-enum { BLOCKS = 200, STEPS = 200000 };
+enum { BLOCKS = 200, STEPS = 20000 };
 
 static struct {
     unsigned char *at, fill;
@@ -85,17 +85,18 @@ static void step(void) {
     blocks[nth].at = got.block, blocks[nth].fill = fill, blocks[nth].size = size;
 }
 
-/* Allocations that are too large fail, and leave the block unchanged. */
+/* Allocations that are too large fail, and leave the block unchanged, also once more is allocated. */
 static void too_much(void) {
-    static const size_t sizes[] = { (size_t)1 << 47, ((size_t)1 << 62) - 16, (size_t)1 << 62, SIZE_MAX / 2 };
-    struct block block = rattle_alloc(10, 1);
-    memset(block.block, 'x', 10);
+    static const size_t sizes[] = { (size_t)1 << 47, ((size_t)1 << 62) - 16, (size_t)1 << 62, SIZE_MAX / 2, SIZE_MAX };
     for (size_t nth = 0; nth < sizeof sizes / sizeof *sizes; nth++) {
+        struct block block = rattle_alloc(10, 1);
+        memset(block.block, 'x', 10);
         struct block none = rattle_alloc(sizes[nth], 16), same = rattle_realloc(block.block, 10, sizes[nth], 16);
         expect(!none.ok && none.block != NULL && !same.ok && same.block != NULL, "more memory than there is");
+        struct block other = rattle_alloc(10, 1);
+        memset(other.block, 'y', 10);
         expect(is_filled(block.block, 'x', 10), "the block that couldn't grow");
     }
-    rattle_dealloc(block.block);
 }
 
 int main(void) {
