@@ -1,6 +1,6 @@
 //! Reading a command line in a loop of the caller's, one option or free word at a time.
 
-ghost use Rattle.std.specs.Prelude.{◌≡◌, ◌<◌, ◌∷◌, ◌++◌, [], Ok, Err, IfOk, IfErr, OnErr, IfSome, IfNone};
+ghost use Rattle.std.specs.Prelude.{◌≡◌, ◌<◌, ◌≤◌, ◌+◌, ◌∷◌, ◌++◌, [], Ok, Err, IfOk, IfErr, OnErr, IfSome, IfNone};
 ghost use Rattle.std.specs.Prelude.{false, true};
 ghost use Rattle.getopts.specs.Accessors.{borrowed_given};
 ghost use Rattle.getopts.specs.Fail.{IsOutOfMemoryOr};
@@ -8,10 +8,11 @@ ghost use Rattle.getopts.specs.Options.{grammar_of};
 ghost use Rattle.getopts.specs.Parse.{IsDeclared};
 ghost use Rattle.getopts.specs.Reader.{IfReadTo, IsNextFault, IsReadTo, left_in, size_of};
 ghost use Rattle.getopts.specs.Results.{order_or_error};
+ghost use Rattle.getopts.specs.Stored.Scan.{words_left};
 
 use crate::fail::Fail;
 use crate::options::Options;
-use crate::scan::{Given, Scanner, Steps, free_words};
+use crate::scan::{Given, Scanner, free_words};
 use crate::table::Table;
 use std::alloc::{AllocError, Global};
 use std::convert::AsStr;
@@ -45,6 +46,20 @@ impl<'w, S> Unread<'w, S> {
             words,
             names: "",
             only_free: false,
+        }
+    }
+
+    /// The position, in a line of `count` words, of the first word that isn't read to its end.
+    #[inline(always)]
+    pub(crate) fn position_in(&self, count: usize) -> usize
+        requires { words_left self.now.names.now self.now.words.now ≤ count }
+        ensures { result + words_left self.now.names.now self.now.words.now ≡ count }
+    {
+        let position = count - self.words.len();
+        if self.names.is_empty() {
+            position
+        } else {
+            position - 1
         }
     }
 }
@@ -147,14 +162,7 @@ impl<'o> Reader<'o> {
                 options: self.options,
                 table: &self.table,
             };
-            let mut steps = Steps {
-                left: unread.words,
-                names: unread.names,
-                after: 0,
-            };
-            if let Some(given) = scanner.next(alloc, &mut steps)? {
-                unread.words = steps.left;
-                unread.names = steps.names;
+            if let Some(given) = scanner.next(alloc, unread)? {
                 return Ok(Some(given));
             }
             unread.only_free = true;

@@ -1,7 +1,7 @@
 //! Reading a command line, one option or free word at a time.
 
 ghost use Rattle.std.specs.Prelude.{◌≡◌, ◌≢◌, ◌-◌, ◌∷◌, ◌++◌, [], List, ℕ, MatchOption};
-ghost use Rattle.std.specs.Prelude.{OnOk, IfOk, IfErr, IfSome, IfNone, Some, None, Ok, Err, true, false, length};
+ghost use Rattle.std.specs.Prelude.{OnOk, OnErr, IfOk, IfErr, IfSome, IfNone, Some, None, Ok, Err, true, false, length};
 ghost use Rattle.std.specs.Prelude.{map};
 ghost use Rattle.std.specs.String.{string_bytes};
 ghost use Rattle.std.specs.Option.{option_copied};
@@ -19,6 +19,7 @@ use crate::fail::Fail;
 use crate::kinds::{HasArg, ParsingStyle};
 use crate::occurrences::LineOccurrences;
 use crate::options::Options;
+use crate::reader::Unread;
 use crate::table::Table;
 use std::alloc::{AllocError, Global};
 use std::convert::AsStr;
@@ -134,17 +135,6 @@ struct Taken<'w, S> {
     value: Option<&'w str>,
     names: &'w str,
     left: &'w [S],
-}
-
-/// A command line that is read one option or free word at a time.
-#[derive(Drop)]
-pub(crate) struct Steps<'w, S> {
-    /// The words that are left.
-    pub left: &'w [S],
-    /// The names that are left in the cluster that is being read.
-    pub names: &'w str,
-    /// How many words follow the first word of the item that was read last.
-    pub after: usize,
 }
 
 /// How a word is read.
@@ -424,65 +414,65 @@ impl<'o> Scanner<'o> {
         }
     }
 
-    /// Reads an option or a free word. Returns `None` at the end, at `--` and, if options stop
-    /// there, at a free word.
+    /// Reads an option or a free word, and moves `unread` past it. Returns `None` at the end, at `--`
+    /// and, if options stop there, at a free word.
     #[inline(always)]
     pub(crate) fn next<'w, S: AsStr>(
         &self,
         alloc: Global,
-        steps: &mut Steps<'w, S>,
+        unread: &mut Unread<'w, S>,
     ) -> Result<Option<Given<'w>>, Fail>
         requires { IsLawfulScanner self.now }
         ensures some { IfOk result (λ given. IfSome given (λ given.
-            ReadsOne (scanner_grammar self.now) steps.new.after
-            steps.old.names.now (map S.text steps.old.left.now)
-            steps.new.names.now (map S.text steps.new.left.now) (borrowed_given given))) }
+            ReadsOne (scanner_grammar self.now)
+            unread.old.names.now (map S.text unread.old.words.now)
+            unread.new.names.now (map S.text unread.new.words.now) (borrowed_given given))) }
         ensures none { IfOk result (λ given. IfNone given
-            ((steps.old.names.now ≡ []) × (steps.new.left.now ≡ steps.old.left.now)
-            × (steps.new.names.now ≡ []))) }
+            ((unread.old.names.now ≡ []) × (unread.new ≡ unread.old))) }
         ensures tail { IfOk result (λ given. IfNone given
-            (IsLawfulTail (scanner_grammar self.now) (tail_of (map S.text steps.old.left.now)))) }
+            (IsLawfulTail (scanner_grammar self.now) (tail_of (map S.text unread.old.words.now)))) }
         ensures err { IfErr result (λ fail. IsOutOfMemoryOr fail
             (IsNextFault (scanner_grammar self.now) (record {
-              names = steps.old.names.now;
-              words = map S.text steps.old.left.now;
+              names = unread.old.names.now;
+              words = map S.text unread.old.words.now;
               only_free = false;
             }))) }
+        ensures only_free { unread.new.only_free ≡ unread.old.only_free }
+        ensures unchanged { OnErr result (unread.new ≡ unread.old) }
     {
-        if steps.names.is_empty() {
-            let (word, after) = match steps.left.split_first() {
-                Some((word, after)) => (word.as_str(), after),
+        let mut names = unread.names;
+        let mut after = unread.words;
+        if names.is_empty() {
+            let (word, others) = match after.split_first() {
+                Some((word, others)) => (word.as_str(), others),
                 None => return Ok(None),
             };
-            steps.after = after.len();
             match self.shape(word) {
                 Shape::Free => {
                     if self.options.style() == ParsingStyle::StopAtFirstFree {
                         return Ok(None);
                     }
-                    steps.left = after;
+                    unread.words = others;
                     return Ok(Some(Given::Free(word)));
                 }
                 Shape::Stop => return Ok(None),
                 Shape::Long(text) => {
-                    let taken = self.long(alloc, text, after)?;
-                    steps.left = taken.left;
+                    let taken = self.long(alloc, text, others)?;
+                    unread.words = taken.left;
                     return Ok(Some(Given::Option {
                         place: taken.place,
                         value: taken.value,
                     }));
                 }
                 Shape::Cluster(text) => {
-                    steps.left = after;
-                    steps.names = text;
+                    after = others;
+                    names = text;
                 }
             }
-        } else {
-            steps.after = steps.left.len();
         }
-        let taken = self.short(alloc, steps.names, steps.left)?;
-        steps.left = taken.left;
-        steps.names = taken.names;
+        let taken = self.short(alloc, names, after)?;
+        unread.words = taken.left;
+        unread.names = taken.names;
         Ok(Some(Given::Option {
             place: taken.place,
             value: taken.value,
@@ -509,20 +499,20 @@ impl<'o> Scanner<'o> {
             IfErr result (λ fail. IsOutOfMemoryOr fail
             (λ fault. given_with grammar 0 line.old (map S.text words.now) ≡ Err fault)) }
     {
-        let mut steps = Steps {
-            left: words,
-            names: "",
-            after: 0,
-        };
-        'items: while let Some(given) = self.next(alloc, &mut steps)? {
+        let mut unread = Unread::new(words);
+        let mut position = 0;
+        'items: while let Some(given) = self.next(alloc, &mut unread)? {
             match given {
                 Given::Option { place, value } => {
-                    let position = words.len() - steps.after - 1;
-                    line.found.push(place, position, value)?
+                    line.found.push(place, position, value)?;
+                    position = unread.position_in(words.len());
                 }
-                Given::Free(word) => push_copy(alloc, &mut line.free, word)?,
+                Given::Free(word) => {
+                    push_copy(alloc, &mut line.free, word)?;
+                    position = unread.position_in(words.len());
+                }
             }
         }
-        Ok(steps.left)
+        Ok(unread.words)
     }
 }

@@ -3,7 +3,7 @@
 
 use super::fail::Fail;
 use super::options::Options;
-use super::scan::{Given, Scanner, Steps, free_words};
+use super::scan::{Given, Scanner, free_words};
 use super::table::Table;
 use crate::alloc::{AllocError, Global};
 use crate::convert::AsStr;
@@ -32,6 +32,17 @@ impl<'w, S> Unread<'w, S> {
             words,
             names: "",
             only_free: false,
+        }
+    }
+
+    /// The position, in a line of `count` words, of the first word that isn't read to its end.
+    #[inline(always)]
+    pub(crate) fn position_in(&self, count: usize) -> usize {
+        let position = count - self.words.len();
+        if self.names.is_empty() {
+            position
+        } else {
+            position - 1
         }
     }
 }
@@ -94,14 +105,7 @@ impl<'o> Reader<'o> {
                 options: self.options,
                 table: &self.table,
             };
-            let mut steps = Steps {
-                left: unread.words,
-                names: unread.names,
-                after: 0,
-            };
-            if let Some(given) = scanner.next(alloc, &mut steps)? {
-                unread.words = steps.left;
-                unread.names = steps.names;
+            if let Some(given) = scanner.next(alloc, unread)? {
                 return Ok(Some(given));
             }
             unread.only_free = true;

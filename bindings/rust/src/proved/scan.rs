@@ -7,6 +7,7 @@ use super::fail::Fail;
 use super::kinds::{HasArg, ParsingStyle};
 use super::occurrences::LineOccurrences;
 use super::options::Options;
+use super::reader::Unread;
 use super::table::Table;
 use crate::alloc::{AllocError, Global};
 use crate::convert::AsStr;
@@ -101,16 +102,6 @@ struct Taken<'w, S> {
     value: Option<&'w str>,
     names: &'w str,
     left: &'w [S],
-}
-
-/// A command line that is read one option or free word at a time.
-pub(crate) struct Steps<'w, S> {
-    /// The words that are left.
-    pub left: &'w [S],
-    /// The names that are left in the cluster that is being read.
-    pub names: &'w str,
-    /// How many words follow the first word of the item that was read last.
-    pub after: usize,
 }
 
 /// How a word is read.
@@ -327,48 +318,47 @@ impl<'o> Scanner<'o> {
         }
     }
 
-    /// Reads an option or a free word. Returns `None` at the end, at `--` and, if options stop
-    /// there, at a free word.
+    /// Reads an option or a free word, and moves `unread` past it. Returns `None` at the end, at `--`
+    /// and, if options stop there, at a free word.
     #[inline(always)]
     pub(crate) fn next<'w, S: AsStr>(
         &self,
         alloc: Global,
-        steps: &mut Steps<'w, S>,
+        unread: &mut Unread<'w, S>,
     ) -> Result<Option<Given<'w>>, Fail> {
-        if steps.names.is_empty() {
-            let (word, after) = match steps.left.split_first() {
-                Some((word, after)) => (word.as_str(), after),
+        let mut names = unread.names;
+        let mut after = unread.words;
+        if names.is_empty() {
+            let (word, others) = match after.split_first() {
+                Some((word, others)) => (word.as_str(), others),
                 None => return Ok(None),
             };
-            steps.after = after.len();
             match self.shape(word) {
                 Shape::Free => {
                     if self.options.style() == ParsingStyle::StopAtFirstFree {
                         return Ok(None);
                     }
-                    steps.left = after;
+                    unread.words = others;
                     return Ok(Some(Given::Free(word)));
                 }
                 Shape::Stop => return Ok(None),
                 Shape::Long(text) => {
-                    let taken = self.long(alloc, text, after)?;
-                    steps.left = taken.left;
+                    let taken = self.long(alloc, text, others)?;
+                    unread.words = taken.left;
                     return Ok(Some(Given::Option {
                         place: taken.place,
                         value: taken.value,
                     }));
                 }
                 Shape::Cluster(text) => {
-                    steps.left = after;
-                    steps.names = text;
+                    after = others;
+                    names = text;
                 }
             }
-        } else {
-            steps.after = steps.left.len();
         }
-        let taken = self.short(alloc, steps.names, steps.left)?;
-        steps.left = taken.left;
-        steps.names = taken.names;
+        let taken = self.short(alloc, names, after)?;
+        unread.words = taken.left;
+        unread.names = taken.names;
         Ok(Some(Given::Option {
             place: taken.place,
             value: taken.value,
@@ -384,20 +374,20 @@ impl<'o> Scanner<'o> {
         words: &'w [S],
         line: &mut Line,
     ) -> Result<&'w [S], Fail> {
-        let mut steps = Steps {
-            left: words,
-            names: "",
-            after: 0,
-        };
-        'items: while let Some(given) = self.next(alloc, &mut steps)? {
+        let mut unread = Unread::new(words);
+        let mut position = 0;
+        'items: while let Some(given) = self.next(alloc, &mut unread)? {
             match given {
                 Given::Option { place, value } => {
-                    let position = words.len() - steps.after - 1;
-                    line.found.try_push(place, position, value)?
+                    line.found.try_push(place, position, value)?;
+                    position = unread.position_in(words.len());
                 }
-                Given::Free(word) => push_copy(alloc, &mut line.free, word)?,
+                Given::Free(word) => {
+                    push_copy(alloc, &mut line.free, word)?;
+                    position = unread.position_in(words.len());
+                }
             }
         }
-        Ok(steps.left)
+        Ok(unread.words)
     }
 }

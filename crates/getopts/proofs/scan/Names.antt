@@ -367,16 +367,15 @@ module _ {grammar : Grammar} (named : HasTextNames grammar) (words : List Text) 
   ReadsOne-name : {names_old : Text} {words_old : List Text} (names : Text) → ((line : List Text)
       (items : List Spec.Item) → AreReadTo grammar line items names_old words_old
       → IsInWord grammar line items names words)
-      → 1 + length words ≡ words_left names_old words_old
+      → words_left names_old words_old ≡ 1 + length words
       → length names + words_size words ≤ length names_old + words_size words_old
       → {place : ℕ} {value : Option Text} {names_left : Text} {left : List Text}
       → TakesName grammar names words place value names_left left
-      → ReadsOne grammar (length words) names_old words_old names_left left (Spec.option place value)
+      → ReadsOne grammar names_old words_old names_left left (Spec.option place value)
   ReadsOne-name names inside begins less {place} {value} {names_left} {left}
       (takes_last byte rest kind names_are none place_is other kind_is chooses) = rw none (record {
-        reads = λ line items read_to. HasOneMore-last named line words refl byte place rest kind
+        reads = λ line items read_to. HasOneMore-last named line words (rw begins refl) byte place rest kind
             place_is other kind_is chooses (rw names_are at inside line items read_to);
-        begins = begins;
         less = omega (
           arith,
           less,
@@ -387,9 +386,8 @@ module _ {grammar : Grammar} (named : HasTextNames grammar) (words : List Text) 
       })
   ReadsOne-name names inside begins less {place} {value} {names_left}
       (takes_flag byte names_are flag place_is value_is left_is) = rw (left_is, value_is) (record {
-        reads = λ line items read_to. HasOneMore-flag named line words refl byte place
+        reads = λ line items read_to. HasOneMore-flag named line words (rw begins refl) byte place
             names_left flag place_is (rw names_are at inside line items read_to);
-        begins = begins;
         less = omega (arith, less, ap length names_are);
       })
 
@@ -397,11 +395,10 @@ module _ {grammar : Grammar} (named : HasTextNames grammar) (words : List Text) 
   module _ (word : Text) where
     -- it is free
     pub ReadsOne-free : Spec.is_dashed word ≡ false → grammar.style ≡ FloatingFrees
-        → ReadsOne grammar (length words) [] (word ∷ words) [] words (Spec.free_word word)
+        → ReadsOne grammar [] (word ∷ words) [] words (Spec.free_word word)
     ReadsOne-free plain floating = record {
-      reads = λ line items read_to. HasOneMore-word named line words refl word
+      reads = λ line items read_to. HasOneMore-word named line words (omega arith) word
           (Spec.free word) Spec.none (Steps.step_free grammar word words plain ∙ rw floating refl) refl refl read_to;
-      begins = search rules;
       less = omega arith;
     }
 
@@ -409,13 +406,12 @@ module _ {grammar : Grammar} (named : HasTextNames grammar) (words : List Text) 
     pub ReadsOne-long : (dashes : Spec.Dashes) (long : Text) → IsInLongForm grammar dashes word long
         → {place : ℕ} {value : Option Text} {left : List Text}
         → TakesOne grammar (long_step grammar dashes long words) words place value left
-        → ReadsOne grammar (length words) [] (word ∷ words) [] left (Spec.option place value)
+        → ReadsOne grammar [] (word ∷ words) [] left (Spec.option place value)
     ReadsOne-long dashes long form {left = left} takes_one = record {
       reads = λ line items read_to.
-          HasOneMore-word named line words refl word takes_one.item takes_one.argument
+          HasOneMore-word named line words (omega arith) word takes_one.item takes_one.argument
           (Steps.step_long grammar dashes word long words form ∙ takes_one.step_is) takes_one.after_is
           (given_by-dashed grammar takes_one.item takes_one.no_free ∙ rw takes_one.mentioned refl) read_to;
-      begins = search rules;
       less = rw takes_one.after_is (omega (arith, words_size-left (Spec.argument_words takes_one.argument) left));
     }
 
@@ -423,7 +419,7 @@ module _ {grammar : Grammar} (named : HasTextNames grammar) (words : List Text) 
     pub ReadsOne-short : (names : Text) → IsShortForm grammar word names
         → {names_left : Text} {left : List Text} {place : ℕ} {value : Option Text}
         → TakesName grammar names words place value names_left left
-        → ReadsOne grammar (length words) [] (word ∷ words) names_left left (Spec.option place value)
+        → ReadsOne grammar [] (word ∷ words) names_left left (Spec.option place value)
     ReadsOne-short names form = ReadsOne-name names (λ line items read_to. IsInWord-begins form read_to) (search rules)
         (rw form.word_is (omega arith))
 
@@ -431,7 +427,7 @@ module _ {grammar : Grammar} (named : HasTextNames grammar) (words : List Text) 
   pub ReadsOne-within : (names : Text) → names ≢ []
       → {names_left : Text} {left : List Text} {place : ℕ} {value : Option Text}
       → TakesName grammar names words place value names_left left
-      → ReadsOne grammar (length words) names words names_left left (Spec.option place value)
+      → ReadsOne grammar names words names_left left (Spec.option place value)
   ReadsOne-within [] filled = absurd (filled refl)
   ReadsOne-within (c ∷ names) filled = ReadsOne-name (c ∷ names) (λ line items read_to. IsInWord-within filled read_to) refl
       (omega arith)
@@ -499,8 +495,8 @@ module _ {options : Declared} {line : List Text} {left : Left} where
 -- One option or free word more of a line.
 module _ {options : Declared} {line : List Text} {before : List Spec.Given} {left : Left} where
   -- while options may follow
-  pub IsReadTo-next : {after : ℕ} {given : Spec.Given} {names : Text} {words : List Text}
-      → left.only_free ≡ false → ReadsOne (grammar_of options) after left.names left.words names words given
+  pub IsReadTo-next : {given : Spec.Given} {names : Text} {words : List Text}
+      → left.only_free ≡ false → ReadsOne (grammar_of options) left.names left.words names words given
       → IsReadTo options line before left
       → IsReadTo options line (before ++ given ∷ []) (record { names = names; words = words; only_free = left.only_free })
   IsReadTo-next may reads read_to =

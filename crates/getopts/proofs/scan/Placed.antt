@@ -1,6 +1,7 @@
 -- A line that was read up to a place: what it has so far.
 use Rattle.std.proofs.Common.{Err, ◌≡◌, ◌+◌, ◌-◌, ◌≤◌, ℕ, List, [], ◌∷◌, ◌++◌, rules, refl, length}
-use Rattle.std.proofs.Common.{sym, Ok, Result, append_assoc}
+use Rattle.std.proofs.Common.{sym, ap, map, Ok, Result, append_assoc}
+use Rattle.std.proofs.lemmas.List.{length-map}
 use Rattle.getopts.specs.Names.{Text}
 use Rattle.getopts.specs.Options.{Grammar}
 use Rattle.getopts.specs.Fail.{Fault}
@@ -59,9 +60,16 @@ module _ {grammar : Grammar} {before : ℕ} {found_old found : List Spec.Occurre
       ≡ made_of (with_reading grammar (before + (length whole - length words)) found frees) (read grammar words)
   SoFar-ended named none = search (rules, length-spelled_all, items_read, with_reading-items)
 
+-- words that are left, by their texts
+pub words_left-map : {S : Type 0} (text : S → Text) (names : Text) (words : List S)
+    → words_left names (map text words) ≡ words_left names words
+words_left-map text [] words = length-map words text
+words_left-map text (name ∷ names) words = ap (λ n. 1 + n) (length-map words text)
+
 -- no more words are left than the line has
-pub SoFar-within : {grammar : Grammar} {before : ℕ} {found_old found : List Spec.Occurrence}
-    {frees_old frees : List Text} (whole : List Text) (names : Text) (words : List Text)
-    → SoFar grammar before found_old frees_old found frees whole names words
+pub words_left-more : {S : Type 0} (text : S → Text) {grammar : Grammar} {items : List Spec.Item} {position : ℕ}
+    {given : Spec.Given} (whole : List S) (names : Text) (words : List S)
+    → HasOneMore grammar (map text whole) items position given names (map text words)
     → words_left names words ≤ length whole
-SoFar-within whole names words so_far = words_left-within names words so_far.read_to
+words_left-more text whole names words one =
+    rw (← words_left-map text names words, ← length-map whole text) (words_left-within names (map text words) one.read)

@@ -117,14 +117,13 @@ pub record HasOneMore (grammar : Grammar) (line : List Text) (items : List Item)
       ≡ occurrences_after before grammar items ++ occurrences_at (before + position) given
 
 -- the number of words left, and one more if names of a cluster are left
-abbrev pub words_left : Text → List Text → ℕ
+abbrev pub words_left : {S : Type 0} → Text → List S → ℕ
 words_left [] words = length words
 words_left (byte ∷ names) words = 1 + length words
 
--- An option or a free word was read, and `after` words follow the first word of its item.
-pub record ReadsOne (grammar : Grammar) (after : ℕ) (names : Text) (words : List Text)
-    (names_new : Text) (words_new : List Text) (given : Given) : Type 0 where
+-- An option or a free word was read, after which these names and words are left.
+pub record ReadsOne (grammar : Grammar) (names : Text) (words : List Text) (names_new : Text)
+    (words_new : List Text) (given : Given) : Type 0 where
   pub reads : (line : List Text) (items : List Item) → AreReadTo grammar line items names words
-      → HasOneMore grammar line items (length line - (1 + after)) given names_new words_new
-  pub begins : 1 + after ≡ words_left names words
+      → HasOneMore grammar line items (length line - words_left names words) given names_new words_new
   pub less : length names_new + words_size words_new < length names + words_size words

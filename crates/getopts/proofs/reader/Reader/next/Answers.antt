@@ -33,7 +33,7 @@ pub returns-in-Some-clause-some : goal.returns-in-Some-clause-some
 returns-in-Some-clause-some g c =
     let options : c.args.unread.now.only_free ≡ false = search rules in
     let reads = rw c.in-Some.is at c.in_ok-given.ensures.some in
-    rw (← c.self.view_is) (λ line before read_to. IsReadTo-next options reads read_to)
+    rw (← c.self.view_is, c.in_ok-given.ensures.only_free) (λ line before read_to. IsReadTo-next options reads read_to)
 
 pub returns-in-Some-clause-declared : goal.returns-in-Some-clause-declared
 returns-in-Some-clause-declared g c =
@@ -57,7 +57,7 @@ read_free g c = rw (← c.self.view_is) (λ line before read_to. elim c.if-not-u
       let options : c.args.unread.now.only_free ≡ false = search rules in
       let none = rw w.in_default.is at w.in_ok-given.ensures.none in
       let tail = rw w.in_default.is at w.in_ok-given.ensures.tail in
-      rw (w.unread-is, w.free_words-unread.ensures)
+      rw (w.unread-is, w.free_words-unread.ensures, none.1)
       (IsReadTo-tail (has_text_names _ c.self.invariant.0) options none.0 tail read_to)
   | goal.else-not-unread w ↦ rw w.unread-is read_to
 ])

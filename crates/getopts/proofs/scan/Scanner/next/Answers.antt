@@ -1,6 +1,6 @@
 -- The next word is free, in long form or in short form, or ends the items.
 use Rattle.std.proofs.Common.{◌≡◌, ◌≢◌, [], refl, sym, ◌∙◌, rules}
-use Rattle.std.proofs.lemmas.List.{length-map, nil_from_length}
+use Rattle.std.proofs.lemmas.List.{nil_from_length}
 use Rattle.getopts.specs.Stored.Scan.{scanner_grammar}
 use Rattle.getopts.specs.declared.kinds.ParsingStyle.TheVariants.{FloatingFrees, StopAtFirstFree}
 use Rattle.getopts.proofs.Weaker.{IsOutOfMemoryOr-exit}
@@ -11,7 +11,7 @@ use Rattle.getopts.proofs.scan.Scanner.next.Goals as goal
 
 pub returns-in-None-clause-tail : goal.returns-in-None-clause-tail
 returns-in-None-clause-tail g c =
-    let none = nil_from_length c.args.steps.now.left.now (search rules) in
+    let none = nil_from_length c.args.unread.now.words.now (search rules) in
     rw none tt
 
 pub returns-then-eq-clause-tail : goal.returns-then-eq-clause-tail
@@ -29,14 +29,14 @@ pub returns-in-Free-clause-some : goal.returns-in-Free-clause-some
 returns-in-Free-clause-some g c =
     let floating : c.args.self.now.options.now.style ≡ FloatingFrees = search rules in
     let none = Names.empty_names _ (sym c.is_empty.ensures ∙ c.if-is_empty.true) in
-    rw (none, ← length-map c.in-Some.after.now g.S.AsStr.text, c.in-Some.ensures.cases.0, c.as_str.ensures)
+    rw (none, c.in-Some.ensures.cases.0, c.as_str.ensures)
     (Names.ReadsOne-free (has_text_names _ c.requires.declared) _ _
     (rw c.as_str.ensures at c.in-Free.ensures) floating)
 
 pub returns-in-Long-clause-some : goal.returns-in-Long-clause-some
 returns-in-Long-clause-some g c =
     let none = Names.empty_names _ (sym c.is_empty.ensures ∙ c.if-is_empty.true) in
-    rw (none, ← length-map c.in-Some.after.now g.S.AsStr.text, c.in-Some.ensures.cases.0)
+    rw (none, c.in-Some.ensures.cases.0)
     (Names.ReadsOne-long (has_text_names _ c.requires.declared) _ _ c.in-Long.ensures.0 _
     (rw c.as_str.ensures at c.in-Long.ensures.1) (c.in_ok-taken-in-Long.ensures.ok c.in-Long.ensures.0))
 
@@ -54,14 +54,13 @@ returns-clause-some g c = elim c.if-is_empty.branch [
   | goal.then-is_empty+in-Some+in-Cluster w ↦
       let form = rw w.as_str.ensures at w.in-Cluster.ensures in
       let none = Names.empty_names _ (sym c.is_empty.ensures ∙ w.if-is_empty.true) in
-      rw (none, w.steps-is, ← length-map w.in-Some.after.now g.S.AsStr.text, w.in-Some.ensures.cases.0)
+      rw (none, w.in-Some.ensures.cases.0)
       (Names.ReadsOne-short (has_text_names _ c.requires.declared) _ _ _ form
-      (rw w.steps-is at c.in_ok-taken.ensures.ok))
+      (rw (w.names-is, w.after-is) at c.in_ok-taken.ensures.ok))
   | goal.else-is_empty w ↦
-      let filled : c.args.steps.now.names.now ≢ [] = search rules in
-      rw (w.steps-is, ← length-map c.args.steps.now.left.now g.S.AsStr.text)
+      let filled : c.args.unread.now.names.now ≢ [] = search rules in
       (Names.ReadsOne-within (has_text_names _ c.requires.declared) _ _ filled
-      (rw w.steps-is at c.in_ok-taken.ensures.ok))
+      (rw (w.names-is, w.after-is) at c.in_ok-taken.ensures.ok))
 ]
 
 pub returns-in_err-taken-clause-err : goal.returns-in_err-taken-clause-err
@@ -69,14 +68,14 @@ returns-in_err-taken-clause-err g c = elim c.if-is_empty.branch [
   | goal.then-is_empty+in-Some+in-Cluster w ↦
       rw (Names.empty_names _ (sym c.is_empty.ensures ∙ w.if-is_empty.true), w.in-Some.ensures.cases.0)
       (IsOutOfMemoryOr-exit _ c.in_err-taken.field-0.0 _ _ c.from_residual-in_err-taken.ensures.1
-      (rw w.steps-is at c.in_err-taken.ensures.err) (λ fault told.
+      (rw (w.names-is, w.after-is) at c.in_err-taken.ensures.err) (λ fault told.
       let form = rw w.as_str.ensures at w.in-Cluster.ensures in
       Names.IsNextFault-short (has_text_names _ c.requires.declared) _ fault
-      _ (rw w.steps-is at c.short.ensures.text) told form.filled _ form))
+      _ (rw w.names-is at c.short.ensures.text) told form.filled _ form))
   | goal.else-is_empty w ↦
-      let filled : c.args.steps.now.names.now ≢ [] = search rules in
+      let filled : c.args.unread.now.names.now ≢ [] = search rules in
       IsOutOfMemoryOr-exit _ c.in_err-taken.field-0.0 _ _ c.from_residual-in_err-taken.ensures.1
-      (rw w.steps-is at c.in_err-taken.ensures.err) (λ fault told.
+      (rw (w.names-is, w.after-is) at c.in_err-taken.ensures.err) (λ fault told.
       Names.IsNextFault-within (has_text_names _ c.requires.declared) _ fault
-      _ (rw w.steps-is at c.short.ensures.text) told filled)
+      _ (rw w.names-is at c.short.ensures.text) told filled)
 ]

@@ -1,15 +1,18 @@
--- What was read so far is in the line.
-use Rattle.std.proofs.Common.{◌+◌, length, map}
+-- What was read so far is in the line, and the next option is in the word at this position.
+use Rattle.std.proofs.Common.{◌≡◌, ◌+◌, length, map}
 use Rattle.std.specs.String.{string_bytes}
 use Rattle.getopts.specs.Reader.{words_size}
-use Rattle.getopts.specs.Stored.Scan.{scanner_grammar}
+use Rattle.getopts.specs.Stored.Scan.{scanner_grammar, words_left}
 use Rattle.getopts.proofs.scan.Placed.{SoFar}
 use Rattle.getopts.proofs.scan.Scanner.scan.Given as goal
 
 abbrev pub invariant-items : goal.invariant-items
-invariant-items g l = SoFar (scanner_grammar l.self) 0 l.fn.line.found (map string_bytes l.fn.line.free.items)
-    l.line.found (map string_bytes l.line.free.items) (map g.S.AsStr.text l.words)
-    l.steps.names.now (map g.S.AsStr.text l.steps.left.now)
+invariant-items g l =
+    let words = map g.S.AsStr.text l.words in let left = map g.S.AsStr.text l.unread.words.now in record {
+      here : l.position + words_left l.unread.names.now l.unread.words.now ≡ length l.words;
+      read : SoFar (scanner_grammar l.self) 0 l.fn.line.found (map string_bytes l.fn.line.free.items)
+          l.line.found (map string_bytes l.line.free.items) words l.unread.names.now left;
+    }
 
 abbrev pub decreases-items : goal.decreases-items
-decreases-items g l = length l.steps.names.now + words_size (map g.S.AsStr.text l.steps.left.now)
+decreases-items g l = length l.unread.names.now + words_size (map g.S.AsStr.text l.unread.words.now)
