@@ -75,8 +75,8 @@ def job_of(name):
 # - `usage`: `ROW_ROOM` 40
 # - `asked-front`: `key_of` 6; `search` 9.6
 # - `many`, in `proved-getopts`: `search` and `search_key` 2.5
-# - `none`, in `proved-getopts`: `parse_words`, `read_matches` and `read_line` 8; `Line::for_words`,
-#   `Line::end` and `LineOccurrences::shrink` 2.5; `check_counts` 1.5; `Scanner::scan` 3.5
+# - `none`, in `proved-getopts`: `parse_words`, `read_matches` and `read_line` 8; `Line::with_capacity`
+#   and `Line::end` 2.5; `check_counts` 1.5; `Scanner::scan` 3.5
 # - `long`: `Scanner::shape` 6; `push_text`, `push_value`, `value_from`, `LineOccurrences::at` and
 #   `LineOccurrences::push` 9.5; `Occurrences::into_iter` and `OccurrencesIter::next` 5
 # - `none`: `Signatures::clone` 8

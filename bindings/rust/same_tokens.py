@@ -20,9 +20,9 @@ WHOLE += [(r"# (! )?\[ (tactic|derive \( Drop \) \])", "]"), (r"use std :: marke
 WHOLE += [(r"(mod laws|pub use laws)", ";"), (r"[+:,] Drop(?= [>,)])", "")]
 CALLS = "push push_str sort_by clone extend_from_slice split_off".split()
 RENAMED = {word: "try_" + word for word in CALLS}
-RENAMED |= {"reserve": "try_grow", "with_capacity": "of_capacity", "shrink_to_fit": "try_shrink"}
+RENAMED |= {"reserve": "try_grow", "with_capacity": "of_capacity"}
 RENAMED |= {"String :: new": "String :: empty", "Vec :: new": "Vec :: empty", "String :: from_str": "String :: copy_of"}
-RENAMED |= {"vec ! [ in alloc ; 0 ; room ]": "Vec :: filled ( alloc , 0 , room )"}
+RENAMED |= {f"vec ! [ in alloc ; 0 ; {count} ]": f"Vec :: filled ( alloc , 0 , {count} )" for count in ("room", "groups")}
 RENAMED |= {"impl Clone for": "impl TryClone for"}
 RENAMED |= {"fmt < W : fmt :: Write >": "fmt", "fmt :: Formatter < W >": "fmt :: Formatter < '_ >"}
 PATHS = {f"mod {name}": f"pub ( crate ) mod {name}" for name in ("matches", "scan", "table")}

@@ -41,12 +41,6 @@ fn fail_each_of<V, T, E>(value: &V, call: impl Fn(&V) -> Result<T, E>) -> usize 
     fail_each(|| (), |()| call(value), |(), _| true)
 }
 
-/// Makes a value smaller, if allocations are granted.
-fn shrunk<V>(mut value: V, granted: bool, shrink: impl Fn(&mut V)) -> V {
-    failing(usize::from(granted), true, || shrink(&mut value));
-    value
-}
-
 #[test]
 fn strings_grow_or_stay() {
     let full = || String::from("ab");
@@ -63,12 +57,6 @@ fn strings_grow_or_stay() {
     assert_eq!(String::of_capacity(Global, 9).map(|t| t.capacity()), Ok(9));
     assert_eq!(String::empty(Global).capacity(), 0);
     assert!(full().try_grow(usize::MAX).is_err());
-    for (granted, capacity) in [(true, 2), (false, 9)] {
-        let text = String::of_capacity(Global, 9).unwrap() + "ab";
-        let text = shrunk(text, granted, |t| t.try_shrink());
-        assert_eq!((&*text, text.capacity()), ("ab", capacity));
-        assert_eq!(shrunk(full(), granted, |t| t.try_shrink()), "ab");
-    }
 }
 
 #[test]
@@ -92,12 +80,6 @@ fn lists_grow_or_stay() {
     list.push_reserved(5);
     assert_eq!((list.as_slice(), list.capacity()), (&[5][..], 2));
     assert!(list.try_grow(usize::MAX).is_err());
-    for (granted, capacity) in [(true, 3), (false, 9)] {
-        let mut list = Vec::of_capacity(Global, 9).unwrap();
-        list.extend(full());
-        let list = shrunk(list, granted, |l| l.try_shrink());
-        assert_eq!((list.as_slice(), list.capacity()), (&[3, 1, 2][..], capacity));
-    }
 }
 
 #[test]
@@ -189,25 +171,6 @@ fn parse_reports_every_failed_allocation() {
     let many = ["-vofile", "free"].repeat(2000);
     let floating = options(0).parse_ignoring_counts(Global, &many).unwrap();
     assert_eq!(floating.opt_count("v"), 2000);
-}
-
-/// The list of options and the text of values grow to more than they need.
-#[test]
-fn long_lines_keep_memory_that_cannot_be_given_back() {
-    let (options, words) = (options(0), ["-vvLvalue"; 1_100]);
-    let wanted = options.parse_words(Global, &words);
-    let mut kept = 0;
-    for granted in 0.. {
-        let (result, failed) = failing(granted, false, || options.parse_words(Global, &words));
-        if result != Err(Fail::OutOfMemory) {
-            assert!(result == wanted);
-            if !failed {
-                break;
-            }
-            kept += 1;
-        }
-    }
-    assert_eq!(kept, 2);
 }
 
 #[test]

@@ -43,9 +43,6 @@ pub(crate) struct Occurrence<'l> {
 /// Bytes reserved for all values when the first one is stored.
 const FIRST_VALUES: usize = 64;
 
-/// A list of more records, or a text of more bytes, gives back memory that it doesn't use.
-const FIRST_LONG: usize = 1024;
-
 /// The first text that isn't empty reserves `FIRST_VALUES` bytes.
 #[inline(always)]
 fn push_text(values: &mut String, text: &str) -> Result<(), AllocError>
@@ -127,20 +124,6 @@ impl LineOccurrences {
             records: Vec::with_capacity(alloc, room)?,
             values: String::new(alloc),
         })
-    }
-
-    /// Gives back unused memory of long lists, for which `push` may have reserved twice what they
-    /// need. Nothing changes if an allocation for this fails.
-    #[inline]
-    pub(crate) fn shrink(&mut self)
-        ensures { self.new ≡ self.old }
-    {
-        if self.records.len() > FIRST_LONG {
-            self.records.shrink_to_fit();
-        }
-        if self.values.len() > FIRST_LONG {
-            self.values.shrink_to_fit();
-        }
     }
 
     pub(crate) fn len(&self) -> usize

@@ -177,7 +177,7 @@ impl Options {
     {
         words_are_texts(words);
         let table = Table::of(alloc, self.signatures())?;
-        let line = Line::for_words(alloc, words, self.style())?;
+        let line = Line::with_capacity(alloc, words.len())?;
         self.read_line(alloc, table, line, words, counted)
     }
 

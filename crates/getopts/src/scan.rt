@@ -28,9 +28,6 @@ use std::convert::AsStr;
 /// words than it promises.
 pub(crate) const FIRST_ROOM: usize = 32;
 
-/// How many words are looked at to judge how many of a longer line's words are dashed.
-const SAMPLE: usize = 1024;
-
 /// A lemma for proofs: each word is UTF-8, as its type says. Compiles to nothing in an optimized
 /// build.
 pub fn words_are_texts<S: AsStr>(words: &[S])
@@ -54,32 +51,25 @@ impl Line {
     ghost use Rattle.getopts.specs.Stored.Scan.{parts_of, with_tail};
     ghost use Rattle.getopts.specs.Reading.{line_end};
 
-    /// An empty line, with room for as many options as there are dashed words, and for as many free
-    /// words as there are others.
+    /// An empty line, with room for some of this many options and free words.
     #[inline(always)]
-    pub(crate) fn for_words<S: AsStr>(
-        alloc: Global,
-        words: &[S],
-        style: ParsingStyle,
-    ) -> Result<Line, AllocError>
+    pub(crate) fn with_capacity(alloc: Global, words: usize) -> Result<Line, AllocError>
         ensures { IfOk result (λ line. parts_of line ≡ with_tail [] [] line_end) }
     {
-        let dashed = dashed_words(words, style == ParsingStyle::StopAtFirstFree);
+        let room = words.min(FIRST_ROOM);
         Ok(Line {
-            found: LineOccurrences::with_capacity(alloc, dashed)?,
-            free: Vec::with_capacity(alloc, words.len().saturating_sub(dashed))?,
+            found: LineOccurrences::with_capacity(alloc, room)?,
+            free: Vec::with_capacity(alloc, room)?,
             trailing_start: None,
         })
     }
 
-    /// Ends the line with words that aren't read as items: free words, or `--` and free words. No
-    /// more options follow, so gives back memory that was reserved for them.
+    /// Ends the line with words that aren't read as items: free words, or `--` and free words.
     #[inline(always)]
     pub(crate) fn end<S: AsStr>(&mut self, alloc: Global, words: &[S]) -> Result<(), AllocError>
         ensures { OnOk result (parts_of self.new ≡ with_tail self.old.found
             (map string_bytes self.old.free.items) (tail_of (map S.text words.now))) }
     {
-        self.found.shrink();
         self.trailing_start = None;
         match words.first() {
             Some(word) if word.as_str() == "--" => {
@@ -206,30 +196,6 @@ fn is_dashed(word: &str) -> bool
         [b'-', _, ..] => true,
         _ => false,
     }
-}
-
-/// About how many words are dashed, up to the word that ends the options, judging by the first
-/// `SAMPLE` words. The number only determines how much to reserve, so a wrong one would cost only
-/// memory or time.
-fn dashed_words<S: AsStr>(words: &[S], stops: bool) -> usize {
-    let mut dashed: usize = 0;
-    for word in &words[..words.len().min(SAMPLE)] {
-        let bytes = word.as_str().as_bytes();
-        match bytes {
-            [b'-', second, ..] => {
-                if *second == b'-' && bytes.len() == 2 {
-                    return dashed;
-                }
-                dashed = dashed.wrapping_add(1);
-            }
-            _ if stops => return dashed,
-            _ => {}
-        }
-    }
-    if words.len() <= SAMPLE {
-        return dashed;
-    }
-    dashed.saturating_mul(words.len()) / SAMPLE
 }
 
 /// The first character of a text, as a text.

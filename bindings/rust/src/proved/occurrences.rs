@@ -28,9 +28,6 @@ pub(crate) struct Occurrence<'l> {
 /// Bytes reserved for all values when the first one is stored.
 const FIRST_VALUES: usize = 64;
 
-/// A list of more records, or a text of more bytes, gives back memory that it doesn't use.
-const FIRST_LONG: usize = 1024;
-
 /// The first text that isn't empty reserves `FIRST_VALUES` bytes.
 #[inline(always)]
 fn push_text(values: &mut String, text: &str) -> Result<(), AllocError> {
@@ -85,18 +82,6 @@ impl LineOccurrences {
             records: Vec::of_capacity(alloc, room)?,
             values: String::empty(alloc),
         })
-    }
-
-    /// Gives back unused memory of long lists, for which `push` may have reserved twice what they
-    /// need. Nothing changes if an allocation for this fails.
-    #[inline]
-    pub(crate) fn shrink(&mut self) {
-        if self.records.len() > FIRST_LONG {
-            self.records.try_shrink();
-        }
-        if self.values.len() > FIRST_LONG {
-            self.values.try_shrink();
-        }
     }
 
     pub(crate) fn len(&self) -> usize {

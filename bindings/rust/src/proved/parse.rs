@@ -91,7 +91,7 @@ impl Options {
         counted: bool,
     ) -> super::Result {
         let table = Table::of(alloc, self.signatures())?;
-        let line = Line::for_words(alloc, words, self.style())?;
+        let line = Line::of_capacity(alloc, words.len())?;
         self.read_line(alloc, table, line, words, counted)
     }
 

@@ -16,9 +16,6 @@ use crate::convert::AsStr;
 /// words than it promises.
 pub(crate) const FIRST_ROOM: usize = 32;
 
-/// How many words are looked at to judge how many of a longer line's words are dashed.
-const SAMPLE: usize = 1024;
-
 /// What a command line contains: its options in order, its free words, and the index of the first
 /// free word after `--`.
 pub(crate) struct Line {
@@ -28,27 +25,20 @@ pub(crate) struct Line {
 }
 
 impl Line {
-    /// An empty line, with room for as many options as there are dashed words, and for as many free
-    /// words as there are others.
+    /// An empty line, with room for some of this many options and free words.
     #[inline(always)]
-    pub(crate) fn for_words<S: AsStr>(
-        alloc: Global,
-        words: &[S],
-        style: ParsingStyle,
-    ) -> Result<Line, AllocError> {
-        let dashed = dashed_words(words, style == ParsingStyle::StopAtFirstFree);
+    pub(crate) fn of_capacity(alloc: Global, words: usize) -> Result<Line, AllocError> {
+        let room = words.min(FIRST_ROOM);
         Ok(Line {
-            found: LineOccurrences::of_capacity(alloc, dashed)?,
-            free: Vec::of_capacity(alloc, words.len().saturating_sub(dashed))?,
+            found: LineOccurrences::of_capacity(alloc, room)?,
+            free: Vec::of_capacity(alloc, room)?,
             trailing_start: None,
         })
     }
 
-    /// Ends the line with words that aren't read as items: free words, or `--` and free words. No
-    /// more options follow, so gives back memory that was reserved for them.
+    /// Ends the line with words that aren't read as items: free words, or `--` and free words.
     #[inline(always)]
     pub(crate) fn end<S: AsStr>(&mut self, alloc: Global, words: &[S]) -> Result<(), AllocError> {
-        self.found.shrink();
         self.trailing_start = None;
         match words.first() {
             Some(word) if word.as_str() == "--" => {
@@ -160,30 +150,6 @@ fn is_dashed(word: &str) -> bool {
         [b'-', _, ..] => true,
         _ => false,
     }
-}
-
-/// About how many words are dashed, up to the word that ends the options, judging by the first
-/// `SAMPLE` words. The number only determines how much to reserve, so a wrong one would cost only
-/// memory or time.
-fn dashed_words<S: AsStr>(words: &[S], stops: bool) -> usize {
-    let mut dashed: usize = 0;
-    for word in &words[..words.len().min(SAMPLE)] {
-        let bytes = word.as_str().as_bytes();
-        match bytes {
-            [b'-', second, ..] => {
-                if *second == b'-' && bytes.len() == 2 {
-                    return dashed;
-                }
-                dashed = dashed.wrapping_add(1);
-            }
-            _ if stops => return dashed,
-            _ => {}
-        }
-    }
-    if words.len() <= SAMPLE {
-        return dashed;
-    }
-    dashed.saturating_mul(words.len()) / SAMPLE
 }
 
 /// The first character of a text, as a text.
