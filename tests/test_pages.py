@@ -243,7 +243,7 @@ CITED = {"Options::parse_words": ["result", "accepted", "declared"],
          "Options::parse_ignoring_counts": ["result", "given", "counted", "same_error", "accepted", "declared"],
          "Matches::check_counts": ["result", "kept", "broken"],
          "Options::parse_in_order": ["result", "order", "declared", "same_error", "refused"],
-         "Reader::next": ["some", "declared", "less", "none", "ended", "err", "next_word"],
+         "Reader::next": ["result", "some", "declared", "less", "ended", "err"],
          "Matches::opt_present": ["present"], "Matches::opt_count": ["count"], "Matches::opt_str": ["value"],
          "Matches::opt_strs": ["values"], "Matches::opt_get": ["parsed"], "Matches::opt_get_default": ["parsed"],
          "Options::usage": ["result"]}

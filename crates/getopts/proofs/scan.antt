@@ -3,5 +3,6 @@
 pub mod Words
 pub mod Items
 pub mod Loop
+pub mod Next
 pub mod Names
 pub mod Placed

@@ -1,14 +1,19 @@
 -- What a caller has read of a line, one option or free word at a time.
-use Rattle.std.specs.Prelude.{◌≡◌, ◌≢◌, ℕ, ◌+◌, Bool, true, false, List, [], ◌∷◌, ◌++◌, length, map, Ok}
-use Rattle.std.specs.List.{AllByRecursion}
+use Rattle.std.specs.Prelude.{◌≡◌, ◌≢◌, ◌==◌, ◌&&◌, ℕ, ◌+◌, Bool, true, false, not, if◌then◌else◌, List, [], ◌∷◌}
+use Rattle.std.specs.Prelude.{◌++◌, drop, length, map, Option, Some, None, Result, Ok, Err}
+use Rattle.std.specs.List.{AllByRecursion, slice_get}
 use Rattle.getopts.specs.Names.{Text}
 use Rattle.getopts.specs.Options.{Declared, Grammar, grammar_of}
 use Rattle.getopts.specs.Fail.{Fault}
 use Rattle.getopts.specs.Reading.{Item, cluster, flags, IsLawfulItem, AreWellFollowed, spelled_all}
-use Rattle.getopts.specs.Reading.{Given, free_word, order_of_items, HasAfterFlags, IsFaultAt}
-use Rattle.getopts.specs.Reading.{short_unfinished, unknown_byte, wide_character}
-use Rattle.getopts.specs.Results.{order_or_error}
-use Rattle.getopts.specs.declared.reader.Unread.{Unread}
+use Rattle.getopts.specs.Reading.{Given, free_word, given_by, given_option, mention_of}
+use Rattle.getopts.specs.Reading.{order_of_items, HasAfterFlags, argument_words, dash, line_end}
+use Rattle.getopts.specs.Reading.{tail_frees}
+use Rattle.getopts.specs.Results.{order_or_error, step}
+use Rattle.getopts.specs.Step.{Step, ends, takes, faults, byte_step}
+use Rattle.getopts.specs.declared.kinds.HasArg.{HasArg}
+use Rattle.getopts.specs.declared.kinds.HasArg.TheVariants.{No}
+use Rattle.getopts.specs.declared.scan.Unread.{Unread}
 
 -- These items begin the line, and these words are left.
 pub record AreRead (grammar : Grammar) (line : List Text) (items : List Item) (words : List Text)
@@ -61,25 +66,52 @@ abbrev pub IfReadTo : Declared → Left → (List Text → List Given → Type 0
 IfReadTo options left P =
     (line : List Text) (before : List Given) → IsReadTo options line before left → P line before
 
--- the flags that precede an error in its word
-abbrev pub flags_before : {grammar : Grammar} {word : Text} {after : List Text} {fault : Fault}
-    → IsFaultAt grammar word after fault → List ℕ
-flags_before (unknown_byte byte more ascii has unknown) = has.bytes
-flags_before (wide_character character more scalar wide has) = has.bytes
-flags_before (short_unfinished option has kind ended) = has.bytes
-flags_before in_long_form = []
+-- what is next if only free words are left, and what is left after it
+abbrev pub next_free : Text → List Text → Option Given × Left
+next_free names [] = (None, record { names = names; words = []; only_free = true })
+next_free names (word ∷ words) =
+    (Some (free_word word), record { names = names; words = words; only_free = true })
 
--- This is the error of the next word or, if names are left, of their word.
-pub data IsNextFault (grammar : Grammar) (left : Left) (fault : Fault) : Type 0 where
-  -- options may follow, and no flags precede the error in its word
-  in_next : (word : Text) (after : List Text) → left.only_free ≡ false → left.names ≡ []
-      → left.words ≡ word ∷ after → (at : IsFaultAt grammar word after fault)
-      → flags_before at ≡ [] → IsNextFault grammar left fault
-  -- only the flags that were read precede the error in its word
-  in_this : left.only_free ≡ false → left.names ≢ []
-      → ((word : Text) (has : HasAfterFlags grammar word left.names)
-      → (at : IsFaultAt grammar word left.words fault) × (flags_before at ≡ has.bytes))
-      → IsNextFault grammar left fault
+-- what a step gives before these words, and what is left after it, or an error
+abbrev pub next_by_step : Grammar → List Text → Step → Result (Option Given × Left) Fault
+next_by_step grammar words (ends tail) = Ok (next_free [] (tail_frees tail))
+next_by_step grammar words (faults fault) = Err fault
+next_by_step grammar words (takes item argument) = Ok (
+  slice_get (given_by grammar item) 0,
+  record {
+    names = [];
+    words = drop (length (argument_words argument)) words;
+    only_free = false;
+  },
+)
+
+-- what a name of a cluster gives, by its kind, before these names and words
+abbrev pub next_name : Option HasArg → Grammar → ℕ → Text → List Text
+    → Result (Option Given × Left) Fault
+next_name (Some No) grammar byte names words =
+    Ok (Some (given_option (mention_of grammar (byte ∷ []) None)), record { names = names; words = words; only_free = false })
+next_name kind grammar byte names words =
+    next_by_step grammar words (byte_step kind [] byte names words (ends line_end))
+
+-- what a word gives, of which a cluster gives its first name, before these words
+abbrev pub next_word : Grammar → Text → List Text → Result (Option Given × Left) Fault
+next_word grammar (first ∷ second ∷ names) words =
+    if (first == dash) && (not (second == dash) && not grammar.long_only)
+    then next_name (grammar.kind (second ∷ [])) grammar second names words
+    else next_by_step grammar words (step grammar (first ∷ second ∷ names) words)
+next_word grammar word words = next_by_step grammar words (step grammar word words)
+
+-- what is next while options may follow these names and words
+abbrev pub next_option : Grammar → Text → List Text → Result (Option Given × Left) Fault
+next_option grammar (byte ∷ names) words =
+    next_name (grammar.kind (byte ∷ [])) grammar byte names words
+next_option grammar [] [] = Ok (next_free [] [])
+next_option grammar [] (word ∷ words) = next_word grammar word words
+
+-- the option or free word that is next, if there is one, and what is left after it, or an error
+abbrev pub next_result : Declared → Left → Result (Option Given × Left) Fault
+next_result options left = if left.only_free then Ok (next_free left.names left.words)
+    else next_option (grammar_of options) left.names left.words
 
 -- the bytes of words, and their number
 abbrev pub words_size : List Text → ℕ

@@ -1,68 +1,21 @@
 //! Reading a command line in a loop of the caller's, one option or free word at a time.
 
-ghost use Rattle.std.specs.Prelude.{◌≡◌, ◌<◌, ◌≤◌, ◌+◌, ◌∷◌, ◌++◌, [], Ok, Err, IfOk, IfErr, OnErr, IfSome, IfNone};
-ghost use Rattle.std.specs.Prelude.{false, true};
+ghost use Rattle.std.specs.Prelude.{◌≡◌, ◌<◌, ◌∷◌, ◌++◌, [], Ok, Err, IfOk, IfErr, OnErr, IfSome, IfNone};
+ghost use Rattle.std.specs.Option.{option_map};
 ghost use Rattle.getopts.specs.Accessors.{borrowed_given};
 ghost use Rattle.getopts.specs.Fail.{IsOutOfMemoryOr};
 ghost use Rattle.getopts.specs.Options.{grammar_of};
-ghost use Rattle.getopts.specs.Parse.{IsDeclared};
-ghost use Rattle.getopts.specs.Reader.{IfReadTo, IsNextFault, IsReadTo, left_in, size_of};
+ghost use Rattle.getopts.specs.Parse.{IsDeclared, ReturnsConverted};
+ghost use Rattle.getopts.specs.Reader.{IfReadTo, IsReadTo, left_in, next_result, size_of};
 ghost use Rattle.getopts.specs.Results.{order_or_error};
-ghost use Rattle.getopts.specs.Stored.Scan.{words_left};
 
 use crate::fail::Fail;
 use crate::options::Options;
-use crate::scan::{Given, Scanner, free_words};
+use crate::scan::{Given, Scanner, Unread, free_words};
 use crate::table::Table;
 use std::alloc::{AllocError, Global};
 use std::convert::AsStr;
 use std::marker::Model;
-
-/// What wasn't read yet of a command line.
-///
-/// After a loop that stops early, `words` is what the loop left. To read a word in another way,
-/// move `words` past it: `unread.words = &unread.words[1..]`.
-#[derive(Debug, Drop)]
-pub struct Unread<'w, S> {
-    /// The words after the last word that was read.
-    pub words: &'w [S],
-    /// What is left of that word, if it combines short options: after the first option of `-vx`,
-    /// `x`. Otherwise empty. A program may set it to `""`, to skip these options, but to no other
-    /// text.
-    pub names: &'w str,
-    /// Whether all of `words` are free words: after `--` and, in the style `StopAtFirstFree`, after
-    /// a free word. A program may set it to `true`, to end the options itself.
-    pub only_free: bool,
-}
-
-impl<'w, S> Unread<'w, S> {
-    /// All words of a command line, given without the program's own name.
-    pub fn new(words: &'w [S]) -> Unread<'w, S>
-        ensures words { result.words.now ≡ words.now }
-        ensures names { result.names.now ≡ [] }
-        ensures only_free { result.only_free ≡ false }
-    {
-        Unread {
-            words,
-            names: "",
-            only_free: false,
-        }
-    }
-
-    /// The position, in a line of `count` words, of the first word that isn't read to its end.
-    #[inline(always)]
-    pub(crate) fn position_in(&self, count: usize) -> usize
-        requires { words_left self.now.names.now self.now.words.now ≤ count }
-        ensures { result + words_left self.now.names.now self.now.words.now ≡ count }
-    {
-        let position = count - self.words.len();
-        if self.names.is_empty() {
-            position
-        } else {
-            position - 1
-        }
-    }
-}
 
 /// Reads command lines by the options from which it was made, one option or free word at a time.
 #[derive(Debug, Drop)]
@@ -131,6 +84,9 @@ impl<'o> Reader<'o> {
         alloc: Global,
         unread: &mut Unread<'w, S>,
     ) -> Result<Option<Given<'w>>, Fail>
+        ensures result { ReturnsConverted
+            (λ given. (option_map borrowed_given given, left_in S.text unread.new)) result
+            (λ returned. next_result self.now (left_in S.text unread.old) ≡ returned) }
         ensures some { IfOk result (λ given. IfSome given (λ given.
             IfReadTo self.now (left_in S.text unread.old) (λ line before.
             IsReadTo self.now line (before ++ borrowed_given given ∷ []) (left_in S.text unread.new)))) }
@@ -143,8 +99,6 @@ impl<'o> Reader<'o> {
         // So a loop ends.
         ensures less { IfOk result (λ given. IfSome given (λ given.
             size_of (left_in S.text unread.new) < size_of (left_in S.text unread.old))) }
-        ensures none { IfOk result (λ given. IfNone given
-            ((unread.new.only_free ≡ true) × (unread.new.words.now ≡ []))) }
 
         // At the end, the line gives what was given.
         ensures ended { IfOk result (λ given. IfNone given
@@ -153,8 +107,6 @@ impl<'o> Reader<'o> {
         ensures err { IfErr result (λ fail. IsOutOfMemoryOr fail (λ fault.
             IfReadTo self.now (left_in S.text unread.old)
             (λ line before. order_or_error self.now line ≡ Err fault))) }
-        ensures next_word { IfErr result (λ fail. IsOutOfMemoryOr fail
-            (IsNextFault (grammar_of self.now) (left_in S.text unread.old))) }
         ensures unchanged { OnErr result (unread.new ≡ unread.old) }
     {
         if !unread.only_free {

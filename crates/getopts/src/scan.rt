@@ -1,16 +1,15 @@
 //! Reading a command line, one option or free word at a time.
 
-ghost use Rattle.std.specs.Prelude.{◌≡◌, ◌≢◌, ◌-◌, ◌∷◌, ◌++◌, [], List, ℕ, MatchOption};
+ghost use Rattle.std.specs.Prelude.{◌≡◌, ◌≢◌, ◌≤◌, ◌+◌, ◌-◌, ◌∷◌, ◌++◌, [], List, ℕ, MatchOption};
 ghost use Rattle.std.specs.Prelude.{OnOk, OnErr, IfOk, IfErr, IfSome, IfNone, Some, None, Ok, Err, true, false, length};
 ghost use Rattle.std.specs.Prelude.{map};
 ghost use Rattle.std.specs.String.{string_bytes};
 ghost use Rattle.std.specs.Option.{option_copied};
 ghost use Rattle.getopts.specs.Reading.{Dashes, holds_equals, is_dashed, free_word, tail_frees};
-ghost use Rattle.getopts.specs.Reader.{IsNextFault};
-ghost use Rattle.getopts.specs.Stored.Scan.{tail_of};
+ghost use Rattle.getopts.specs.Reader.{next_option};
+ghost use Rattle.getopts.specs.Stored.Scan.{tail_of, words_left};
 ghost use Rattle.getopts.specs.Accessors.{borrowed_given};
 ghost use Rattle.getopts.specs.Fail.{IsOutOfMemoryOr};
-ghost use Rattle.std.specs.Str.{IsUtf8};
 ghost use Rattle.getopts.specs.Names.{AreTexts};
 ghost use Rattle.getopts.specs.Step.{with_equals, first_char, chosen_long, chosen_end, Chooses};
 ghost use Rattle.getopts.specs.Step.{Step, name_step, faults};
@@ -19,7 +18,6 @@ use crate::fail::Fail;
 use crate::kinds::{HasArg, ParsingStyle};
 use crate::occurrences::LineOccurrences;
 use crate::options::Options;
-use crate::reader::Unread;
 use crate::table::Table;
 use std::alloc::{AllocError, Global};
 use std::convert::AsStr;
@@ -95,6 +93,52 @@ pub enum Given<'w> {
     },
     /// A free word.
     Free(&'w str),
+}
+
+/// What wasn't read yet of a command line.
+///
+/// After a loop that stops early, `words` is what the loop left. To read a word in another way,
+/// move `words` past it: `unread.words = &unread.words[1..]`.
+#[derive(Debug, Drop)]
+pub struct Unread<'w, S> {
+    /// The words after the last word that was read.
+    pub words: &'w [S],
+    /// What is left of that word, if it combines short options: after the first option of `-vx`,
+    /// `x`. Otherwise empty. A program may set it to `""`, to skip these options, but to no other
+    /// text.
+    pub names: &'w str,
+    /// Whether all of `words` are free words: after `--` and, in the style `StopAtFirstFree`, after
+    /// a free word. A program may set it to `true`, to end the options itself.
+    pub only_free: bool,
+}
+
+impl<'w, S> Unread<'w, S> {
+    /// All words of a command line, given without the program's own name.
+    pub fn new(words: &'w [S]) -> Unread<'w, S>
+        ensures words { result.words.now ≡ words.now }
+        ensures names { result.names.now ≡ [] }
+        ensures only_free { result.only_free ≡ false }
+    {
+        Unread {
+            words,
+            names: "",
+            only_free: false,
+        }
+    }
+
+    /// The position, in a line of `count` words, of the first word that isn't read to its end.
+    #[inline(always)]
+    pub(crate) fn position_in(&self, count: usize) -> usize
+        requires { words_left self.now.names.now self.now.words.now ≤ count }
+        ensures { result + words_left self.now.names.now self.now.words.now ≡ count }
+    {
+        let position = count - self.words.len();
+        if self.names.is_empty() {
+            position
+        } else {
+            position - 1
+        }
+    }
 }
 
 /// Reads words by these options, with the table of their names.
@@ -334,7 +378,6 @@ impl<'o> Scanner<'o> {
         ensures err { let grammar = scanner_grammar self.now in
             IfErr result (λ fail. IsOutOfMemoryOr fail (λ fault. (bytes : List ℕ) (more : Step)
             → name_step grammar bytes names.now (map S.text after.now) more ≡ faults fault)) }
-        ensures text { IsUtf8 names.now }
     {
         if !names.as_bytes()[0].is_ascii() {
             let name = first_character(names);
@@ -380,8 +423,8 @@ impl<'o> Scanner<'o> {
         }
     }
 
-    /// Reads an option or a free word, and moves `unread` past it. Returns `None` at the end, at `--`
-    /// and, if options stop there, at a free word.
+    /// Reads an option or a free word, and moves `unread` past it. Returns `None` at the end, at
+    /// `--` and, if options stop there, at a free word.
     #[inline(always)]
     pub(crate) fn next<'w, S: AsStr>(
         &self,
@@ -397,12 +440,19 @@ impl<'o> Scanner<'o> {
             ((unread.old.names.now ≡ []) × (unread.new ≡ unread.old))) }
         ensures tail { IfOk result (λ given. IfNone given
             (IsLawfulTail (scanner_grammar self.now) (tail_of (map S.text unread.old.words.now)))) }
-        ensures err { IfErr result (λ fail. IsOutOfMemoryOr fail
-            (IsNextFault (scanner_grammar self.now) (record {
-              names = unread.old.names.now;
-              words = map S.text unread.old.words.now;
-              only_free = false;
-            }))) }
+        ensures next { IfOk result (λ given. IfSome given (λ given.
+            next_option (scanner_grammar self.now) unread.old.names.now (map S.text unread.old.words.now)
+            ≡ Ok (
+              Some (borrowed_given given),
+              record {
+                names = unread.new.names.now;
+                words = map S.text unread.new.words.now;
+                only_free = false;
+              },
+            ))) }
+        ensures err { IfErr result (λ fail. IsOutOfMemoryOr fail (λ fault.
+            next_option (scanner_grammar self.now) unread.old.names.now (map S.text unread.old.words.now)
+            ≡ Err fault)) }
         ensures only_free { unread.new.only_free ≡ unread.old.only_free }
         ensures unchanged { OnErr result (unread.new ≡ unread.old) }
     {

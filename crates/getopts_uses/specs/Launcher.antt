@@ -1,10 +1,9 @@
 -- A program that runs another: its options, and what a command line asks for.
-use Rattle.std.specs.Prelude.{◌≡◌, ◌≢◌, ◌++◌, List, [], ◌∷◌, codes, map, Ok, Option}
+use Rattle.std.specs.Prelude.{◌≡◌, ◌≢◌, ◌++◌, List, [], ◌∷◌, codes, map, Ok, Err, Option}
 use Rattle.std.specs.List.{AllByRecursion}
 use Rattle.std.specs.Option.{option_map_or}
-use Rattle.getopts.specs.Options.{grammar_of}
-use Rattle.getopts.specs.Prelude.{Declared, Fault, Given, IsNextFault, IsReadTo, Text}
-use Rattle.getopts.specs.Prelude.{borrowed_given, free_word, optflagmulti, option, options_of}
+use Rattle.getopts.specs.Prelude.{Declared, Fault, Given, IsReadTo, Text}
+use Rattle.getopts.specs.Prelude.{borrowed_given, free_word, next_result, optflagmulti, option, options_of}
 use Rattle.getopts.specs.Prelude.{optmulti, order_or_error}
 use Rattle.getopts.specs.Reader.{Left}
 use Rattle.getopts.specs.declared.kinds.ParsingStyle.TheVariants.{StopAtFirstFree}
@@ -37,4 +36,4 @@ IsAsked text line (Parsed launch) = AllByRecursion IsOther (map borrowed_given l
 -- This is the error of a command line, and no help precedes it.
 abbrev pub IsRefusedFor : List Text → Fault → Type 0
 IsRefusedFor line fault = (others : List Given) × (left : Left) × AllByRecursion IsOther others
-    × IsReadTo launch_options line others left × IsNextFault (grammar_of launch_options) left fault
+    × IsReadTo launch_options line others left × (next_result launch_options left ≡ Err fault)

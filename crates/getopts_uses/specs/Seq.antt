@@ -1,10 +1,9 @@
 -- The options of `seq`, and its operands, which may be negative numbers.
 use Rattle.std.specs.Prelude.{◌≡◌, ◌++◌, ◌==◌, ◌&&◌, ◌||◌, ℕ, if◌then◌else◌, nat_lt, List, [], ◌∷◌, Bool, true, false}
-use Rattle.std.specs.Prelude.{codes, length, map, Option, None, Ok, unwrap_or}
+use Rattle.std.specs.Prelude.{codes, length, map, Option, None, Ok, Err, unwrap_or}
 use Rattle.std.specs.List.{slice_get, slice_index}
 use Rattle.std.specs.Option.{option_copied}
-use Rattle.getopts.specs.Options.{grammar_of}
-use Rattle.getopts.specs.Prelude.{Declared, Fault, Given, IsNextFault, IsReadTo, Text, free_word}
+use Rattle.getopts.specs.Prelude.{Declared, Fault, Given, IsReadTo, Text, free_word, next_result}
 use Rattle.getopts.specs.Prelude.{optflagmulti, option, options_of, optmulti, order_or_error, texts}
 use Rattle.getopts.specs.Reader.{Left}
 use Rattle.getopts.specs.declared.kinds.ParsingStyle.TheVariants.{StopAtFirstFree}
@@ -38,7 +37,7 @@ pub data IsLine (line : List Text) (order : List Given) : Type 0 where
 -- This is the error of a command line: the first word that is an error isn't such a number.
 abbrev pub IsRefusedFor : List Text → Fault → Type 0
 IsRefusedFor line fault = (given : List Given) × (left : Left) × IsReadTo seq_options line given left
-    × (is_at_number left ≡ false) × IsNextFault (grammar_of seq_options) left fault
+    × (is_at_number left ≡ false) × (next_result seq_options left ≡ Err fault)
 
 -- what a command line asks for
 pub record Asked : Type 0 where

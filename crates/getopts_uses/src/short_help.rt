@@ -19,6 +19,7 @@ fn options(alloc: Global) -> Result<Options, AllocError>
 }
 
 /// The first option or free word of a command line.
+#[tactic(auto, unfolding(getopts::proofs::OnLiterals::getopts_on_literals))]
 pub fn first_given<'w, S: AsStr>(alloc: Global, words: &'w [S]) -> Result<Option<Given<'w>>, Fail>
     ensures help { map S.text words.now ≡ codes "-hx" ∷ []
         → IfOk result (λ given. option_map borrowed_given given ≡ Some (option 0 None)) }

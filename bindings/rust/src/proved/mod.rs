@@ -54,8 +54,8 @@ pub use matches::Matches;
 pub use names::names_lawful;
 pub use occurrences::{Occurrences, OccurrencesIter, Values};
 pub use options::Options;
-pub use reader::{Reader, Unread};
-pub use scan::Given;
+pub use reader::Reader;
+pub use scan::{Given, Unread};
 pub use usage::UsageRows;
 
 /// What `parse` returns: the matches of an accepted command line, or why it was rejected.

@@ -7,7 +7,6 @@ use super::fail::Fail;
 use super::kinds::{HasArg, ParsingStyle};
 use super::occurrences::LineOccurrences;
 use super::options::Options;
-use super::reader::Unread;
 use super::table::Table;
 use crate::alloc::{AllocError, Global};
 use crate::convert::AsStr;
@@ -64,6 +63,45 @@ pub enum Given<'w> {
     },
     /// A free word.
     Free(&'w str),
+}
+
+/// What wasn't read yet of a command line.
+///
+/// After a loop that stops early, `words` is what the loop left. To read a word in another way,
+/// move `words` past it: `unread.words = &unread.words[1..]`.
+#[derive(Debug)]
+pub struct Unread<'w, S> {
+    /// The words after the last word that was read.
+    pub words: &'w [S],
+    /// What is left of that word, if it combines short options: after the first option of `-vx`,
+    /// `x`. Otherwise empty. A program may set it to `""`, to skip these options, but to no other
+    /// text.
+    pub names: &'w str,
+    /// Whether all of `words` are free words: after `--` and, in the style `StopAtFirstFree`, after
+    /// a free word. A program may set it to `true`, to end the options itself.
+    pub only_free: bool,
+}
+
+impl<'w, S> Unread<'w, S> {
+    /// All words of a command line, given without the program's own name.
+    pub fn new(words: &'w [S]) -> Unread<'w, S> {
+        Unread {
+            words,
+            names: "",
+            only_free: false,
+        }
+    }
+
+    /// The position, in a line of `count` words, of the first word that isn't read to its end.
+    #[inline(always)]
+    pub(crate) fn position_in(&self, count: usize) -> usize {
+        let position = count - self.words.len();
+        if self.names.is_empty() {
+            position
+        } else {
+            position - 1
+        }
+    }
 }
 
 /// Reads words by these options, with the table of their names.
@@ -284,8 +322,8 @@ impl<'o> Scanner<'o> {
         }
     }
 
-    /// Reads an option or a free word, and moves `unread` past it. Returns `None` at the end, at `--`
-    /// and, if options stop there, at a free word.
+    /// Reads an option or a free word, and moves `unread` past it. Returns `None` at the end, at
+    /// `--` and, if options stop there, at a free word.
     #[inline(always)]
     pub(crate) fn next<'w, S: AsStr>(
         &self,

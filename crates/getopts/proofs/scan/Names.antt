@@ -2,20 +2,17 @@
 -- and a free word.
 use Rattle.std.proofs.Common.{Err, ◌≡◌, ◌≢◌, ◌+◌, ◌-◌, ◌<◌, ◌≤◌, ℕ, List, [], ◌∷◌, ◌++◌, length, rules, drop, refl}
 use Rattle.std.proofs.Common.{◌∙◌, ap, sym, Option, Some, None, arith, ◌==◌, true, false, map, append_assoc}
-use Rattle.std.proofs.Common.{slice_index, slice_range, length-append}
+use Rattle.std.proofs.Common.{slice_index, slice_range}
 use Rattle.std.proofs.lemmas.Bool.{false≢true}
 use Rattle.std.proofs.lemmas.List.{append-nil, map-append}
 use Rattle.std.proofs.Math.Seq.{drop-append_seam}
 use Rattle.std.proofs.Permutation.{every_append}
-use Rattle.std.specs.List.{AllByRecursion}
-use Rattle.std.specs.Char.{encode_utf8}
-use Rattle.std.specs.Str.{IsUtf8}
 use Rattle.getopts.specs.Names.{Text}
 use Rattle.getopts.specs.Options.{Declared, Grammar, grammar_of}
 use Rattle.getopts.specs.Fail.{Fault, unrecognized_option}
 use Rattle.getopts.specs.Reading as Spec
 use Rattle.getopts.specs.Reader.{AreRead, AreReadTo, IsReadTo, Left, between_words, within_word, words_size}
-use Rattle.getopts.specs.Reader.{IsNextFault, flags_before, in_next, in_this}
+use Rattle.getopts.specs.Reader.{next_option}
 use Rattle.getopts.specs.Results.{reading_or_error}
 use Rattle.getopts.specs.Step.{Step, takes, faults, name_step, cluster_step, TakesOne, TakesName, takes_last, takes_flag}
 use Rattle.getopts.specs.Step.{chosen_end, chosen_step, first_char, Chooses, long_step, IsInLongForm, IsShortForm}
@@ -29,44 +26,13 @@ use Rattle.getopts.proofs.Reading.Readings.{reading_read, read_step, items_read,
 use Rattle.getopts.proofs.Reading.Positions.{order_of_items-append, occurrences_after-append, length-spelled_all}
 use Rattle.getopts.proofs.Reading.Positions.{options_in-append, options_in-options, options_in-given_by}
 use Rattle.getopts.proofs.Reading.Steps as Steps
-use Rattle.getopts.proofs.Reading.Texts as Texts
 use Rattle.getopts.proofs.scan.Loop.{tail_words-tail_of}
-
--- what a dashed item gives
-given_by-dashed : (grammar : Grammar) (item : Spec.Item) → Spec.free_items (item ∷ []) ≡ []
-    → Spec.given_by grammar item ≡ map Spec.given_option (Spec.mentions grammar item)
-given_by-dashed grammar (Spec.free word) free = cc free
-given_by-dashed grammar (Spec.long dashes name argument) free = refl
-given_by-dashed grammar (Spec.cluster bytes end) free = refl
+use Rattle.getopts.proofs.scan.Next.{error-name, error-word, given_by-dashed}
 
 -- words, and those that are left after an argument
 words_size-left : (words left : List Text) → words_size left ≤ words_size (words ++ left)
 words_size-left [] left = omega arith
 words_size-left (word ∷ words) left = omega (arith, words_size-left words left)
-
--- The first of the names that are left in a cluster, by its kind. If it is an error whatever
--- follows it, it isn't a flag.
-name_cluster : (grammar : Grammar) (bytes : List ℕ) (byte : ℕ) (rest : Text) (after : List Text) {fault : Fault}
-    → ((more : Step) → name_step grammar bytes (byte ∷ rest) after more ≡ faults fault)
-    → cluster_step grammar bytes (byte ∷ rest) after ≡ faults fault
-unfolding cluster_step
-name_cluster grammar bytes byte rest after fails = fails (cluster_step grammar (bytes ++ byte ∷ []) rest after)
-
-name_plain : (grammar : Grammar) (byte : ℕ) (rest : Text) (after : List Text) {fault : Fault}
-    → ((more : Step) → name_step grammar [] (byte ∷ rest) after more ≡ faults fault)
-    → grammar.kind (byte ∷ []) ≢ Some No
-name_plain grammar byte rest after fails flag = cc (rw flag at (fails (takes (Spec.free []) Spec.none)))
-
-names_cluster : (grammar : Grammar) (bytes : List ℕ) (names : Text) (after : List Text) {fault : Fault} → names ≢ []
-    → ((more : Step) → name_step grammar bytes names after more ≡ faults fault)
-    → cluster_step grammar bytes names after ≡ faults fault
-names_cluster grammar bytes [] after filled fails = absurd (filled refl)
-names_cluster grammar bytes (byte ∷ rest) after filled fails = name_cluster grammar bytes byte rest after fails
-
-names_plain : (grammar : Grammar) (names : Text) (after : List Text) {fault : Fault} → names ≢ []
-    → ((more : Step) → name_step grammar [] names after more ≡ faults fault) → (byte : ℕ) (rest : Text)
-    → names ≡ byte ∷ rest → grammar.kind (byte ∷ []) ≢ Some No
-names_plain grammar names after filled fails byte rest is = name_plain grammar byte rest after (rw is at fails)
 
 -- The first of names that aren't empty.
 module _ (grammar : Grammar) (after : List Text) where
@@ -211,12 +177,6 @@ module _ {grammar : Grammar} {line words : List Text} {items : List Spec.Item} {
 
 -- A line, and its words after the one that is being read.
 module _ {grammar : Grammar} (named : HasTextNames grammar) (line words : List Text) where
-  -- an error of this word is an error of the line
-  line_fault : {items : List Spec.Item} {word : Text} (fault : Fault) → AreRead grammar line items (word ∷ words)
-      → Spec.IsFaultAt grammar word words fault → read grammar line ≡ Err fault
-  line_fault {items} {word} fault read_to at =
-      search (rules, items_read, read_step, Steps.fault_step grammar named word words fault at)
-
   -- one more item
   AreReadTo-item : {before : List Spec.Item} {word : Text} (item : Spec.Item) (argument : Spec.Argument)
       {left : List Text} → AreRead grammar line before (word ∷ words) → step grammar word words ≡ takes item argument
@@ -280,86 +240,6 @@ module _ {grammar : Grammar} (named : HasTextNames grammar) (line words : List T
           rules,
           Steps.short_step_byte grammar inside.word has.bytes byte text words (Some kind) form has.each kind_is,
         )) chooses.after_is)
-
--- flags before a text of UTF-8
-IsUtf8-flags : {grammar : Grammar} → HasTextNames grammar → (bytes : List ℕ) (names : Text)
-    → AllByRecursion (Spec.IsFlag grammar) bytes → IsUtf8 names → IsUtf8 (bytes ++ names)
-IsUtf8-flags named [] names each utf8 = utf8
-IsUtf8-flags named (byte ∷ bytes) names each utf8 =
-    let ascii : byte < 128 = search rules in
-    Texts.IsUtf8-ascii byte (bytes ++ names) ascii (IsUtf8-flags named bytes names each.1 utf8)
-
--- Flags that a name which isn't a flag follows are all flags in front of it.
-same_flags : (grammar : Grammar) (flags others : List ℕ) (byte other : ℕ) (more rest : Text)
-    → flags ++ byte ∷ more ≡ others ++ other ∷ rest → AllByRecursion (Spec.IsFlag grammar) flags
-    → AllByRecursion (Spec.IsFlag grammar) others → grammar.kind (byte ∷ []) ≢ Some No
-    → grammar.kind (other ∷ []) ≢ Some No → flags ≡ others
-same_flags grammar [] [] byte other more rest is each all plain end = refl
-same_flags grammar [] (flag ∷ others) byte other more rest is each all plain end = search rules
-same_flags grammar (flag ∷ flags) [] byte other more rest is each all plain end = search rules
-same_flags grammar (flag ∷ flags) (next ∷ others) byte other more rest is each all plain end =
-    search (rules, same_flags grammar flags others byte other more rest)
-
--- A word in short form, and a second way to divide it at a name that isn't a flag.
-module _ {grammar : Grammar} {word names : Text} (byte : ℕ) (rest : Text) (names_are : names ≡ byte ∷ rest)
-    (plain : grammar.kind (byte ∷ []) ≢ Some No) (has : Spec.HasAfterFlags grammar word names) where
-  same_bytes : {text : Text} (other : Spec.HasAfterFlags grammar word text) (next : ℕ) (more : Text)
-      → text ≡ next ∷ more → grammar.kind (next ∷ []) ≢ Some No → other.bytes ≡ has.bytes
-  same_bytes other next more text_is end =
-      let same : other.bytes ++ next ∷ more ≡ has.bytes ++ byte ∷ rest = search rules in
-      same_flags grammar other.bytes has.bytes next byte more rest same other.each has.each end plain
-
-  same_wide : HasTextNames grammar → (character : ℕ) (whole more : Text) → whole ≡ encode_utf8 character ++ more
-      → 1 < length (encode_utf8 character) → (other : Spec.HasAfterFlags grammar word whole) → other.bytes ≡ has.bytes
-  same_wide named character [] more is wide other =
-      absurd (omega (arith, wide, ap length is, length-append (encode_utf8 character) more))
-  same_wide named character (next ∷ others) more is wide other =
-      let unknown = Steps.wide_unknown grammar named character next others more is wide in
-      same_bytes other next others refl (λ flag. cc (unknown, flag))
-
-  -- it isn't in long form
-  not_long : (name : Text) (argument : Option Text) (dashes : Spec.Dashes) → Spec.MayPrecede grammar.long_only dashes name
-      → word ≡ Spec.long_word dashes name argument → ⊥
-  not_long name argument Spec.one before word_is = search rules
-  not_long name argument Spec.two before word_is = search rules
-
-  -- the flags in front of its names precede each of its errors
-  flags_before-same : HasTextNames grammar → {after : List Text} {fault : Fault}
-      (at : Spec.IsFaultAt grammar word after fault) → flags_before at ≡ has.bytes
-  flags_before-same named (Spec.unknown_name name argument form unknown) =
-      absurd (not_long name argument form.dashes form.before form.word_is)
-  flags_before-same named (Spec.unknown_byte next more ascii other unknown) =
-      same_bytes other next more refl (λ flag. cc (unknown, flag))
-  flags_before-same named (Spec.wide_character character more scalar wide other) =
-      same_wide named character _ more refl wide other
-  flags_before-same named (Spec.unwanted_argument name argument form kind) =
-      absurd (not_long name (Some argument) form.dashes form.before form.word_is)
-  flags_before-same named (Spec.long_unfinished name form kind ended) =
-      absurd (not_long name None form.dashes form.before form.word_is)
-  flags_before-same named (Spec.short_unfinished option other kind ended) =
-      same_bytes other option [] refl (λ flag. cc (kind, flag))
-
-flags_before-names : {grammar : Grammar} → HasTextNames grammar → {word : Text} (names : Text) → names ≢ []
-    → (has : Spec.HasAfterFlags grammar word names)
-    → ((byte : ℕ) (rest : Text) → names ≡ byte ∷ rest → grammar.kind (byte ∷ []) ≢ Some No)
-    → {after : List Text} {fault : Fault} (at : Spec.IsFaultAt grammar word after fault) → flags_before at ≡ has.bytes
-flags_before-names named [] filled has plain at = absurd (filled refl)
-flags_before-names named (byte ∷ rest) filled has plain at =
-    flags_before-same byte rest refl (plain byte rest refl) has named at
-
--- a word in long form isn't in short form
-not_short : {grammar : Grammar} (dashes : Spec.Dashes) {word long text : Text} → IsInLongForm grammar dashes word long
-    → Spec.HasAfterFlags grammar word text → ⊥
-not_short Spec.one form has = search rules
-not_short Spec.two form has = search rules
-
--- no flags precede its error
-flags_before-long : {grammar : Grammar} (dashes : Spec.Dashes) {word long : Text} → IsInLongForm grammar dashes word long
-    → {after : List Text} {fault : Fault} (at : Spec.IsFaultAt grammar word after fault) → flags_before at ≡ []
-flags_before-long dashes form (Spec.unknown_byte byte more ascii has unknown) = absurd (not_short dashes form has)
-flags_before-long dashes form (Spec.wide_character character more scalar wide has) = absurd (not_short dashes form has)
-flags_before-long dashes form (Spec.short_unfinished option has kind ended) = absurd (not_short dashes form has)
-flags_before-long dashes form at = refl
 
 -- The words after the one that is being read.
 module _ {grammar : Grammar} (named : HasTextNames grammar) (words : List Text) where
@@ -432,65 +312,25 @@ module _ {grammar : Grammar} (named : HasTextNames grammar) (words : List Text) 
   ReadsOne-within (c ∷ names) filled = ReadsOne-name (c ∷ names) (λ line items read_to. IsInWord-within filled read_to) refl
       (omega arith)
 
-  -- an error in long form, and of names in a cluster
-  module _ (fault : Fault) where
-    pub IsNextFault-long : (dashes : Spec.Dashes) (word long : Text) → IsInLongForm grammar dashes word long → IsUtf8 word
-        → long_step grammar dashes long words ≡ faults fault
-        → IsNextFault grammar (record { names = []; words = word ∷ words; only_free = false }) fault
-    IsNextFault-long dashes word long form utf8 fails =
-        let is = Steps.step_long grammar dashes word long words form ∙ fails in
-        let at = (rw is at (Steps.step_sound grammar named word words)) utf8 in
-        in_next word words refl refl refl at (flags_before-long dashes form at)
+-- the error of a word, and of the next word or name, is that of the whole line
+line_fault : {grammar : Grammar} → HasTextNames grammar → {line : List Text} {items : List Spec.Item} {word : Text}
+    (words : List Text) {fault : Fault} → AreRead grammar line items (word ∷ words)
+    → step grammar word words ≡ faults fault → read grammar line ≡ Err fault
+line_fault named words read_to is = search (rules, items_read, read_step)
 
-    module _ (names : Text) (utf8 : IsUtf8 names)
-        (fails : (bytes : List ℕ) (then : Step) → name_step grammar bytes names words then ≡ faults fault)
-        (filled : names ≢ []) where
-      IsFaultAt-names : (word : Text) (has : Spec.HasAfterFlags grammar word names)
-          → (at : Spec.IsFaultAt grammar word words fault) × (flags_before at ≡ has.bytes)
-      IsFaultAt-names word has =
-          let form = Steps.short_of grammar word names has
-          (λ none. omega (arith, ap length none, length-append has.bytes names, names_length names filled)) in
-          let is = Steps.short_step_flags grammar word has.bytes names words form has.each
-          ∙ names_cluster grammar has.bytes names words filled (fails has.bytes) in
-          let at = (rw is at (Steps.step_sound grammar named word words)) (rw has.word_is (Texts.IsUtf8-ascii Spec.dash
-          (has.bytes ++ names) (omega arith) (IsUtf8-flags named has.bytes names has.each utf8))) in
-          (at, flags_before-names named names filled has (names_plain grammar names words filled (fails [])) at)
-
-      pub IsNextFault-short : (word : Text) → IsShortForm grammar word names
-          → IsNextFault grammar (record { names = []; words = word ∷ words; only_free = false }) fault
-      IsNextFault-short word form =
-          let at = IsFaultAt-names word (unflagged form) in
-          in_next word words refl refl refl at.0 at.1
-
-      pub IsNextFault-within : IsNextFault grammar (record { names = names; words = words; only_free = false }) fault
-      IsNextFault-within = in_this refl filled IsFaultAt-names
-
--- If options may follow, an error is that of the next word.
-pub IsNextFault-options : {grammar : Grammar} {left : Left} {fault : Fault} → left.only_free ≡ false
-    → IsNextFault grammar (record { names = left.names; words = left.words; only_free = false }) fault
-    → IsNextFault grammar left fault
-IsNextFault-options options (in_next word after is none words_are at first) =
-    in_next word after options none words_are at first
-IsNextFault-options options (in_this is filled at) = in_this options filled at
-
--- What a whole line gave.
-module _ {grammar : Grammar} {line : List Text} {left : Left} (named : HasTextNames grammar) where
-  -- its error
-  pub AreReadTo-fault : {items : List Spec.Item} (fault : Fault) → IsNextFault grammar left fault
-      → AreReadTo grammar line items left.names left.words → read grammar line ≡ Err fault
-  AreReadTo-fault fault (in_next word after options none is at first) read_to =
-      let read : AreRead grammar line _ left.words = AreRead-between none read_to in
-      line_fault named line after fault (rw is at read) at
-  AreReadTo-fault fault (in_this options filled at) read_to =
-      let inside = IsInWord-within filled read_to in
-      line_fault named line left.words fault inside.read_to (at inside.word inside.has).0
-
-module _ {options : Declared} {line : List Text} {left : Left} where
-  -- its error, whatever it gave before
-  pub IsReadTo-fault : HasTextNames (grammar_of options) → {given : List Spec.Given} (fault : Fault) → left.only_free ≡ false
-      → IsNextFault (grammar_of options) (record { names = left.names; words = left.words; only_free = false }) fault
-      → IsReadTo options line given left → read (grammar_of options) line ≡ Err fault
-  IsReadTo-fault named fault may at read_to = AreReadTo-fault named fault at (read_to.among_options may).read
+pub AreReadTo-fault : {grammar : Grammar} → HasTextNames grammar → {line : List Text} {items : List Spec.Item} (names : Text) (words : List Text) {fault : Fault} → next_option grammar names words ≡ Err fault
+    → AreReadTo grammar line items names words → read grammar line ≡ Err fault
+AreReadTo-fault named [] [] fails read_to = absurd (cc fails)
+AreReadTo-fault {grammar} named [] (word ∷ words) fails read_to =
+    line_fault named words (AreRead-between refl read_to) (error-word grammar words word fails)
+AreReadTo-fault {grammar} named (byte ∷ names) words fails read_to =
+    let inside = IsInWord-within (λ e. cc e) read_to in
+    let has = inside.has in
+    let form = Steps.short_of grammar inside.word (byte ∷ names) has (filled-append has.bytes byte names) in
+    line_fault named words inside.read_to
+    (Steps.short_step_byte grammar inside.word has.bytes byte names words (grammar.kind (byte ∷ [])) form has.each refl
+    ∙ error-name grammar words (grammar.kind (byte ∷ [])) byte names fails has.bytes
+    (cluster_step grammar (has.bytes ++ byte ∷ []) names words))
 
 -- One option or free word more of a line.
 module _ {options : Declared} {line : List Text} {before : List Spec.Given} {left : Left} where

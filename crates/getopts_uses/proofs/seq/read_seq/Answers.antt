@@ -23,8 +23,6 @@ returns-in-None-clause-seq g c =
     (_, whole (ended _ _ c.loop-alloc.invariant.1), search (rules, c.loop-alloc.invariant.2 []))
 
 pub returns-clause-seq : goal.returns-clause-seq
-returns-clause-seq g c = (
-  _,
-  negative _ _ c.loop-alloc.invariant.1 (search rules) refl,
-  rw (c.loop-alloc.invariant.2, ← c.loop-word.invariant) (search (rules, drop_all)),
-)
+returns-clause-seq g c =
+    let asked = c.loop-alloc.invariant in
+    (_, negative _ _ asked.1 (search rules) refl, rw (asked.2, ← c.loop-word.invariant) (search (rules, drop_all)))

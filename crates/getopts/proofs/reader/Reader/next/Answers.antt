@@ -1,24 +1,27 @@
 -- While options may follow, the scanner's steps are the reader's. After that, each word is free.
-use Rattle.std.proofs.Common.{◌≡◌, List, ap, false, true, refl, rules, append-nil}
+use Rattle.std.proofs.Common.{◌≡◌, List, Ok, ap, false, map, true, refl, rules, append-nil}
 use Rattle.std.proofs.lemmas.List.{nil_from_length}
+use Rattle.std.proofs.lemmas.Result.{err_from_is_err_and}
 use Rattle.getopts.specs.Names.{Text}
-use Rattle.getopts.specs.Reader.{IsReadTo, left_in}
+use Rattle.getopts.specs.Options.{grammar_of}
+use Rattle.getopts.specs.Reader.{IsReadTo, left_in, next_free, next_result}
 use Rattle.getopts.specs.Reading.{Given}
 use Rattle.getopts.specs.Results.{made_of, reading_or_error}
-use Rattle.getopts.proofs.Weaker.{IsOutOfMemoryOr-exit}
+use Rattle.getopts.proofs.Weaker.{IsOutOfMemoryOr-exit, IsOutOfMemoryOr-weaker}
 use Rattle.getopts.proofs.parse.Holds.{IsDeclared-last}
-use Rattle.getopts.proofs.scan.Names.{IsNextFault-options, IsReadTo-fault, IsReadTo-free, IsReadTo-next, IsReadTo-tail}
+use Rattle.getopts.proofs.scan.Names.{AreReadTo-fault, IsReadTo-free, IsReadTo-next, IsReadTo-tail}
+use Rattle.getopts.proofs.scan.Next.{next-tail}
 use Rattle.getopts.proofs.table.Names.{has_text_names}
 use Rattle.getopts.proofs.reader.Reader.next.Goals as goal
 use Rattle.getopts.proofs.reader.Reader.next.Goals.{After-split_first}
 use Rattle.getopts.proofs.reader.Reader.next.Given.{Over}
 
-pub returns-in_err-given-clause-next_word : goal.returns-in_err-given-clause-next_word
-returns-in_err-given-clause-next_word g c =
+pub returns-in_err-given-clause-result : goal.returns-in_err-given-clause-result
+returns-in_err-given-clause-result g c =
     let options : c.args.unread.now.only_free ≡ false = search rules in
-    rw (← c.self.view_is)
-    (IsOutOfMemoryOr-exit _ c.in_err-given.field-0.0 _ _ c.from_residual.ensures.1 c.in_err-given.ensures.err
-    (λ fault told. IsNextFault-options options told))
+    let left = err_from_is_err_and c.from_residual.result c.from_residual.ensures.1 in
+    rw (left.1, left.2, ← c.self.view_is) (IsOutOfMemoryOr-weaker c.in_err-given.field-0.0 _ _ c.in_err-given.ensures.err
+    (λ fault told. rw (options, told) refl))
 
 pub returns-in_err-given-clause-err : goal.returns-in_err-given-clause-err
 unfolding reading_or_error
@@ -26,8 +29,14 @@ returns-in_err-given-clause-err g c =
     let options : c.args.unread.now.only_free ≡ false = search rules in
     rw (← c.self.view_is)
     (IsOutOfMemoryOr-exit _ c.in_err-given.field-0.0 _ _ c.from_residual.ensures.1 c.in_err-given.ensures.err
-    (λ fault told line before read_to. ap (made_of _) (IsReadTo-fault (has_text_names _ c.self.invariant.0) fault options
-    told read_to)))
+    (λ fault told line before read_to. ap (made_of _)
+    (AreReadTo-fault (has_text_names _ c.self.invariant.0) _ _ told (read_to.among_options options).read)))
+
+pub returns-in-Some-clause-result : goal.returns-in-Some-clause-result
+returns-in-Some-clause-result g c =
+    let options : c.args.unread.now.only_free ≡ false = search rules in
+    let next = rw c.in-Some.is at c.in_ok-given.ensures.next in
+    rw (← c.self.view_is, c.in_ok-given.ensures.only_free, options) next
 
 pub returns-in-Some-clause-some : goal.returns-in-Some-clause-some
 returns-in-Some-clause-some g c =
@@ -62,15 +71,35 @@ read_free g c = rw (← c.self.view_is) (λ line before read_to. elim c.if-not-u
   | goal.else-not-unread w ↦ rw w.unread-is read_to
 ])
 
+read_next : (g : Over) (c : After-split_first g) → next_result c.args.self.now (left_in g.S.AsStr.text c.args.unread.now)
+    ≡ Ok (next_free c.if-not-unread.unread.names.now (map g.S.AsStr.text c.if-not-unread.unread.words.now))
+read_next g c = elim c.if-not-unread.branch [
+  | goal.then-not-unread+in_ok-given+in_default w ↦
+      let options : c.args.unread.now.only_free ≡ false = search rules in
+      let none = rw w.in_default.is at w.in_ok-given.ensures.none in
+      let tail = rw w.in_default.is at w.in_ok-given.ensures.tail in
+      rw (w.unread-is, w.free_words-unread.ensures, none.1, options, none.0, ← c.self.view_is)
+      (next-tail (grammar_of c.self.inside.options.now) (map g.S.AsStr.text c.args.unread.now.words.now) tail)
+  | goal.else-not-unread w ↦
+      let only : c.args.unread.now.only_free ≡ true = search rules in
+      rw (w.unread-is, only) refl
+]
+
+pub returns-in-Some-split_first-clause-result : goal.returns-in-Some-split_first-clause-result
+returns-in-Some-split_first-clause-result g c =
+    let end = (goal.at.returns-in-Some-split_first-clause-result g c).After-split_first in
+    rw (read_next g end, c.in-Some-split_first.ensures.cases.0, c.as_str.ensures, only_free g end) refl
+
+pub returns-in-None-clause-result : goal.returns-in-None-clause-result
+returns-in-None-clause-result g c =
+    let end = (goal.at.returns-in-None-clause-result g c).After-split_first in
+    rw (read_next g end, nil_from_length _ c.in-None.ensures.cases, only_free g end) refl
+
 pub returns-in-Some-split_first-clause-some : goal.returns-in-Some-split_first-clause-some
 returns-in-Some-split_first-clause-some g c = λ line before read_to.
     let end = (goal.at.returns-in-Some-split_first-clause-some g c).After-split_first in
     rw c.as_str.ensures (IsReadTo-free (g.S.AsStr.text c.in-Some-split_first.word.now) (only_free g end)
     (rw c.in-Some-split_first.ensures.cases.0 refl) (read_free g end line before read_to))
-
-pub returns-in-None-clause-none : goal.returns-in-None-clause-none
-returns-in-None-clause-none g c =
-    (only_free g (goal.at.returns-in-None-clause-none g c).After-split_first, nil_from_length _ c.in-None.ensures.cases)
 
 pub returns-in-None-clause-ended : goal.returns-in-None-clause-ended
 returns-in-None-clause-ended g c = λ line before read_to.

@@ -6,6 +6,7 @@ use Rattle.getopts.specs.declared.kinds.ParsingStyle.TheVariants.{FloatingFrees,
 use Rattle.getopts.proofs.Weaker.{IsOutOfMemoryOr-exit}
 use Rattle.getopts.proofs.scan.Loop.{IsLawfulTail-rest, IsLawfulTail-stop}
 use Rattle.getopts.proofs.scan.Names as Names
+use Rattle.getopts.proofs.scan.Next.{next-error, next-free, next-long, next-long_error, next-name, next-one, next-short}
 use Rattle.getopts.proofs.table.Names.{has_text_names}
 use Rattle.getopts.proofs.scan.Scanner.next.Goals as goal
 
@@ -40,14 +41,27 @@ returns-in-Long-clause-some g c =
     (Names.ReadsOne-long (has_text_names _ c.requires.declared) _ _ c.in-Long.ensures.0 _
     (rw c.as_str.ensures at c.in-Long.ensures.1) (c.in_ok-taken-in-Long.ensures.ok c.in-Long.ensures.0))
 
+pub returns-in-Free-clause-next : goal.returns-in-Free-clause-next
+returns-in-Free-clause-next g c =
+    let floating : c.args.self.now.options.now.style ≡ FloatingFrees = search rules in
+    let none = Names.empty_names _ (sym c.is_empty.ensures ∙ c.if-is_empty.true) in
+    rw (none, c.in-Some.ensures.cases.0, c.as_str.ensures)
+    (next-free (scanner_grammar c.args.self.now) _ _ (rw c.as_str.ensures at c.in-Free.ensures) floating)
+
+pub returns-in-Long-clause-next : goal.returns-in-Long-clause-next
+returns-in-Long-clause-next g c =
+    let none = Names.empty_names _ (sym c.is_empty.ensures ∙ c.if-is_empty.true) in
+    rw (none, c.in-Some.ensures.cases.0)
+    (next-long (scanner_grammar c.args.self.now) _ c.in-Long.ensures.0 _ _ (rw c.as_str.ensures at c.in-Long.ensures.1)
+    ∙ next-one (scanner_grammar c.args.self.now) _ (c.in_ok-taken-in-Long.ensures.ok c.in-Long.ensures.0))
+
 pub returns-in_err-taken-in-Long-clause-err : goal.returns-in_err-taken-in-Long-clause-err
 returns-in_err-taken-in-Long-clause-err g c =
     rw (Names.empty_names _ (sym c.is_empty.ensures ∙ c.if-is_empty.true), c.in-Some.ensures.cases.0)
     (IsOutOfMemoryOr-exit _ c.in_err-taken-in-Long.field-0.0 _ _ c.from_residual.ensures.1
     (c.in_err-taken-in-Long.ensures.err c.in-Long.ensures.0)
-    (λ fault told. Names.IsNextFault-long (has_text_names _ c.requires.declared) _
-    fault c.in-Long.ensures.0 _ _
-    (rw c.as_str.ensures at c.in-Long.ensures.1) (rw c.as_str.ensures at c.as_str.utf8) told))
+    (λ fault told. next-long_error (scanner_grammar c.args.self.now) _ c.in-Long.ensures.0 _ _
+    (rw c.as_str.ensures at c.in-Long.ensures.1) told))
 
 pub returns-clause-some : goal.returns-clause-some
 returns-clause-some g c = elim c.if-is_empty.branch [
@@ -63,19 +77,27 @@ returns-clause-some g c = elim c.if-is_empty.branch [
       (rw (w.names-is, w.after-is) at c.in_ok-taken.ensures.ok))
 ]
 
+pub returns-clause-next : goal.returns-clause-next
+returns-clause-next g c = elim c.if-is_empty.branch [
+  | goal.then-is_empty+in-Some+in-Cluster w ↦
+      rw (Names.empty_names _ (sym c.is_empty.ensures ∙ w.if-is_empty.true), w.in-Some.ensures.cases.0)
+      (next-short (scanner_grammar c.args.self.now) _ _ _ (rw w.as_str.ensures at w.in-Cluster.ensures)
+      ∙ next-name (scanner_grammar c.args.self.now) _ _ (rw (w.names-is, w.after-is) at c.in_ok-taken.ensures.ok))
+  | goal.else-is_empty w ↦
+      next-name (scanner_grammar c.args.self.now) _ _ (rw (w.names-is, w.after-is) at c.in_ok-taken.ensures.ok)
+]
+
 pub returns-in_err-taken-clause-err : goal.returns-in_err-taken-clause-err
 returns-in_err-taken-clause-err g c = elim c.if-is_empty.branch [
   | goal.then-is_empty+in-Some+in-Cluster w ↦
+      let form = rw w.as_str.ensures at w.in-Cluster.ensures in
       rw (Names.empty_names _ (sym c.is_empty.ensures ∙ w.if-is_empty.true), w.in-Some.ensures.cases.0)
       (IsOutOfMemoryOr-exit _ c.in_err-taken.field-0.0 _ _ c.from_residual-in_err-taken.ensures.1
-      (rw (w.names-is, w.after-is) at c.in_err-taken.ensures.err) (λ fault told.
-      let form = rw w.as_str.ensures at w.in-Cluster.ensures in
-      Names.IsNextFault-short (has_text_names _ c.requires.declared) _ fault
-      _ (rw w.names-is at c.short.ensures.text) told form.filled _ form))
+      (rw (w.names-is, w.after-is) at c.in_err-taken.ensures.err) (λ fault told. next-short (scanner_grammar c.args.self.now) _ _ _ form
+      ∙ next-error (scanner_grammar c.args.self.now) _ _ form.filled told))
   | goal.else-is_empty w ↦
       let filled : c.args.unread.now.names.now ≢ [] = search rules in
       IsOutOfMemoryOr-exit _ c.in_err-taken.field-0.0 _ _ c.from_residual-in_err-taken.ensures.1
-      (rw (w.names-is, w.after-is) at c.in_err-taken.ensures.err) (λ fault told.
-      Names.IsNextFault-within (has_text_names _ c.requires.declared) _ fault
-      _ (rw w.names-is at c.short.ensures.text) told filled)
+      (rw (w.names-is, w.after-is) at c.in_err-taken.ensures.err)
+      (λ fault told. next-error (scanner_grammar c.args.self.now) _ _ filled told)
 ]

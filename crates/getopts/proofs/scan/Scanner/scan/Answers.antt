@@ -23,7 +23,7 @@ items-init g c = record {
 pub returns-in_err-given-clause-err : goal.returns-in_err-given-clause-err
 returns-in_err-given-clause-err g c =
     IsOutOfMemoryOr-exit _ c.in_err-given.field-0.0 _ _ c.from_residual.ensures.1 c.in_err-given.ensures.err
-    (λ fault told. rw (AreReadTo-fault (has_text_names _ c.requires.declared) fault told c.items.invariant.read.read_to) refl)
+    (λ fault told. rw (AreReadTo-fault (has_text_names _ c.requires.declared) _ _ told c.items.invariant.read.read_to) refl)
 
 pub position_in-position-requires : goal.position_in-position-requires
 position_in-position-requires g c =
