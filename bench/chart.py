@@ -24,9 +24,14 @@ line { stroke: #808080; stroke-width: 0.4 } polyline { fill: none; stroke-width:
 @media (prefers-color-scheme: dark) { text { fill: #e6edf3 } }"""
 
 
+def recorded(job, column):
+    """The instructions of an iteration, as last_run.txt has them: with a star if the program's results differ from the others'."""
+    return next(cells for (_, name), cells in bench.recorded().items() if name == job)[column]
+
+
 def instructions(job, column):
     """The instructions of an iteration, or None if they weren't counted."""
-    cell = next(cells for (_, name), cells in bench.recorded().items() if name == job)[column].rstrip("*")
+    cell = recorded(job, column).rstrip("*")
     return None if cell == "-" else float(cell)
 
 
@@ -38,9 +43,11 @@ def line(x, y, to_x, to_y):
     return f'<line x1="{x:.1f}" y1="{y:.1f}" x2="{to_x:.1f}" y2="{to_y:.1f}"/>'
 
 
-def marker(x, y, column):
+def marker(x, y, column, job=None):
+    """A library's marker, with the star of its figure for this job."""
     _, colour, path = LIBRARIES[column]
-    return f'<path d="{path}" fill="{colour}" transform="translate({x:.1f} {y:.1f})"/>'
+    star = text(x + 5, y + 2, "*") if job and recorded(job, column).endswith("*") else ""
+    return f'<path d="{path}" fill="{colour}" transform="translate({x:.1f} {y:.1f})"/>{star}'
 
 
 def scale(values, start, end):
@@ -69,9 +76,10 @@ def draw_jobs():
         options, words = map(len, bench.parts(job))
         y = 50 + 28 * at
         parts += [text(215, y + 4, f"{job}: {options} options, {words:,} words", "end"), line(225, y, 700, y),
-                  *(marker(place(ratios[job, column]), y, column) for column in LIBRARIES)]
+                  *(marker(place(ratios[job, column]), y, column, job) for column in LIBRARIES)]
     parts += [text(place(power), bottom + 16, f"{power:g}×", "middle") for power in powers]
-    parts.append(text(462, bottom + 36, "instructions, as a multiple of the original's (log scale; left is better)", "middle"))
+    parts.append(text(462, bottom + 36, "instructions, as a multiple of the original's (log scale; left is better; *: other results)",
+                      "middle"))
     return picture("Instructions of seven jobs", 720, bottom + 46, parts)
 
 
@@ -86,11 +94,11 @@ def draw_growth():
                                                         text(across(count), 256, f"{count:,}", "middle"))]
         parts += [part for power in powers for part in (line(left, up(power), left + 280, up(power)),
                                                         text(left - 6, up(power) + 4, f"{power:,}", "end"))]
-        parts.append(text(left + 140, 276, f"instructions per {what}, by {what}s (log scales)", "middle"))
+        parts.append(text(left + 140, 276, f"instructions per {what}, by {what}s (log scales; *: other results)", "middle"))
         for column, (_, colour, _) in LIBRARIES.items():
-            points = [(across(count), up(costs[count, column])) for count in lines.values() if (count, column) in costs]
-            parts.append(f'<polyline stroke="{colour}" points="{" ".join(f"{x:.1f},{y:.1f}" for x, y in points)}"/>')
-            parts += [marker(x, y, column) for x, y in points]
+            points = [(across(count), up(costs[count, column]), column, name) for name, count in lines.items() if (count, column) in costs]
+            parts.append(f'<polyline stroke="{colour}" points="{" ".join(f"{x:.1f},{y:.1f}" for x, y, *_ in points)}"/>')
+            parts += [marker(*point) for point in points]
     return picture("Instructions per word and per option, as command lines grow", 740, 286, parts)
 
 
