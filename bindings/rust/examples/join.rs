@@ -1,4 +1,4 @@
-//! The program on the repository's README. In Rattle, it is `crates/getopts_uses/src/join.rt`.
+//! The program on the repository's README, in Rust. In Rattle, it is `crates/getopts_uses/src/join.rt`.
 
 use getopts::Options;
 
