@@ -253,27 +253,26 @@ def test_newest_unicode_width(package, taken, tmp_path):
 
 
 def test_git_dependency(tmp_path):
-    """From a git URL, with the README's lines and flags: `proved-getopts` as a dependency, as an optional one, `getopts`
-    as a patch of the crate getopts, with the feature that Rust's own library asks for, and both. Documentation too."""
+    """From a folder or a git URL, with the README's lines and flags: `proved-getopts` as a dependency, and
+    `getopts` as a patch of the crate getopts, with the feature that Rust's own library asks for. Documentation too."""
     need_cargo(RUST)
     clone = copy_tree(tmp_path / "clone", "bindings") / "bindings"
     url, page = commit_repository(clone), (RUST / "README.md").read_text()
     page = page.replace("URL", url).replace("COMMIT", run("git", "rev-parse", "HEAD", cwd=clone)[0].strip())
-    manifest, flags = (re.search(rf"^```{kind}\n(.*?)^```", page, re.M | re.S)[1] for kind in ("toml", "sh"))
-    (direct, patch), (renamed, optional) = manifest.split("\n\n"), re.findall(r"`(\w+ = \{ package .*?)`", page)
+    page = page.replace("CLONE", str(clone.parent))
+    folder, patch, flags = (it[1] for it in re.finditer(r"^```(?:toml|sh)\n(.*?)^```", page, re.M | re.S))
+    direct = re.sub("\n.*path.*\n# ", "\n", folder)
+    assert "git" in direct and "path" not in direct
     original = '[dependencies]\ngetopts = { version = "0.2", features = ["rustc-dep-of-std"] }\n'
-    optional = f'[features]\ndefault = ["getopts"]\n[dependencies]\n{optional}'
-    both = f"{original}{renamed}\n{patch}"
-    for name, dependencies in {"direct": direct, "optional": optional, "patch": original + patch, "both": both}.items():
+    for name, dependencies in {"folder": folder, "direct": direct, "patch": original + patch}.items():
         (tmp_path / name / "src").mkdir(parents=True)
-        kind = "proved" if name == "both" else "getopts"
-        (tmp_path / name / "src/main.rs").write_text(f"fn main() {{ let _: {kind}::Options = getopts::Options::new(); }}\n")
+        (tmp_path / name / "src/main.rs").write_text("fn main() { let _ = getopts::Options::new(); }\n")
         head = f'package = {{ name = "{name}", version = "0.0.0", edition = "2021" }}\n'
         (tmp_path / name / "Cargo.toml").write_text(head + dependencies)
         env = {"CARGO_HOME": str(tmp_path / "home"), "CARGO_TARGET_DIR": str(tmp_path / "target")}
         for words in [["doc"], ["doc", "-p", "proved-getopts"]] if name == "patch" else [["run"]]:
             run("cargo", *words, *(shlex.split(flags) if offline() else []), cwd=tmp_path / name, env=env)
-            assert (tmp_path / "target/doc/getopts/struct.Matches.html").exists() == ("-p" in words or name == "both")
+            assert (tmp_path / "target/doc/getopts/struct.Matches.html").exists() == ("-p" in words)
 
 
 def test_small_program(tmp_path):

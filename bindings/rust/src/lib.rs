@@ -6,31 +6,36 @@
 //!
 #![cfg_attr(feature = "std", doc = "```")]
 #![cfg_attr(not(feature = "std"), doc = "```ignore")]
-//! use getopts::Options;
+//! use getopts::{Fail, Options};
 //! use std::process::ExitCode;
 //!
-//! fn main() -> ExitCode {
+//! fn run() -> Result<(), Fail> {
 //!     let mut options = Options::new();
 //!     options
 //!         .optflag("h", "help", "print this help")
 //!         .optopt("o", "output", "write to this file", "FILE")
 //!         .optflagmulti("v", "verbose", "say more");
-//!     let matches = match options.parse(std::env::args_os().skip(1)) {
-//!         Ok(matches) => matches,
-//!         Err(fail) => {
-//!             eprintln!("join: {fail}");
-//!             return ExitCode::from(2);
-//!         }
-//!     };
+//!     let matches = options.parse_ignoring_counts(std::env::args_os().skip(1))?;
 //!     if matches.opt_present("help") {
 //!         print!("{}", options.usage("Usage: join [options] FILE.."));
-//!         return ExitCode::SUCCESS;
+//!         return Ok(());
 //!     }
+//!     matches.check_counts()?;
 //!     let output = matches.value("output").unwrap_or("out.txt");
 //!     if matches.opt_count("verbose") > 0 {
 //!         eprintln!("join: joining {:?} into {output}", matches.free);
 //!     }
-//!     ExitCode::SUCCESS
+//!     Ok(())
+//! }
+//!
+//! fn main() -> ExitCode {
+//!     match run() {
+//!         Ok(()) => ExitCode::SUCCESS,
+//!         Err(fail) => {
+//!             eprintln!("join: {fail}");
+//!             ExitCode::from(2)
+//!         }
+//!     }
 //! }
 //! ```
 //!
@@ -38,14 +43,15 @@
     feature = "std",
     doc = "
 The program passes `args_os()`, because `std::env::args()` would panic if an argument isn't UTF-8.
-`parse` rejects such an argument, and [`parse_os`](Options::parse_os) accepts it. Below, a *word* is
-an element of the command line, such as `-ofile`, and a *free word* a positional argument.
+`parse_ignoring_counts` rejects such an argument, and [`parse_os`](Options::parse_os) accepts it.
+Below, a *word* is an element of the command line, such as `-ofile`, and a *free word* a positional
+argument.
 
-If a required option is missing, `parse` rejects even `join --help`. To print help anyway, use
-[`parse_ignoring_counts`](Options::parse_ignoring_counts), and then
-[`check_counts`](Matches::check_counts). If the order of options and positional arguments matters,
-use [`parse_in_order`](Options::parse_in_order), and to decide while reading what the next words
-mean, [`read`](Options::read), or [`read_os`](Options::read_os) if an argument may not be UTF-8.
+[`parse`](Options::parse) does what [`parse_ignoring_counts`](Options::parse_ignoring_counts) and
+[`check_counts`](Matches::check_counts) do together, so that it rejects `join --help` if a required
+option is missing. If the order of options and positional arguments matters, use
+[`parse_in_order`](Options::parse_in_order), and to decide while reading what the next words mean,
+[`read`](Options::read), or [`read_os`](Options::read_os) if an argument may not be UTF-8.
 "
 )]
 //!
