@@ -20,7 +20,7 @@ from conftest import (MARGIN, ROOT, answer, check_page, copy_tree, files_in, nee
 from targets import OLD, TARGETS, cargo, cargo_for, need_cargo, need_target, runner, rust_minor, shared_folder
 
 C = ROOT / "bindings/c"
-HEADER, PAGE = (C / "getopts.h").read_text(), (C / "README.md").read_text()
+HEADER, PAGE, ON_WINDOWS = ((C / name).read_text() for name in ("getopts.h", "README.md", "WINDOWS.md"))
 FUNCTIONS = set(re.findall(r"(getopts_[a-z_]*)\(", HEADER))
 VERSION = re.search(r'GETOPTS_VERSION "(.*)"', HEADER)[1]
 MAJOR = VERSION.partition(".")[0]
@@ -338,8 +338,8 @@ int main(int argc, char **argv) {
 def test_words_in_utf8_on_windows(build, tmp_path):
     """With the page's manifest, words are UTF-8, and names of files too. With the page's line, wildcards are expanded."""
     need("x86_64-w64-mingw32-windres")
-    manifest, command = re.search(r"```xml\n(.*?)```.*?^    (.* -o utf8\.o)$", PAGE, re.M | re.S).groups()
-    assert "`int _dowildcard = -1;`" in PAGE
+    manifest, command = re.search(r"```xml\n(.*?)```.*?^    (.* -o utf8\.o)$", ON_WINDOWS, re.M | re.S).groups()
+    assert "`int _dowildcard = -1;`" in ON_WINDOWS
     for name, text in [("utf8.c", UTF8), ("utf8.manifest", manifest), ("日本.txt", "")]:
         (tmp_path / name).write_text(text)
     run("sh", "-c", command, cwd=tmp_path)
@@ -539,10 +539,11 @@ def test_installed_documents(prefix):
     """The documents are installed. getopts.h names no file that isn't, and the page, otherwise as it is here, links to none."""
     named, papers = set(re.findall(r"[\w.-]+\.(?:c|md|sh)\b", HEADER)), prefix / "share/doc/getopts"
     assert {"head.c", "order.c"} <= named <= {path.name for path in prefix.rglob("*")}
-    for name in ("head.c", "order.c", "../../LICENSE-MIT", "../../LICENSE-APACHE", "../../NOTICE"):
+    for name in ("WINDOWS.md", "head.c", "order.c", "within.c", "../../LICENSE-MIT", "../../LICENSE-APACHE", "../../NOTICE"):
         assert (papers / os.path.basename(name)).read_bytes() == (C / name).read_bytes()
     link, page = re.compile(r"\[([^]]*)\]\(([^)#]*)[^)]*\)"), (papers / "README.md").read_text()
-    assert link.sub(r"\1", page) == link.sub(r"\1", PAGE) and {it[2] for it in link.finditer(page)} == {"", "head.c", "order.c"}
+    assert link.sub(r"\1", page) == link.sub(r"\1", PAGE)
+    assert {it[2] for it in link.finditer(page)} == {"", "WINDOWS.md", "head.c", "order.c", "within.c"}
 
 
 def test_program_size(prefix, tmp_path):
@@ -884,52 +885,21 @@ def test_claims_of_page(build):
         assert sentence in " ".join(PAGE.split())
 
 
-WITHIN = """#define _POSIX_C_SOURCE 200809L
-#include <getopts.h>
-#include <stdio.h>
-#include <unistd.h>
-
-enum { DIRECTORY, OUTPUT };
-
-static const struct getopts_option table[] = {
-    { "C", NULL, "DIR", NULL, GETOPTS_YES + GETOPTS_MULTI }, { "o", NULL, "FILE", NULL, GETOPTS_YES },
-    { NULL, NULL, NULL, NULL, GETOPTS_NO },
-};
-
-static int usage(const struct getopts *options) {
-    puts(getopts_message(options));
-    return 2;
-}
-
-static int failed(const char *name) {
-    puts(name);
-    return 3;
-}
-
-%s
-int main(int argc, char **argv) {
-    struct getopts *options = getopts_new(table, GETOPTS_STOP + GETOPTS_KEEP_ORDER);
-    int status = run(options, argc - 1, argv + 1);
-    getopts_delete(options);
-    return status;
-}
-"""
-
-
 def test_example_that_stops_at_a_word(library, tmp_path):
     need("gcc", "sh")
-    (tmp_path / "within.c").write_text(WITHIN % re.findall(r"^```c\n(.*?)^```", PAGE, re.M | re.S)[1])
-    run("gcc", *WARNINGS, "-I", C, tmp_path / "within.c", library(None), "-o", tmp_path / "within")
+    run("gcc", *WARNINGS, "-I", C, C / "within.c", library(None), "-o", tmp_path / "within")
     (tmp_path / "a").mkdir()
 
     def said(*words, status=0):
-        return run(tmp_path / "within", *words, status=status, cwd=tmp_path)[0]
+        return run(tmp_path / "within", *words, status=status, cwd=tmp_path)
 
-    assert said("-C", "a", "-C..", "--", "sh", "-c", 'echo "$@"', "sh", "-o", "--", "-C") == "-o -- -C\n"
+    assert said("-C", "a", "-C..", "--", "sh", "-c", 'echo "$@"', "sh", "-o", "--", "-C") == ("-o -- -C\n", "")
     for words, written in [("-C a -o out", "a/out"), ("-o out -C a", "out")]:
-        assert said(*words.split(), "pwd") == "" and (tmp_path / written).read_text() == f"{tmp_path}/a\n"
-    assert said("-C", "a", status=2) == "\n" and said("-o", status=2) == "Argument to option 'o' missing\n"
-    assert said("-C", "nope", "pwd", status=3) == "nope\n" and said("./nope", status=3) == "./nope\n"
+        assert said(*words.split(), "pwd") == ("", "") and (tmp_path / written).read_text() == f"{tmp_path}/a\n"
+    for words, status, error in [("-C a", 2, "within: no command"), ("-o", 2, "within: Argument to option 'o' missing"),
+                                 ("-C nope pwd", 3, "nope: No such file or directory"),
+                                 ("./nope", 3, "./nope: No such file or directory")]:
+        assert said(*words.split(), status=status) == ("", f"{error}\n")
 
 
 def test_page():

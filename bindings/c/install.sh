@@ -11,7 +11,7 @@
 # - PREFIX/lib/pkgconfig: getopts-static.pc, for programs that contain the library, and getopts.pc for the shared one
 # - PREFIX/lib/cmake/getopts: for CMake, the package getopts with its targets getopts::static and getopts::shared
 # - PREFIX/share/man/man3: getopts.3, generated from getopts.h, also under the name of each function
-# - PREFIX/share/doc/getopts: README.md, head.c, order.c and the licences
+# - PREFIX/share/doc/getopts: README.md, WINDOWS.md, head.c, order.c, within.c and the licences
 #
 # It needs cargo with Rust 1.68 or later, a C compiler and binutils. It runs in any POSIX shell, including busybox's; if
 # busybox has its own ar, as Debian's does, set AR=/usr/bin/ar. If Debian's librust-unicode-width-dev is installed, it
@@ -84,7 +84,7 @@ dll=libgetopts-${version%%.*}.dll
 functions=$(sed -n 's/^[a-z].*[ *]\(getopts_[a-z_]*\)(.*/\1/p' "$here/getopts.h")
 
 # The files for share/doc/getopts, relative to this script.
-documents="README.md head.c order.c ../../LICENSE-MIT ../../LICENSE-APACHE ../../NOTICE"
+documents="README.md WINDOWS.md head.c order.c within.c ../../LICENSE-MIT ../../LICENSE-APACHE ../../NOTICE"
 
 # remove PLACE..: removes files, and sets removed if there was one.
 removed=

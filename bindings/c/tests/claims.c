@@ -141,17 +141,17 @@ static void differences_from_getopt_long(void) {
 
 static void how_often_options_occur(void) {
     CLAIM("**A repeated option is an error**", GETOPTS_ORDINARY, "-vv", status == GETOPTS_OPTION_DUPLICATED, FLAG);
-    CLAIM("unless its kind includes `GETOPTS_MULTI`.", GETOPTS_ORDINARY, "-vv", COUNT("v") == 2 && status == GETOPTS_OK,
+    CLAIM("unless its kind includes `GETOPTS_MULTI`, or the mode", GETOPTS_ORDINARY, "-vv", COUNT("v") == 2 && status == GETOPTS_OK,
           ROW("v", GETOPTS_MULTI));
-    CLAIM("With the mode `GETOPTS_REPEAT`, any option may be repeated, and the last occurrence counts.", GETOPTS_REPEAT,
+    CLAIM("options may be repeated, and the last occurrence counts", GETOPTS_REPEAT,
           "-n1|-r2|-n3|-r4", status == GETOPTS_OK && is(VALUE("n"), "3") && is(VALUE("r"), "4"),
           ROW("n", GETOPTS_YES), ROW("r", GETOPTS_YES + GETOPTS_REQ));
     CLAIM("in the mode `GETOPTS_REPEAT`, at most 1, unless its kind includes `GETOPTS_MULTI`", GETOPTS_REPEAT, "-vvmmrrbb",
           COUNT("v") == 1 && COUNT("m") == 2 && COUNT("r") == 1 && COUNT("b") == 2 && is(text, "Usage: it [-v].. [-m].. -r -b"),
           FLAG, ROW("m", GETOPTS_MULTI), ROW("r", GETOPTS_REQ), ROW("b", GETOPTS_REQ + GETOPTS_MULTI));
-    CLAIM("An option with `GETOPTS_REQ` must be given once", GETOPTS_ORDINARY, "-rr",
+    CLAIM("`+ GETOPTS_REQ` | must be given once", GETOPTS_ORDINARY, "-rr",
           status == GETOPTS_OPTION_DUPLICATED && read_line(it, "") == GETOPTS_OPTION_MISSING, ROW("r", GETOPTS_REQ));
-    CLAIM("`GETOPTS_REQ + GETOPTS_MULTI` at least once.", GETOPTS_ORDINARY, "-bb",
+    CLAIM("or with `GETOPTS_REQ` at least once", GETOPTS_ORDINARY, "-bb",
           status == GETOPTS_OK && COUNT("b") == 2 && read_line(it, "") == GETOPTS_OPTION_MISSING,
           ROW("b", GETOPTS_REQ + GETOPTS_MULTI));
     CLAIM("the line doesn't show that a required option may be repeated", GETOPTS_ORDINARY, "",
@@ -199,7 +199,7 @@ static void results(void) {
     CLAIM("`010` and `+10` are 10, but `0x10` and ` 10` aren't numbers", GETOPTS_ORDINARY, "-n010|-n+10|-n0x10|-n 10|-n-10",
           number(it, 0) == 10 && number(it, 1) == 10 && number(it, 2) == -1 && number(it, 3) == -1 && number(it, 4) == -10,
           ROW("n", GETOPTS_YES + GETOPTS_MULTI));
-    CLAIM("also true, without storing, if there is no value", GETOPTS_ORDINARY, "", number(it, 0) == 42, ROW("n", GETOPTS_YES));
+    CLAIM("or if there is no value, so that `number` keeps its default", GETOPTS_ORDINARY, "", number(it, 0) == 42, ROW("n", GETOPTS_YES));
     CLAIM("after the last, or without the mode `GETOPTS_KEEP_ORDER`, -1", GETOPTS_ORDINARY, "-v", getopts_nth(it, 0, NULL) == -1, FLAG);
     CLAIM("after the last, or without the mode `GETOPTS_KEEP_ORDER`, -1", GETOPTS_KEEP_ORDER, "-v", getopts_nth(it, 1, NULL) == -1, FLAG);
     CLAIM("**Negative numbers** such as `-5` are read as options, unless they are the argument of the option before them.",
