@@ -486,7 +486,7 @@ def page_blocks(readme):
     def plain(text):
         return " ".join(re.sub("`([^`]*)`", r"\1", text).replace("\\|", "|").split())
 
-    body = re.sub(r"^## (?:Install|How|What).*?(?=^## )", "", readme.partition("\n\n")[2], flags=re.M | re.S)
+    body = re.sub(r"^## (?:Install|Building|What).*?(?=^## )", "", readme.partition("\n\n")[2], flags=re.M | re.S)
     body = re.sub(r"^```.*?\n(.*?)^```$", lambda it: textwrap.indent(it[1], "    "), body, flags=re.M | re.S)
     yield from ["GETOPTS_SHELL(1) User Commands GETOPTS_SHELL(1)", "NAME", f"{MARGIN}getopts_shell - options for shell scripts"]
     yield from ["SYNOPSIS", f"{MARGIN}getopts_shell [option]... NAME TABLE [WORD]...", "DESCRIPTION"]
@@ -507,7 +507,7 @@ def page_blocks(readme):
 
 @pytest.mark.parametrize("machine", ["x86_64", "aarch64"])
 def test_size_of_binary(machine):
-    least, most = map(int, re.search(r"static binary of (\d+) to (\d+) KB", (SHELL / "README.md").read_text()).groups())
+    least, most = map(int, re.search(r"static binary of\s+(\d+) to (\d+) KB", (SHELL / "README.md").read_text()).groups())
     assert least <= round(shell_binary(machine).stat().st_size / 1000) <= most
 
 

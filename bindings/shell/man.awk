@@ -1,4 +1,4 @@
-# Generates getopts_shell(1) from README.md, without the sections on installation, differences and proofs.
+# Generates getopts_shell(1) from README.md, without the sections on installation and proofs.
 function escaped(text) {
     gsub(/\\/, "\\e", text)
     gsub(/-/, "\\-", text)
@@ -29,7 +29,7 @@ NR == 1 {
     print "\\fBgetopts_shell\\fP [\\fIoption\\fP]... \\fINAME\\fP \\fITABLE\\fP [\\fIWORD\\fP]...\n.SH DESCRIPTION"
     next
 }
-/^## / { left_out = /Install|How it differs|What/ }
+/^## / { left_out = /Install|Building|What/ }
 left_out { next }
 /^## / { goes_on("text"); print ".SH \"" toupper(substr($0, 4)) "\""; next }
 /^```/ { fenced = !fenced; goes_on(fenced ? "code" : "text"); next }
