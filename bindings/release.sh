@@ -52,6 +52,9 @@ trap 'rm -rf "$kit"' EXIT
 git -c core.autocrlf=false archive HEAD crates/getopts crates/getopts_uses | tar -xC "$kit"
 rm -r "$kit"/crates/getopts/must-fail "$kit"/crates/*/mutants
 grep -E '^getopts(_uses)?:' crates.txt >"$kit/crates.txt"
+# A kit lacks README, so the library's page there contains its promises, without links and the picture.
+sed -zE 's/.*\n## What is promised\n+//; s/\n+Nothing is promised.*/\n/; s/!\[[^]]*\]\([^)]*\)\n+//; s/\[([^]]*)\]\([^)]*\)/\1/g' \
+    README.md | sed -i -e '/^<!-- promises -->$/{r /dev/stdin' -e 'd}' "$kit/crates/getopts/README.md"
 (cd "$kit" && rt ci)
 rm -rf "$kit"/crates/*/out && mv "$kit/crates/getopts_uses" "$kit/crates/getopts/uses"
 tar --sort=name --owner=0 --group=0 --numeric-owner --mode=u=rwX,go=rX --mtime="@$(git log -1 --format=%ct)" -cC "$kit/crates" \

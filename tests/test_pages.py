@@ -163,13 +163,6 @@ def first_output():
     return f"```text\n{read('crates/getopts_show/stdout')}```"
 
 
-def promises():
-    """The library's page, which may be copied alone: what README promises, without its links."""
-    part = pages["README.md"].partition("\n## What is promised\n\n")[2].partition("\n\nNothing is promised")[0]
-    part = re.sub(r"\[([^]]*)\]\([^)]*\)", r"\1", part)
-    return "\n".join(textwrap.fill(line, 120, subsequent_indent="   ") for line in re.sub("\n {3}", " ", part).split("\n"))
-
-
 def code_in(text):
     """How many lines of a text aren't comments, imports or blank."""
     code = re.compile(r"(?! *(//|--|# |#!|#include|(import|from|(pub )?(ghost )?(use|mod)) |$))")
@@ -260,7 +253,7 @@ def cited_clauses():
 
 # What --fix writes between `<!-- generated: NAME -->` and `<!-- end -->`.
 GENERATED = {make.__name__: make for make in (usage_example, moving, speed, costs, speed_in_c, in_order, behind, memory, first_output,
-                                              promises, to_read, decided, calls, variants, cited_clauses)}
+                                              to_read, decided, calls, variants, cited_clauses)}
 
 
 @pytest.mark.parametrize("page", pages)

@@ -131,8 +131,13 @@ def test_files_of_a_release(clone):
     source = unpacked(out / f"{name}.tar.gz", name)
     assert sorted(source) == sorted(tracked()) and source["bindings/release.sh"][0] == 0o775
     taken = [it for it in tracked() if re.match(r"crates/getopts(_uses)?/(?!must-fail|mutants)", it)]
-    assert {file: text for file, (_, text) in unpacked(out / f"{name}-kit.tar.gz", "getopts").items()} == {
-        re.sub(r"crates/getopts(_uses)?/", lambda of: "uses/" if of[1] else "", it): (ROOT / it).read_bytes() for it in taken}
+    of_kit = {file: text for file, (_, text) in unpacked(out / f"{name}-kit.tar.gz", "getopts").items()}
+    before, after = (ROOT / "crates/getopts/README.md").read_bytes().split(b"<!-- promises -->\n")
+    promises = of_kit["README.md"].removeprefix(before).removesuffix(after)
+    assert re.findall(rb"^(\d)\. ", promises, re.M) == [b"%d" % n for n in range(1, 9)] and b"](" not in promises
+    assert b"\n#" not in promises and of_kit == {
+        re.sub(r"crates/getopts(_uses)?/", lambda of: "uses/" if of[1] else "", it): (ROOT / it).read_bytes() for it in taken
+    } | {"README.md": before + promises + after}
     packed = unpacked(out / f"proved-getopts-{VERSION}.crate", f"proved-getopts-{VERSION}")
     assert {"LICENSE-MIT", "LICENSE-APACHE", "NOTICE", "src/proved/mod.rs", "Cargo.toml"} <= packed.keys()
     assert "Cargo.lock" not in packed
