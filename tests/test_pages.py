@@ -64,8 +64,9 @@ def instructions(heads, title, jobs, *columns):
 
 def listing(texts):
     """A block with these texts, each in lines of at most 120 columns."""
-    wrap = textwrap.TextWrapper(120, subsequent_indent="    ", break_long_words=False).wrap
-    return "\n".join(["```text", *(line for text in texts for line in wrap(text)), "```"])
+    lines = [textwrap.fill(text, 120, subsequent_indent=re.match("(?: {4}// )?", text)[0] or "    ", break_long_words=False)
+             for text in texts]
+    return "\n".join(["```text", *lines, "```"])
 
 
 def usage_example():
@@ -231,15 +232,12 @@ def variants():
     return listing(f"{owner}::{', '.join(names)}{text}" for (owner, text), names in lines.items())
 
 
-# The calls that callers use most, each with the clauses that they cite.
-CITED = {"Options::parse_words": ["result", "accepted", "declared"],
-         "Options::parse_ignoring_counts": ["result", "given", "counted", "same_error", "accepted", "declared"],
-         "Matches::check_counts": ["result", "kept", "broken"],
-         "Options::parse_in_order": ["result", "order", "declared", "same_error", "refused"],
+# The clauses that callers cite most.
+CITED = {"Options::parse_words": ["result"], "Options::parse_ignoring_counts": ["result"], "Matches::check_counts": ["result"],
+         "Options::parse_in_order": ["result"],
          "Reader::next": ["result", "some", "declared", "less", "ended", "err"],
          "Matches::opt_present": ["present"], "Matches::opt_count": ["count"], "Matches::opt_str": ["value"],
-         "Matches::opt_strs": ["values"], "Matches::opt_get": ["parsed"], "Matches::opt_get_default": ["parsed"],
-         "Options::usage": ["result"]}
+         "Matches::opt_strs": ["values"], "Options::usage": ["result"]}
 
 
 def cited_clauses():
@@ -461,7 +459,7 @@ def test_offered_lemmas_are_cited():
     """Each lemma that CALLING.md offers is in the module that it names, and imported by some proof."""
     proofs = "".join(read(name) for name in tracked if re.match(r"crates/\w+/proofs/", name))
     used = re.findall(r"[\w-]+", " ".join(re.findall(r"^use [\w.]+\{([^}]*)\}", proofs, re.M)))
-    offered = re.findall(r"^- `([\w.]+)`: ((?:.|\n  )*)", pages[CALLING].partition("**Lemmas to cite**")[2], re.M)
+    offered = re.findall(r"^- `([\w.]+)`: ((?:.|\n  )*)", pages[CALLING].partition("**Lemmas**")[2], re.M)
     assert offered
     for module, names in offered:
         here = re.findall(r"[\w-]+", read(f"crates/getopts/proofs/{module.replace('.', '/')}.antt"))
