@@ -1,5 +1,9 @@
 """Mutants: each applies to the sources, and the body of each public function of getopts has one. `rt ci` tries those in
-a folder `must-fail`, and this file, before a release, those in a folder `mutants`."""
+a folder `must-fail`, and this file, before a release, those in a folder `mutants`.
+
+The checker may reject a mutant only because of its form. For each mutant that adds a loop, a `return` or a function, correct
+code of the same form was proved, except for `canonical_hands_words_back`, `equality_of_flat_lists`, `missing_before_duplicated`
+and, of the mutants of `opt` and similar calls, all but `failed_opt_is_long_only`."""
 
 import re
 import shutil

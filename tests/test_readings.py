@@ -1,40 +1,62 @@
-"""The conditions of a reading that PROOFS lists: without one, some line has two readings, and the main theorem isn't proved."""
+"""The conditions of a reading: without one, some line has two readings, and the main theorem isn't proved."""
 
 import re
 
 import pytest
 from conftest import ROOT, answer, copy_tree
 
-# The rows of the table in this section.
-SECTION = (ROOT / "docs/PROOFS.md").read_text(encoding="utf-8").partition("\n### Why each condition is needed\n")[2].partition("\n#")[0]
-ROWS = re.findall(r"^\| ([^|]*)(?: \| [^|]*){3} \|$", SECTION, re.M)[1:]
-# Their lines in files of `specs`, in this order: in brackets what states each, and what to write instead.
+# Each condition, and a line that has two readings without it. Here, `v` and `verbose` are flags, `o` and `output` require an
+# argument, and `c` and `color` may have one. Below is the condition's line in a file of `specs`: in brackets what states it, and
+# what to write instead.
 LINES = """\
+a free word isn't dashed: `-v` is free `-v`; or flags `v`
 IsLawfulItem grammar (free word) = ⟨(is_dashed word ≡ false) × |⟩(grammar.style ≡ FloatingFrees)
+under `StopAtFirstFree`, free words are the rest: `x` (`StopAtFirstFree`) is rest `x`; or free `x`
 IsLawfulItem grammar (free word) = (is_dashed word ≡ false)⟨ × (grammar.style ≡ FloatingFrees)|⟩
+the rest isn't empty: no words (`StopAtFirstFree`) are no items; or an empty rest
 IsLawfulTail grammar (rest []) = ⟨⊥|⊤⟩
+the rest doesn't begin with a dashed word: `-v` (`StopAtFirstFree`) is rest `-v`; or flags `v`
     ⟨(is_dashed word ≡ false) × |⟩(grammar.style ≡ StopAtFirstFree)
+there is a rest only under `StopAtFirstFree`: `x` is rest `x`; or free `x`
     (is_dashed word ≡ false)⟨ × (grammar.style ≡ StopAtFirstFree)|⟩
+one dash precedes a name only in long-only mode: `-v` is option `v`; or flags `v`
 MayPrecede long_only one name = ⟨(long_only ≡ true) × |⟩(begins_with_dash name ≡ false)
+a name after one dash doesn't begin with `-`: `--v` (long-only, name `-v`) is option `v`; or option `-v`
 MayPrecede long_only one name = (long_only ≡ true)⟨ × (begins_with_dash name ≡ false)|⟩
+a name in long form contains no `=`: `--p=x` (name `p`, name `p=x`) is option `p` = `x`; or option `p=x`
 pub cut_once : ⟨holds_equals name ≡ false|⊤⟩
+in long form, an option without argument has none: `--verbose x` is option `verbose`, free `x`; or option `verbose` = `x`
 FitsKind No (Some value) = ⟨⊥|⊤⟩
+in long form, a required argument isn't left out: `--output x` is option `output`, free `x`; or option `output` = `x`
 FitsKind Yes None = ⟨⊥|⊤⟩
+in long form, an optional argument isn't separate: `--color x` is option `color`, free `x`; or option `color` = `x`
 FitsLong Maybe (separate word) = ⟨⊥|⊤⟩
+in long-only mode, there are no clusters: `-v` (long-only) is option `v`; or flags `v`
 pub ordinary : ⟨grammar.long_only ≡ false|⊤⟩
+no `-` follows a cluster's dash: `--` (name `-`) is stop; or flags `-`
 pub short_form : ⟨begins_with_dash (bytes ++ end_text end) ≡ false|⊤⟩
+a cluster isn't empty: `-` is free `-`; or flags empty
 IsLawfulEnd grammar bytes flags = ⟨bytes ≢ []|⊤⟩
+flags are of kind `No`: `-cv` is option `c` = `v`; or flags `cv`
 IsFlag grammar name = grammar.kind (name ∷ []) ⟨≡ Some No|≢ None⟩
+a cluster's last option isn't of kind `No`: `-v` is option `v`; or flags `v`
 FitsEnd kind none = kind ⟨≡ Maybe|≢ Yes⟩
+in a cluster, a required argument isn't left out: `-o -v` is option `o`, flags `v`; or option `o` = `-v`
 FitsEnd kind none = kind ⟨≡ Maybe|≢ No⟩
+in a cluster, an option without argument has no attached one: `-vv` is option `v` = `v`; or flags `vv`
 FitsEnd kind (attached argument) = ⟨(kind ≢ No) × |⟩(argument ≢ [])
+in a cluster, an attached argument isn't empty: `-o x` is option `o` = empty, free `x`; or option `o` = `x`
 FitsEnd kind (attached argument) = (kind ≢ No)⟨ × (argument ≢ [])|⟩
+in a cluster, an option without argument has no separate one: `-v x` is option `v` = `x`; or flags `v`, free `x`
 FitsEnd kind (separate word) = ⟨(kind ≢ No) × |⟩(kind ≡ Maybe → is_dashed word ≡ false)
+in a cluster, an optional separate argument isn't dashed: `-c -v` is option `c`, flags `v`; or option `c` = `-v`
 FitsEnd kind (separate word) = (kind ≢ No)⟨ × (kind ≡ Maybe → is_dashed word ≡ false)|⟩
+after a bare cluster, the line ends or a dashed word follows: `-c x` is option `c`, free `x`; or option `c` = `x`
 EndsOrIsDashed (word ∷ words) = ⟨is_dashed word ≡ true|⊤⟩
+a group has a name: `--` (name empty) is stop; or option empty
 pub named : 0 ⟨<|≤⟩ length short + length long
 """.splitlines()
-CONDITIONS = dict(zip(ROWS, LINES))
+CONDITIONS = dict(zip(LINES[::2], LINES[1::2]))
 
 
 def without(condition, specs):
@@ -43,10 +65,6 @@ def without(condition, specs):
     texts = {file: file.read_text(encoding="utf-8") for file in (specs / "Reading.antt", specs / "Names.antt")}
     (file, text), = (it for it in texts.items() if front + stated + back in it[1])
     return file, text.replace(front + stated + back, front + instead + back, 1)
-
-
-def test_conditions_are_listed():
-    assert len(ROWS) == len(LINES) == len(CONDITIONS)
 
 
 @pytest.mark.parametrize("condition", CONDITIONS)
