@@ -4,7 +4,6 @@
 usage: bench.py OUT [--getopts FOLDER] [JOB..]      prints the tables of all or some jobs: > bench/last_run.txt
        bench.py --count WHAT A B PROGRAM WORD..     prints what one iteration of a program costs
        bench.py --rows LINE                         prints a command line as rows
-       bench.py --shell [PROGRAM]                   prints what calls of getopts_shell, getopt(1) and true cost
        bench.py --join OUT [--getopts FOLDER]       prints what libraries cost a small program in Rust
 
 It needs rt, cargo, a C compiler and valgrind; without a network, --getopts and the librust-* packages of
@@ -12,9 +11,9 @@ tests/packages.txt. The peers' programs are built in OUT, a folder outside the r
 getopts; without it, cargo downloads the crate. OURS may name a getopts_bench that is already built; otherwise `rt run`
 proves and builds one.
 
-WHAT is `instructions`, `peak` (the most bytes allocated at once) or `microseconds` (of processor time, the least of ten
-runs). The program's last argument is the number of iterations. One iteration costs the difference between B and A
-iterations, divided by B - A: so work before the iterations isn't counted.
+WHAT is `instructions` or `peak` (the most bytes allocated at once). The program's last argument is the number of
+iterations. One iteration costs the difference between B and A iterations, divided by B - A: so work before the
+iterations isn't counted.
 
 --join builds the programs of bench/join, stripped, in release mode. It prints by how many KB (1000 bytes) each is larger
 than `none`, which only prints its words; the seconds of processor time that cargo takes to build it, the least of three
@@ -26,7 +25,6 @@ of the Rust crate depends.
 """
 
 import concurrent.futures
-import functools
 import os
 import platform
 import random
@@ -35,7 +33,6 @@ import resource
 import shutil
 import subprocess
 import sys
-import timeit
 from pathlib import Path
 
 HERE = Path(__file__).resolve().parent
@@ -46,62 +43,29 @@ TOOLS = {"instructions": ("--tool=cachegrind --cache-sim=no --vex-guest-chase=no
                           r"refs: *([\d,]+)"),
          "peak": ("--tool=dhat --dhat-out-file=/dev/null", r"At t-gmax: *([\d,]+)")}
 
-# The lines that grow: by their number of words, and of options.
-WORDS = {f"words-{count}": count for count in (100, 1000, 10_000, 100_000, 1_000_000)}
-OPTIONS = {f"options-{count}": count for count in (10, 100, 1000, 10_000)}
 # Long lines are parsed once, as in a program. Short ones are parsed 300 times, and the first 100 aren't counted, since
 # the first iteration also does what a program does once, such as binding symbols.
-LONG = {"long", "many", "many11", "files", "equal", "4000", *WORDS, *OPTIONS} - {"words-100", "options-10"}
-
-
-def on(line, work="whole"):
-    """A job: what an iteration does, its line, and two numbers of iterations."""
-    return work, line, *((0, 1) if line in LONG else (100, 300))
+LONG = {"long", "many", "many11", "files", "equal", "4000"}
 
 
 def job_of(name):
+    """A job: what an iteration does, its line, and two numbers of iterations."""
     work, _, line = name.rpartition("-")
-    return on(line, work or (name if name in ("equal", "usage") else "whole"))
+    return work or (name if name in ("equal", "usage") else "whole"), line, *((0, 1) if line in LONG else (100, 300))
 
 
-# What capacities and `inline` attributes save, in percent of a job's instructions. For each figure, one capacity, or the
-# attributes of these functions, were left out of the source as it was then:
-#
-# - `typical`: `FIRST_GROUPS` 32, `FIRST_TEXT` 15, `FIRST_VALUES` 3.5; `SignatureRecord`, `Signatures` and the
-#   texts that they store 7; `Signatures::push` and `Groups::push` 3.3; `MatchedOptions::occurrences_of_group`,
-#   `Matches::occurrences_at` and `Index::indices` 2.4
-# - `typical`, in `proved-getopts`: `Entry::order`, `main_entries`, `sort` and `Entry::name_order` (`inline(never)`) 6;
-#   `Options::add_group` 2.3
-# - `usage`: `ROW_ROOM` 40
-# - `asked-front`: `key_of` 6; `search` 9.6
-# - `many`, in `proved-getopts`: `search` and `search_key` 2.5
-# - `none`, in `proved-getopts`: `parse_words`, `read_matches` and `read_line` 8; `Line::with_capacity`
-#   and `Line::end` 2.5; `check_counts` 1.5; `Scanner::scan` 3.5
-# - `long`: `Scanner::shape` 6; `push_text`, `push_value`, `value_from`, `LineOccurrences::at` and
-#   `LineOccurrences::push` 9.5; `Occurrences::into_iter` and `OccurrencesIter::next` 5
-# - `none`: `Signatures::clone` 8
-# - `equal`: `Occurrences::get` and `Occurrences::at` 80; `Occurrences::same` 20;
-#   `MatchedOptions::same` (`inline(never)`) 14
-# - `files`, in `proved-getopts`: `push_copy` 3
-# - `long`, in `proved-getopts`: `Table::resolve` 2.3; `Scanner::option` 2
 JOBS = {name: job_of(name) for name in """small read-small canonical-small copied-small os-small typical read-typical
     copied-typical long read-long canonical-long copied-long os-long many read-many canonical-many copied-many many11 front
     read-front asked-front none rustc sub60 files equal usage defined-4000 order-small order-typical order-long
     loop-small loop-typical loop-long""".split()}
-GROWING = {line: on(line) for line in WORDS | OPTIONS}
 OF_C = {name: JOBS[name] for name in "small read-small typical long none order-small order-typical order-long".split()}
 # Jobs that keep their matches.
 HELD = {f"held-{line}": ("held", line, few, more) for line, few, more in
         [("small", 10, 110), ("long", 10, 110), ("described", 10, 110), ("cluster", 1, 2), ("values", 1, 2)]}
 # The tables: what is counted, the title, and the jobs.
 TABLES = [("instructions", "Instructions per iteration", JOBS), ("instructions", "Instructions per iteration in C", OF_C),
-          ("instructions", "Instructions per iteration as lines grow", GROWING),
           ("peak", "Peak bytes while parsing, besides the words and the options", {"memory": ("read", "memory", 0, 1)}),
-          ("peak", "Bytes that matches take", HELD),
-          ("microseconds", "Microseconds per iteration", {"typical": ("whole", "typical", 2000, 22_000)})]
-# Not counted, because it would take minutes to run clap and pico-args, and to compile lexopt's `match`.
-SKIPPED = {("lexopt", "options-10000"), ("clap", "options-10000"), ("pico-args", "words-100000"),
-           ("pico-args", "words-1000000")}
+          ("peak", "Bytes that matches take", HELD)]
 
 
 def stored(line):
@@ -123,9 +87,9 @@ def shuffled(options):
     return random.Random(1).sample(options, len(options))
 
 
-def many(front, count=200):
+def many(front):
     options, words = [], []
-    for at in range(count):
+    for at in range(200):
         name = f"{front}{at:03}"
         options.append(("optmulti", "", name, "d", "H") if at % 2 else ("optflagmulti", "", name, "d"))
         words += [f"--{name}=value{at}" if at % 2 else f"--{name}", f"file{at}"]
@@ -167,8 +131,6 @@ LINES = {
     "equal": lambda: (flags([*(("", f"n{at:04}") for at in range(998)), ("a", ""), ("b", "")]),
                       ["-ab"] * 1000 + ["-ba"] * 1000),
     "4000": lambda: (shuffled(flags(("", f"n{at:04}") for at in range(4000))), []),
-    **{line: lambda count=count: long(count // 4) for line, count in WORDS.items()},
-    **{line: lambda count=count: many("name", count) for line, count in OPTIONS.items()},
 }
 
 
@@ -198,34 +160,21 @@ def lexopt_line(line):
 
 def lexopt_lines(work, head):
     """The lines of the jobs that do this work, for the peer lexopt."""
-    lines = dict.fromkeys(line for of_job, line, *_ in (JOBS | GROWING).values()
-                          if of_job == work and ("lexopt", line) not in SKIPPED)
+    lines = dict.fromkeys(line for of_job, line, *_ in JOBS.values() if of_job == work)
     return f"lines! {{{head}\n{''.join(lexopt_line(line) for line in lines)}}}\n"
 
 
-def counted(what, words, env=None, cwd=None):
-    """What a run costs: as valgrind counts it, or in microseconds."""
-    words = [str(word) for word in words]
-    if what == "microseconds":
-        return min(microseconds(words, cwd) for _ in range(10))
+def counted(what, words, cwd=None):
+    """What a run costs, as valgrind counts it."""
     flag, found = TOOLS[what]
-    done = subprocess.run(["valgrind", *flag.split(), *words], stdout=subprocess.DEVNULL, stderr=subprocess.PIPE, text=True,
-                          errors="replace", env=env, cwd=cwd)
+    done = subprocess.run(["valgrind", *flag.split(), *map(str, words)], stdout=subprocess.DEVNULL, stderr=subprocess.PIPE, text=True,
+                          errors="replace", cwd=cwd)
     return int(re.findall(found, done.stderr)[-1].replace(",", ""))
-
-
-def microseconds(words, cwd):
-    """The processor time of a run."""
-    used = lambda: sum(resource.getrusage(resource.RUSAGE_CHILDREN)[:2])
-    before = used()
-    subprocess.run(words, stdout=subprocess.DEVNULL, cwd=cwd, check=True)
-    return (used() - before) * 1e6
 
 
 def of_an_iteration(what, few, more, words, cwd=None):
     """What one iteration costs in a program whose last argument is the number of iterations."""
-    cost = (counted(what, [*words, more], cwd=cwd) - counted(what, [*words, few], cwd=cwd)) / (more - few)
-    return round(cost, 1) if what == "microseconds" else int(cost)
+    return int((counted(what, [*words, more], cwd) - counted(what, [*words, few], cwd)) / (more - few))
 
 
 def sum_of(words, cwd):
@@ -270,13 +219,13 @@ def row(out, programs, what, job, work, line, few, more):
     # The peers in Rust, a program for all, consume copies of the words, which are made before the iterations.
     calls = [[f"./{program.relative_to(out)}" if program.is_relative_to(out) else program, *peer, work, file,
               *([more] if program.name == "peers" else [])] for program, *peer in programs.values()]
-    sums = [None if (column, line) in SKIPPED else sum_of(words, out) for column, words in zip(programs, calls)]
+    sums = [sum_of(words, out) for words in calls]
     first = next((total for total in sums if total), None)
 
     def cell(words, total):
         return "-" if total is None else f"{of_an_iteration(what, few, more, words, out)}{'*' * (total != first)}"
 
-    with concurrent.futures.ThreadPoolExecutor(1 if what == "microseconds" else os.cpu_count()) as pool:
+    with concurrent.futures.ThreadPoolExecutor(os.cpu_count()) as pool:
         cells = pool.map(cell, calls, sums)
     print(f"{job:<16} " + " ".join(f"{cell:>14}" for cell in cells), flush=True)
 
@@ -360,26 +309,6 @@ def recorded():
     return tables
 
 
-BINARY = HERE.parent / f"bindings/shell/{platform.machine()}/getopts_shell"
-SHELL_ENV = {"PATH": os.environ["PATH"], "LC_ALL": "C.UTF-8"}
-
-
-def shell_calls(program=BINARY):
-    """Calls of three programs."""
-    table = ("-i|--input FILE       read this file\n[-o|--output FILE]    write to FILE\n"
-             "[-v|--verbose]..      say more\n[-c|--color [WHEN]]   colour the output\n"
-             "[-L DIR]..            add a folder\n[-h|--help]           print this help")
-    words = ["-vi", "a", "--output=b", "x", "--color"]
-    getopt = "getopt -n backup -o i:o:vc::L:h --long input:,output:,verbose,color::,help --".split()
-    return {"getopts_shell": [program, "backup", table, *words], "getopt": [*getopt, *words], "true": [shutil.which("true")]}
-
-
-def milliseconds(words):
-    """The least time in which a program started and ended."""
-    call = functools.partial(subprocess.run, words, env=SHELL_ENV, stdout=subprocess.DEVNULL, check=True)
-    return 1000 * min(timeit.repeat(call, number=1, repeat=100))
-
-
 def main(words):
     known = {job for *_, jobs in TABLES for job in jobs}
     match words:
@@ -389,9 +318,6 @@ def main(words):
             print(of_an_iteration(what, int(few), int(more), program))
         case ["--rows", line]:
             print(rows(line), end="")
-        case ["--shell", *program]:
-            for name, call in shell_calls(*program).items():
-                print(f"{name}: {counted('instructions', call, SHELL_ENV)} instructions, {milliseconds(call):.1f} ms")
         case ["--join", out]:
             join_table(out, None)
         case ["--join", out, "--getopts", crate]:

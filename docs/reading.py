@@ -1,16 +1,9 @@
-#!/usr/bin/env python3
-"""Draws reading.svg: a command line, the role of each word, and what the library returns, as getopts_show prints it.
-
-usage: reading.py     runs getopts_show, unproved, with `rt try`, and writes the file beside this script
-"""
+"""The picture reading.svg: a command line, the role of each word, and what the library returns, as getopts_show prints it.
+`bash test.sh -k pages --fix` writes it."""
 
 import re
-import subprocess
-import sys
 from html import escape
-from pathlib import Path
 
-HERE = Path(__file__).resolve().parent
 WORDS = ["-vLd", "--color=red", "-o", "x.txt", "in.txt", "--", "-v"]
 STYLE = """text { font: 14px sans-serif; fill: #1f2328 } .code { font: 14px monospace } .small { font-size: 12px }
 rect { stroke-width: 1; rx: 4 } .option { fill: #d7f0e3; stroke: #0b6e4f } .argument { fill: #f2faf6; stroke: #0b6e4f }
@@ -59,13 +52,3 @@ def draw(answers):
     return "\n".join([f'<svg xmlns="http://www.w3.org/2000/svg" viewBox="0 0 {left:.0f} 156" role="img">',
                       f"<title>A reading</title><desc>{escape(told)}. Canonical line: {escape(' '.join(line))}</desc>",
                       f"<style>{STYLE}</style>", *parts, "</svg>\n"])
-
-
-if __name__ == "__main__":
-    if sys.argv[1:] in (["--help"], ["-h"]):
-        sys.exit(print(__doc__.strip()))
-    if sys.argv[1:]:
-        print(__doc__.strip(), file=sys.stderr)
-        sys.exit(2)
-    done = subprocess.run(["rt", "try", "--", *WORDS], cwd=HERE.parent / "crates/getopts_show", stdout=subprocess.PIPE, check=True)
-    (HERE / "reading.svg").write_text(draw(done.stdout.decode()))

@@ -136,19 +136,6 @@ def behind():
     return table(["job", "ours", "the other", "times as many"], *rows)
 
 
-def in_order():
-    """The instructions of reading options and free words in order: in a loop, as a list, and with other libraries."""
-    title, columns, rows = "Instructions per iteration", ("this library", "bindings/rust"), []
-    for line in "small", "typical", "long":
-        (loop, rust_loop, lexopt, original), ordered = (measured(title, f"{work}-{line}", *columns, *others) for work, others
-                                                        in [("loop", ("lexopt", "Rust crate")), ("order", ())])
-        rows.append([described(line), loop, ordered[0], rust_loop, ordered[1], lexopt, original])
-    words = len(bench_py.parts("long")[1])
-    each = [f"{int(cell.replace(',', '')) / words:,.0f}" for cell in rows[-1][1:]]
-    return table(["job", "Rattle: loop", "`parse_in_order`", "`proved-getopts`: loop", "`parse_in_order`", "lexopt", "the original"],
-                 *rows, ["`long`, a word", *each])
-
-
 def memory():
     jobs = {"held-small": "3 words", "held-described": "options with long descriptions", "held-long": "1,000 words",
             "held-cluster": "a cluster of 100,000 letters", "held-values": "three values of 1 MB", "memory": "100,000 words"}
@@ -250,7 +237,7 @@ def cited_clauses():
 
 
 # What --fix writes between `<!-- generated: NAME -->` and `<!-- end -->`.
-GENERATED = {make.__name__: make for make in (usage_example, moving, speed, costs, speed_in_c, in_order, behind, memory, first_output,
+GENERATED = {make.__name__: make for make in (usage_example, moving, speed, costs, speed_in_c, behind, memory, first_output,
                                               to_read, decided, calls, variants, cited_clauses)}
 
 
@@ -265,15 +252,23 @@ def test_generated_parts(page, request):
     assert pages[page] == wanted, "out of date: run 'bash test.sh -k pages --fix'"
 
 
-def test_picture_of_a_reading(show):
-    """docs/reading.py draws what getopts_show prints."""
-    assert reading.draw(run(show, *reading.WORDS)[0]) == read("docs/reading.svg")
+def compare(name, text, request):
+    """Compares a generated file with what it should be, which --fix writes."""
+    if request.config.getoption("--fix"):
+        (ROOT / name).write_text(text, encoding="utf-8")
+    assert read(name) == text, f"{name} is out of date: run 'bash test.sh -k pages --fix'"
+
+
+def test_picture_of_a_reading(show, request):
+    compare("docs/reading.svg", reading.draw(run(show, *reading.WORDS)[0]), request)
+
+
+def test_chart(request):
+    compare("bench/chart.svg", chart.draw(), request)
 
 
 def test_copy_of_the_changelog(request):
-    if request.config.getoption("--fix"):
-        (ROOT / COPY).write_text(pages["CHANGELOG.md"], encoding="utf-8")
-    assert read(COPY) == pages["CHANGELOG.md"], "out of date: run 'bash test.sh -k pages --fix'"
+    compare(COPY, pages["CHANGELOG.md"], request)
 
 
 @pytest.mark.parametrize("folder", ["rust", "c", "shell"])
