@@ -166,7 +166,7 @@ def lines_in(start, *omitted):
 
 def to_read():
     """PROOFS: the lines to read for each way of using the library."""
-    specs, source = lines_in("crates/getopts/specs/", "Results", "Step", "Stored", "UsageResults"), lines_in("crates/getopts/src/")
+    specs, source = lines_in("crates/getopts/specs/", "Stored", "UsageResults"), lines_in("crates/getopts/src/")
     (bytes_specs, bytes_source), (shell_specs, shell_source) = (
         [lines_in(f"crates/{crate}/{part}/") for part in ("specs", "src")] for crate in ("getopts_bytes", "getopts_shell"))
     eraser, rust = lines_in("bindings/rust/erase.py"), ("bindings/rust/src/", "proved", "bytes")

@@ -53,11 +53,11 @@ pub record IsReadInItems (grammar : Grammar) (line : List Text) (given : List Gi
   pub read : AreReadTo grammar line items left.names left.words
   pub given_is : given ≡ order_of_items grammar items
 
--- The line was read up to what is left, and gave these options and free words. Once only free words
--- are left, the whole line gives these, and then the words that are left.
+-- The line was read up to what is left, and gave these options and free words.
 pub record IsReadTo (options : Declared) (line : List Text) (given : List Given) (left : Left)
     : Type 0 where
   pub among_options : left.only_free ≡ false → IsReadInItems (grammar_of options) line given left
+  -- the whole line gives these, and then the words that are left
   pub among_frees : left.only_free ≡ true
       → order_or_error options line ≡ Ok (given ++ map free_word left.words)
 
