@@ -197,14 +197,21 @@ def decided():
                   f"{sum(lines_of(it[1], name) for name in re.findall('`(.*?)`', it[2]))} |", rows, flags=re.M)
 
 
+# Calls whose names and types say what the first sentence of their documentation does.
+PLAIN = {"Options::opt", "Options::long_only", "Options::len", "Occurrences::len", "Occurrences::is_empty", "Matches::occurrences",
+         "Matches::values", "Matches::opt_count", "Matches::opt_present", "Matches::opt_positions", "Matches::opt_strs",
+         "Matches::opts_str_first", "Options::canonical_words", "Options::parse", "Options::reader"}
+
+
 def calls():
-    """CALLING: all calls with their parameters, each with the first sentence of its documentation."""
+    """CALLING: all calls with their parameters, and with the first sentence of their documentation, unless they are plain."""
     rows = []
     for name, _, before in public_functions():
         head = re.split(r"\n +(?=(?:requires|ensures)\b)", contracts()[name])[0].removeprefix(f"fn {name}")
         types = re.sub(r"(?<=\() |,? (?=\))|\bmut (?=[a-z]\w*: )", "", " ".join(head.split()))
         docs = " ".join(re.findall(r"/// (.*)", re.search(r"(?: *///.*\n)*(?: *#.*\n)*$", before)[0]))
-        rows += [name + types, f"    // {docs.partition('. ')[0].rstrip('.')}"] if "->" in types else []
+        first = [] if name in PLAIN else [f"    // {docs.partition('. ')[0].rstrip('.')}"]
+        rows += [name + types, *first] if "->" in types else []
     return listing(rows)
 
 
@@ -220,9 +227,8 @@ def variants():
 
 
 # The clauses that callers cite most.
-CITED = {"Options::parse_words": ["result"], "Options::parse_ignoring_counts": ["result"], "Matches::check_counts": ["result"],
-         "Options::parse_in_order": ["result"],
-         "Reader::next": ["result", "some", "declared", "less", "ended", "err"],
+CITED = {"Options::parse_words": ["result"], "Options::parse_in_order": ["result"],
+         "Reader::next": ["result", "some", "less", "ended", "err"],
          "Matches::opt_present": ["present"], "Matches::opt_count": ["count"], "Matches::opt_str": ["value"],
          "Matches::opt_strs": ["values"], "Options::usage": ["result"]}
 
