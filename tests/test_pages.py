@@ -92,8 +92,7 @@ def speed():
     assert behind == ["files"]
     return paragraph(
         f"In {fewest} of the {len(drawn)} jobs, `lexopt` takes the fewest, because it only hands over one argument after the other. Only "
-        "in `files`, the original takes fewer than `proved-getopts`, because it copies and frees each word that it is given, while "
-        "`proved-getopts` [keeps them](docs/DECISIONS.md#rust-c-and-shell) until all are read.")
+        "in `files`, the original takes fewer than `proved-getopts` ([why](bench/README.md#comparison)).")
 
 
 def moving():
