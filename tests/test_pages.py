@@ -101,9 +101,9 @@ def moving():
     both = [measured("Instructions per iteration", f"copied-{job}", "bindings/rust", "Rust crate") for job in jobs]
     shares = [round(100 * int(ours.replace(",", "")) / int(theirs.replace(",", ""))) for ours, theirs in both]
     return paragraph(
-        "A program that replaces the original, and is otherwise unchanged, copies the values that it reads. On the command lines "
-        f"`{'`, `'.join(jobs[:-1])}` and `{jobs[-1]}`, reading its options then takes {min(shares)}% to {max(shares)}% of the "
-        "instructions that it took before (jobs `copied-..` in [last_run.txt](../../bench/last_run.txt)).")
+        "If a program replaces the original, and is otherwise unchanged, reading its options from the command lines "
+        f"`{'`, `'.join(jobs[:-1])}` and `{jobs[-1]}` takes {min(shares)}% to {max(shares)}% of the instructions that it took before "
+        "(jobs `copied-..` in [last_run.txt](../../bench/last_run.txt)).")
 
 
 def costs():

@@ -136,8 +136,8 @@ option is missing. If the order of options and positional arguments matters, use
 //! # }
 //! ```
 //!
-//! `README.md` lists the differences from the crate `getopts`, and says which methods only call
-//! proved source, and which do more.
+//! `README.md` says what differs from the crate `getopts`, and links to what these methods decide
+//! by themselves.
 #![cfg_attr(not(feature = "std"), no_std)]
 #![cfg_attr(docsrs, feature(doc_cfg))]
 #![forbid(unsafe_code)]
