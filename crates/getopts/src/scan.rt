@@ -1,6 +1,6 @@
 //! Reading a command line, one option or free word at a time.
 
-ghost use Rattle.std.specs.Prelude.{◌≡◌, ◌≢◌, ◌≤◌, ◌+◌, ◌-◌, ◌∷◌, ◌++◌, [], List, ℕ, MatchOption};
+ghost use Rattle.std.specs.Prelude.{◌≡◌, ◌≢◌, ◌≤◌, ◌+◌, ◌-◌, ◌<◌, ◌∷◌, ◌++◌, [], List, ℕ};
 ghost use Rattle.std.specs.Prelude.{OnOk, OnErr, IfOk, IfErr, IfSome, IfNone, Some, None, Ok, Err, true, false, length};
 ghost use Rattle.std.specs.Prelude.{map};
 ghost use Rattle.std.specs.String.{string_bytes};
@@ -10,7 +10,7 @@ ghost use Rattle.getopts.specs.Reader.{next_option};
 ghost use Rattle.getopts.specs.Stored.Scan.{tail_of, words_left};
 ghost use Rattle.getopts.specs.Accessors.{borrowed_given};
 ghost use Rattle.getopts.specs.Fail.{IsOutOfMemoryOr};
-ghost use Rattle.getopts.specs.Names.{AreTexts};
+ghost use Rattle.getopts.specs.Names.{AreTexts, Text};
 ghost use Rattle.getopts.specs.Step.{with_equals, first_char, chosen_long, chosen_end, Chooses};
 ghost use Rattle.getopts.specs.Step.{Step, name_step, faults};
 
@@ -146,13 +146,6 @@ impl<'w, S> Unread<'w, S> {
 pub(crate) struct Scanner<'o> {
     pub options: &'o Options,
     pub table: &'o Table,
-}
-
-/// The option that a name resolves to: the place of its group, and whether it takes an argument.
-#[derive(Clone, Copy)]
-pub(crate) struct Resolved {
-    pub place: usize,
-    pub kind: HasArg,
 }
 
 /// The value that an option takes, if any, and the words that are left after its argument.
@@ -309,24 +302,20 @@ fn last_argument<'w, S: AsStr>(
 
 impl<'o> Scanner<'o> {
     ghost use Rattle.getopts.specs.Step.{long_step, TakesOne, TakesName};
-    ghost use Rattle.getopts.specs.Stored.Scan.{scanner_grammar, IsLawfulScanner, IsResolvedTo};
+    ghost use Rattle.getopts.specs.Stored.Scan.{scanner_grammar, IsLawfulScanner};
     ghost use Rattle.getopts.specs.Stored.Scan.{HasShape, given_with};
     ghost use Rattle.getopts.specs.Reading.{order_of_reading, IsLawfulTail};
     ghost use Rattle.getopts.specs.Results.{made_of, read};
     ghost use Rattle.getopts.specs.Stored.Scan.{ReadsOne};
 
-    /// The option that a name resolves to.
+    /// The kind of the option at a place.
     #[inline(always)]
-    fn option(&self, name: &str) -> Option<Resolved>
-        requires { IsLawfulScanner self.now }
-        ensures { let grammar = scanner_grammar self.now in
-            MatchOption result (grammar.kind name.now ≡ None)
-            (IsResolvedTo (grammar.place name.now) (grammar.kind name.now)) }
+    fn kind(&self, place: usize) -> HasArg
+        requires { place < length self.now.options.now.groups }
+        ensures { let grammar = scanner_grammar self.now in (name : Text)
+            → grammar.place name ≡ Some place → grammar.kind name ≡ Some result }
     {
-        let signatures = self.options.signatures();
-        let place = self.table.resolve(signatures, name)?;
-        let kind = signatures.record(place).kinds.kind;
-        Some(Resolved { place, kind })
+        self.options.signatures().record(place).kinds.kind
     }
 
     /// Reads a long item: `text` follows the dashes in its first word, and `after` is the words
@@ -348,13 +337,13 @@ impl<'o> Scanner<'o> {
             long_step grammar dashes text.now (map S.text after.now) ≡ faults fault)) }
     {
         let (name, attached) = name_and_argument(text);
-        let option = match self.option(name) {
-            Some(option) => option,
+        let place = match self.table.resolve(self.options.signatures(), name) {
+            Some(place) => place,
             None => return Err(Fail::unrecognized_option(alloc, name)),
         };
-        let argument = long_argument(alloc, option.kind, name, attached, after)?;
+        let argument = long_argument(alloc, self.kind(place), name, attached, after)?;
         Ok(Taken {
-            place: option.place,
+            place,
             value: argument.value,
             names: "",
             left: argument.left,
@@ -384,20 +373,18 @@ impl<'o> Scanner<'o> {
             return Err(Fail::unrecognized_option(alloc, name));
         }
         let name = &names[0..1];
-        match self.option(name) {
-            None => Err(Fail::unrecognized_option(alloc, name)),
-            Some(
-                Resolved {
-                    place,
-                    kind: HasArg::No,
-                },
-            ) => Ok(Taken {
+        let place = match self.table.resolve_short(name) {
+            Some(place) => place,
+            None => return Err(Fail::unrecognized_option(alloc, name)),
+        };
+        match self.kind(place) {
+            HasArg::No => Ok(Taken {
                 place,
                 value: None,
                 names: &names[1..],
                 left: after,
             }),
-            Some(Resolved { place, kind }) => {
+            kind => {
                 let argument = last_argument(alloc, kind, name, &names[1..], after)?;
                 Ok(Taken {
                     place,

@@ -111,13 +111,6 @@ pub(crate) struct Scanner<'o> {
     pub table: &'o Table,
 }
 
-/// The option that a name resolves to: the place of its group, and whether it takes an argument.
-#[derive(Clone, Copy)]
-pub(crate) struct Resolved {
-    pub place: usize,
-    pub kind: HasArg,
-}
-
 /// The value that an option takes, if any, and the words that are left after its argument.
 struct Argument<'w, S> {
     value: Option<&'w str>,
@@ -241,13 +234,10 @@ fn last_argument<'w, S: AsStr>(
 }
 
 impl<'o> Scanner<'o> {
-    /// The option that a name resolves to.
+    /// The kind of the option at a place.
     #[inline(always)]
-    fn option(&self, name: &str) -> Option<Resolved> {
-        let signatures = self.options.signatures();
-        let place = self.table.resolve(signatures, name)?;
-        let kind = signatures.record(place).kinds.kind;
-        Some(Resolved { place, kind })
+    fn kind(&self, place: usize) -> HasArg {
+        self.options.signatures().record(place).kinds.kind
     }
 
     /// Reads a long item: `text` follows the dashes in its first word, and `after` is the words
@@ -260,13 +250,13 @@ impl<'o> Scanner<'o> {
         after: &'w [S],
     ) -> Result<Taken<'w, S>, Fail> {
         let (name, attached) = name_and_argument(text);
-        let option = match self.option(name) {
-            Some(option) => option,
+        let place = match self.table.resolve(self.options.signatures(), name) {
+            Some(place) => place,
             None => return Err(Fail::unrecognized_option(alloc, name)),
         };
-        let argument = long_argument(alloc, option.kind, name, attached, after)?;
+        let argument = long_argument(alloc, self.kind(place), name, attached, after)?;
         Ok(Taken {
-            place: option.place,
+            place,
             value: argument.value,
             names: "",
             left: argument.left,
@@ -287,18 +277,18 @@ impl<'o> Scanner<'o> {
             return Err(Fail::unrecognized_option(alloc, name));
         }
         let name = &names[0..1];
-        match self.option(name) {
-            None => Err(Fail::unrecognized_option(alloc, name)),
-            Some(Resolved {
-                place,
-                kind: HasArg::No,
-            }) => Ok(Taken {
+        let place = match self.table.resolve_short(name) {
+            Some(place) => place,
+            None => return Err(Fail::unrecognized_option(alloc, name)),
+        };
+        match self.kind(place) {
+            HasArg::No => Ok(Taken {
                 place,
                 value: None,
                 names: &names[1..],
                 left: after,
             }),
-            Some(Resolved { place, kind }) => {
+            kind => {
                 let argument = last_argument(alloc, kind, name, &names[1..], after)?;
                 Ok(Taken {
                     place,

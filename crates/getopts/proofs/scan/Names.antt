@@ -15,7 +15,7 @@ use Rattle.getopts.specs.Reader.{AreRead, AreReadTo, IsReadTo, Left, between_wor
 use Rattle.getopts.specs.Reader.{next_option}
 use Rattle.getopts.specs.Results.{reading_or_error}
 use Rattle.getopts.specs.Step.{Step, takes, faults, name_step, cluster_step, TakesOne, TakesName, takes_last, takes_flag}
-use Rattle.getopts.specs.Step.{chosen_end, chosen_step, first_char, Chooses, long_step, IsInLongForm, IsShortForm}
+use Rattle.getopts.specs.Step.{chosen_end, first_char, Chooses, long_step, IsInLongForm, IsShortForm}
 use Rattle.getopts.specs.Stored.Scan.{HasOneMore, ReadsOne, tail_of, words_left}
 use Rattle.getopts.specs.declared.kinds.HasArg.{HasArg}
 use Rattle.getopts.specs.declared.kinds.HasArg.TheVariants.{No}
@@ -56,15 +56,6 @@ module _ (grammar : Grammar) (after : List Text) where
   name_last [] place kind value left filled place_is other kind_is chooses = absurd (filled refl)
   name_last (byte ∷ rest) place kind value left filled place_is other kind_is chooses =
       takes_last byte rest kind refl refl place_is other kind_is chooses
-
-  pub name_error : (names : Text) (kind : HasArg) (fault : Fault) → names ≢ [] → kind ≢ No
-      → grammar.kind (slice_index names 0 ∷ []) ≡ Some kind
-      → chosen_end kind (slice_index names 0 ∷ []) (drop 1 names) after ≡ Err fault
-      → (bytes : List ℕ) (more : Step) → name_step grammar bytes names after more ≡ faults fault
-  name_error [] kind fault filled other kind_is told bytes more = absurd (filled refl)
-  name_error (byte ∷ rest) kind fault filled other kind_is told bytes more = rw kind_is
-      (Steps.byte_step-end kind bytes byte rest after more other
-      ∙ ap (chosen_step (λ a. Spec.cluster bytes (Spec.ends_in byte a))) told)
 
 -- a first byte of ASCII is the first character
 pub name_first : (names : Text) → names ≢ [] → slice_index names 0 < 128 → first_char names ≡ slice_index names 0 ∷ []

@@ -1,5 +1,5 @@
 -- What the functions of `scan` find in the words that they are given.
-use Rattle.std.specs.Prelude.{◌≡◌, Bool, true, false, Some, List, [], ◌∷◌, ◌++◌, length, map}
+use Rattle.std.specs.Prelude.{◌≡◌, Bool, true, false, List, [], ◌∷◌, ◌++◌, length, map}
 use Rattle.std.specs.Prelude.{Result, Ok, Option, ℕ, ◌<◌, ◌+◌, ◌-◌, if◌then◌else◌}
 use Rattle.std.specs.Str.{bytes_eq}
 use Rattle.std.specs.String.{string_bytes}
@@ -16,9 +16,7 @@ use Rattle.getopts.specs.Reading.{Given, options_in, frees_in, order_of_items, a
 use Rattle.getopts.specs.Reader.{AreReadTo, words_size}
 use Rattle.getopts.specs.Results.{made_of, read, reading_or_error, accepted_reading}
 use Rattle.getopts.specs.Step.{IsInLongForm, IsShortForm}
-use Rattle.getopts.specs.declared.kinds.HasArg.{HasArg}
 use Rattle.getopts.specs.declared.scan.Line.{Line}
-use Rattle.getopts.specs.declared.scan.Resolved.{Resolved}
 use Rattle.getopts.specs.declared.scan.Scanner.{Scanner}
 use Rattle.getopts.specs.declared.scan.Shape.{Shape}
 use Rattle.getopts.specs.declared.scan.Shape.TheVariants as shape
@@ -31,11 +29,6 @@ scanner_grammar scanner = grammar_of scanner.options.now
 pub record IsLawfulScanner (scanner : Scanner) : Type 0 where
   pub declared : MayBeDeclared scanner.options.now.groups
   pub table : IsTableOf (names_of scanner.options.now.groups) scanner.table.now
-
--- The option has this place and this kind.
-pub record IsResolvedTo (name_place : Option ℕ) (takes : Option HasArg) (option : Resolved) : Type 0 where
-  pub place : name_place ≡ Some option.place
-  pub kind : takes ≡ Some option.kind
 
 -- This shape says how the word is read.
 abbrev pub HasShape : Grammar → Text → Shape → Type 0
