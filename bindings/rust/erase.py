@@ -105,7 +105,7 @@ IMPORTS = tuple("""std::alloc:: std::cmp::Ordering:: std::convert::AsStr:: std::
 KNOWN_CALLS = set("""all alloc allocator and any arg as_bytes as_slice as_str binary_search_by binary_search_by_key
     chars clone cmp contains count dedup_by encode_utf8 ends_with enumerate
     extend_from_slice first flush format get into_iter is_ascii is_ascii_alphanumeric is_ascii_digit is_empty is_eq is_lt
-    is_some iter iter_mut kind len len_utf8 map_or matches max min next parse position push push_reserved
+    is_none is_some iter iter_mut kind len len_utf8 map_or matches max min next parse position push push_reserved
     push_str reserve resize rsplit_once saturating_add saturating_mul saturating_sub size_hint
     sort_by split split_at split_at_mut split_first split_last split_off split_once split_whitespace starts_with stderr strip_prefix strip_suffix
     then_some trim_ascii unreachable unwrap_or vec width wrapping_add write writeln Err FnMut Ok Some bytes""".split())

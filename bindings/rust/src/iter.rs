@@ -215,14 +215,15 @@ impl<'o, 'w, S: AsRef<OsStr>> OsReader<'o, 'w, S> {
             self.texts.push(text_of(self.words[self.texts.len()].as_ref())?);
         }
         let (words, names) = (&self.texts[self.read..end], self.end(self.left));
-        let mut unread = Unread { words, names, only_free: self.only_free };
+        let free_words: Option<&[_]> = self.only_free.then_some(&[]);
+        let mut unread = Unread { words, names, free_words };
         let given = self.proved.next(Global, &mut unread).map_err(|fail| {
             let text = if names.is_empty() { &words[0] } else { names };
             shown(text, Fail::of(fail))
         })?;
         let (read, left) = (words.len() - unread.words.len(), unread.names.len());
         let given = given.map(|given| Given::of(self.options, given, str::len));
-        self.only_free = unread.only_free;
+        self.only_free = unread.free_words.is_some();
         (self.read, self.left) = (self.read + read, left);
         Ok(given.map(|given| given.map(|len| self.value(len))))
     }

@@ -231,10 +231,11 @@ mod proved {
         assert!(reader.next(Global, &mut unread).is_err());
         assert_eq!((unread.names, unread.words), ("", &words[2..]));
         unread.words = &unread.words[1..];
-        assert!(!unread.only_free);
+        assert_eq!(unread.free_words, None);
         assert_eq!(reader.next(Global, &mut unread)?, Some(Given::Free("y")));
-        assert!(unread.only_free);
+        assert_eq!(unread.free_words, Some(&words[4..]));
         assert_eq!(reader.next(Global, &mut unread)?, None);
+        assert_eq!(unread.free_words, Some(&words[5..]));
         assert_eq!(reader.next(Global, &mut unread)?, None);
         Ok(())
     }
@@ -247,7 +248,7 @@ mod proved {
         let reader = options.reader(Global)?;
         assert_eq!(reader.next(Global, &mut unread)?.map(shown).as_deref(), Some("-v"));
         assert_eq!(reader.next(Global, &mut unread)?, Some(Given::Free("run")));
-        assert_eq!((unread.only_free, unread.words), (true, &["-v"][..]));
+        assert_eq!((unread.free_words, unread.words), (Some(&["run", "-v"][..]), &["-v"][..]));
         assert_eq!(reader.next(Global, &mut unread)?, Some(Given::Free("-v")));
         assert_eq!(reader.next(Global, &mut unread)?, None);
         Ok(())
@@ -261,7 +262,7 @@ mod proved {
         let mut unread = Unread::new(&["-v", "-5", "--", "-v"]);
         assert_eq!(reader.next(Global, &mut unread)?.map(shown).as_deref(), Some("-v"));
         assert!(reader.next(Global, &mut unread).is_err());
-        unread.only_free = true;
+        unread.free_words = Some(&[]);
         for word in ["-5", "--", "-v"] {
             assert_eq!(reader.next(Global, &mut unread)?, Some(Given::Free(word)));
         }

@@ -1,5 +1,5 @@
 -- What a caller reads in a loop, one option or free word at a time.
-use Rattle.std.proofs.Common.{◌≡◌, ◌∙◌, false, true, List, [], ◌∷◌, ◌++◌, refl, sym}
+use Rattle.std.proofs.Common.{◌≡◌, ◌∙◌, false, true, List, [], ◌∷◌, ◌++◌, refl, sym, Option, Some, None, IfSome, is_some, unwrap_or}
 use Rattle.std.proofs.lemmas.Bool.{false≢true, true_from_ne_false}
 use Rattle.getopts.specs.Options.{Declared, Grammar, grammar_of}
 use Rattle.getopts.specs.Names.{Text}
@@ -36,3 +36,9 @@ only_free-stopped {options} given word {left} stops read_to = true_from_ne_false
     let none : frees_in (given ++ free_word word ∷ []) ≡ [] =
     rw (read.given_is, frees_in-items) (free_items-stopped (grammar_of options) stops read.read) in
     filled-append (frees_in given) word [] (rw frees_in-append at none))
+
+-- what is true of a value if there is one, if there is one
+pub IfSome-unwrap_or : {A : Type 0} (P : A → Type 0) (value : Option A) (default : A) → is_some value ≡ true
+    → IfSome value P → P (unwrap_or value default)
+IfSome-unwrap_or P None default some is = absurd (false≢true some)
+IfSome-unwrap_or P (Some value) default some is = is

@@ -1,6 +1,6 @@
 -- What a caller has read of a line, one option or free word at a time.
 use Rattle.std.specs.Prelude.{◌≡◌, ◌≢◌, ◌==◌, ◌&&◌, ℕ, ◌+◌, Bool, true, false, not, if◌then◌else◌, List, [], ◌∷◌}
-use Rattle.std.specs.Prelude.{◌++◌, drop, length, map, Option, Some, None, Result, Ok, Err}
+use Rattle.std.specs.Prelude.{◌++◌, drop, is_some, length, map, Option, Some, None, Result, Ok, Err}
 use Rattle.std.specs.List.{AllByRecursion, slice_get}
 use Rattle.getopts.specs.Names.{Text}
 use Rattle.getopts.specs.Options.{Declared, Grammar, grammar_of}
@@ -43,7 +43,7 @@ abbrev pub left_in : {S : Type 0} → (S → Text) → Unread S → Left
 left_in text unread = record {
   names = unread.names.now;
   words = map text unread.words.now;
-  only_free = unread.only_free;
+  only_free = is_some unread.free_words;
 }
 
 -- These options and free words are what valid items of the line gave, and options may follow.

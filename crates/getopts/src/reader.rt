@@ -1,12 +1,13 @@
 //! Reading a command line in a loop of the caller's, one option or free word at a time.
 
-ghost use Rattle.std.specs.Prelude.{◌≡◌, ◌<◌, ◌∷◌, ◌++◌, [], Ok, Err, IfOk, IfErr, OnErr, IfSome, IfNone};
+ghost use Rattle.std.specs.Prelude.{◌≡◌, ◌<◌, ◌∷◌, ◌++◌, [], Ok, Err, IfOk, IfErr, OnErr, IfSome, IfNone, map};
 ghost use Rattle.std.specs.Option.{option_map};
 ghost use Rattle.getopts.specs.Accessors.{borrowed_given};
 ghost use Rattle.getopts.specs.Fail.{IsOutOfMemoryOr};
 ghost use Rattle.getopts.specs.Options.{grammar_of};
 ghost use Rattle.getopts.specs.Parse.{IsDeclared, ReturnsConverted};
 ghost use Rattle.getopts.specs.Reader.{IfReadTo, IsReadTo, left_in, next_result, size_of};
+ghost use Rattle.getopts.specs.Reading.{free_word};
 ghost use Rattle.getopts.specs.Results.{order_or_error};
 
 use crate::fail::Fail;
@@ -104,12 +105,16 @@ impl<'o> Reader<'o> {
         ensures ended { IfOk result (λ given. IfNone given
             (IfReadTo self.now (left_in S.text unread.old)
             (λ line before. order_or_error self.now line ≡ Ok before))) }
+
+        // Once options can't follow, the line gives what was given before, and then free words.
+        ensures free_words { IfSome unread.new.free_words (λ words. IfReadTo self.now (left_in S.text unread.old)
+            (λ line before. order_or_error self.now line ≡ Ok (before ++ map free_word (map S.text words.now)))) }
         ensures err { IfErr result (λ fail. IsOutOfMemoryOr fail (λ fault.
             IfReadTo self.now (left_in S.text unread.old)
             (λ line before. order_or_error self.now line ≡ Err fault))) }
         ensures unchanged { OnErr result (unread.new ≡ unread.old) }
     {
-        if !unread.only_free {
+        if unread.free_words.is_none() {
             let scanner = Scanner {
                 options: self.options,
                 table: &self.table,
@@ -117,9 +122,9 @@ impl<'o> Reader<'o> {
             if let Some(given) = scanner.next(alloc, unread)? {
                 return Ok(Some(given));
             }
-            unread.only_free = true;
             unread.words = free_words(unread.words);
         }
+        unread.free_words = Some(unread.words);
         match unread.words.split_first() {
             Some((word, others)) => {
                 unread.words = others;

@@ -107,9 +107,10 @@ pub struct Unread<'w, S> {
     /// `x`. Otherwise empty. A program may set it to `""`, to skip these options, but to no other
     /// text.
     pub names: &'w str,
-    /// Whether all of `words` are free words: after `--` and, in the style `StopAtFirstFree`, after
-    /// a free word. A program may set it to `true`, to end the options itself.
-    pub only_free: bool,
+    /// `None` while options may follow. Otherwise, all of `words` are free words, and this is the
+    /// free word that `next` returned last and those after it, such as a command and its arguments.
+    /// A program may set it to `Some(&[])`, to end the options itself.
+    pub free_words: Option<&'w [S]>,
 }
 
 impl<'w, S> Unread<'w, S> {
@@ -117,12 +118,12 @@ impl<'w, S> Unread<'w, S> {
     pub fn new(words: &'w [S]) -> Unread<'w, S>
         ensures words { result.words.now ≡ words.now }
         ensures names { result.names.now ≡ [] }
-        ensures only_free { result.only_free ≡ false }
+        ensures free_words { result.free_words ≡ None }
     {
         Unread {
             words,
             names: "",
-            only_free: false,
+            free_words: None,
         }
     }
 
@@ -440,7 +441,7 @@ impl<'o> Scanner<'o> {
         ensures err { IfErr result (λ fail. IsOutOfMemoryOr fail (λ fault.
             next_option (scanner_grammar self.now) unread.old.names.now (map S.text unread.old.words.now)
             ≡ Err fault)) }
-        ensures only_free { unread.new.only_free ≡ unread.old.only_free }
+        ensures free_words { unread.new.free_words ≡ unread.old.free_words }
         ensures unchanged { OnErr result (unread.new ≡ unread.old) }
     {
         let mut names = unread.names;

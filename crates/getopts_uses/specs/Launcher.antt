@@ -1,7 +1,6 @@
 -- A program that runs another: its options, and what a command line asks for.
 use Rattle.std.specs.Prelude.{◌≡◌, ◌≢◌, ◌++◌, List, [], ◌∷◌, codes, map, Ok, Err, Option}
 use Rattle.std.specs.List.{AllByRecursion}
-use Rattle.std.specs.Option.{option_map_or}
 use Rattle.getopts.specs.Prelude.{Declared, Fault, Given, IsReadTo, Text}
 use Rattle.getopts.specs.Prelude.{borrowed_given, free_word, next_result, optflagmulti, option, options_of}
 use Rattle.getopts.specs.Prelude.{optmulti, order_or_error}
@@ -30,8 +29,7 @@ IsAsked text line Help = (others : List Given) × (value : Option Text) × (left
     × AllByRecursion IsOther others × IsReadTo launch_options line (others ++ option 2 value ∷ []) left
 IsAsked text line (Parsed launch) = AllByRecursion IsOther (map borrowed_given launch.options.items)
     × (order_or_error launch_options line
-    ≡ Ok (map borrowed_given launch.options.items ++ map free_word
-    (option_map_or (λ command. command.0.now ∷ map text command.1.now) launch.command [])))
+    ≡ Ok (map borrowed_given launch.options.items ++ map free_word (map text launch.command.now)))
 
 -- This is the error of a command line, and no help precedes it.
 abbrev pub IsRefusedFor : List Text → Fault → Type 0

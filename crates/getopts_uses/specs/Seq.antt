@@ -4,7 +4,7 @@ use Rattle.std.specs.Prelude.{codes, length, map, Option, None, Ok, Err, unwrap_
 use Rattle.std.specs.List.{slice_get, slice_index}
 use Rattle.std.specs.Option.{option_copied}
 use Rattle.getopts.specs.Prelude.{Declared, Fault, Given, IsReadTo, Text, free_word, next_result}
-use Rattle.getopts.specs.Prelude.{optflagmulti, option, options_of, optmulti, order_or_error, texts}
+use Rattle.getopts.specs.Prelude.{optflagmulti, option, options_of, optmulti, order_or_error}
 use Rattle.getopts.specs.Reader.{Left}
 use Rattle.getopts.specs.declared.kinds.ParsingStyle.TheVariants.{StopAtFirstFree}
 use Rattle.getopts_uses.specs.declared.seq.Seq.{Seq}
@@ -47,12 +47,12 @@ pub record Asked : Type 0 where
   pub operands : List Text
 
 -- what it asks for, as it is stored
-abbrev pub asked_view : Seq → Asked
-asked_view seq = record {
+abbrev pub asked_view : {S : Type 0} → (S → Text) → Seq S → Asked
+asked_view text seq = record {
   format = option_copied seq.format;
   separator = option_copied seq.separator;
   equal_width = seq.equal_width;
-  operands = texts seq.operands.items;
+  operands = map text seq.operands.now;
 }
 
 -- what is asked for after the option at a place, with its value
@@ -73,5 +73,6 @@ asked_by order =
     asked_after order (record { format = None; separator = None; equal_width = false; operands = [] })
 
 -- A command line asks for this.
-abbrev pub AsksFor : List Text → Seq → Type 0
-AsksFor line seq = (order : List Given) × IsLine line order × (asked_view seq ≡ asked_by order)
+abbrev pub AsksFor : {S : Type 0} → (S → Text) → List Text → Seq S → Type 0
+AsksFor text line seq =
+    (order : List Given) × IsLine line order × (asked_view text seq ≡ asked_by order)

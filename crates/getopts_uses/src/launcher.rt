@@ -15,8 +15,8 @@ use std::convert::AsStr;
 #[derive(Debug, Drop)]
 pub struct Launch<'w, S> {
     pub options: Vec<Given<'w>>,
-    /// The program, and its words as they were typed.
-    pub command: Option<(&'w str, &'w [S])>,
+    /// The program and its words, as they were typed. Empty if there is no program.
+    pub command: &'w [S],
 }
 
 /// The place of the option `help`.
@@ -51,16 +51,16 @@ pub fn read_launch<'w, S: AsStr>(
         match given {
             Given::Option { place: HELP, .. } => return Ok(Request::Help),
             Given::Option { .. } => read.push(given)?,
-            Given::Free(program) => {
+            Given::Free(_) => {
                 return Ok(Request::Parsed(Launch {
                     options: read,
-                    command: Some((program, unread.words)),
+                    command: unread.free_words.unwrap_or(&[]),
                 }));
             }
         }
     }
     Ok(Request::Parsed(Launch {
         options: read,
-        command: None,
+        command: &[],
     }))
 }

@@ -12,11 +12,11 @@ use std::convert::AsStr;
 
 /// How to print numbers, and the operands that say which numbers.
 #[derive(Debug, Drop)]
-pub struct Seq<'w> {
+pub struct Seq<'w, S> {
     pub format: Option<&'w str>,
     pub separator: Option<&'w str>,
     pub equal_width: bool,
-    pub operands: Vec<&'w str>,
+    pub operands: &'w [S],
 }
 
 /// The place of the option `format`.
@@ -52,8 +52,8 @@ fn lines_written_out()
 {}
 
 /// What a command line asks for.
-pub fn read_seq<'w, S: AsStr>(alloc: Global, words: &'w [S]) -> Result<Seq<'w>, Fail>
-    ensures seq { IfOk result (AsksFor (map S.text words.now)) }
+pub fn read_seq<'w, S: AsStr>(alloc: Global, words: &'w [S]) -> Result<Seq<'w, S>, Fail>
+    ensures seq { IfOk result (AsksFor S.text (map S.text words.now)) }
     ensures err { IfErr result (λ fail. IsOutOfMemoryOr fail (IsRefusedFor (map S.text words.now))) }
 {
     let options = options(alloc)?;
@@ -63,25 +63,27 @@ pub fn read_seq<'w, S: AsStr>(alloc: Global, words: &'w [S]) -> Result<Seq<'w>, 
         format: None,
         separator: None,
         equal_width: false,
-        operands: Vec::new(alloc),
+        operands: &[],
     };
     while !is_at_number(&unread) {
         match reader.next(alloc, &mut unread)? {
             Some(Given::Option { place, value }) => set_option(&mut seq, place, value),
-            Some(Given::Free(word)) => seq.operands.push(word)?,
+            Some(Given::Free(_)) => {
+                seq.operands = unread.free_words.unwrap_or(&[]);
+                return Ok(seq);
+            }
             None => return Ok(seq),
         }
     }
-    for word in unread.words {
-        seq.operands.push(word.as_str())?;
-    }
+    seq.operands = unread.words;
     Ok(seq)
 }
 
 /// Notes the option at a place, and its value.
-fn set_option<'w>(seq: &mut Seq<'w>, place: usize, value: Option<&'w str>)
-    ensures { asked_view seq.new
-        ≡ with_option place (option_copied value.entry) (asked_view seq.old) }
+fn set_option<'w, S: AsStr>(seq: &mut Seq<'w, S>, place: usize, value: Option<&'w str>)
+    ensures asked { asked_view S.text seq.new
+        ≡ with_option place (option_copied value.entry) (asked_view S.text seq.old) }
+    ensures operands { seq.new.operands ≡ seq.old.operands }
 {
     match place {
         FORMAT => seq.format = value,

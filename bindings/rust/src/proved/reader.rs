@@ -61,7 +61,7 @@ impl<'o> Reader<'o> {
         alloc: Global,
         unread: &mut Unread<'w, S>,
     ) -> Result<Option<Given<'w>>, Fail> {
-        if !unread.only_free {
+        if unread.free_words.is_none() {
             let scanner = Scanner {
                 options: self.options,
                 table: &self.table,
@@ -69,9 +69,9 @@ impl<'o> Reader<'o> {
             if let Some(given) = scanner.next(alloc, unread)? {
                 return Ok(Some(given));
             }
-            unread.only_free = true;
             unread.words = free_words(unread.words);
         }
+        unread.free_words = Some(unread.words);
         match unread.words.split_first() {
             Some((word, others)) => {
                 unread.words = others;

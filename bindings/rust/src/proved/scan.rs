@@ -77,9 +77,10 @@ pub struct Unread<'w, S> {
     /// `x`. Otherwise empty. A program may set it to `""`, to skip these options, but to no other
     /// text.
     pub names: &'w str,
-    /// Whether all of `words` are free words: after `--` and, in the style `StopAtFirstFree`, after
-    /// a free word. A program may set it to `true`, to end the options itself.
-    pub only_free: bool,
+    /// `None` while options may follow. Otherwise, all of `words` are free words, and this is the
+    /// free word that `next` returned last and those after it, such as a command and its arguments.
+    /// A program may set it to `Some(&[])`, to end the options itself.
+    pub free_words: Option<&'w [S]>,
 }
 
 impl<'w, S> Unread<'w, S> {
@@ -88,7 +89,7 @@ impl<'w, S> Unread<'w, S> {
         Unread {
             words,
             names: "",
-            only_free: false,
+            free_words: None,
         }
     }
 
