@@ -2,8 +2,8 @@
 a folder `must-fail`, and this file, before a release, those in a folder `mutants`.
 
 The checker may reject a mutant only because of its form. For each mutant that adds a loop, a `return` or a function, correct
-code of the same form was proved, except for `canonical_hands_words_back`, `equality_of_flat_lists`, `missing_before_duplicated`
-and, of the mutants of `opt` and similar calls, all but `failed_opt_is_long_only`."""
+code of the same form was proved, except for `equality_of_flat_lists`, `missing_before_duplicated` and, of the mutants of `opt`
+and similar calls, all but `failed_opt_is_long_only`."""
 
 import re
 import shutil
