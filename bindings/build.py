@@ -137,7 +137,7 @@ def rebuild(processors):
     processors = processors or [it for it in PROCESSORS if not lacks_musl(it)]
     shell(True)
     key = hashlib.sha256("\n".join([*processors, sum_of(Path(__file__)), *sums()]).encode()).hexdigest()
-    note = Path(os.environ["KEPT"], f"compared-{key}") if "KEPT" in os.environ else None
+    note = Path(os.environ["KEPT"], f"compared-{key}") if os.environ.get("KEPT") else None
     if note and note.exists():
         return print("the shell binaries were compared with their source earlier")
     with tempfile.TemporaryDirectory() as room:
