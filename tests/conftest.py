@@ -313,31 +313,35 @@ def failing_malloc(tmp_path_factory):
     return preload_library(ROOT / "tests/memory/failing_malloc.c", tmp_path_factory.mktemp("malloc"))
 
 
-def fail_each_allocation(preload, words, failure=(b"", 3), errors=b"", marks=False):
+def fail_each_allocation(preload, words, failure=(b"", 3), errors=b"", keeps=0, marks=False):
     """Makes each allocation fail in turn, once alone and once with all later ones, and returns how many failed. A run
-    with a failure has to have the output and status `failure`, and to report `errors`, and a run without one has to end
-    like the first run. With marks, only allocations between the program's marks are counted."""
+    with a failure has to have the output and status `failure`, and to report `errors`. A run without one has to end like
+    the first run, and so do just `keeps` others, which only keep a long block that they would have made smaller. With
+    marks, only allocations between the program's marks are counted."""
     def outcome(at, on):
         settings = {"LD_PRELOAD": preload, "FAIL_AT": at, "FAIL_ON": on, "FAIL_MARKS": int(marks)}
         env = {**os.environ, **{name: str(value) for name, value in settings.items()}}
         done = subprocess.run([str(word) for word in words], capture_output=True, env=env)
         # A program killed by a signal doesn't report its failures.
-        said = re.search(rb"^failed (\d+) marks (\d+)\n\Z", done.stderr, re.M)
+        said = re.search(rb"^failed (\d+) kept (\d+) marks (\d+)\n\Z", done.stderr, re.M)
         ended = (done.stdout, done.returncode, done.stderr[:said.start()] if said else done.stderr)
-        return ended, *(map(int, said.groups()) if said else (1, None))
+        return ended, *(map(int, said.groups()) if said else (1, 0, None))
 
-    ever, _, marked = outcome(0, 0)
+    ever, _, _, marked = outcome(0, 0)
     assert (marked > 0) == marks and marked % 2 == 0
-    count = 0
+    count = kept_only = 0
     for on in (0, 1):
         for at in range(1, 10_001):
-            ended, failed, met = outcome(at, on)
+            ended, failed, kept, met = outcome(at, on)
             assert met == marked or (met is None and ended[1] < 0), f"allocation {at}: {met} of {marked} marks: {ended}"
-            if failed == 0:
+            if failed == kept:
                 assert ended == ever
+            if failed == 0:
                 break
-            assert ended == (*failure, errors), f"allocation {at}, with all later ones: {on}"
+            assert failed == kept or ended == (*failure, errors), f"allocation {at}, with all later ones: {on}"
             count += 1
+            kept_only += failed == kept
         else:
             pytest.fail("more than 10,000 allocations")
+    assert kept_only == keeps
     return count

@@ -62,7 +62,7 @@ RUSTFMT = ["rustfmt", "--edition", "2021", "--config", LAYOUT]
 
 # Rattle's functions that allocate, and the functions of `fallible.rs` that replace them.
 CALLS = {name: f"try_{name}" for name in "push push_str sort_by extend_from_slice split_off clone".split()} | {
-    "reserve": "try_grow", "with_capacity": "of_capacity",
+    "reserve": "try_grow", "with_capacity": "of_capacity", "shrink_to_fit": "try_shrink",
     "String::new": "String::empty", "String::from_str": "String::copy_of", "Vec::new": "Vec::empty",
     "vec![in alloc; 0; room]": "Vec::filled(alloc, 0, room)", "vec![in alloc; 0; groups]": "Vec::filled(alloc, 0, groups)",
     "impl Clone for": "impl TryClone for",
@@ -106,7 +106,7 @@ KNOWN_CALLS = set("""all alloc allocator and any arg as_bytes as_slice as_str bi
     chars clone cmp contains count dedup_by encode_utf8 ends_with enumerate
     extend_from_slice first flush format get into_iter is_ascii is_ascii_alphanumeric is_ascii_digit is_empty is_eq is_lt
     is_none is_some iter iter_mut kind len len_utf8 map_or matches max min next parse position push push_reserved
-    push_str reserve resize rsplit_once saturating_add saturating_mul saturating_sub size_hint
+    push_str reserve resize rsplit_once saturating_add saturating_mul saturating_sub shrink_to_fit size_hint
     sort_by split split_at split_at_mut split_first split_last split_off split_once split_whitespace starts_with stderr strip_prefix strip_suffix
     then_some trim_ascii unreachable unwrap_or vec width wrapping_add write writeln Err FnMut Ok Some bytes""".split())
 # Functions that are called by type, as in `u32::from(..)`.

@@ -20,7 +20,7 @@ WHOLE += [(r"# (! )?\[ (tactic|derive \( Drop \) \])", "]"), (r"use std :: marke
 WHOLE += [(r"(mod laws|pub use laws)", ";"), (r"[+:,] Drop(?= [>,)])", "")]
 CALLS = "push push_str sort_by clone extend_from_slice split_off".split()
 RENAMED = {word: "try_" + word for word in CALLS}
-RENAMED |= {"reserve": "try_grow", "with_capacity": "of_capacity"}
+RENAMED |= {"reserve": "try_grow", "with_capacity": "of_capacity", "shrink_to_fit": "try_shrink"}
 RENAMED |= {"String :: new": "String :: empty", "Vec :: new": "Vec :: empty", "String :: from_str": "String :: copy_of"}
 RENAMED |= {f"vec ! [ in alloc ; 0 ; {count} ]": f"Vec :: filled ( alloc , 0 , {count} )" for count in ("room", "groups")}
 RENAMED |= {"impl Clone for": "impl TryClone for"}

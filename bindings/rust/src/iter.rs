@@ -301,7 +301,7 @@ impl<'m> Iterator for Occurrences<'m> {
 
     #[inline]
     fn next(&mut self) -> Option<Self::Item> {
-        self.0.take_first()
+        self.0.next()
     }
 
     #[inline]
@@ -313,7 +313,7 @@ impl<'m> Iterator for Occurrences<'m> {
 impl DoubleEndedIterator for Occurrences<'_> {
     #[inline]
     fn next_back(&mut self) -> Option<Self::Item> {
-        self.0.take_last()
+        self.0.next_back()
     }
 }
 

@@ -119,7 +119,7 @@ impl<'o, T> Given<'o, T> {
 }
 
 /// How many items and texts stay on the stack, and the most bytes of an item that may.
-const FEW: usize = 16;
+const FEW: usize = 11;
 const SMALL: usize = 64;
 /// The most bytes of a list because of `size_hint`, which may promise too many items.
 const MOST: usize = 1 << 22;
@@ -140,8 +140,7 @@ pub(crate) fn read_words<A: AsRef<OsStr>, T>(
     read_small(list.iter().map(A::as_ref), text_of, ask, otherwise)
 }
 
-/// The same, with the first `FEW` items on the stack. The iterator is dropped last, because malloc
-/// takes longer if a large block is freed before.
+/// The same, with the first `FEW` items on the stack.
 fn read_small<A: AsRef<OsStr>, T>(
     mut words: impl Iterator<Item = A>,
     text_of: impl Fn(&OsStr) -> Option<&str>,
@@ -160,7 +159,7 @@ fn read_small<A: AsRef<OsStr>, T>(
     }
     let mut others = Vec::new();
     others.reserve_exact(words.size_hint().0.min(MOST / size_of::<A>().max(1)));
-    words.by_ref().for_each(|word| others.push(word));
+    words.for_each(|word| others.push(word));
     if count == FEW {
         let mut texts = texts.to_vec();
         texts.reserve_exact(others.len());

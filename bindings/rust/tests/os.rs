@@ -343,7 +343,7 @@ impl<I: Iterator> Iterator for Promised<I> {
 
 #[test]
 fn parse_takes_any_iterator() {
-    for count in [0, 1, 15, 16, 17, 20, 2_000] {
+    for count in [0, 1, 10, 11, 12, 20, 2_000] {
         let words = || Promised(repeat("x").take(count), usize::MAX);
         assert_eq!(options().parse(words()).unwrap().free, vec!["x"; count]);
         assert_eq!(options().parse_os(words()).unwrap().free, vec!["x"; count]);
@@ -355,9 +355,9 @@ fn parse_takes_any_iterator() {
     assert_eq!(options().canonical(large()).unwrap().unwrap().len(), 21);
 }
 
-/// Calls a test with numbers of words and of promised words. The first 16 words stay on the stack.
+/// Calls a test with numbers of words and of promised words. The first 11 words stay on the stack.
 fn for_each_promise(test: impl Fn(usize, usize)) {
-    for count in [1, 14, 15, 16, 17, 30, 31, 1_025, 3_000] {
+    for count in [1, 9, 10, 11, 12, 30, 31, 1_025, 3_000] {
         for promised in [0, 1, 3_000] {
             test(count, promised);
         }
@@ -425,7 +425,7 @@ fn errors_show_marks() {
 #[test]
 fn the_first_word_that_is_not_unicode_is_the_error() {
     for word in not_unicode().iter().filter(|word| word.to_str().is_none()) {
-        for before in [0, 1, 15, 16, 17, 40, 5_000] {
+        for before in [0, 1, 10, 11, 12, 40, 5_000] {
             let words = || {
                 let words = repeat(OsStr::new("x")).take(before).chain(repeat(&**word).take(2));
                 words.chain(once("-z".as_ref()))

@@ -43,6 +43,9 @@ pub(crate) struct Occurrence<'l> {
 /// Bytes reserved for all values when the first one is stored.
 const FIRST_VALUES: usize = 64;
 
+/// A list of more records, or a text of more bytes, gives back memory that it doesn't use.
+const FIRST_LONG: usize = 512;
+
 /// The first text that isn't empty reserves `FIRST_VALUES` bytes.
 #[inline(always)]
 fn push_text(values: &mut String, text: &str) -> Result<(), AllocError>
@@ -126,6 +129,19 @@ impl LineOccurrences {
         })
     }
 
+    /// Gives back unused memory of a long list and a long text.
+    #[inline(never)]
+    pub(crate) fn shrink(&mut self)
+        ensures { self.new ≡ self.old }
+    {
+        if self.records.len() > FIRST_LONG {
+            self.records.shrink_to_fit();
+        }
+        if self.values.len() > FIRST_LONG {
+            self.values.shrink_to_fit();
+        }
+    }
+
     pub(crate) fn len(&self) -> usize
         ensures { result ≡ length self.now }
     {
@@ -184,7 +200,7 @@ impl Clone for LineOccurrences {
 /// The occurrences of one option group, in command-line order, borrowed from the matches.
 ///
 /// `Matches::occurrences_at` returns them. No text is copied. The Rust crate has no such type.
-/// Iterate over them with `for`:
+/// They are an iterator, from either end, which takes off what it returns:
 ///
 /// ```
 /// for (position, value) in matches.occurrences_at(place) { .. }
@@ -259,34 +275,12 @@ impl<'m> Occurrences<'m> {
         Occurrences::of(self.found, self.indices)
     }
 
-    /// Takes off the first occurrence.
-    #[inline]
-    pub(crate) fn take_first(&mut self) -> Option<(usize, Option<&'m str>)>
-        ensures { YieldsFirstBy borrowed_occurrence (λ rest. rest) self.old result self.new }
-    {
-        let (first, others) = self.indices.split_first()?;
-        let occurrence = self.found.at(*first);
-        self.indices = others;
-        Some((occurrence.position, occurrence.value))
-    }
-
-    /// Takes off the last occurrence.
-    #[inline]
-    pub(crate) fn take_last(&mut self) -> Option<(usize, Option<&'m str>)>
-        ensures { YieldsLastBy borrowed_occurrence (λ rest. rest) self.old result self.new }
-    {
-        let (last, others) = self.indices.split_last()?;
-        let occurrence = self.found.at(*last);
-        self.indices = others;
-        Some((occurrence.position, occurrence.value))
-    }
-
     /// Takes off the occurrences up to the first one that has a value.
     #[inline]
     pub(crate) fn take_first_value(&mut self) -> Option<&'m str>
         ensures { YieldsFirstRef values_of self.old result self.new }
     {
-        while let Some((_, value)) = self.take_first() {
+        while let Some((_, value)) = self.next() {
             if value.is_some() {
                 return value;
             }
@@ -299,7 +293,7 @@ impl<'m> Occurrences<'m> {
     pub(crate) fn take_last_value(&mut self) -> Option<&'m str>
         ensures { YieldsLastRef values_of self.old result self.new }
     {
-        while let Some((_, value)) = self.take_last() {
+        while let Some((_, value)) = self.next_back() {
             if value.is_some() {
                 return value;
             }
@@ -437,53 +431,33 @@ pub(crate) fn copied(alloc: Global, text: Option<&str>) -> Result<Option<String>
     }
 }
 
-impl<'m> IntoIterator for Occurrences<'m> {
-    type Item = (usize, Option<&'m str>);
-
-    type IntoIter = OccurrencesIter<'m>;
-
-    ghost into_iter_gives = { λ occurrences iterator. iterator ≡ occurrences };
-
-    #[inline]
-    fn into_iter(self) -> OccurrencesIter<'m> {
-        OccurrencesIter { left: self }
-    }
-}
-
-/// Iterates over the occurrences of one option group, each with its position and value.
-#[derive(Debug, Drop)]
-pub struct OccurrencesIter<'m> {
-    left: Occurrences<'m>,
-}
-
-impl<'m> Model for OccurrencesIter<'m> {
-    ghost use Rattle.std.specs.Prelude.{List};
-    ghost use Rattle.getopts.specs.Matches.{GroupOccurrence};
-
-    ghost Value = { List GroupOccurrence };
-
-    ghost view = { λ a. a.left };
-}
-
-impl<'m> Iterator for OccurrencesIter<'m> {
+impl<'m> Iterator for Occurrences<'m> {
     type Item = (usize, Option<&'m str>);
 
     ghost next_gives = { YieldsFirstBy borrowed_occurrence (λ rest. rest) };
 
     ghost remaining = { item_count (λ rest. rest) };
 
+    /// Takes off the first occurrence.
     #[inline]
     fn next(&mut self) -> Option<(usize, Option<&'m str>)> {
-        self.left.take_first()
+        let (first, others) = self.indices.split_first()?;
+        let occurrence = self.found.at(*first);
+        self.indices = others;
+        Some((occurrence.position, occurrence.value))
     }
 }
 
-impl<'m> DoubleEndedIterator for OccurrencesIter<'m> {
+impl<'m> DoubleEndedIterator for Occurrences<'m> {
     ghost next_back_gives = { YieldsLastBy borrowed_occurrence (λ rest. rest) };
 
+    /// Takes off the last occurrence.
     #[inline]
     fn next_back(&mut self) -> Option<(usize, Option<&'m str>)> {
-        self.left.take_last()
+        let (last, others) = self.indices.split_last()?;
+        let occurrence = self.found.at(*last);
+        self.indices = others;
+        Some((occurrence.position, occurrence.value))
     }
 }
 

@@ -1,6 +1,6 @@
 //! Parsing a command line: its words are scanned, then its counts are checked.
 
-ghost use Rattle.std.specs.Prelude.{◌≡◌, [], All, IfOk, IfErr, IfSome, OnOk, Ok, Err, map};
+ghost use Rattle.std.specs.Prelude.{◌≡◌, All, IfOk, IfErr, IfSome, OnOk, Ok, Err, map};
 ghost use Rattle.std.specs.Iterator.{IsFinite};
 ghost use Rattle.std.specs.Iterator.Runs.{WholeRun};
 ghost use Rattle.getopts.specs.Fail.{IsOutOfMemoryOr};
@@ -17,7 +17,7 @@ use std::alloc::{AllocError, Global};
 use std::convert::AsStr;
 
 impl Options {
-    ghost use Rattle.getopts.specs.Options.{MayBeDeclared, grammar_of, names_of};
+    ghost use Rattle.getopts.specs.Options.{MayBeDeclared, grammar_of};
     ghost use Rattle.getopts.specs.Parse.{IsRefused, HasReading, HasNoReading, ReturnsConverted};
     ghost use Rattle.getopts.specs.Parse.{ReturnsResult, IsOrder, FitOptionsAndCounts, FitOptions};
     ghost use Rattle.getopts.specs.Parse.{Accepts, EndsInTrailing, IsDeclared};
@@ -26,9 +26,7 @@ impl Options {
     ghost use Rattle.getopts.specs.Results.{counted_result, parse_in_order_result};
     ghost use Rattle.getopts.specs.Matches.{KeepsCounts, matches_of};
     ghost use Rattle.getopts.specs.Results.{made_of};
-    ghost use Rattle.getopts.specs.Stored.Scan.{parts_of, reading_if, with_tail};
-    ghost use Rattle.getopts.specs.Reading.{line_end};
-    ghost use Rattle.getopts.specs.Stored.Table.{IsTableOf};
+    ghost use Rattle.getopts.specs.Stored.Scan.{reading_if};
     ghost use Rattle.getopts.specs.Accessors.{borrowed_given};
 
     /// Parses a command line, given without the program's own name.
@@ -175,35 +173,14 @@ impl Options {
         ensures laws { OnOk result (KeepsReadingLaws (grammar_of self.now)) }
     {
         words_are_texts(words);
-        let table = Table::of(alloc, self.signatures())?;
-        let line = Line::with_capacity(alloc, words.len())?;
-        self.read_line(alloc, table, line, words, counted)
-    }
-
-    /// Reads a command line into an empty line, and returns its matches. Checks the counts if
-    /// `counted`.
-    #[inline(always)]
-    fn read_line<S: AsStr>(
-        &self,
-        alloc: Global,
-        table: Table,
-        line: Line,
-        words: &[S],
-        counted: bool,
-    ) -> crate::Result
-        requires table { IsTableOf (names_of self.now.groups) table }
-        requires empty { parts_of line ≡ with_tail [] [] line_end }
-        ensures { ReturnsResult result
-            (made_of (matches_of self.now) (reading_if counted self.now (map S.text words.now))) }
-    {
         let signatures = self.signatures();
-        let mut line = line;
+        let mut line = Line::for_words(alloc, words)?;
+        let table = Table::of(alloc, signatures)?;
         let scanner = Scanner {
             options: self,
             table: &table,
         };
-        let left = scanner.scan(alloc, words, &mut line)?;
-        line.end(alloc, left)?;
+        scanner.scan(alloc, words, &mut line)?;
         let index = Index::of(alloc, signatures.len(), &line.found)?;
         if counted {
             check_counts(alloc, signatures, &index)?;

@@ -46,28 +46,43 @@ pub(crate) struct Line {
 }
 
 impl Line {
-    ghost use Rattle.getopts.specs.Stored.Scan.{parts_of, with_tail};
-    ghost use Rattle.getopts.specs.Reading.{line_end};
+    ghost use Rattle.getopts.specs.Reading.{trailing_after};
 
-    /// An empty line, with room for some of this many options and free words.
+    /// An empty line, with room for options if the first word is dashed, and for free words if the
+    /// last one isn't.
     #[inline(always)]
-    pub(crate) fn with_capacity(alloc: Global, words: usize) -> Result<Line, AllocError>
-        ensures { IfOk result (λ line. parts_of line ≡ with_tail [] [] line_end) }
+    pub(crate) fn for_words<S: AsStr>(alloc: Global, words: &[S]) -> Result<Line, AllocError>
+        ensures found { IfOk result (λ line. line.found ≡ []) }
+        ensures free { IfOk result (λ line. line.free.items ≡ []) }
     {
-        let room = words.min(FIRST_ROOM);
+        let room = words.len().min(FIRST_ROOM);
+        let options = match words {
+            [first, ..] if is_dashed(first.as_str()) => room,
+            _ => 0,
+        };
+        let frees = match words {
+            [.., last] if is_dashed(last.as_str()) => 0,
+            _ => room,
+        };
         Ok(Line {
-            found: LineOccurrences::with_capacity(alloc, room)?,
-            free: Vec::with_capacity(alloc, room)?,
+            found: LineOccurrences::with_capacity(alloc, options)?,
+            free: Vec::with_capacity(alloc, frees)?,
             trailing_start: None,
         })
     }
 
-    /// Ends the line with words that aren't read as items: free words, or `--` and free words.
+    /// Ends the line with words that aren't read as items: free words, or `--` and free words. No
+    /// more options follow, so gives back memory that was reserved for them.
     #[inline(always)]
-    pub(crate) fn end<S: AsStr>(&mut self, alloc: Global, words: &[S]) -> Result<(), AllocError>
-        ensures { OnOk result (parts_of self.new ≡ with_tail self.old.found
-            (map string_bytes self.old.free.items) (tail_of (map S.text words.now))) }
+    fn end<S: AsStr>(&mut self, alloc: Global, words: &[S]) -> Result<(), AllocError>
+        ensures found { OnOk result (self.new.found ≡ self.old.found) }
+        ensures free { OnOk result (map string_bytes self.new.free.items
+            ≡ map string_bytes self.old.free.items ++ tail_frees (tail_of (map S.text words.now))) }
+        ensures trailing { OnOk result (self.new.trailing_start
+            ≡ trailing_after (length (map string_bytes self.old.free.items))
+            (tail_of (map S.text words.now))) }
     {
+        self.found.shrink();
         self.trailing_start = None;
         match words.first() {
             Some(word) if word.as_str() == "--" => {
@@ -304,9 +319,9 @@ fn last_argument<'w, S: AsStr>(
 impl<'o> Scanner<'o> {
     ghost use Rattle.getopts.specs.Step.{long_step, TakesOne, TakesName};
     ghost use Rattle.getopts.specs.Stored.Scan.{scanner_grammar, IsLawfulScanner};
-    ghost use Rattle.getopts.specs.Stored.Scan.{HasShape, given_with};
-    ghost use Rattle.getopts.specs.Reading.{order_of_reading, IsLawfulTail};
-    ghost use Rattle.getopts.specs.Results.{made_of, read};
+    ghost use Rattle.getopts.specs.Stored.Scan.{GivesLine, HasShape};
+    ghost use Rattle.getopts.specs.Reading.{IsLawfulTail};
+    ghost use Rattle.getopts.specs.Results.{read};
     ghost use Rattle.getopts.specs.Stored.Scan.{ReadsOne};
 
     /// The kind of the option at a place.
@@ -483,25 +498,20 @@ impl<'o> Scanner<'o> {
         }))
     }
 
-    /// Reads items up to `--` or, if options stop there, the first free word. Adds the items to the
-    /// line, and returns the words that are left.
+    /// Reads a command line into an empty line.
     #[inline(always)]
-    pub(crate) fn scan<'w, S: AsStr>(
+    pub(crate) fn scan<S: AsStr>(
         &self,
         alloc: Global,
-        words: &'w [S],
+        words: &[S],
         line: &mut Line,
-    ) -> Result<&'w [S], Fail>
-        requires { IsLawfulScanner self.now }
+    ) -> Result<(), Fail>
+        requires lawful { IsLawfulScanner self.now }
+        requires empty { (line.old.found ≡ []) × (line.old.free.items ≡ []) }
         ensures ok { let grammar = scanner_grammar self.now in
-            IfOk result (λ left. given_with grammar 0 line.old (map S.text words.now)
-            ≡ given_with grammar (length words.now - length left.now) line.new
-            (map S.text left.now)) }
-        ensures tail { IfOk result (λ left.
-            IsLawfulTail (scanner_grammar self.now) (tail_of (map S.text left.now))) }
-        ensures err { let grammar = scanner_grammar self.now in
-            IfErr result (λ fail. IsOutOfMemoryOr fail
-            (λ fault. given_with grammar 0 line.old (map S.text words.now) ≡ Err fault)) }
+            OnOk result (GivesLine grammar (read grammar (map S.text words.now)) line.new) }
+        ensures err { IfErr result (λ fail. IsOutOfMemoryOr fail (λ fault.
+            read (scanner_grammar self.now) (map S.text words.now) ≡ Err fault)) }
     {
         let mut unread = Unread::new(words);
         let mut position = 0;
@@ -517,6 +527,7 @@ impl<'o> Scanner<'o> {
                 }
             }
         }
-        Ok(unread.words)
+        line.end(alloc, unread.words)?;
+        Ok(())
     }
 }

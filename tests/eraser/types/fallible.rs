@@ -31,6 +31,7 @@ impl String {
     pub fn try_grow(&mut self, _: usize) -> Result<(), AllocError> { loop {} }
     pub fn try_push_str(&mut self, _: &str) -> Result<(), AllocError> { loop {} }
     pub fn try_push(&mut self, _: char) -> Result<(), AllocError> { loop {} }
+    pub fn try_shrink(&mut self) { loop {} }
     pub fn try_clone(&self) -> Result<String, AllocError> { loop {} }
     pub fn as_str(&self) -> &str { loop {} }
 }
@@ -49,6 +50,7 @@ impl<T> Vec<T> {
 impl<T: Copy> Vec<T> {
     pub fn filled(_: Global, _: T, _: usize) -> Result<Vec<T>, AllocError> { loop {} }
     pub fn try_extend_from_slice(&mut self, _: &[T]) -> Result<(), AllocError> { loop {} }
+    pub fn try_shrink(&mut self) { loop {} }
     pub fn try_clone(&self) -> Result<Vec<T>, AllocError> { loop {} }
     pub fn try_sort_by(&mut self, _: impl FnMut(&T, &T) -> Ordering) -> Result<(), AllocError> { loop {} }
 }

@@ -52,7 +52,7 @@ pub use groups::OptGroup;
 pub use kinds::{HasArg, Occur, ParsingStyle};
 pub use matches::Matches;
 pub use names::names_lawful;
-pub use occurrences::{Occurrences, OccurrencesIter, Values};
+pub use occurrences::{Occurrences, Values};
 pub use options::Options;
 pub use reader::Reader;
 pub use scan::{Given, Unread};

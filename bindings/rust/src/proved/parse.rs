@@ -89,30 +89,14 @@ impl Options {
         words: &[S],
         counted: bool,
     ) -> super::Result {
-        let table = Table::of(alloc, self.signatures())?;
-        let line = Line::of_capacity(alloc, words.len())?;
-        self.read_line(alloc, table, line, words, counted)
-    }
-
-    /// Reads a command line into an empty line, and returns its matches. Checks the counts if
-    /// `counted`.
-    #[inline(always)]
-    fn read_line<S: AsStr>(
-        &self,
-        alloc: Global,
-        table: Table,
-        line: Line,
-        words: &[S],
-        counted: bool,
-    ) -> super::Result {
         let signatures = self.signatures();
-        let mut line = line;
+        let mut line = Line::for_words(alloc, words)?;
+        let table = Table::of(alloc, signatures)?;
         let scanner = Scanner {
             options: self,
             table: &table,
         };
-        let left = scanner.scan(alloc, words, &mut line)?;
-        line.end(alloc, left)?;
+        scanner.scan(alloc, words, &mut line)?;
         let index = Index::of(alloc, signatures.len(), &line.found)?;
         if counted {
             check_counts(alloc, signatures, &index)?;

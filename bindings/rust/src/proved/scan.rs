@@ -24,20 +24,31 @@ pub(crate) struct Line {
 }
 
 impl Line {
-    /// An empty line, with room for some of this many options and free words.
+    /// An empty line, with room for options if the first word is dashed, and for free words if the
+    /// last one isn't.
     #[inline(always)]
-    pub(crate) fn of_capacity(alloc: Global, words: usize) -> Result<Line, AllocError> {
-        let room = words.min(FIRST_ROOM);
+    pub(crate) fn for_words<S: AsStr>(alloc: Global, words: &[S]) -> Result<Line, AllocError> {
+        let room = words.len().min(FIRST_ROOM);
+        let options = match words {
+            [first, ..] if is_dashed(first.as_str()) => room,
+            _ => 0,
+        };
+        let frees = match words {
+            [.., last] if is_dashed(last.as_str()) => 0,
+            _ => room,
+        };
         Ok(Line {
-            found: LineOccurrences::of_capacity(alloc, room)?,
-            free: Vec::of_capacity(alloc, room)?,
+            found: LineOccurrences::of_capacity(alloc, options)?,
+            free: Vec::of_capacity(alloc, frees)?,
             trailing_start: None,
         })
     }
 
-    /// Ends the line with words that aren't read as items: free words, or `--` and free words.
+    /// Ends the line with words that aren't read as items: free words, or `--` and free words. No
+    /// more options follow, so gives back memory that was reserved for them.
     #[inline(always)]
-    pub(crate) fn end<S: AsStr>(&mut self, alloc: Global, words: &[S]) -> Result<(), AllocError> {
+    fn end<S: AsStr>(&mut self, alloc: Global, words: &[S]) -> Result<(), AllocError> {
+        self.found.shrink();
         self.trailing_start = None;
         match words.first() {
             Some(word) if word.as_str() == "--" => {
@@ -360,15 +371,14 @@ impl<'o> Scanner<'o> {
         }))
     }
 
-    /// Reads items up to `--` or, if options stop there, the first free word. Adds the items to the
-    /// line, and returns the words that are left.
+    /// Reads a command line into an empty line.
     #[inline(always)]
-    pub(crate) fn scan<'w, S: AsStr>(
+    pub(crate) fn scan<S: AsStr>(
         &self,
         alloc: Global,
-        words: &'w [S],
+        words: &[S],
         line: &mut Line,
-    ) -> Result<&'w [S], Fail> {
+    ) -> Result<(), Fail> {
         let mut unread = Unread::new(words);
         let mut position = 0;
         'items: while let Some(given) = self.next(alloc, &mut unread)? {
@@ -383,6 +393,7 @@ impl<'o> Scanner<'o> {
                 }
             }
         }
-        Ok(unread.words)
+        line.end(alloc, unread.words)?;
+        Ok(())
     }
 }

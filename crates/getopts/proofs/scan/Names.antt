@@ -26,7 +26,7 @@ use Rattle.getopts.proofs.Reading.Readings.{reading_read, read_step, items_read,
 use Rattle.getopts.proofs.Reading.Positions.{order_of_items-append, occurrences_after-append, length-spelled_all}
 use Rattle.getopts.proofs.Reading.Positions.{options_in-append, options_in-options, options_in-given_by}
 use Rattle.getopts.proofs.Reading.Steps as Steps
-use Rattle.getopts.proofs.scan.Loop.{tail_words-tail_of}
+use Rattle.getopts.proofs.scan.Loop.{IsReading-tail}
 use Rattle.getopts.proofs.scan.Next.{error-name, error-word, given_by-dashed}
 
 -- words, and those that are left after an argument
@@ -104,8 +104,8 @@ HasOneMore-item : {grammar : Grammar} {line : List Text} {before items : List Sp
     (part : List Spec.Given) → AreRead grammar line before (word ∷ words)
     → position ≡ length line - (1 + length words) → Spec.given_by grammar item ≡ part ++ given ∷ []
     → Spec.order_of_items grammar items ≡ Spec.order_of_items grammar before ++ part
-    → ((at : ℕ) → Spec.occurrences_after at grammar items ≡ Spec.occurrences_after at grammar before
-    ++ map (Spec.at_position (at + Spec.word_count before)) (Spec.options_in part))
+    → Spec.occurrences_after 0 grammar items ≡ Spec.occurrences_after 0 grammar before
+    ++ map (Spec.at_position (Spec.word_count before)) (Spec.options_in part)
     → AreReadTo grammar line (before ++ item ∷ []) names left
     → HasOneMore grammar line items position given names left
 HasOneMore-item {grammar} {line} {before} {items} {word} {words} {position = position} {given = given} item part read_to
@@ -117,8 +117,7 @@ HasOneMore-item {grammar} {line} {before} {items} {word} {words} {position = pos
       all = before ++ item ∷ [];
       read = longer;
       order = search (rules, order_of_items-append, append_assoc);
-      occurrences = λ at.
-          search (rules, occurrences_after-append grammar before (item ∷ []) at, map-append, append_assoc);
+      occurrences = search (rules, occurrences_after-append grammar before (item ∷ []) 0, map-append, append_assoc);
     }
 
 -- These names are left in the word after some items, perhaps after flags. The items and the flags
@@ -131,8 +130,8 @@ record IsInWord (grammar : Grammar) (line : List Text) (items : List Spec.Item) 
   read_to : AreRead grammar line before (word ∷ words)
   order : Spec.order_of_items grammar items ≡ Spec.order_of_items grammar before
       ++ Spec.given_by grammar (Spec.cluster has.bytes Spec.flags)
-  occurrences : (at : ℕ) → Spec.occurrences_after at grammar items ≡ Spec.occurrences_after at grammar before
-      ++ map (Spec.at_position (at + Spec.word_count before))
+  occurrences : Spec.occurrences_after 0 grammar items ≡ Spec.occurrences_after 0 grammar before
+      ++ map (Spec.at_position (Spec.word_count before))
       (Spec.options_in (Spec.given_by grammar (Spec.cluster has.bytes Spec.flags)))
 
 -- a word in short form, before its first name
@@ -151,7 +150,7 @@ module _ {grammar : Grammar} {line words : List Text} {items : List Spec.Item} {
     has = has;
     read_to = read_to;
     order = search (rules, order_of_items-append);
-    occurrences = λ at. search (rules, occurrences_after-append, options_in-options);
+    occurrences = search (rules, occurrences_after-append, options_in-options);
   }
 
   -- when a cluster begins
@@ -163,7 +162,7 @@ module _ {grammar : Grammar} {line words : List Text} {items : List Spec.Item} {
     has = unflagged form;
     read_to = AreRead-between refl read_to;
     order = sym (append-nil _);
-    occurrences = λ at. sym (append-nil _);
+    occurrences = sym (append-nil _);
   }
 
 -- A line, and its words after the one that is being read.
@@ -189,7 +188,7 @@ module _ {grammar : Grammar} (named : HasTextNames grammar) (line words : List T
         → HasOneMore grammar line items position given [] left
     HasOneMore-word word item argument is after_is gives read_to =
         let read = AreRead-between refl read_to in
-        HasOneMore-item item [] read here gives (sym (append-nil _)) (λ at. sym (append-nil _))
+        HasOneMore-item item [] read here gives (sym (append-nil _)) (sym (append-nil _))
         (AreReadTo-item item argument read is after_is)
 
     -- a flag in a cluster
@@ -345,13 +344,7 @@ module _ {options : Declared} {line : List Text} {before : List Spec.Given} {lef
   unfolding reading_or_error
   IsReadTo-tail named may none lawful read_to =
       let was = read_to.among_options may in
-      let read = AreRead-between none was.read in
-      let reads : Spec.IsReading (grammar_of options) (record { items = was.items; tail = tail_of left.words }) line = record {
-        spells = rw tail_words-tail_of read.spells;
-        items = read.lawful;
-        tail = lawful;
-        followed = rw tail_words-tail_of read.followed;
-      } in record {
+      let reads = IsReading-tail (AreRead-between none was.read) lawful in record {
         among_options = λ same. absurd (false≢true (sym same));
         among_frees = λ only. rw (reading_read (grammar_of options) named _ line reads, was.given_is) refl;
       }

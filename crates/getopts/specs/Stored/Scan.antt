@@ -1,6 +1,6 @@
 -- What the functions of `scan` find in the words that they are given.
 use Rattle.std.specs.Prelude.{◌≡◌, Bool, true, false, List, [], ◌∷◌, ◌++◌, length, map}
-use Rattle.std.specs.Prelude.{Result, Ok, Option, ℕ, ◌<◌, ◌+◌, ◌-◌, if◌then◌else◌}
+use Rattle.std.specs.Prelude.{Result, Ok, ℕ, ◌<◌, ◌+◌, ◌-◌, if◌then◌else◌}
 use Rattle.std.specs.Str.{bytes_eq}
 use Rattle.std.specs.String.{string_bytes}
 use Rattle.getopts.specs.Names.{Text}
@@ -10,11 +10,10 @@ use Rattle.getopts.specs.Canon.{Content}
 use Rattle.getopts.specs.Fail.{Fault}
 use Rattle.getopts.specs.Reading.{Dashes, is_dashed, stop_word, Reading}
 use Rattle.getopts.specs.Reading.{occurrences_of, free_words, trailing_start}
-use Rattle.getopts.specs.Reading.{Occurrence, occurrences_after, free_items, Tail, line_end, stop, rest}
-use Rattle.getopts.specs.Reading.{tail_frees, trailing_after, Item}
+use Rattle.getopts.specs.Reading.{Occurrence, occurrences_after, Item, Tail, line_end, stop, rest}
 use Rattle.getopts.specs.Reading.{Given, options_in, frees_in, order_of_items, at_position}
 use Rattle.getopts.specs.Reader.{AreReadTo, words_size}
-use Rattle.getopts.specs.Results.{made_of, read, reading_or_error, accepted_reading}
+use Rattle.getopts.specs.Results.{reading_or_error, accepted_reading}
 use Rattle.getopts.specs.Step.{IsInLongForm, IsShortForm}
 use Rattle.getopts.specs.declared.scan.Line.{Line}
 use Rattle.getopts.specs.declared.scan.Scanner.{Scanner}
@@ -52,40 +51,6 @@ pub record GivesLine (grammar : Grammar) (result : Result Reading Fault) (line :
   pub free : map string_bytes line.free.items ≡ free_words reading
   pub trailing : line.trailing_start ≡ trailing_start reading
 
--- what a line gives: its occurrences, its free words, and where those after a stop begin
-pub record Parts : Type 0 where
-  pub found : List Occurrence
-  pub free : List Text
-  pub trailing_start : Option ℕ
-
--- what a line has
-abbrev pub parts_of : Line → Parts
-parts_of line = record {
-  found = line.found;
-  free = map string_bytes line.free.items;
-  trailing_start = line.trailing_start;
-}
-
--- what these occurrences and free words give with a tail
-abbrev pub with_tail : List Occurrence → List Text → Tail → Parts
-with_tail found frees tail = record {
-  found = found;
-  free = frees ++ tail_frees tail;
-  trailing_start = trailing_after (length frees) tail;
-}
-
--- what these occurrences and free words give with a reading of the words from this position on
-abbrev pub with_reading : Grammar → ℕ → List Occurrence → List Text → Reading → Parts
-with_reading grammar at found frees reading =
-    with_tail (found ++ occurrences_after at grammar reading.items)
-    (frees ++ free_items reading.items) reading.tail
-
--- what a line gives with the words from this position on
-abbrev pub given_with : Grammar → ℕ → Line → List Text → Result Parts Fault
-given_with grammar at line words =
-    made_of (with_reading grammar at line.found (map string_bytes line.free.items))
-    (read grammar words)
-
 -- a tail of these words: free words, or a stop and free words
 abbrev pub tail_of : List Text → Tail
 tail_of [] = line_end
@@ -106,8 +71,8 @@ pub record HasOneMore (grammar : Grammar) (line : List Text) (items : List Item)
   -- these names and words are left
   pub read : AreReadTo grammar line all names words
   pub order : order_of_items grammar all ≡ order_of_items grammar items ++ given ∷ []
-  pub occurrences : (before : ℕ) → occurrences_after before grammar all
-      ≡ occurrences_after before grammar items ++ occurrences_at (before + position) given
+  pub occurrences : occurrences_after 0 grammar all
+      ≡ occurrences_after 0 grammar items ++ occurrences_at position given
 
 -- the number of words left, and one more if names of a cluster are left
 abbrev pub words_left : {S : Type 0} → Text → List S → ℕ

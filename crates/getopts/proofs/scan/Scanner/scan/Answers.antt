@@ -15,15 +15,15 @@ items-init g c = record {
   read = record {
     items = [];
     read_to = between_words (search rules) (record { spells = search rules; lawful = tt; followed = tt });
-    found_are = search (rules, append-nil);
-    frees_are = search (rules, append-nil);
+    found_are = search rules;
+    frees_are = search rules;
   };
 }
 
 pub returns-in_err-given-clause-err : goal.returns-in_err-given-clause-err
 returns-in_err-given-clause-err g c =
     IsOutOfMemoryOr-exit _ c.in_err-given.field-0.0 _ _ c.from_residual.ensures.1 c.in_err-given.ensures.err
-    (λ fault told. rw (AreReadTo-fault (has_text_names _ c.requires.declared) _ _ told c.items.invariant.read.read_to) refl)
+    (λ fault told. AreReadTo-fault (has_text_names _ c.requires.lawful.declared) _ _ told c.items.invariant.read.read_to)
 
 pub position_in-position-requires : goal.position_in-position-requires
 position_in-position-requires g c =
@@ -40,8 +40,8 @@ position_in-position-requires-in-Free g c =
 pub items-preserved-in-Option : goal.items-preserved-in-Option
 items-preserved-in-Option g c =
     let reads = rw (c.in-Some.is, c.in-Option.is) at c.in_ok-given.ensures.some in
-    let here : c.items.position ≡ 0 + (length (map g.S.AsStr.text c.args.words.now)
-    - words_left c.items.unread.names.now (map g.S.AsStr.text c.items.unread.words.now)) = omega (
+    let here : c.items.position ≡ length (map g.S.AsStr.text c.args.words.now)
+    - words_left c.items.unread.names.now (map g.S.AsStr.text c.items.unread.words.now) = omega (
       arith,
       c.items.invariant.here,
       length-map c.args.words.now g.S.AsStr.text,
@@ -66,14 +66,6 @@ pub returns-clause-ok : goal.returns-clause-ok
 returns-clause-ok g c =
     let none : c.in_ok-given.field-0 ≡ None = search rules in
     let ends = rw none at c.in_ok-given.ensures.none in
-    let count : length c.args.words.now - length c.items.unread.words.now
-    ≡ 0 + (length (map g.S.AsStr.text c.args.words.now) - length (map g.S.AsStr.text c.items.unread.words.now)) =
-    omega (arith, length-map c.args.words.now g.S.AsStr.text, length-map c.items.unread.words.now g.S.AsStr.text) in
-    rw (ends.1, count)
-    (Placed.SoFar-ended c.items.invariant.read (has_text_names _ c.requires.declared) ends.0)
-
-pub returns-clause-tail : goal.returns-clause-tail
-returns-clause-tail g c =
-    let none : c.in_ok-given.field-0 ≡ None = search rules in
-    let ends = rw none at c.in_ok-given.ensures.none in
-    rw ends.1 (rw none at c.in_ok-given.ensures.tail)
+    let end = rw ends.1 at c.in_ok-end.ensures in
+    Placed.GivesLine-ended c.items.invariant.read (has_text_names _ c.requires.lawful.declared) ends.0
+    (rw none at c.in_ok-given.ensures.tail) c.end.new.self end.found end.free end.trailing

@@ -10,8 +10,8 @@ abbrev pub invariant-items : goal.invariant-items
 invariant-items g l =
     let words = map g.S.AsStr.text l.words in let left = map g.S.AsStr.text l.unread.words.now in record {
       here : l.position + words_left l.unread.names.now l.unread.words.now ≡ length l.words;
-      read : SoFar (scanner_grammar l.self) 0 l.fn.line.found (map string_bytes l.fn.line.free.items)
-          l.line.found (map string_bytes l.line.free.items) words l.unread.names.now left;
+      read : SoFar (scanner_grammar l.self) l.line.found (map string_bytes l.line.free.items) words l.unread.names.now
+          left;
     }
 
 abbrev pub decreases-items : goal.decreases-items
