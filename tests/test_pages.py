@@ -4,6 +4,7 @@ and Rust.
 --fix writes the tables of figures, and what else GENERATED lists. Prose has no figures that change.
 """
 
+import collections
 import functools
 import os
 import re
@@ -465,6 +466,22 @@ def test_offered_lemmas_are_cited():
         here = re.findall(r"[\w-]+", read(f"crates/getopts/proofs/{module.replace('.', '/')}.antt"))
         assert_none(f"CALLING.md offers {name} of {module}, but no proof imports it, or it isn't there"
                     for name in re.findall(r"`([\w-]+)`", names) if name not in here or name not in used)
+
+
+LEMMA = re.compile(r"^( *)(?:abbrev )?(?:pub )?([\w≡≢-]+) : .*\n(?:\1(?: |\2 |unfolding ).*\n|\n)*", re.M)
+
+
+def test_lemmas_are_used():
+    """Each lemma in a file of lemmas, but for examples, is named outside its declaration."""
+    def words_of(text):
+        return re.findall(r"[\w≡≢-]+", re.sub(r"^ *(--|//).*", "", text, flags=re.M))
+
+    texts = {name: read(name) for name in tracked if re.match(r"crates/.*\.(antt|rt|edit)$", name)}
+    used = collections.Counter(word for text in texts.values() for word in words_of(text))
+    lemmas = [(name, it) for name, text in texts.items() for it in LEMMA.finditer(text)
+              if re.search(r"/proofs/(?!.*\b(Answers|Examples|Invariants|Proof)\.antt)", name) and f"\n{it[1]}{it[2]} " in it[0]]
+    assert lemmas
+    assert_none(f"{it[2]} of {name}" for name, it in lemmas if used[it[2]] == words_of(it[0]).count(it[2]))
 
 
 # ---- promises

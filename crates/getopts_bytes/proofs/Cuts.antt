@@ -72,13 +72,6 @@ short_begins_not : (byte : ℕ) (bytes : List ℕ) → length bytes < continuati
     → begins_char byte bytes ≡ false
 short_begins_not byte bytes short = search (rules, enough)
 
--- nor does one that would reach past an ASCII byte
-past_reached : (n : ℕ) (front : List ℕ) (byte : ℕ) (back : List ℕ) → length front < n
-    → ArePastAscii (take n (front ++ byte ∷ back)) → 128 ≤ byte
-past_reached zero front byte back short past = absurd (omega arith)
-past_reached (suc n) [] byte back short past = past.0
-past_reached (suc n) (b ∷ front) byte back short past = past_reached n front byte back (omega (arith, short)) past.1
-
 -- so an ASCII byte after these changes nothing
 begins_before_ascii : (b : ℕ) (front : List ℕ) (byte : ℕ) (back : List ℕ) → byte < 128
     → begins_char b (front ++ byte ∷ back) ≡ begins_char b front

@@ -14,7 +14,7 @@ use Rattle.getopts_shell.specs.declared.table.TableError.{TableError}
 use Rattle.std.specs.Str.{IsTrimAscii}
 use Rattle.std.proofs.lemmas.Str.Ascii.{trim_ascii_is}
 use Rattle.getopts_shell.specs.Table.{after_blanks, trimmed, before_gap, from_gap, Entry, declares_no_option, IsItem}
-use Rattle.getopts_shell.specs.Table.{DeclaresEntry, Declares, Operand, is_operand, item_of, operand_at}
+use Rattle.getopts_shell.specs.Table.{DeclaresEntry, Declares, Operand, is_operand, operand_at}
 use Rattle.getopts_shell.specs.Table.{operands_among, DeclareEntries, DeclareOptions, EachAfter, IsLineFault}
 use Rattle.getopts_shell.specs.Table.{front_after, gap_after, is_gap, IsTableFault, TableFault, conflicting_operand}
 use Rattle.getopts_shell.specs.Table.{line_number, name_again, no_option, none}
@@ -59,11 +59,6 @@ no_gap text at below is =
 -- whether a text without blanks at its ends is the line of nothing
 abbrev skips : Text → Bool
 skips text = is_empty text || (slice_index text 0 == 35)
-
--- the operand that a line would declare
-abbrev operand_made : Text → Operand
-operand_made line =
-    record { item = item_of line; description = trimmed (from_gap (trimmed line)) }
 
 -- such a line declares no operand
 pub no_operand_at : (line text item : Text) → text ≡ trimmed line → skips text ≡ false

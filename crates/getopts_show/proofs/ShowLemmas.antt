@@ -1,10 +1,8 @@
 -- What the program shows for its names and groups.
-use Rattle.std.proofs.Common.{◌≡◌, ℕ, Bool, zero, suc, ◌<◌, List, [], ◌∷◌, length, get_or, map, refl, arith, Result}
-use Rattle.std.proofs.Common.{Ok, Err, rules}
+use Rattle.std.proofs.Common.{◌≡◌, ℕ, Bool, zero, suc, ◌<◌, List, [], ◌∷◌, length, get_or, map, arith, Ok, rules}
 use Rattle.std.specs.Borrow.{Bor}
 use Rattle.std.specs.List.{AllByRecursion, flat_map}
-use Rattle.getopts.specs.Results.{accepted_reading, made_of, parse_result}
-use Rattle.getopts.specs.Fail.{Fault}
+use Rattle.getopts.specs.Results.{accepted_reading, parse_result}
 use Rattle.getopts.specs.Matches.{Matched, MatchedGroup, matches_of}
 use Rattle.getopts.specs.Names.{Text, main_name, texts}
 use Rattle.getopts.specs.Options.{Group}
@@ -36,13 +34,6 @@ pub of_the_only : (words : List Text) (text : Text) (status : ℕ)
     → IsResultText (accepted_reading program_options words) text status
     → IsProgramText words text status
 of_the_only words text status only is = (accepted_reading program_options words, only, is)
-
--- matches are computed from a reading
-of_reading : (result : Result Reading Fault) (matches : Matched)
-    → made_of (matches_of program_options) result ≡ Ok matches
-    → (reading : Reading) × (result ≡ Ok reading) × (matches_of program_options reading ≡ matches)
-of_reading (Ok reading) matches is = (reading, refl, cc)
-of_reading (Err fault) matches is = cc
 
 -- the matches and the text of accepted words
 module _ (words : List Text) (matches : Matched) (is : parse_result program_options words ≡ Ok matches) where

@@ -13,8 +13,7 @@ use Rattle.getopts.specs.Reading.{Reading, Mention, holds_equals}
 use Rattle.getopts.specs.Canon.{content_of, canonical_reading, with_setting, main_at}
 use Rattle.getopts.specs.Parse.{IsWritten, KeepsLineLaws, IsUnwritable, HasReading}
 use Rattle.getopts.specs.Matches.{GroupOccurrence, Matched, MatchedGroup, matches_of}
-use Rattle.getopts.specs.ReadingLaws.{HavePositionsInOrder, HavePositionsBelow}
-use Rattle.std.specs.List.Sorted.{IsNonDecreasingBy}
+use Rattle.getopts.specs.ReadingLaws.{HavePositionsBelow}
 use Rattle.getopts.proofs.Lists.{AllByRecursion-at}
 use Rattle.getopts.specs.Accessors.{occurrences_of_name, each_value, first_value, is_present, values_of}
 use Rattle.getopts.specs.Theorem.{HaveSameValues}
@@ -65,11 +64,6 @@ module _ (matches other : Matched) (same : HaveSameValues matches other) where
 -- ---- positions
 
 module _ (groups : List MatchedGroup) (name : Text) where
-  -- The positions of an option never decrease.
-  pub positions_rise : HavePositionsInOrder groups
-      → IsNonDecreasingBy (λ occurrence. occurrence.position) (occurrences_of_name groups name)
-  positions_rise in_order = search (rules, AllByRecursion-at)
-
   -- The positions of an option are below the number of words.
   pub positions_below : (count : ℕ) → HavePositionsBelow count groups
       → AllByRecursion (λ occurrence. occurrence.position < count) (occurrences_of_name groups name)

@@ -9,7 +9,6 @@ use Rattle.std.specs.Char.{IsScalar}
 use Rattle.std.specs.Str.{IsUtf8, chars}
 use Rattle.std.proofs.lemmas.Str as Strings
 use Rattle.std.proofs.lemmas.Grind.{common_steps}
-use Rattle.std.proofs.Math.Utf8.{low_scalar}
 use lib.Utf8.{scalars, encodes, scalar as scalar_test}
 
 -- a text in long form is its name, followed by `=` and its argument if it has one
@@ -49,12 +48,6 @@ is_dashed-text text filled = search rules
 pub IsUtf8-past_ascii : (byte : ℕ) (text : Text) → byte < 128 → IsUtf8 (byte ∷ text) → IsUtf8 text
 IsUtf8-past_ascii byte text ascii utf8 =
     Strings.IsUtf8-past_char (byte ∷ text) text byte utf8 (rw (Strings.encode_ascii byte ascii) refl)
-
--- a text, with an ASCII byte before it
-pub IsUtf8-ascii : (byte : ℕ) (text : Text) → byte < 128 → IsUtf8 text → IsUtf8 (byte ∷ text)
-IsUtf8-ascii byte text ascii utf8 =
-    let one = rw (Strings.encode_ascii byte ascii) at (Strings.IsUtf8-encode byte (low_scalar byte (omega arith))) in
-    Strings.IsUtf8-append (byte ∷ []) text one utf8
 
 -- the first character of a text, from its characters
 first_char-chars : (text : Text) (c : ℕ) (cs : List ℕ) → chars text ≡ c ∷ cs → first_char text ≡ encode_utf8 c
