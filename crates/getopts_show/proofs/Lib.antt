@@ -1,2 +1,1 @@
 mod ShowLemmas
-mod Items

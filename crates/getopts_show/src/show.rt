@@ -1,9 +1,8 @@
 //! The program's work, for any words and any writer.
 
 ghost use Rattle.std.specs.Prelude.{◌≡◌, ◌++◌, false, map};
-ghost use Rattle.std.specs.Prelude.{IfNone, IfOk, Ok, OnOk, Some};
+ghost use Rattle.std.specs.Prelude.{IfOk, Ok, OnOk, Some};
 ghost use Rattle.std.specs.List.{flat_map};
-ghost use Rattle.std.specs.Option.{option_map};
 ghost use Rattle.std.specs.String.{string_bytes};
 ghost use Rattle.std.specs.Io.KnownBytes.{Appends};
 ghost use Rattle.getopts.specs.Accessors.{AreDefined, IsDefined, occurrences_of_name, pair_view};
@@ -11,10 +10,10 @@ ghost use Rattle.getopts.specs.Fail.{Fault, fault_of};
 ghost use Rattle.getopts.specs.Names.{texts};
 ghost use Rattle.getopts.specs.Options.{with_groups};
 ghost use Rattle.getopts.specs.Canon.{canonical_line, content_of};
-ghost use Rattle.getopts.specs.Parse.{IsUnwritable, IsLineOf, ReturnsConverted, ReturnsResult};
+ghost use Rattle.getopts.specs.Parse.{IsLineOf};
 ghost use Rattle.getopts.specs.Only.{IsTheOnly};
 ghost use Rattle.getopts.specs.Reading.{Reading};
-ghost use Rattle.getopts.specs.Results.{accepted_reading, canonical_result, parse_result};
+ghost use Rattle.getopts.specs.Results.{accepted_reading, parse_result};
 ghost use Rattle.getopts_show.specs.Program.{IsHelpText, IsProgramText, IsResultText};
 ghost use Rattle.getopts_show.specs.Program.{HasProgramGroups, IsStatus, IsDone, ShowsText};
 ghost use Rattle.getopts_show.specs.Program.{asks_help, content_text, count_line};
@@ -92,7 +91,7 @@ fn answer_to(alloc: Global, words: &[&str]) -> Result<Answer, AllocError>
 {
     let options = program_options(alloc)?;
     have_one_result(&options, words);
-    match parsed(alloc, &options, words) {
+    match options.parse_words(alloc, words) {
         Ok(matches) => Ok(Answer {
             text: accepted_text(alloc, &options, words, &matches)?,
             status: SHOWN,
@@ -113,23 +112,6 @@ fn have_one_result(options: &Options, words: &[&str])
 {
     words_are_texts(words);
     one_reading_one_canonical_line(options);
-}
-
-/// The matches of words, or their first error.
-fn parsed(alloc: Global, options: &Options, words: &[&str]) -> getopts::Result
-    ensures { ReturnsResult result (parse_result options.now (texts words.now)) }
-{
-    options.parse(alloc, words.iter().copied())
-}
-
-/// The canonical line of words, or their first error. There is none if it can't be written.
-fn rewritten(alloc: Global, options: &Options, words: &[&str]) -> Result<Option<Vec<String>>, Fail>
-    ensures result { ReturnsConverted (option_map (λ line. map string_bytes line.items)) result
-        (λ returned. canonical_result options.now (texts words.now) ≡ returned) }
-    ensures unwritable { IfOk result (λ returned.
-        IfNone returned (IsUnwritable options.now (texts words.now))) }
-{
-    options.canonical(alloc, words.iter().copied())
 }
 
 /// The text for accepted words with these matches: the program's help if they ask for it, otherwise
@@ -199,7 +181,7 @@ fn push_canonical(
 }
 
 /// The canonical line of accepted words. It exists, since no main name of the program's options
-/// contains `=`, and `canonical` fails only if an allocation does.
+/// contains `=`, and `canonical_words` fails only if an allocation does.
 fn canonical_line(
     alloc: Global,
     options: &Options,
@@ -213,7 +195,7 @@ fn canonical_line(
         → map string_bytes line.items
         ≡ canonical_line program_groups (content_of program_options reading)) }
 {
-    match rewritten(alloc, options, words) {
+    match options.canonical_words(alloc, words) {
         Ok(Some(line)) => Ok(line),
         Ok(None) => unreachable!(),
         Err(fail) => match fail {
