@@ -241,10 +241,10 @@ class Session:
             return [line(word) + b"\t" + (self.result("", read) if len(read) == 2 else
                                           line("order", *(field for place, text in read[3] for field in (
                                               [b"=" + text] if place is None else [place, optional(text)]))))]
-        if word in ("option", "positions", "take_trailing") and (self.read is None or len(self.read) == 2):
+        if word in ("option", "positions") and (self.read is None or len(self.read) == 2):
             return [line(word, "nothing")]
-        if word in ("clear", "take_trailing"):
-            return self.taken_off(word)
+        if word == "clear":
+            return self.cleared()
         if word in ("option", "positions"):
             own = self.given(fields[0])
             return [line(word, fields[0], "undefined")] if own is None else getattr(self, word)(own, *fields)
@@ -293,16 +293,12 @@ class Session:
         rows = list(self.options.usage_rows(USUAL_COLUMNS))
         return line(word, *([b"%d rows" % len(rows)] if word == "rows" else []), *rows)
 
-    def taken_off(self, word):
-        """Takes all words off the free ones or, for `take_trailing`, those from the trailing start on."""
-        if len(self.read) == 2:
-            return [self.result("accepted", self.read)]
-        occurrences, free, start, order = self.read
-        left = [] if word == "clear" else free[:start]
-        self.read = occurrences, left, start, order
-        if word == "clear":
-            return [self.result("accepted", self.read)]
-        return [line(word, *free[len(left):]), line("free", *left)]
+    def cleared(self):
+        """Takes all words off the free ones."""
+        if len(self.read) > 2:
+            occurrences, _, start, order = self.read
+            self.read = occurrences, [], start, order
+        return [self.result("accepted", self.read)]
 
     def result(self, word, read):
         if len(read) == 2:

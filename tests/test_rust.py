@@ -334,7 +334,7 @@ def reference(tmp_path_factory):
 # With the feature `proved`, the package reports failed allocations in each call, and the program knows laws.
 CANONICAL, PROVED = ("--features", "canonical"), ("--features", "proved,getopts/proved")
 # Rows about calls that only getopts::proved has.
-LACKS = {"opt_place", "occurrences_at", "parse_in_order", "take_trailing", "usage_in", "usage_rows", "wrap"}
+LACKS = {"opt_place", "occurrences_at", "parse_in_order", "usage_in", "usage_rows", "wrap"}
 
 
 @pytest.fixture(scope="module")

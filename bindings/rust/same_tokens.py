@@ -18,7 +18,7 @@ from pathlib import Path
 WHOLE = [(r"(requires|ensures)( \*)?( \w+)? {", "}"), (r"ghost", ";,"), (r"impl (< .*? > )?(Model|Drop) for .*? {", "}")]
 WHOLE += [(r"# (! )?\[ (tactic|derive \( Drop \) \])", "]"), (r"use std :: marker :: Model", ";")]
 WHOLE += [(r"(mod laws|pub use laws)", ";"), (r"[+:,] Drop(?= [>,)])", "")]
-CALLS = "push push_str sort_by clone extend_from_slice split_off".split()
+CALLS = "push push_str sort_by clone extend_from_slice".split()
 RENAMED = {word: "try_" + word for word in CALLS}
 RENAMED |= {"reserve": "try_grow", "with_capacity": "of_capacity", "shrink_to_fit": "try_shrink"}
 RENAMED |= {"String :: new": "String :: empty", "Vec :: new": "Vec :: empty", "String :: from_str": "String :: copy_of"}

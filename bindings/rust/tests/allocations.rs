@@ -69,9 +69,6 @@ fn lists_grow_or_stay() {
     assert_eq!(fail_each(full, |l| l.try_grow(9), is(&[3, 1, 2])), 1);
     assert_eq!(fail_each(full, |l| l.try_grow_exact(9), is(&[3, 1, 2])), 1);
     assert_eq!(fail_each(full, |l| l.try_sort_by(i32::cmp), is(&[1, 2, 3])), 0);
-    assert_eq!(fail_each(full, |l| l.try_split_off(1), is(&[3])), 1);
-    assert_eq!(full().try_split_off(1), Ok(vec![1, 2]));
-    assert_eq!(full().try_split_off(3), Ok(vec![]));
     assert_eq!(fail_each_of(&full(), |l| l.try_clone()), 1);
     let texts = ["a", "", "b"].map(String::from).to_vec();
     assert_eq!(fail_each_of(&texts, |l| l.try_clone()), 3);
@@ -247,9 +244,6 @@ fn matches_report_every_failed_allocation() {
     assert_eq!(fail_each_of(&matches, |m| m.opt_positions(Global, "L")), 1);
     assert_eq!(fail_each_of(&matches, |m| m.opt_strs(Global, "L")), 3);
     assert_eq!(fail_each_of(&matches, |m| m.opt_strs_pos(Global, "L")), 3);
-    let left = |m: &Matches, failed: bool| m.free.len() == if failed { 3 } else { 1 };
-    assert_eq!(fail_each(self::matches, |m| m.take_trailing(), left), 1);
-    assert_eq!(self::matches().take_trailing(), Ok(["-x", "y"].map(String::from).to_vec()));
 }
 
 #[cfg(feature = "std")]

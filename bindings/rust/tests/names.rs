@@ -272,11 +272,9 @@ mod of_the_proved_source {
         }
         assert!(options.parse(Global, Promising).is_err());
         assert!(options.canonical(Global, Promising).is_err());
-        let mut matches = options.parse_words(Global, &["-o", "x", "a", "--", "b"]).unwrap();
+        let matches = options.parse_words(Global, &["-o", "x", "a", "--", "b"]).unwrap();
         assert!(matches.occurrences_at(usize::MAX).is_empty());
         assert_eq!(matches.occurrences_at(0).get(usize::MAX), None);
-        matches.free.clear();
-        assert_eq!(matches.take_trailing(), Ok(vec![]));
         for columns in [0, 1, usize::MAX] {
             assert!(each_split_within(Global, "日本 \t a\u{301}\n\0", columns).is_ok());
         }

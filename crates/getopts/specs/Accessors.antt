@@ -1,7 +1,6 @@
 -- What the accessors of options and matches return, in terms of their groups.
 use Rattle.std.specs.Prelude.{◌≡◌, ℕ, Bool, List, [], ◌∷◌, map, length, nat_lt, IsSome, Option}
 use Rattle.std.specs.Prelude.{Some, None, MatchOption, IsSomeAnd, Result, Ok, slice_get, unwrap_or}
-use Rattle.std.specs.Prelude.{drop, take}
 use Rattle.std.specs.Result.{result_transpose}
 use Rattle.std.specs.List.{AllByRecursion, filter_map}
 use Rattle.std.specs.Option.{option_copied, option_map, option_map_or, option_or}
@@ -10,7 +9,7 @@ use Rattle.std.specs.String.{string_bytes}
 use Rattle.std.specs.declared.string.String.{String}
 use Rattle.std.specs.declared.alloc.Global.{Global}
 use Rattle.getopts.specs.Names.{Text, Names, IsLawfullyNamed, resolution}
-use Rattle.getopts.specs.Matches.{GroupOccurrence, Matched, MatchedGroup}
+use Rattle.getopts.specs.Matches.{GroupOccurrence, MatchedGroup}
 use Rattle.getopts.specs.Options.{Group}
 use Rattle.getopts.specs.Reading.{Given, option, free_word}
 use Rattle.getopts.specs.declared.groups.OptGroup.{OptGroup}
@@ -107,10 +106,3 @@ IsParsedAs gives value result =
 abbrev pub IsParsedOr : {T E : Type 0} → (Text → Result T E → Type 0)
     → Option Text → T → Result T E → Type 0
 IsParsedOr gives value default result = MatchOption value (result ≡ Ok default) (λ text. gives text result)
-
-abbrev pub free_before_trailing : Matched → List Text
-free_before_trailing matches =
-    option_map_or (λ start. take start matches.free) matches.trailing_start matches.free
-
-abbrev pub trailing_words : Matched → List Text
-trailing_words matches = option_map_or (λ start. drop start matches.free) matches.trailing_start []

@@ -10,7 +10,7 @@ pub use Rattle.getopts.specs.Fail.{option_duplicated, unexpected_argument}
 pub use Rattle.getopts.specs.Matches.{Matched}
 pub use Rattle.getopts.specs.Accessors.{IsDefined, IsParsedAs, IsParsedOr, first_value, first_value_or}
 pub use Rattle.getopts.specs.Accessors.{borrowed_given, borrowed_group, occurrences_of_name}
-pub use Rattle.getopts.specs.Accessors.{free_before_trailing, is_present, trailing_words, values_of}
+pub use Rattle.getopts.specs.Accessors.{is_present, values_of}
 pub use Rattle.getopts.specs.Reading.{Given, option, free_word}
 pub use Rattle.getopts.specs.Reader.{IsReadTo, left_in, next_result, size_of}
 pub use Rattle.getopts.specs.Results.{order_or_error, parse_ignoring_counts_result, parse_in_order_result}

@@ -1,15 +1,14 @@
 //! What matches return for an option's name.
 
-ghost use Rattle.std.specs.Prelude.{◌≡◌, ◌↔◌, Ok, IsTrue, map, length, vec_len, ◌<◌, IfOk, IsOk};
-ghost use Rattle.std.specs.Prelude.{[], IfSome, OnErr, OnOk};
+ghost use Rattle.std.specs.Prelude.{◌≡◌, ◌↔◌, IsTrue, map, length, vec_len, ◌<◌, IfOk, IsOk};
+ghost use Rattle.std.specs.Prelude.{[], IfSome};
 ghost use Rattle.std.specs.List.{list_any};
 ghost use Rattle.std.specs.Option.{option_copied, option_map};
 ghost use Rattle.std.specs.String.{string_bytes};
 ghost use Rattle.getopts.specs.Accessors.{AreDefined, HaveLawfulNames, IsDefined, IsParsedAs};
 ghost use Rattle.getopts.specs.Accessors.{IsParsedOr, first_value, first_value_among, first_value_or};
 ghost use Rattle.getopts.specs.Accessors.{occurrences_of_group, is_present, occurrences_of_name};
-ghost use Rattle.getopts.specs.Accessors.{pair_view, pairs_of, opt_place, free_before_trailing};
-ghost use Rattle.getopts.specs.Accessors.{positions_of, trailing_words, values_of};
+ghost use Rattle.getopts.specs.Accessors.{pair_view, pairs_of, opt_place, positions_of, values_of};
 ghost use Rattle.getopts.specs.Names.{texts};
 
 use crate::matches::Matches;
@@ -252,25 +251,6 @@ impl Matches {
         ensures start { result ≡ self.now.trailing_start }
     {
         self.trailing_start
-    }
-
-    /// Takes the words after `--` off the free words.
-    ///
-    /// After `a -- b c` it returns `b` and `c`, and leaves `a` in `free`. Returns an empty list if
-    /// no word follows a `--` that ends the options. It splits `free` at `free_trailing_start`, so
-    /// call it before you change `free`. Fails only if an allocation fails; the matches are then
-    /// unchanged. The Rust crate has no such method.
-    pub fn take_trailing(&mut self) -> Result<Vec<String>, AllocError>
-        ensures taken { IfOk result (λ words.
-            map string_bytes words.items ≡ trailing_words self.old) }
-        ensures left { OnOk result
-            (self.new ≡ record self.old { free = free_before_trailing self.old }) }
-        ensures absent { trailing_words self.old ≡ [] → IsOk result }
-        ensures unchanged { OnErr result (self.new ≡ self.old) }
-    {
-        let len = self.free.len();
-        let start = self.trailing_start.unwrap_or(len).min(len);
-        self.free.split_off(start)
     }
 
     /// Whether any of the named options was given.

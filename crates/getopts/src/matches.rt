@@ -34,7 +34,7 @@ use std::marker::Model;
 #[derive(Debug, Drop)]
 pub struct Matches {
     /// The free words, in command-line order. You may change them: accessors ignore this field,
-    /// even `free_trailing_start`. Only `take_trailing`, `==`, `clone` and `{:?}` use it.
+    /// even `free_trailing_start`. Only `==`, `clone` and `{:?}` use it.
     pub free: Vec<String>,
     pub(crate) held: MatchedOptions,
     pub(crate) trailing_start: Option<usize>,

@@ -1,7 +1,7 @@
 -- A wrapper's own options, and the words that it passes on.
-use Rattle.std.specs.Prelude.{◌≡◌, false, List, [], ◌∷◌, codes, IfSome, Ok}
+use Rattle.std.specs.Prelude.{◌≡◌, false, List, [], ◌∷◌, codes, drop, IfSome, Ok}
+use Rattle.std.specs.Option.{option_map_or}
 use Rattle.getopts.specs.Prelude.{Declared, EndsInTrailing, Matched, Text, group_of, parse_result}
-use Rattle.getopts.specs.Prelude.{trailing_words}
 use Rattle.getopts.specs.declared.kinds.HasArg.TheVariants.{No}
 use Rattle.getopts.specs.declared.kinds.Occur.TheVariants.{Optional}
 use Rattle.getopts.specs.declared.kinds.ParsingStyle.TheVariants.{FloatingFrees}
@@ -13,6 +13,10 @@ wrapper_options = record {
   style = FloatingFrees;
   long_only = false;
 }
+
+-- the free words from the trailing start on
+abbrev pub trailing_words : Matched → List Text
+trailing_words matches = option_map_or (λ start. drop start matches.free) matches.trailing_start []
 
 -- The words are accepted, and those after `--`, if there are any, are passed on.
 pub record HandsOn (words handed : List Text) : Type 0 where

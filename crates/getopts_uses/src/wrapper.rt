@@ -37,5 +37,8 @@ pub fn handed_on<S: AsStr>(alloc: Global, words: &[S]) -> Result<Vec<String>, Fa
 {
     let options = options(alloc)?;
     let mut matches = options.parse_words(alloc, words)?;
-    Ok(matches.take_trailing()?)
+    match matches.free_trailing_start() {
+        Some(start) => Ok(matches.free.split_off(start)?),
+        None => Ok(Vec::new(alloc)),
+    }
 }

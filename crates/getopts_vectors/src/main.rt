@@ -39,8 +39,6 @@
 //! - `parse_words WORD..`, `parse_promised WORD..`, `ignoring_counts WORD..` and `check_counts
 //!   WORD..`: like `words`, with `parse_words`, with `parse` of an iterator that promises too many
 //!   words, with `parse_ignoring_counts`, and with `parse_ignoring_counts` and then `check_counts`
-//! - `take_trailing`: the words that the call takes off the free words of the last `words`; then a
-//!   line `free` with the free words that are left
 //! - `option NAME DEFAULT`: `option NAME present COUNT STR DEFAULTED` or `option NAME absent ..`,
 //!   with the OPTIONALs of `opt_str` and `opt_default`; then a line `strs` with the values of
 //!   `opt_strs`, and a line `pairs` with the texts of `opt_strs_pos`

@@ -108,7 +108,6 @@ impl Session {
             ("mode", [mode]) => self.set_mode(mode)?,
             ("chained", []) => chained(&mut self.side.options)?,
             ("clear", []) => self.clear(answer)?,
-            ("take_trailing", []) => self.take_trailing(answer)?,
             (
                 "words" | "parse_words" | "parse_promised" | "ignoring_counts" | "check_counts",
                 words,
@@ -155,21 +154,6 @@ impl Session {
             matches.free.clear();
         }
         put_read(read, answer);
-        Ok(())
-    }
-
-    /// Takes the words after `--` off the free words, and answers both.
-    fn take_trailing(&mut self, answer: &mut Answer) -> Result<(), Stop> {
-        answer.word("take_trailing");
-        match &mut self.side.read {
-            Some(Ok(matches)) => {
-                matches.take_trailing()?.put(answer);
-                answer.next("free");
-                matches.free.put(answer);
-            }
-            _ => answer.field("nothing"),
-        }
-        answer.end();
         Ok(())
     }
 

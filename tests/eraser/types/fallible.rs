@@ -40,7 +40,6 @@ impl<T> Vec<T> {
     pub fn of_capacity(_: Global, _: usize) -> Result<Vec<T>, AllocError> { loop {} }
     pub fn try_grow(&mut self, _: usize) -> Result<(), AllocError> { loop {} }
     pub fn try_push(&mut self, _: T) -> Result<(), AllocFailed<T>> { loop {} }
-    pub fn try_split_off(&mut self, _: usize) -> Result<Vec<T>, AllocError> { loop {} }
     pub fn push_reserved(&mut self, _: T) { loop {} }
     pub fn as_slice(&self) -> &[T] { loop {} }
     pub fn truncate(&mut self, _: usize) { loop {} }

@@ -174,18 +174,6 @@ impl Matches {
         self.trailing_start
     }
 
-    /// Takes the words after `--` off the free words.
-    ///
-    /// After `a -- b c` it returns `b` and `c`, and leaves `a` in `free`. Returns an empty list if
-    /// no word follows a `--` that ends the options. It splits `free` at `free_trailing_start`, so
-    /// call it before you change `free`. Fails only if an allocation fails; the matches are then
-    /// unchanged. The Rust crate has no such method.
-    pub fn take_trailing(&mut self) -> Result<Vec<String>, AllocError> {
-        let len = self.free.len();
-        let start = self.trailing_start.unwrap_or(len).min(len);
-        self.free.try_split_off(start)
-    }
-
     /// Whether any of the named options was given.
     ///
     /// Accepts any names; undefined names count as not given.

@@ -172,7 +172,6 @@ fn of_line(declared: &Declared, words: &[String]) {
             law!(matches.try_clone().as_ref() == Ok(matches), words);
             accessors(declared, matches, same);
             of_names(declared, matches, same);
-            trailing(matches, words);
         }
         (ours, theirs) => law!(ours.is_err() && theirs.is_err(), declared, words),
     }
@@ -325,27 +324,6 @@ fn of_names(declared: &Declared, matches: &Matches, package: &getopts::Matches) 
         let first = matches.opts_str_first(Global, &texts);
         law!(first == Ok(package.opts_str_first(names)), names, declared);
     }
-}
-
-/// The words after `--` are taken off the free words, once, also if a caller added or removed some.
-fn trailing(matches: &Matches, words: &[String]) {
-    let start = matches.free_trailing_start();
-    let take = |free: usize| {
-        let mut left = matches.try_clone().unwrap();
-        left.free.resize(free, "x".to_string());
-        let (all, taken) = (left.free.clone(), left.take_trailing().unwrap());
-        law!([&left.free[..], &taken].concat() == all, left, taken, words);
-        law!(left.free.len() == start.unwrap_or(free).min(free), left, taken, words);
-        (left, taken)
-    };
-    for free in [0, matches.free.len() + 2] {
-        take(free);
-    }
-    let (mut left, taken) = take(matches.free.len());
-    law!(taken.is_empty() == start.is_none(), left, taken, words);
-    law!(left.free_trailing_start() == start, left, words);
-    let once = left.try_clone().unwrap();
-    law!(left.take_trailing() == Ok(vec![]) && left == once, left, once, words);
 }
 
 // ---- declarations and help
