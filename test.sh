@@ -74,7 +74,7 @@ unpack() {
 unpack_rust() {
     unpack "$rust" rust apt-get install -y -t bookworm --no-install-recommends --download-only -o "Dir::Cache::Archives=$rust.part"
 }
-unpack_agda() { unpack "$agda" agda apt-get download; }
+unpack_agda() { agda/check.sh --get; }
 # What to install, as text in $news. Without lists of packages, those that this release has aren't known yet.
 find_news() {
     packages='' unpack='' news=''

@@ -88,21 +88,17 @@ wide c e rewrite e with ltb c 2048 | ltb c 65536
 not-narrow : ∀ c → 1 < length (encode c) → IsHigh c
 not-narrow c p = not-true _ λ low → not-less (subst (λ bytes → 1 < length bytes) (narrow c low) p)
 
-last-one : ∀ c more → chars-after 0 c more ≡ c ∷ chars more
-last-one c [] = refl
-last-one c (b ∷ bs) = refl
-
 -- Decoding gives the character that was encoded.
 decoded : ∀ c more → chars (encode c ++ more) ≡ c ∷ chars more
 decoded c more with ltb c 128 in e₁
-... | true rewrite e₁ = last-one c more
+... | true rewrite e₁ = refl
 ... | false with ltb c 2048 in e₂
-...   | true rewrite below 192 (quotient c 32 63 (ltb→< c 2048 e₂)) | whole c 63 = last-one c more
+...   | true rewrite below 192 (quotient c 32 63 (ltb→< c 2048 e₂)) | whole c 63 = refl
 ...   | false with ltb c 65536 in e₃
 ...     | true rewrite below 224 (quotient c 16 4095 (ltb→< c 65536 e₃))
-            | twice c 63 4095 refl refl | whole (c / 64) 63 | whole c 63 = last-one c more
+            | twice c 63 4095 refl refl | whole (c / 64) 63 | whole c 63 = refl
 ...     | false rewrite twice c 4095 262143 refl refl | whole (c / 4096) 63
-            | twice c 63 4095 refl refl | whole (c / 64) 63 | whole c 63 = last-one c more
+            | twice c 63 4095 refl refl | whole (c / 64) 63 | whole c 63 = refl
 
 -- UTF-8 texts, byte by byte -----------------------------------------------------------------------
 

@@ -15,14 +15,9 @@ bytes-equal (x ∷ a) (y ∷ b) e with and-true {eqb x y} e
 -- `position` and `find` find an element that passes.
 position-some : ∀ {A : Set} (p : A → Bool) xs k → position p xs ≡ Some k
   → Σ[ x ∈ A ] (slice-get xs k ≡ Some x) × (p x ≡ true)
-position-some p xs k e with ltb (position-or-len p xs) (length xs) in is
-position-some p xs k refl | true = go xs is
-  where
-    go : ∀ xs → ltb (position-or-len p xs) (length xs) ≡ true
-      → Σ[ x ∈ _ ] (slice-get xs (position-or-len p xs) ≡ Some x) × (p x ≡ true)
-    go (x ∷ xs) e with p x in is
-    ... | true = x , refl , is
-    ... | false = go xs e
+position-some p (x ∷ xs) k e with p x in is | position p xs in found
+position-some p (x ∷ xs) k refl | true | _ = x , refl , is
+position-some p (x ∷ xs) k refl | false | Some j = position-some p xs j found
 
 find-some : ∀ {A : Set} (p : A → Bool) xs {x} → find p xs ≡ Some x
   → Contains xs x × (p x ≡ true)

@@ -39,15 +39,9 @@ module _ {A B : Set} {R : A → B → Set} where
 
 module _ {A : Set} (f : A → ℕ) where
 
-  sum-from : ∀ a xs → fold (λ a x → a + f x) a xs ≡ a + sum-by f xs
-  sum-from a [] = sym (+-zero a)
-  sum-from a (x ∷ xs) =
-    sum-from (a + f x) xs ∙ +-assoc a (f x) _ ∙ cong (a +_) (sym (sum-from (f x) xs))
-
   sum-++ : ∀ xs ys → sum-by f (xs ++ ys) ≡ sum-by f xs + sum-by f ys
   sum-++ [] ys = refl
-  sum-++ (x ∷ xs) ys = sum-from (f x) (xs ++ ys) ∙ cong (f x +_) (sum-++ xs ys)
-    ∙ sym (+-assoc (f x) _ _) ∙ cong (_+ sum-by f ys) (sym (sum-from (f x) xs))
+  sum-++ (x ∷ xs) ys = cong (f x +_) (sum-++ xs ys) ∙ sym (+-assoc (f x) _ _)
 
 ≤-less-one : ∀ {a b} → a ≤ b → a - 1 ≤ b - 1
 ≤-less-one z≤n = z≤n

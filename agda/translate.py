@@ -1,10 +1,13 @@
 """Translates the clauses of the lemmas in laws.rt of crates/getopts, and the definitions that these
 and the proofs need, to Agda.
 
-usage: translate.py CRATE STD OUT     the folders of the crate, of Rattle's libraries, and of the output
+usage: translate.py CRATE OUT [STD]     the folders of the crate, the output, and Rattle's libraries
+
+Std.agda stands for Rattle's std. With STD, this also translates std's definitions, to OUT/Rattle.agda.
 
 Only syntax and names change, token by token: `_` in a name becomes `-`, since Agda reads `_` as a
 place for an argument. Of each record, the constructor is `mk`, and projections begin with `$`.
+Each is in a module of its own, because compiled code needs different names for constructors.
 Of Rust's types, only enums are translated; this stops if a lemma needs another one.
 """
 import re
@@ -14,10 +17,11 @@ from pathlib import Path
 
 if sys.argv[1:] in (["--help"], ["-h"]):
     sys.exit(print(__doc__.strip()))
-if len(sys.argv) != 4:
+if len(sys.argv) not in (3, 4) or sys.argv[1].startswith("-"):
     print(__doc__.strip(), file=sys.stderr)
     sys.exit(2)
-CRATE, STD, OUT = (Path(argument) for argument in sys.argv[1:4])
+HERE = Path(__file__).parent
+CRATE, OUT, *STD = (Path(argument) for argument in sys.argv[1:])
 
 # The parameters of the lemmas of laws.rt: here, and with what a proof assumes of them.
 PARAMETERS = {
@@ -28,7 +32,7 @@ PARAMETERS = {
     ("(matches : Matched)", "(options : Declared) (matches : Matched) → "
      "MayBeDeclared options.groups → AreGroupsOf options matches.groups → "),
 }
-# The definitions of std that are used, by file. What they are made of is in Base.agda.
+# The definitions of Rattle's std that are used, and those that these use, by file.
 OF_STD = {
     "antt/port/mathlib/src/Core/Bool.antt": "cond not ◌&&◌ ◌||◌",
     "antt/port/mathlib/src/Core/Logic.antt": "◌≢◌ ◌↔◌",
@@ -38,8 +42,8 @@ OF_STD = {
     "logic/Lib/Utf8.antt": "scalar scalars next encode encodes",
     "core/specs/Bool.antt": "if◌then◌else◌ ◌==◌",
     "core/specs/Option.antt": "is_some unwrap_or option_or option_map option_and_then "
-    "option_map_or option_and MatchOption IfSome IsSome IsSomeAnd",
-    "core/specs/Result.antt": "MatchResult result_map_both result_transpose",
+    "option_map_or MatchOption IfSome",
+    "core/specs/Result.antt": "MatchResult",
     "core/specs/List.antt": "slice_get filter list_any list_all find cons_option filter_map zip "
     "last_or AllByRecursion prefix_len position_or_len Any position Contains All AllZip fold "
     "sum_by flat_map repeat join_by join_with_byte onto_first slice_split",
@@ -120,10 +124,12 @@ def definition(text, path, line):
     name, own = head.split()[2], re.findall(r"^  pub (\S+) :", fields, re.M)
     if fields.count("pub ") != len(own):
         stop(path, line, f"can't read the fields of {name}")
-    fields = re.sub("^  (?:pub )?", "    ", fields, flags=re.M)
+    fields = re.sub("^  (?:pub )?", "      ", fields, flags=re.M)
     renames = "; ".join(f"f-{it} to ${it}" for it in map(renamed, own))
-    return (f"{term(head[4:], path, line)} where\n  constructor mk\n  field\n"
-            f"{term(fields, path, line, own)}\nopen {name} public renaming ({renames})")
+    head = term(head[4:], path, line).replace("\n", "\n  ")
+    return (f"module of-{name} where\n  {head} where\n    constructor mk\n    field\n"
+            f"{term(fields, path, line, own)}\nopen of-{name} public\n"
+            f"open {name} public renaming ({renames})")
 
 
 def blocks(path, strict=True):
@@ -156,10 +162,10 @@ def write(module, lines, wide=False):
     (OUT / f"{module}.agda").write_text("\n".join(lines), encoding="utf-8")
 
 
-def write_std():
-    lines = ["open import Base public"]
+def write_std(std):
+    lines = ["open import Base"]
     for file, names in OF_STD.items():
-        path, names = STD / file, names.split()
+        path, names = std / file, names.split()
         if not path.exists():
             stop(path, 1, "the toolchain has no such file")
         found = {name: (text, path, line) for name, line, text in [*blocks(path, False)][::-1]}
@@ -169,7 +175,11 @@ def write_std():
         for name in names:
             lines.append(definition(*found[name]) if name in found else
                          stop(path, 1, f"the toolchain's file has no definition of {name}"))
-    write("Std", lines)
+    write("Rattle", lines)
+    path = HERE / "SameStd.agda"
+    proved = re.findall(r"[≡↔] R\.(\S+)", path.read_text(encoding="utf-8"))
+    if lacks := {*HAS_STD} - {*proved}:
+        stop(path, 1, f"nothing is proved of {min(lacks)}")
 
 
 def enums():
@@ -285,10 +295,11 @@ def statement():
 
 
 OUT.mkdir(exist_ok=True)
-HERE, ENUMS = Path(__file__).parent, enums()
-BASE = (HERE / "Base.agda").read_text(encoding="utf-8")
-KNOWN = {*" ".join(OF_STD.values()).split(), *re.findall(r"[^\s(){};]+", BASE.replace("_", "◌")),
-         *ALIASES, "str_width"}
+ENUMS = enums()
+BASE, OWN = ((HERE / f"{it}.agda").read_text(encoding="utf-8") for it in ("Base", "Std"))
+HAS_STD = " ".join(re.findall(r"^((?! )(?:(?! = )[^(\n])+) : ", OWN, re.M)).split()
+KNOWN = {*re.findall(r"[^\s(){};]+", BASE.replace("_", "◌")), *ALIASES, "str_width",
+         *(it.replace("_", "◌").replace("-", "_") for it in HAS_STD)}
 # The definitions in each file, and the one that a name belongs to.
 FILES, HOME = {}, {}
 for path in sorted((CRATE / "specs").rglob("*.antt")):
@@ -298,13 +309,15 @@ for path in sorted((CRATE / "specs").rglob("*.antt")):
 # Definitions by name. For each module that was written: whether it has the parameter `str-width`,
 # and the projections in it and in those that it imports.
 DEFINITIONS, DONE = {}, {}
-write_std()
 for name, (path, found) in FILES.items():
     read(name, path, found)
+for std in STD:
+    write_std(std)
 what = statement()
-# What the lemmas need, and the other definitions that proofs mention, unless the name is their own.
+# What the lemmas need, and the other definitions that proofs and Run.agda mention, unless the name is
+# their own.
 NEEDED, proofs = needed("Laws"), sorted(HERE.glob("[0-9]*.agda"))
-text = "".join(it.read_text(encoding="utf-8") for it in proofs)
+text = "".join(it.read_text(encoding="utf-8") for it in [*proofs, HERE / "Run.agda"])
 mentioned = words(text) - {*re.findall(r"^ *(\S+) : ", text, re.M)}
 for it in HOME:
     if renamed(it) in mentioned and not any(DEFINITIONS[own].lacks for own in needed(HOME[it])):

@@ -1,7 +1,7 @@
 """Tries wrong definitions, which Agda must reject at the lemma that they are for. `check.sh --wrong`
 runs this after it has checked all.
 
-usage: wrong.py STD     the folder of Rattle's libraries
+usage: wrong.py
 """
 import re
 import shutil
@@ -14,7 +14,7 @@ from pathlib import Path
 
 if sys.argv[1:] in (["--help"], ["-h"]):
     sys.exit(print(__doc__.strip()))
-if len(sys.argv) != 2 or sys.argv[1].startswith("-"):
+if len(sys.argv) > 1:
     print(__doc__.strip(), file=sys.stderr)
     sys.exit(2)
 AGDA = Path(__file__).resolve().parent
@@ -75,7 +75,7 @@ def failure(wrong):
         if len(found) != 1:
             return f"{clause}: found {len(found)} times, not once: {old}"
         found[0].write_text(texts[found[0]].replace(old, new), encoding="utf-8")
-        subprocess.run([sys.executable, "translate.py", crate, sys.argv[1], "gen"], cwd=folder,
+        subprocess.run([sys.executable, "translate.py", crate, "gen"], cwd=folder,
                        check=True, stdout=subprocess.DEVNULL)
         run = subprocess.run(["agda", f"{lemma.split('.')[0]}.agda"], cwd=folder, text=True,
                              capture_output=True)

@@ -37,6 +37,7 @@ if [ -z "${TESTED:-}" ]; then
     bindings/build.py --rebuild
     bash test.sh -k '' -m release --release --getopts="$crate" -n 3
     tests/fresh.sh
+    tests/fresh.sh --without-rt
     unchanged
 fi
 rm -rf "$out" && mkdir -p "$out/target"

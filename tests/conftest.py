@@ -142,6 +142,22 @@ def answer(*words, env=None, **how):
     return done.stdout + done.stderr, done.returncode
 
 
+def run_definitions(*words):
+    """What agda/check.sh reports, and its status."""
+    need("node")
+    said, status = answer(ROOT / "agda/check.sh", *words)
+    if b"agda not found" in said:
+        pytest.skip(said.decode().strip())
+    return said, status
+
+
+def check_definitions(*files, how="--run", wrong=0):
+    """Checks the answers to rows with the definitions, and that so many are wrong. Returns what was reported."""
+    said, status = run_definitions(how, *files)
+    assert status == (wrong > 0) and b" what the definitions give, %d answers differ\n" % wrong in said, said.decode()[-3000:]
+    return said.decode()
+
+
 def check_page(page, blocks):
     """Checks what a manual page shows on a screen so wide that each paragraph is one line: these blocks, with empty lines
     between them, except after headings. In lines that aren't code, man may add spaces after a sentence."""

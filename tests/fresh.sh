@@ -3,6 +3,7 @@
 # a new user's machine: this shows what a page or a script forgets to install. It needs root, debootstrap and rt. Packages
 # come from the mirror of this machine's apt, or else from deb.debian.org.
 # usage: tests/fresh.sh [COMMAND]     by default, README's first command, then 'bash test.sh --quick'
+#        tests/fresh.sh --without-rt [COMMAND]     without the toolchain; by default, README's commands to check it yourself
 #
 # The bare system is kept in tests/out/fresh.tar.
 set -euo pipefail
@@ -10,16 +11,24 @@ unset CDPATH
 case ${1:-} in --help | -h) sed -n '2,/^[^#]/s/^# \{0,1\}//p' "$0"; exit ;; esac
 cd "$(dirname "$0")/.."
 stop() { echo "tests/fresh.sh: $1" >&2; exit 2; }
-case $#${1:-} in 0 | 1[!-]*) ;; *) stop "usage: tests/fresh.sh [COMMAND]" ;; esac
+rt=rt
+[ "${1:-}" != --without-rt ] || { rt='' && shift; }
+case $#${1:-} in 0 | 1[!-]*) ;; *) stop "usage: tests/fresh.sh [--without-rt] [COMMAND]" ;; esac
 [ "$(id -u)" = 0 ] || stop "needs root, for chroot"
 command -v debootstrap >/dev/null || stop "debootstrap not found: apt-get install debootstrap"
-command -v rt >/dev/null || stop "rt not found: put the toolchain's bin folder on the path"
+[ -z "$rt" ] || command -v rt >/dev/null || stop "rt not found: put the toolchain's bin folder on the path"
 # The system has set-uid programs, so that other users mustn't reach it.
-kit=$(dirname "$(rt doc)") base=tests/out/fresh.tar room=$(mktemp -d)
+kit=${rt:+$(dirname "$(rt doc)")} base=tests/out/fresh.tar room=$(mktemp -d)
 trap 'rm -rf "$room"' EXIT
 root=$room/root
 mkdir "$root"
-command=${1:-$(sed -n '/^ *(cd .*rt try/{s/^ *//p;q;}' README.md) && bash test.sh --quick}
+if [ "$rt" ]; then
+    command=${1:-$(sed -n '/^ *(cd .*rt try/{s/^ *//p;q;}' README.md) && bash test.sh --quick}
+else
+    # shellcheck disable=SC2016
+    timed='PS4="+ \$SECONDS s: "; set -ex; apt-get -qq update'
+    command=${1:-$timed; $(sed -n '/^### Check it yourself/,/^## /{s/apt-get install/& -qqy/; s/^    //p;}' README.md)}
+fi
 if [ ! -f "$base" ]; then
     mkdir -p tests/out
     # One URL per line, in either format of apt's sources.
@@ -44,7 +53,7 @@ git -c advice.detachedHead=false clone -q . "$root/srv/repo"
 echo "tests/fresh.sh: $command"
 # shellcheck disable=SC2016
 KIT=$kit ROOT=$root COMMAND=$command unshare --mount --pid --fork --kill-child bash -c '
-    mount --make-rprivate / && mount --bind "$KIT" "$ROOT$KIT" && mount -t proc proc "$ROOT/proc" &&
+    mount --make-rprivate / && { [ -z "$KIT" ] || mount --bind "$KIT" "$ROOT$KIT"; } && mount -t proc proc "$ROOT/proc" &&
         mount --rbind /dev "$ROOT/dev" || exit 2
-    exec chroot "$ROOT" env -i PATH="$KIT/bin:/usr/local/sbin:/usr/local/bin:/usr/sbin:/usr/bin:/sbin:/bin" \
+    exec chroot "$ROOT" env -i PATH="${KIT:+$KIT/bin:}/usr/local/sbin:/usr/local/bin:/usr/sbin:/usr/bin:/sbin:/bin" \
         HOME=/root LANG=C.UTF-8 bash -c "cd /srv/repo && $COMMAND"' </dev/null

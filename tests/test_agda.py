@@ -1,27 +1,43 @@
-"""The second prover: Agda proves the lemmas of laws.rt too, and rejects wrong definitions."""
+"""The second prover: Agda proves the lemmas of laws.rt too, and rejects wrong definitions. It also compiles the definitions,
+which answer test cases."""
 
 import re
 import shutil
-from pathlib import Path
 
 import pytest
-from conftest import ROOT, answer
+import test_rows
+from conftest import ROOT, ROWS, answer, check_definitions, run_definitions
 
 CRATE = ROOT / "crates/getopts"
 LAWS = (CRATE / "src/laws.rt").read_text(encoding="utf-8")
 
 
 @pytest.mark.full
-@pytest.mark.rt
 def test_theorems_are_proved_and_wrong_ones_rejected():
-    said, status = (it.decode() if isinstance(it, bytes) else it for it in answer(ROOT / "agda/check.sh", "--wrong"))
-    if "agda not found" in said:
-        pytest.skip(said.strip())
+    said, status = run_definitions("--wrong")
+    said = said.decode()
     lemmas = len(re.findall(r"^pub fn", LAWS, re.M))
     assert status == 0 and f"proves {LAWS.count('ensures ')} clauses of {lemmas} lemmas" in said, said
+    assert ("the functions of Std.agda are those" if shutil.which("rt") else "only rt can compare") in said
 
 
-@pytest.mark.rt
+@pytest.mark.full
+def test_definitions_match_stored_rows_and_model(cases, tmp_path):
+    """The definitions give the stored answers, and model.py's to the same rows as the library and the Rust package do."""
+    (tmp_path / "all.rows").write_bytes(test_rows.written(test_rows.all_rows()))
+    (tmp_path / "random.rows").write_bytes(test_rows.random_rows(cases(5_000)))
+    check_definitions(tmp_path / "all.rows", tmp_path / "random.rows")
+
+
+@pytest.mark.full
+def test_wrong_answer(tmp_path):
+    """An answer that isn't what the definitions give is reported, and so are calls that they don't answer."""
+    (tmp_path / "some.rows").write_text("case\tone\noptflag\ta\t\t\nlawful\ta\t\n> lawful\ttrue\nwords\t-a\n> accepted\t0\n")
+    said = check_definitions(*ROWS, tmp_path / "some.rows", wrong=1)
+    assert "some.rows: words\t-a\n  stored:  accepted\t0\n  defined: accepted\t-\n" in said
+    assert re.search(r"\nnot answered: 42 lawful, .*\n$", said)
+
+
 @pytest.mark.parametrize("old, new, why", [
     ("    ensures parse {", "    requires never { ⊥ }\n    ensures parse {", "can't read equal_input_equal_results"),
     ("fn results_are_computed()", "fn results_are_computed<T>()", "can't read results_are_computed"),
@@ -35,6 +51,5 @@ def test_untranslated_parts_of_lemmas(tmp_path, old, new, why):
     for part in ("specs", "src"):
         shutil.copytree(CRATE / part, tmp_path / part)
     (tmp_path / "src/laws.rt").write_text(LAWS.replace(old, new), encoding="utf-8")
-    std = Path(answer("rt", "doc")[0].decode()).parent / "rattle"
-    said, status = answer("python3", ROOT / "agda/translate.py", tmp_path, std, tmp_path / "gen")
+    said, status = answer("python3", ROOT / "agda/translate.py", tmp_path, tmp_path / "gen")
     assert status == 1 and why in said.decode(), said.decode()

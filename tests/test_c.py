@@ -15,7 +15,7 @@ import generate
 import model
 import pytest
 import texts
-from conftest import (MARGIN, ROOT, answer, check_page, copy_tree, files_in, need, need_compiler, planted_links, read_only, run,
+from conftest import (MARGIN, ROOT, answer, check_definitions, check_page, copy_tree, files_in, need, need_compiler, planted_links, read_only, run,
                       script)
 from targets import OLD, TARGETS, cargo, cargo_for, need_cargo, need_target, runner, rust_minor, shared_folder
 
@@ -234,6 +234,53 @@ def random_cases(count):
             fields.append(fields_of(*case))
             wanted.append((case, [*(answers(*case) if wrong is None else answers_if_wrong(wrong, names))]))
     return b"".join(fields), wanted
+
+
+def rows_of(case, answers):
+    """The case and C's answers as rows of getopts_vectors. None if one of them has what only C has: the mode REPEAT, mistakes in
+    the table, bytes that aren't UTF-8, and characters that stand for such bytes."""
+    modes, columns, table, names, words = case
+    is_text = lambda text: re.fullmatch("[^\ud800-\udfff\U0010ff80-\U0010ffff]*", os.fsdecode(text))
+    if answers[0] or modes & REPEAT or any(row[4] // 4 == 3 for row in table) or not all(map(is_text, words)):
+        return
+    it = iter(answers[1 + len(names):])
+    fault, text, name = STATUSES[next(it)], next(it), next(it)
+    given = [(next(it), [[next(it) for _ in range(4)] for _ in range(next(it) + 2)][:-2]) for _ in names]
+    order = [*iter(lambda: (next(it), next(it)), (-1, None))]
+    free = [next(it) for _ in range(next(it) + 1)][:-1]
+    start, _, line, usage, usage_in, short = next(it), next(it), [*iter(lambda: next(it), None)], *it
+    accepted, refused = ("accepted", "-" if start < 0 else start, *free), ("refused", fault, name)
+    order = [part for place, text in order for part in ([b"=" + text] if place == FREE_WORD else [place, model.optional(text)])]
+    yield from [(("case", "c"),), (("style", "stop" if modes & STOP else "floating"),)]
+    yield ("mode", "long-only" if modes & LONG_ONLY else "ordinary"),
+    for *strings, kind in table:
+        own, long, hint, description = map(in_bytes, strings)
+        yield ("opt", own, long, description, hint, model.KINDS[kind % 4], OCCURS[kind // 4]),
+    yield ("words", *words), refused if fault else accepted
+    yield ("error",), ("error", text if fault else "nothing")
+    yield ("canonical", *words), ("canonical", *(refused if fault else ["line", *line] if line else ["none"]))
+    if modes & KEEP_ORDER and not fault:
+        yield ("parse_in_order", *words), ("parse_in_order", "order", *order)
+    yield ("short", "brief"), ("short", short)
+    if usage is not ...:
+        yield from [(("usage", ""), ("usage", usage)), (("usage_in", columns, "brief"), ("usage_in", usage_in))]
+    if not fault or fault.startswith("Option"):
+        yield ("ignoring_counts", *words), accepted
+        for name, (is_defined, own) in zip(names, given):
+            if not is_text(name):
+                continue
+            yield ("opt_defined", name), ("opt_defined", name, "true" if is_defined else "false")
+            if is_defined:
+                yield ("opt_positions", name), ("opt_positions", name, *(at for at, *_ in own))
+                yield ("opt_strs", name), ("opt_strs", name, *(value for _, value, *_ in own if value is not None))
+
+
+@pytest.mark.full
+def test_answers_match_definitions(cases, tmp_path):
+    """What C answers to random cases is what the definitions give."""
+    rows = [b"\n> ".join(model.line(*line) for line in row) for one in random_cases(cases(10_000))[1] for row in rows_of(*one)]
+    (tmp_path / "c.rows").write_bytes(b"\n".join(rows))
+    check_definitions(tmp_path / "c.rows")
 
 
 # The linkers for wasm and Windows can't wrap malloc, and valgrind takes too long.

@@ -326,9 +326,9 @@ def test_theorem_is_quoted():
 
 
 def test_example_lines():
-    """The command lines at the top of GRAMMAR are read as model.py reads them, and are examples for both provers. README has some
-    of them."""
-    examples = "crates/getopts/proofs/Examples.antt", "agda/12-Examples.agda"
+    """The command lines at the top of GRAMMAR are read as model.py reads them, and are proved examples and test cases. README has
+    some of them."""
+    proved, cases = read("crates/getopts/proofs/Examples.antt"), read("crates/getopts_vectors/data/rules.rows")
     groups = [Group(b"o", b"output", "yes", "optional"), Group(b"v", b"verbose", "no", "multi"),
               Group(b"c", b"color", "maybe", "optional")]
     top = pages["docs/GRAMMAR.md"].partition("\n## ")[0]
@@ -344,8 +344,7 @@ def test_example_lines():
             wanted = [", ".join(given), ", ".join(f"`{word.decode()}`" for word in found[1])]
         assert reading == wanted, line
         texts = " ∷ ".join(f'codes "{word}"' for word in line.split())
-        for file in examples:
-            assert f"({texts} ∷ [])" in read(file), f"{file} doesn't state {line}"
+        assert f"({texts} ∷ [])" in proved and "\t".join(["\ncanonical", *line.split()]) + "\n" in cases, line
     (number, name), = re.findall(r"^A negative number, such as `(.*)`, is read as the short option `(.)`, ", top, re.M)
     assert Options(groups).parse([number.encode()]) == ("UnrecognizedOption", name.encode())
 

@@ -4,7 +4,7 @@ import functools
 
 import generate
 import pytest
-from conftest import ROWS, VECTORS, run
+from conftest import ROWS, VECTORS, run, run_definitions
 from model import answer_rows, rows_of
 
 
@@ -45,6 +45,13 @@ def test_model_matches_stored_rows():
 def test_library_matches_model(compare, cases):
     for text in written(all_rows()), random_rows(cases(5_000)):
         assert compare(text)[0].endswith(" 0 differ\n")
+
+
+@pytest.mark.full
+def test_library_matches_definitions(compare, cases, tmp_path):
+    (tmp_path / "asked.rows").write_bytes(generate.written(9, cases(2_000)))
+    answers, status = run_definitions("--print", tmp_path / "asked.rows")
+    assert status == 0 and compare(answers)[0].endswith(" 0 differ\n")
 
 
 def test_library_matches_stored_rows(vectors):

@@ -13,7 +13,7 @@ import bench as bench_py
 import generate
 import pytest
 import test_rows
-from conftest import LINES, ROOT, ROWS, VECTORS, answer, check_page, copy_tree, need_rustfmt, run
+from conftest import LINES, ROOT, ROWS, VECTORS, answer, check_definitions, check_page, copy_tree, need_rustfmt, run
 from model import parts, rows_of
 from targets import (REGISTRY, TARGETS, UNWINDS, cargo, cargo_for, commit_repository, need_cargo, offline,
                      passed, runner, shared_folder)
@@ -397,6 +397,16 @@ def test_random_cases_match_rust_crate(reference, crate, cases, flags, seeds, tm
     ours, theirs = reference(RUST, *flags), reference(crate, *(flags if "--no-default-features" in flags else ()))
     for seed in seeds:
         assert differences([ours], random_rows(theirs, tmp_path, seed, cases(20_000)).read_bytes(), tmp_path) == []
+
+
+@pytest.mark.full
+@pytest.mark.parametrize("other", ["package", "original"])
+def test_definitions_match_answers(other, request, cases, tmp_path, monkeypatch):
+    """The definitions give the package's answers, and the Rust crate's, to random cases."""
+    need_cargo(RUST)
+    monkeypatch.setenv("GETOPTS", str(request.getfixturevalue("crate")) if other == "original" else "")
+    (tmp_path / "asked.rows").write_bytes(random_cases(5, cases(3_000)))
+    check_definitions(tmp_path / "asked.rows", how="--rust")
 
 
 # ---- other targets

@@ -16,8 +16,8 @@ import textwrap
 from pathlib import Path
 
 import pytest
-from conftest import (MACHINE, MARGIN, ROOT, answer, check_page, copy_tree, files_in, need, need_compiler, other_version,
-                      planted_links, read_only, rows_in, run, script, shell_binary)
+from conftest import (MACHINE, MARGIN, ROOT, answer, check_definitions, check_page, copy_tree, files_in, need, need_compiler,
+                      other_version, planted_links, read_only, rows_in, run, script, shell_binary)
 from shell import lines
 from targets import cargo, cargo_for, commit_repository, need_cargo, offline, passed, runner, rust_minor
 
@@ -212,11 +212,11 @@ def read_by_getopt(options, words):
 
 
 @IN_SHELLS
-def test_matches_getopt(program):
+def test_matches_getopt_and_definitions(program, tmp_path):
     need("getopt")
     if answer("getopt", "--test")[1] != 4:
         pytest.skip("needs getopt from util-linux")
-    rng, asked = random.Random(44), 0
+    rng, asked, rows = random.Random(44), 0, []
     while asked < 500:
         options, words, given, _ = lines.case_of(rng, alone=0)
         # With getopt(1), an optional argument must be attached, and an empty one counts as none.
@@ -233,6 +233,9 @@ def test_matches_getopt(program):
         ours = None if status else shlex.split(os.fsdecode(said))[2:]
         assert ours == read_by_getopt(options, words), words
         asked += 1
+        rows += lines.rows_of(options, words, ours, said)
+    (tmp_path / "shell.rows").write_bytes(b"\n".join(rows))
+    check_definitions(tmp_path / "shell.rows")
 
 
 # ---- in each shell

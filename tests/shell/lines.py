@@ -7,7 +7,7 @@ import random
 import re
 
 from conftest import run
-from model import Group, Options
+from model import TEXTS, Group, Options, line
 from texts import character
 
 WITH_ARRAYS = ["bash", "zsh", "ksh93", "mksh", "yash"]
@@ -111,6 +111,19 @@ def canonical(options, given, free):
     """The canonical line of a result."""
     mains = [long or short for short, long, _, _ in options]
     return [f"--{mains[place]}" + ("" if value is None else f"={value}") for place, value in given] + ["--"] + free
+
+
+def rows_of(options, words, canonical_words, said):
+    """A case of getopts_vectors with what the program printed: a canonical line, or an error. None if a word isn't text."""
+    if not all(re.fullmatch("[^\udc80-\udcff\U0010ff80-\U0010ffff]*", word) for word in words):
+        return
+    yield line("case", "shell")
+    for short, long, kind, often in options:
+        yield line("opt", short, long, "", "", kind, COUNTS[often][1])
+    yield line("canonical", *words)
+    errors = {kind: re.match(b"try: " + text.replace(b"%s", b"(.*)") + b"\n", said) for kind, text in TEXTS.items()}
+    refused = next((("refused", kind, found[1]) for kind, found in errors.items() if found), None)
+    yield b"> " + line("canonical", *(refused or ["line", *canonical_words]))
 
 
 @functools.cache

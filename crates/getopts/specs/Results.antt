@@ -47,15 +47,16 @@ after_step (takes item (separate word)) after_one after_two = with_items (item �
 after_step (takes item argument) after_one after_two = with_items (item ∷ []) after_one
 after_step (faults fault) after_one after_two = Err fault
 
+-- the results of a line, by its first step, and of the line after one word, by those after one and two
+abbrev pub both_after_step : Step → Result Reading Fault × Result Reading Fault
+    → Result Reading Fault × Result Reading Fault
+both_after_step step after = (after_step step after.0 after.1, after.0)
+
 -- the results of a command line, and of the line without its first word
 unfoldable pub read_both : Grammar → List Text → Result Reading Fault × Result Reading Fault
 read_both grammar [] =
     (Ok (record { items = []; tail = line_end }), Ok (record { items = []; tail = line_end }))
-read_both grammar (word ∷ more) = (
-  after_step (step grammar word more) (read_both grammar more).0
-      (read_both grammar more).1,
-  (read_both grammar more).0,
-)
+read_both grammar (word ∷ more) = both_after_step (step grammar word more) (read_both grammar more)
 
 unfoldable pub read : Grammar → List Text → Result Reading Fault
 unfolding read_both

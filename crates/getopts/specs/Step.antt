@@ -68,11 +68,15 @@ long_name_step None dashes name argument after = faults (unrecognized_option nam
 long_name_step (Some kind) dashes name argument after =
     chosen_step (λ a. long dashes name a) (chosen_long kind name argument after)
 
+-- a cut of a text, with this byte before it
+abbrev pub onto_cut : ℕ → Text × Option Text → Text × Option Text
+onto_cut c cut = (c ∷ cut.0, cut.1)
+
 -- a text in long form, split at its first `=`: the name, and the argument attached to it
 abbrev pub cut_at_equals : Text → Text × Option Text
 cut_at_equals [] = ([], None)
-cut_at_equals (c ∷ text) = if c == equals_sign then ([], Some text)
-    else (c ∷ (cut_at_equals text).0, (cut_at_equals text).1)
+cut_at_equals (c ∷ text) =
+    if c == equals_sign then ([], Some text) else onto_cut c (cut_at_equals text)
 
 -- the step of a word in long form, by its text after the dashes
 abbrev pub long_step : Grammar → Dashes → Text → List Text → Step

@@ -5,6 +5,7 @@ use crate::options::{Group, CALLS};
 use getopts::{Fail, Matches, Options, ParsingStyle};
 use std::fmt::Display;
 use std::panic::catch_unwind;
+use std::process::exit;
 use std::str::FromStr;
 
 /// Options, and the result of the last words.
@@ -123,6 +124,10 @@ impl Session {
                 Some(Err(fail)) => line(&["error"], [fail.to_string()]),
                 _ => line(&["error", "nothing"], []),
             },
+            (word, _) if !OF_MATCHES.contains(&word) => {
+                eprintln!("reference: this crate can't answer the line '{word}'");
+                exit(2);
+            }
             _ => match &self.side.read {
                 Some(Ok(matches)) => ask_of_matches(matches, asked),
                 _ => line(&[asked.word(), "nothing"], []),
@@ -130,6 +135,13 @@ impl Session {
         }
     }
 }
+
+/// The words of lines that ask about matches.
+#[rustfmt::skip]
+const OF_MATCHES: [&str; 13] = [
+    "any", "number", "opt_count", "opt_default", "opt_defined", "opt_positions", "opt_present",
+    "opt_str", "opt_strs", "opt_strs_pos", "option", "positions", "truth",
+];
 
 #[cfg(feature = "canonical")]
 fn canonical(options: &Options, words: &[String]) -> String {
