@@ -5,6 +5,7 @@
 #        check.sh --run ROWS..      compares the answers in files of test cases with the definitions (run.js)
 #        check.sh --print ROWS..    prints test cases with the definitions' answers
 #        check.sh --rust ROWS       compares the Rust package's answers, or those of the crate in $GETOPTS
+#        check.sh --compile         prints a folder with the definitions, compiled to JavaScript
 #        check.sh --get             gets Agda from Debian 12, without GHC, into ~/.cache/proved-getopts
 #
 # translate.py writes the definitions and the lemmas' clauses in Agda's syntax, to the folder gen. In the
@@ -19,8 +20,8 @@ case ${1:-} in
 --help | -h) sed -n '2,/^[^#]/s/^# \{0,1\}//p' "$0"; exit ;;
 --run | --print) [ $# -gt 1 ] || stop "$1 needs files with test cases" ;;
 --rust) [ $# = 2 ] || stop "$1 needs a file with test cases" ;;
---wrong | --get | '') ;;
-*) stop "usage: check.sh [--wrong | --run ROWS.. | --print ROWS.. | --rust ROWS | --get]" ;;
+--wrong | --compile | --get | '') ;;
+*) stop "usage: check.sh [--wrong | --run ROWS.. | --print ROWS.. | --rust ROWS | --compile | --get]" ;;
 esac
 from=$PWD here=$(cd "$(dirname "$0")" && pwd)
 case ${XDG_CACHE_HOME:-} in /*) ;; *) XDG_CACHE_HOME=${HOME:-}/.cache ;; esac
@@ -41,22 +42,26 @@ if ! command -v agda >/dev/null; then
 fi
 export LC_ALL=C.UTF-8 PYTHONDONTWRITEBYTECODE=1
 cd "$here/.."
-if [[ ${1:-} == --[rp]* ]]; then
-    command -v node >/dev/null || stop "node not found"
+if [[ ${1:-} == --[rpc]* ]]; then
+    [ "$1" = --compile ] || command -v node >/dev/null || stop "node not found"
     for file in "${@:2}"; do (cd "$from" && [ -r "$file" ]) || stop "can't read $file"; done
     # What was compiled is kept until something that it is made of changes.
-    made_of=$({ agda --version && find agda/*.agda agda/translate.py crates/getopts/{specs,src} -type f -exec sha256sum {} + |
-        sort; } | sha256sum)
+    made_of=$({ agda --version && find agda/{*.agda,check.sh,translate.py} crates/getopts/{specs,src} -type f \
+        -exec sha256sum {} + | sort; } | sha256sum)
     js=$here/_build/${made_of:0:20} room=$(mktemp -d)
     trap 'rm -rf "$room"' EXIT
     if [ ! -d "$js" ]; then
         cp agda/{Base,Std,Run}.agda agda/getopts.agda-lib "$room"
         python3 agda/translate.py crates/getopts "$room/gen" >"$room/said"
-        (cd "$room" && agda --js --compile-dir=js Run.agda) >"$room/said" 2>&1 ||
+        (cd "$room" && agda --js --js-minify --compile-dir=js Run.agda) >"$room/said" 2>&1 ||
             { cat "$room/said" >&2; stop "Agda can't compile the definitions"; }
         mkdir -p agda/_build
         # Another run may have compiled the same.
         mv -T "$room/js" "$js" 2>/dev/null || [ -d "$js" ]
+    fi
+    if [ "$1" = --compile ]; then
+        echo "$js"
+        exit
     fi
     if [ "$1" = --rust ]; then
         crate=$(cd "$from" && cd "${GETOPTS:-$here/../bindings/rust/getopts}" && pwd)

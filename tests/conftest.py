@@ -16,6 +16,7 @@ import time
 from pathlib import Path
 
 import pytest
+from browser import Browser
 
 sys.dont_write_bytecode = True
 os.environ["LC_ALL"] = "C.UTF-8"
@@ -86,6 +87,13 @@ def cases(request):
     """cases(N, MANY) returns how many random cases to try: N, with --many N * MANY, with --quick N / 10."""
     option = request.config.getoption
     return lambda count, many=10: count * many if option("--many") else max(1, count // 10) if option("--quick") else count
+
+
+@pytest.fixture(scope="session")
+def browser(tmp_path_factory):
+    started = Browser(tmp_path_factory.mktemp("browser"))
+    yield started
+    started.close()
 
 
 @pytest.fixture(scope="session")

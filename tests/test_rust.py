@@ -17,6 +17,7 @@ from conftest import LINES, ROOT, ROWS, VECTORS, answer, check_definitions, chec
 from model import parts, rows_of
 from targets import (REGISTRY, TARGETS, UNWINDS, cargo, cargo_for, commit_repository, need_cargo, offline,
                      passed, runner, shared_folder)
+from test_try import check_random_lines
 
 RUST = ROOT / "bindings/rust"
 REFERENCE = ROOT / "tests/differential/reference"
@@ -364,6 +365,11 @@ def differences(command, text, room, skipped=LACKS):
 def test_answers_match_stored_rows_and_model(reference, cases, flags, tmp_path):
     for text in test_rows.written(test_rows.all_rows()), test_rows.random_rows(cases(5_000)):
         assert differences([reference(RUST, *flags)], text, tmp_path) == []
+
+
+def test_page_answers_like_the_package(ours, browser, cases, tmp_path):
+    """For random options and lines, docs/try.html shows what the package answers."""
+    check_random_lines(browser, cases(1_000), lambda rows: answered([ours], tmp_path, "answered.rows", rows).read_bytes())
 
 
 @pytest.mark.parametrize("rows", [*ROWS, None], ids=lambda path: path.stem if path else "random")
