@@ -1,6 +1,6 @@
 #!/usr/bin/env bash
 # Tests this repository: proves every crate, tries the mutants in must-fail and, at the same time, runs tests/ with pytest.
-# Then it compares the shell binaries with what their source gives, unless they are those of the last release.
+# Then it compares the shell binaries with what their source gives.
 # usage: test.sh [--quick] [--no-install] [CRATE]
 #        test.sh [--quick] [--no-install] -k NAME [FLAG ..]
 #
@@ -34,16 +34,21 @@ cache=${XDG_CACHE_HOME:-${HOME:-}/.cache}/proved-getopts
 rust=$cache/rust agda=$cache/agda
 [ ! -d "${1:-}" ] || set -- "$(cd "$1" && pwd)"
 cd -P "$(dirname "$0")" || exit
-# Cargo and rustup read configurations, and toolchains, in the clone and all folders above, which only root and this user may
-# change. A group of the user's name has no other members. A machine for CI has no other users.
+# Python, cargo and rustup read configurations, and toolchains, in the home, the cache, the clone and all folders above, which
+# only root and this user may change. A group of the user's name has no other members. With an access list, which `ls` shows
+# as a plus sign, others may have rights that `find` doesn't see. A machine for CI has no other users.
 own=0
 [ "$(id -gn)" != "$(id -un)" ] || own=$(id -g)
-above=$PWD/
-while [ "$above" ] && [ "${CI:-}" != true ]; do
-    above=${above%/*}
-    [ -z "$(find "${above:-/}" -maxdepth 0 \( -perm -o+w -o -perm -g+w ! -gid 0 ! -gid "$own" -o ! -uid 0 ! -uid "$(id -u)" \))" ] ||
-        stop "other users can put programs into ${above:-/}: clone the repository into a folder where only you can write" \
-            "(or set CI=true, if this machine has no other users)"
+for above in . "${HOME:-/}" "$cache"; do
+    above=$(realpath -m -- "$above")/ || exit
+    while [ "$above" ] && [ "${CI:-}" != true ]; do
+        above=${above%/*}
+        at=${above:-/}
+        [ ! -e "$at" ] || [[ $(ls -ld -- "$at") != ??????????+* && -z $(find "$at" -maxdepth 0 \( -perm -o+w -o \
+            -perm -g+w ! -gid 0 ! -gid "$own" -o ! -uid 0 ! -uid "$(id -u)" \)) ]] ||
+            stop "other users can put programs into $at: choose a clone, HOME and XDG_CACHE_HOME where only you can write" \
+                "(or set CI=true, if this machine has no other users)"
+    done
 done
 command -v rt >/dev/null || [ ${#quick[@]} = 1 ] || [ "${1:-}" = -k ] ||
     stop "rt not found: put the toolchain's bin folder on the path, or run 'test.sh --quick', which doesn't need it"
@@ -123,7 +128,7 @@ if [ ${#quick[@]} -gt 0 ]; then
     ended tests "${PIPESTATUS[0]}"
 else
     export CI_LOG=$room/ci
-    # Otherwise `rt ci` would end by restoring older libraries, and bindings/build.py would use them.
+    # Otherwise `rt ci` would end by restoring older libraries, and bindings/build.py would prove the new ones again.
     rm -rf crates/*/out/rlib
     touch "$CI_LOG"
     tests -n 3 -m 'not built' >"$room/said.plain" 2>&1 & plain=$!
@@ -131,9 +136,7 @@ else
     rt ci 2>&1 | tee "$CI_LOG"
     ended proofs "${PIPESTATUS[0]}"
     touch "$CI_LOG.ended"
-    [ "$failed" ] ||
-        git diff --quiet "$(git describe --tags --abbrev=0 2>/dev/null)" -- 'bindings/shell/*/getopts_shell' 2>/dev/null ||
-        { KEPT=$cache bindings/build.py --rebuild; ended "shell binaries" $?; }
+    [ "$failed" ] || { bindings/build.py --check; ended "shell binaries" $?; }
     wait $plain; status=$?; cat "$room/said.plain"; ended tests $status
     wait $built; status=$?; cat "$room/said.built"; ended "tests of what is built" $status
 fi

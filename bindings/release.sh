@@ -3,8 +3,8 @@
 # usage: bindings/release.sh VERSION CRATE
 #
 # CHANGELOG.md must begin with "## VERSION, DATE". CRATE is a folder with the Rust crate getopts 0.2.24, to compare with.
-# It needs rt, cargo 1.84 or later, and root on Debian 12 with the packages debootstrap and musl-dev:arm64. TESTED=1 leaves
-# out what takes hours and needs both packages: the tests, and comparing the shell binaries with their source.
+# It needs rt, cargo 1.84 or later, and root on Debian 12 with debootstrap, musl-dev:amd64 and musl-dev:arm64. TESTED=1 leaves
+# out what takes hours and needs these packages: the tests, and comparing the shell binaries with their source.
 set -euo pipefail
 unset CDPATH
 stop() { echo "release.sh: $1" >&2; exit 1; }
@@ -23,18 +23,23 @@ heading=$(grep -m1 '^## ' CHANGELOG.md)
 [[ $heading =~ ^"## $version, "[0-9]{4}-[0-9]{2}-[0-9]{2}$ ]] ||
     stop "CHANGELOG.md begins with '$heading', not '## $version, DATE'"
 # What would be missing only after hours.
-[ -n "${TESTED:-}" ] || dpkg-query -W debootstrap musl-dev:arm64 >/dev/null 2>&1 ||
-    stop "debootstrap or musl-dev:arm64 is missing: see CONTRIBUTING"
+[ -n "${TESTED:-}" ] || dpkg-query -W debootstrap musl-dev:amd64 musl-dev:arm64 >/dev/null 2>&1 ||
+    stop "debootstrap, musl-dev:amd64 or musl-dev:arm64 is missing: see CONTRIBUTING"
 cargo package --exclude-lockfile --help >/dev/null 2>&1 ||
     stop "cargo is older than 1.84: install a newer one from https://rustup.rs"
+room=$(mktemp -d) kit=$room/kit
+trap 'rm -rf "$room"' EXIT
+mkdir "$kit"
+# With an attribute such as export-subst, the tarball would have other files than a clone.
+git archive --prefix=tarball/ HEAD | tar -xC "$room"
+git checkout-index -a --prefix="$room/clone/"
+diff -r "$room/clone" "$room/tarball" >&2 || stop "the tarball would differ from a clone: see 'git help attributes'"
 bash test.sh --quick --no-install -k 'versions or changelog' -q
-bindings/build.py --check
 bindings/rust/erase.py --check
 checked="without tests, and without comparing the shell binaries with their source, all"
 if [ -z "${TESTED:-}" ]; then
     checked=all
     bash test.sh "$crate"
-    bindings/build.py --rebuild
     bash test.sh -k '' -m release --release --getopts="$crate" -n 3
     tests/fresh.sh
     tests/fresh.sh --without-rt
@@ -48,8 +53,6 @@ cargo package --quiet --no-verify --exclude-lockfile --manifest-path bindings/ru
 mv "$out"/target/package/*.crate "$out" && rm -rf "$out/target"
 # For a kit of Rattle's toolchain: the crate getopts with, in its folder `uses`, the program getopts_uses. `rt` checks both,
 # outside this repository, since it accepts crates.txt only at the top.
-kit=$(mktemp -d)
-trap 'rm -rf "$kit"' EXIT
 git -c core.autocrlf=false archive HEAD crates/getopts crates/getopts_uses | tar -xC "$kit"
 rm -r "$kit"/crates/getopts/must-fail "$kit"/crates/*/mutants
 grep -E '^getopts(_uses)?:' crates.txt >"$kit/crates.txt"

@@ -221,15 +221,6 @@ def shell_binary(machine=MACHINE):
 checked_in = pytest.fixture(lambda: shell_binary(), scope="session", name="checked_in")
 
 
-def other_version():
-    """Why the checked-in shell programs can't be compared with the source, or None if they have the source's version."""
-    if not (ROOT / f"bindings/shell/{MACHINE}/getopts_shell").exists():
-        return f"bindings/shell has no program for {MACHINE}"
-    places = {"bindings/shell/proved.sha256": "# getopts_shell (.*)", "bindings/shell/Cargo.toml": 'version = "(.*)"'}
-    theirs, ours = (re.search(rf"^{it}$", (ROOT / file).read_text(), re.M)[1] for file, it in places.items())
-    return f"the checked-in programs are getopts_shell {theirs}, the source is {ours}" if theirs != ours else None
-
-
 def rows_in(file):
     """The test cases of a file: the tab-separated fields of each row, and the text below it, whose lines begin with
     '> '. A row 'text' defines {NAME} for later rows: as the text below it, or as a repeated string."""

@@ -881,13 +881,16 @@ def test_uninstall_keeps_other_files(copies, tmp_path):
         (to / other).write_text("others'")
     (to / "include").mkdir()
     (to / "include/getopts.h").symlink_to(to / "others.h")
-    (to / f"lib/{SONAME}.0").write_text("an old version")
+    for old in (f"{SONAME}.0", f"{SONAME}.0.new"):
+        (to / "lib" / old).write_text("an old version, or a part of it")
     for link in (SONAME, "libgetopts.so", "libgetopts-static.a"):
         (to / "lib" / link).symlink_to(to / "share/doc")
     run("sh", C / "install.sh", to, env=copies)
     assert (to / "lib/libgetopts.so").resolve().name == f"libgetopts.so.{VERSION}"
     assert (to / "lib/libgetopts-static.a").resolve() == to / "lib/libgetopts.a"
     assert (to / "include/getopts.h").read_bytes() == (C / "getopts.h").read_bytes()
+    for part in (f"lib/libgetopts.so.{VERSION}.new", "include/getopts.h.new"):
+        (to / part).write_text("a part")
     run("sh", C / "install.sh", "--uninstall", to)
     left = {str(path.relative_to(to)): path.read_text() for path in to.rglob("*") if path.is_file()}
     assert left == {other: "others'" for other in others}
@@ -904,6 +907,25 @@ def test_links_of_another_user(copies, tmp_path):
         for _ in range(3):
             run("sh", C / "install.sh", tmp_path / "to", env=copies)
     assert files_in(tmp_path / "to") == files
+
+
+def test_full_disk(copies, tmp_path):
+    """An older library stays as it was, also one of another version."""
+    need_install()
+    run("sh", C / "install.sh", tmp_path / "to", env=copies)
+    (tmp_path / "own").mkdir()
+    script(tmp_path / "own/mv", """#!/bin/sh
+        for to; do :; done
+        case $to in */"$FULL".new) head -c 9 /dev/zero >"$to"; exit 1 ;; esac
+        exec /bin/mv "$@"
+        """)
+    other = tmp_path / f"to/lib/{SONAME}.0"
+    other.write_text("an old version")
+    for name in (f"libgetopts.so.{VERSION}", "libgetopts.a"):
+        files, env = files_in(tmp_path / "to"), {"FULL": name, "PATH": f"{tmp_path}/own:{os.environ['PATH']}"}
+        said = run("sh", C / "install.sh", tmp_path / "to", status=1, env={**copies, **env})[1]
+        assert (said, files_in(tmp_path / "to")) == (f"bindings/c/install.sh: can't write {tmp_path}/to/lib/{name}\n", files)
+        other.unlink(missing_ok=True)
 
 
 @pytest.mark.parametrize("shell", ["sh", "busybox sh"])

@@ -9,6 +9,7 @@ import functools
 import os
 import re
 import textwrap
+import unicodedata
 
 import bench as bench_py
 import chart
@@ -293,8 +294,8 @@ def test_versions():
     version = re.search(r"^## ([\d.]+)", pages["CHANGELOG.md"], re.M)[1]
     forms = re.compile(r'(?:version (?:= ")?|VERSION "|getopts_shell |\+proved\.)(\d+\.\d+\.\d+)\b(?!\+)')
     anywhere = re.compile(rf"(?<!\d)(?<!\d\.){re.escape(version)}(?!\.?\d)")
-    # Shell binaries may be older. Tests and benchmarks aren't released, and in proofs such numbers are fields.
-    left_out = re.compile(r"tests/|bench/|crates/\w+/proofs/|.*(CHANGELOG\.md|proved\.sha256|/getopts_shell)$")
+    # Tests and benchmarks aren't released, and in proofs such numbers are fields.
+    left_out = re.compile(r"tests/|bench/|crates/\w+/proofs/|.*(CHANGELOG\.md|/getopts_shell)$")
     named = {name: forms.findall(read(name)) for name in tracked if not left_out.match(name)}
     assert_none(f"{name} names {', '.join(its) or 'the version in another form'}, not {version}"
                 for name, its in named.items() if its != [version] * len(anywhere.findall(read(name))))
@@ -579,19 +580,30 @@ def test_shell_scripts():
                 if re.search(r"^[^#\n]*\bcd ", read(name), re.M) and "\nunset CDPATH\n" not in read(name))
 
 
-def test_line_ends():
-    """Git checks out all files with the same line ends, whatever its settings."""
+def test_hidden_characters():
+    """No text contains a character that reviewers can't see, such as a control character, a direction mark or a line
+    separator: whether a comment ends there depends on the language. Test cases contain some, but no carriage return."""
+    found = []
+    for name in tracked:
+        if not name.endswith("/getopts_shell"):
+            chars = set((ROOT / name).read_bytes().decode("utf-8")) - {"\n", "\t"}
+            found += [f"{name}: {char!a}" for char in chars if char == "\r" or not name.endswith(".rows")
+                      and unicodedata.category(char) in ("Cc", "Cf", "Zl", "Zp")]
+    assert_none(found)
+
+
+def test_files_in_git():
+    """Git shows what changed in all files but the shell binaries, and checks out all with the same line ends, whatever its
+    settings."""
     need("git")
     if not (ROOT / ".git").exists():
         pytest.skip("no git repository: a release has none")
     lines = run("git", "ls-files", "--eol", cwd=ROOT)[0].splitlines()
     assert len(lines) > 100
     assert_none(line for line in lines if not re.search(r"\b(eol=lf|attr/-text)\s", line))
-
-
-def test_carriage_returns():
-    """No text contains one: whether a comment ends there depends on the language."""
-    assert_none(name for name in tracked if b"\r" in (ROOT / name).read_bytes() and not name.endswith("/getopts_shell"))
+    empty = run("git", "hash-object", "-t", "tree", os.devnull)[0].strip()
+    not_shown = re.findall("^-.*\t(.*)", run("git", "diff", "--numstat", empty, cwd=ROOT)[0], re.M)
+    assert_none(name for name in not_shown if not re.fullmatch(r"bindings/shell/\w+/getopts_shell", name))
 
 
 scripts = [name for name in tracked if (ROOT / name).read_bytes().startswith(b"#!")]

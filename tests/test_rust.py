@@ -96,7 +96,8 @@ def erase(tmp_path):
 
 # The sources that erase.py has to reject: names, sources and errors.
 REJECTED = re.findall(r"^(\w+): .*\n((?:  .*\n)+)  (.*)\n", (ROOT / "tests/eraser/rejected.txt").read_text(), re.M)
-REJECTED += [("carriage_return", "// Code after\rfn f() {}\nfn g() {}\n", "'fn': no carriage return may be in it or before it")]
+REJECTED += [("carriage_return", "// Code after\rfn f() {}\nfn g() {}\n", "'fn': no carriage return may be in it or before it"),
+             ("direction_mark", "fn f() -> u8 { Vec::\u200enew() }\n", "'\u200e': code has to be ASCII")]
 
 
 def compile_over_types(tmp_path, proved=ERASED["getopts"], program=ERASED["getopts_shell"]):

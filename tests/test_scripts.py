@@ -3,10 +3,11 @@
 import os
 import re
 import shutil
+import struct
 import tarfile
 
 import pytest
-from conftest import ROOT, answer, copy_tree, need, run, script, tracked
+from conftest import NOBODY, ROOT, answer, copy_tree, need, run, script, tracked
 from targets import commit_repository
 
 VERSION = re.search(r'^version = "(.*)"', (ROOT / "bindings/rust/Cargo.toml").read_text(), re.M)[1]
@@ -19,7 +20,7 @@ LOGS = '#!/bin/sh\nline="{name} $*"\necho "$line" >>"{log}"\ncase $line in *${{F
 @pytest.fixture
 def test_sh(tmp_path):
     """test_sh(WORD.., FAIL=.., status=..) runs a copy of test.sh: its output, its errors, and the calls of rt and pytest."""
-    for folder in ("copy", "bin"):
+    for folder in ("copy", "bin", "home", "cache"):
         (tmp_path / folder).mkdir()
     shutil.copy(ROOT / "test.sh", tmp_path / "copy")
     log = tmp_path / "log"
@@ -32,7 +33,8 @@ def test_sh(tmp_path):
     def called(*words, status=0, **env):
         log.write_text("")
         said, errors = run("bash", tmp_path / "copy/test.sh", *words, status=status, cwd=tmp_path, env={
-            "PATH": f"{tmp_path}/bin:/usr/bin:/bin", "XDG_CACHE_HOME": str(tmp_path / "cache"), "FAIL": "", "CI": "", **env})
+            "PATH": f"{tmp_path}/bin:/usr/bin:/bin", "HOME": str(tmp_path / "home"), "XDG_CACHE_HOME": str(tmp_path / "cache"),
+            "FAIL": "", "CI": "", **env})
         return said, errors, sorted(log.read_text().splitlines())
 
     return called
@@ -47,27 +49,24 @@ def test_failed_parts_are_reported(test_sh, fail, parts):
     assert re.findall("^== (.*): status 1", said, re.M) == parts.split("; ")
 
 
-def test_changed_shell_binary(test_sh, tmp_path):
-    """The shell binaries are compared with their source, unless they are those of the last release."""
-    binary = tmp_path / "copy/bindings/shell/x86_64/getopts_shell"
-    binary.parent.mkdir(parents=True)
-    binary.write_text("")
-    commit_repository(tmp_path / "copy")
-    for tag, text, compared in [("", "", True), ("1.0.0", "", False), ("", "changed", True)]:
-        run("git", "tag", *tag.split(), cwd=tmp_path / "copy")
-        binary.write_text(text)
-        assert ("build.py --rebuild" in test_sh("--no-install")[2]) == compared
-
-
 @pytest.mark.parametrize("folder, mode, owner, group, shared", [
     ("", 0o1777, -1, -1, True), ("copy", 0o757, -1, -1, True), ("", 0o775, 0, 100, True), ("", 0o755, 65534, -1, True),
+    ("home", 0o757, -1, -1, True), ("cache", 0o757, -1, -1, True), ("home", "list", -1, -1, True),
     ("", 0o775, 0, 0, False), ("", 0o755, 0, 100, False)])
-def test_clone_in_shared_folder(test_sh, tmp_path, folder, mode, owner, group, shared):
-    """Cargo and rustup would read what other users put into the clone, or beside it."""
+def test_shared_folders(test_sh, tmp_path, folder, mode, owner, group, shared):
+    """Python, cargo and rustup would read what other users put into the clone, HOME or the cache, or beside them."""
     if (owner, group) != (-1, -1) and os.getuid() != 0:
         pytest.skip("needs root, for chown")
     os.chown(tmp_path / folder, owner, group)
-    (tmp_path / folder).chmod(mode)
+    if mode == "list":
+        # With this access list, nobody may write, and `mode` would be 775.
+        fields = [*(1, 7, 2**32 - 1), *(2, 7, NOBODY), *(4, 5, 2**32 - 1), *(16, 7, 2**32 - 1), *(32, 5, 2**32 - 1)]
+        try:
+            os.setxattr(tmp_path / folder, "system.posix_acl_access", struct.pack("<I" + "HHI" * 5, 2, *fields))
+        except OSError:
+            pytest.skip("this file system has no access lists")
+    else:
+        (tmp_path / folder).chmod(mode)
     _, errors, calls = test_sh("--no-install", "--quick", status=2 * shared)
     said = f"test.sh: other users can put programs into {tmp_path / folder}: "
     assert errors.startswith(said if shared else "") and len(calls) == (not shared)
@@ -102,7 +101,7 @@ def unpacked(archive, folder):
                 for it in files if it.isfile()}
 
 
-CHECKS = ["test.sh --quick --no-install -k versions or changelog -q", "build.py --check", "erase.py --check"]
+CHECKS = ["test.sh --quick --no-install -k versions or changelog -q", "erase.py --check"]
 OF_KIT = "getopts getopts_uses: rt ci"
 
 
@@ -146,3 +145,13 @@ def test_files_of_a_release(clone):
     settings.write_text("[core]\nautocrlf = true\n[tar]\numask = 0077\n")
     release(clone, VERSION, clone, GIT_CONFIG_GLOBAL=str(settings))
     assert sums == (out / "SHA256SUMS").read_text()
+
+
+def test_attributes_that_change_the_tarball(clone):
+    (clone / "bindings/rust/src/convert.rs").write_text("// $Format:%b$\n")
+    commit_repository(clone)
+    for attribute in ("bindings/rust/src/convert.rs export-subst", "agda export-ignore"):
+        (clone / ".git/info/attributes").write_text(attribute)
+        errors, calls, _ = release(clone, VERSION, clone, status=1)
+        assert attribute.split()[0] in errors and calls == []
+        assert errors.endswith("\nrelease.sh: the tarball would differ from a clone: see 'git help attributes'\n")

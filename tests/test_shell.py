@@ -2,8 +2,7 @@
 page.
 
 All programs have to print the same: the proved one, the checked-in ones (for aarch64 in qemu), and the one that cargo
-builds, also for Windows. So only one of them is tried in each shell. The checked-in programs are left out if the source
-has another version."""
+builds, also for Windows. So only one of them is tried in each shell."""
 
 import os
 import random
@@ -17,7 +16,7 @@ from pathlib import Path
 
 import pytest
 from conftest import (MACHINE, MARGIN, ROOT, answer, check_definitions, check_page, copy_tree, files_in, need, need_compiler,
-                      other_version, planted_links, read_only, rows_in, run, script, shell_binary)
+                      planted_links, read_only, rows_in, run, script, shell_binary)
 from shell import lines
 from targets import cargo, cargo_for, commit_repository, need_cargo, offline, passed, runner, rust_minor
 
@@ -45,16 +44,13 @@ ROWS = [*stored_rows()]
 TABLE = next(fields[3] for fields, _ in ROWS if fields[1:3] == ["-u", "backup"])
 
 # The programs, by the names of their fixtures. One worker builds everything that cargo builds.
-OTHER = other_version()
 PROVED = pytest.param("shell", id="proved", marks=pytest.mark.built)
-SAME_VERSION = pytest.mark.skipif(OTHER is not None, reason=OTHER or "")
-CHECKED_IN, BY_QEMU = (pytest.param(name, marks=SAME_VERSION) for name in ("checked_in", "by_qemu"))
 BY_CARGO = pytest.param("by_cargo", marks=pytest.mark.xdist_group("getopts_shell by cargo"))
 BY_WINE = pytest.param("by_wine", marks=[pytest.mark.xdist_group("getopts_shell by wine"), pytest.mark.full])
-EACH = pytest.mark.parametrize("program", [PROVED, CHECKED_IN, BY_CARGO, BY_QEMU, BY_WINE], indirect=True)
-HERE = pytest.mark.parametrize("program", [PROVED, CHECKED_IN, BY_CARGO], indirect=True)
+EACH = pytest.mark.parametrize("program", [PROVED, "checked_in", BY_CARGO, "by_qemu", BY_WINE], indirect=True)
+HERE = pytest.mark.parametrize("program", [PROVED, "checked_in", BY_CARGO], indirect=True)
 # The program that is tried in each shell.
-ONE = BY_CARGO if OTHER else CHECKED_IN
+ONE = pytest.param("checked_in") if (SHELL / MACHINE / "getopts_shell").exists() else BY_CARGO
 IN_SHELLS = pytest.mark.parametrize("program", [ONE], indirect=True)
 # The indices of rows whose arguments are too long for Windows.
 LONG = [at for at, (fields, _) in enumerate(ROWS) if sum(map(len, fields)) > 10_000]
@@ -153,14 +149,14 @@ def test_stored_answers(program):
 
 @EACH
 def test_control_characters(program):
-    """Errors show control characters as octal numbers, and also bytes from 128 to 159 that belong to no character below
-    U+10FF80."""
+    """Errors and usage lines show control characters as octal numbers, and also bytes from 128 to 159 that belong to no
+    character below U+10FF80."""
     chars = "".join(map(chr, [*range(1, 61), *range(62, 0x180)]))
     others = b"".join(b"a%c" % byte for byte in range(128, 256)).decode("utf-8", "surrogateescape")
     for word in [chars, "\udcf4\udc8f\udcbf\udcbf"] + [others] * (program.parent.name != "bin-by_wine"):
         shown = re.sub("[\1-\x1f\x7f-\x9f\udc80-\udc9f]", lambda it: f"\\{ord(it[0]) & 0xff:03o}", word)
-        line = os.fsencode(f"it: Unrecognized option: '{shown}'\nUsage: it [-a]\n")
-        assert answer(program, "it", "[-a]\tx", f"--{word}") == (line, 2)
+        line = os.fsencode(f"{shown}: Unrecognized option: '{shown}'\nUsage: {shown} [-a]\n")
+        assert answer(program, word, "[-a]\tx", f"--{word}") == (line, 2)
 
 
 @EACH
@@ -351,7 +347,6 @@ printf '%s|' "$o_v" "$o_L" "$1"
     assert wrote == "1|'1' '2 3'|a b|" and int(count) < 25
 
 
-@SAME_VERSION
 @pytest.mark.parametrize("words, status", [
     ("-vi a x", 0), ("--input=a -v -- -v", 0), ("--help", 0), ("-x", 2), ("--completion fish", 0)])
 def test_root_with_only_busybox(words, status, checked_in, tmp_path):
@@ -409,12 +404,13 @@ def install(request, tmp_path):
 
 
 def test_install(install, checked_in, tmp_path):
-    """--uninstall leaves only files of others."""
+    """--uninstall leaves only files of others, and removes what a stopped installation left."""
     to = tmp_path / "a prefix"
     said = f"installed {to}/bin/getopts_shell, its manual page and examples\n"
     assert install("a prefix") == (said, "") and files_in(to) == files_of(checked_in)
     assert all(path.stat().st_mode & 0o555 == 0o555 for path in to.rglob("**"))
     (to / "share/doc/getopts_shell/examples/own").write_text("others'")
+    (to / "bin/getopts_shell.new").write_text("a part")
     for said in said.replace("installed", "removed"), f"nothing to remove in {to}\n":
         assert install("--uninstall", "a prefix") == (said, "")
     assert [*files_in(tmp_path)] == ["a prefix/share/doc/getopts_shell/examples/own"]

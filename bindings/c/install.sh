@@ -91,14 +91,15 @@ removed=
 remove() {
     for file; do
         [ ! -e "$to/$file" ] && [ ! -L "$to/$file" ] || removed=yes
-        rm -f "$to/$file"
+        rm -f "$to/$file" "$to/$file.new"
     done
 }
-# Removes the shared libraries of all versions with the same first number.
+# remove_versions KEPT: removes the shared libraries of all versions with the same first number, except that with this rest.
 remove_versions() {
     for file in "$to/$lib/$soname".*; do
+        file=${file%.new}
         case ${file#"$to/$lib/$soname."} in
-        *[!0-9.]*) ;;
+        "$1" | *[!0-9.]*) ;;
         *) remove "${file#"$to/"}" ;;
         esac
     done
@@ -111,7 +112,7 @@ if [ -n "$uninstall" ]; then
         cmake/getopts/getoptsConfigVersion.cmake; do
         remove "$lib/$file"
     done
-    remove_versions
+    remove_versions ''
     for function in $functions; do
         remove "share/man/man3/$function.3"
     done
@@ -183,12 +184,14 @@ target, set CARGO_BUILD_TARGET to it, and CC to its C compiler"
 # With -T, mv enters no folder, and with -Z, SELinux labels a file by its new place. Not every mv has them.
 for exact in -TZ -T ''; do : >"$room/old"; ! mv $exact "$room/old" "$room/new" 2>/dev/null || break; done
 # place PLACE: moves what was made in the temporary folder to PLACE, since other users who can write in PREFIX could plant
-# links there. A link at PLACE is replaced, but not what it points to.
+# links there. A link at PLACE is replaced, but not what it points to. An older file is only replaced by a whole one.
+# shellcheck disable=SC2086
 place() {
     mkdir -p "$(dirname "$to/$1")"
-    rm -f "$to/$1"
-    # shellcheck disable=SC2086
-    mv -f $exact "$room/new" "$to/$1"
+    rm -f "$to/$1.new"
+    mv -f $exact "$room/new" "$to/$1.new" || { rm -f "$to/$1.new"; fail "can't write $to/$1"; }
+    [ "$exact" ] || rm -f "$to/$1"
+    mv -f $exact "$to/$1.new" "$to/$1"
 }
 # put PLACE [MODE]: writes standard input to PLACE.
 put() {
@@ -268,11 +271,11 @@ case $system in
         # shellcheck disable=SC2086
         $cc -shared ${CFLAGS:-} ${LDFLAGS:-} -Wl,-soname,"$soname" -Xlinker --version-script -Xlinker "$room/versions" \
             -Wl,-z,defs -Wl,-z,text "$room/getopts.o" -o "$room/$shared"
-        # Only now: a program that uses the installed library still works if the build fails.
-        remove_versions
         put "$lib/$shared" 755 <"$room/$shared"
         link "$shared" "$lib/$soname"
         link "$soname" "$lib/libgetopts.so"
+        # Only now: a program that uses the installed library still works if the build or writing fails.
+        remove_versions "${version#*.}"
         shared_files="IMPORTED_LOCATION \"\${_getopts_lib}/libgetopts.so\""
         ;;
     esac

@@ -36,7 +36,7 @@ if [ -n "$remove" ]; then
     # drop FILE: removes a file, and sets removed if it was there.
     drop() {
         [ ! -e "$1" ] && [ ! -L "$1" ] || removed=yes
-        rm -f "$1"
+        rm -f "$1" "$1.new"
     }
     for name in $licences; do drop "$papers/${name##*/}"; done
     for name in $examples; do drop "$papers/examples/$name"; done

@@ -85,8 +85,9 @@ impl Options {
     /// Arguments may be any bytes on Unix, and may contain lone surrogates on Windows; elsewhere
     /// they must be UTF-8. Errors contain U+FFFD in place of invalid bytes or surrogates.
     ///
-    /// An option whose name contains a character from U+10FF80 up isn't found by that name: here,
-    /// these characters represent bytes that aren't UTF-8. `parse` finds it.
+    /// An option whose name contains a character from U+10FF80 up isn't found by that name, but by
+    /// the name with a byte in its place: here, these characters represent bytes that aren't UTF-8.
+    /// `parse` finds it by its name.
     ///
     /// ```
     /// use std::ffi::OsString;

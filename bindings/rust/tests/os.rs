@@ -265,12 +265,17 @@ fn errors_have_text() {
 }
 
 #[test]
-fn parse_os_never_finds_names_with_byte_characters() {
+fn parse_os_finds_names_with_byte_characters_by_bytes() {
     let (name, mut options) = ("\u{10FF80}", Options::new());
     options.optflag("", name, "");
     let word = format!("--{name}");
     assert!(options.parse([&word]).unwrap().opt_present(name));
     assert!(options.parse_os([&word]).is_err());
+    #[cfg(unix)]
+    {
+        let word: &OsStr = std::os::unix::ffi::OsStrExt::from_bytes(b"--\x80");
+        assert!(options.parse_os([word]).unwrap().opt_present(name));
+    }
 }
 
 /// Checks an iterator from both ends, with these items.

@@ -220,11 +220,11 @@ abbrev pub continued : Bool → Text → List Text → Text
 continued begun separator texts =
     if begun then flat_map (λ text. separator ++ text) texts else joined separator texts
 
--- the short usage of a script: its options, and its operands as they are written
+-- the short usage of a script, as errors show it: its options, and its operands as they are written
 abbrev pub usage_line : Script → Text
-usage_line script = short_usage_text (shown_options script) script.name
+usage_line script = escaped (short_usage_text (shown_options script) script.name
     ++ continued (nat_lt 0 (length script.entries)) (codes " ")
-    (map (λ operand. operand.item) script.operands)
+    (map (λ operand. operand.item) script.operands))
 
 -- the top of a script's help: the text that was given, or else the short usage
 abbrev pub brief_text : Script → Text

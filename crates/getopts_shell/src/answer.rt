@@ -31,7 +31,9 @@ ghost use Rattle.getopts_shell.specs.Variables.{given_from, line_code};
 
 use crate::complete::{functions, offers, stub};
 use crate::given::{asks_help, first_alone, main_name};
-use crate::message::{fault_line, operand_fault_line, push_error, table_refusal, variable_refusal};
+use crate::message::{
+    fault_line, operand_fault_line, push_error, push_escaped, table_refusal, variable_refusal,
+};
 use crate::operand::{OperandError, free_error, push_operands, rows_of};
 use crate::quote::{push_joined, push_line, push_quoted};
 use crate::row::{Frequency, Row};
@@ -513,17 +515,19 @@ fn brief_text(alloc: Global, script: Script<'_>, shown: &Options) -> Result<Stri
     }
 }
 
-/// The short usage of a script: its options and its operands.
+/// The short usage of a script, as errors show it: its options and its operands.
 fn usage_line(alloc: Global, script: Script<'_>, shown: &Options) -> Result<String, AllocError>
     requires { shown.now ≡ shown_options (script_of script) }
     ensures { IfOk result (λ text. string_bytes text ≡ usage_line (script_of script.entry)) }
 {
-    let mut text = shown.short_usage(alloc, script.name)?;
+    let mut line = shown.short_usage(alloc, script.name)?;
     push_operands(
-        &mut text,
+        &mut line,
         !script.table.rows.is_empty(),
         &script.table.operands,
     )?;
+    let mut text = String::new(alloc);
+    push_escaped(&mut text, alloc, line.as_str())?;
     Ok(text)
 }
 

@@ -32,7 +32,7 @@ pub(crate) fn push_error(text: &mut String, alloc: Global, error: &str) -> Resul
 }
 
 /// Appends a text as errors show it, without control characters.
-fn push_escaped(text: &mut String, alloc: Global, other: &str) -> Result<(), AllocError>
+pub(crate) fn push_escaped(text: &mut String, alloc: Global, other: &str) -> Result<(), AllocError>
     ensures { OnOk result (string_bytes text.new ≡ string_bytes text.old ++ escaped other.now) }
 {
     for char in other.chars() {

@@ -5,7 +5,9 @@ use crate::host::*;
 
 use super::complete::{functions, offers, stub};
 use super::given::{asks_help, first_alone, main_name};
-use super::message::{fault_line, operand_fault_line, push_error, table_refusal, variable_refusal};
+use super::message::{
+    fault_line, operand_fault_line, push_error, push_escaped, table_refusal, variable_refusal,
+};
 use super::operand::{OperandError, free_error, push_operands, rows_of};
 use super::quote::{push_joined, push_line, push_quoted};
 use super::row::{Frequency, Row};
@@ -401,14 +403,16 @@ fn brief_text(alloc: Global, script: Script<'_>, shown: &Options) -> Result<Stri
     }
 }
 
-/// The short usage of a script: its options and its operands.
+/// The short usage of a script, as errors show it: its options and its operands.
 fn usage_line(alloc: Global, script: Script<'_>, shown: &Options) -> Result<String, AllocError> {
-    let mut text = shown.short_usage(alloc, script.name)?;
+    let mut line = shown.short_usage(alloc, script.name)?;
     push_operands(
-        &mut text,
+        &mut line,
         !script.table.rows.is_empty(),
         &script.table.operands,
     )?;
+    let mut text = String::empty(alloc);
+    push_escaped(&mut text, alloc, line.as_str())?;
     Ok(text)
 }
 

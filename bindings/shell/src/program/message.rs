@@ -23,7 +23,11 @@ pub(crate) fn push_error(text: &mut String, alloc: Global, error: &str) -> Resul
 }
 
 /// Appends a text as errors show it, without control characters.
-fn push_escaped(text: &mut String, alloc: Global, other: &str) -> Result<(), AllocError> {
+pub(crate) fn push_escaped(
+    text: &mut String,
+    alloc: Global,
+    other: &str,
+) -> Result<(), AllocError> {
     for char in other.chars() {
         push_escaped_char(text, alloc, char)?;
     }
