@@ -971,12 +971,20 @@ def test_example_that_stops_at_a_word(library, tmp_path):
         assert said(*words.split(), status=status) == ("", f"{error}\n")
 
 
-def test_page():
-    """The page shows parts of head.c, and lists all functions with their results, and all kinds, modes and statuses."""
+def test_page(library, tmp_path):
+    """The page has a whole program, and lists all functions with their results, and all kinds, modes and statuses."""
+    need("gcc")
     listed = re.findall(r"^- `(\w.*\W)(getopts_\w+)\(", PAGE, re.M)
     assert sorted(listed) == sorted(re.findall(r"^([a-z].*\W)(getopts_\w+)\(", HEADER, re.M)) and len(listed) == len(FUNCTIONS)
     rows = "".join(re.findall(r"^\|.*GETOPTS_.*\n", PAGE.partition("\n## Use\n")[2], re.M))
     constants = re.findall(r"^    (GETOPTS_\w+)\b", HEADER, re.M)
     assert {*re.findall(r"GETOPTS_\w+", rows)} == {it for it in constants if not it.endswith("_MAX")} and len(constants) == 21
     example = re.search(r"^```c\n(.*?)^```", PAGE, re.M | re.S)[1]
-    assert all(part in (C / "head.c").read_text() for part in example.split("\n\n")) and len(example.splitlines()) < 40
+    (tmp_path / "head.c").write_text(example)
+    run("gcc", *WARNINGS, "-I", C, tmp_path / "head.c", library(None), "-o", tmp_path / "head")
+    usage = re.search(r"^```text\n(.*?)^```", PAGE, re.M | re.S)[1]
+    for words, status, *said in [
+        ("a b", 0, "10 lines of a\n10 lines of b\n", ""), ("-n3 a", 0, "3 lines of a\n", ""), ("-n3 --help", 0, usage, ""),
+        ("--nope", 2, "", "head: Unrecognized option: 'nope'\n"), ("-nx", 2, "", "head: 'x' isn't a number of lines\n"),
+    ]:
+        assert run(tmp_path / "head", *words.split(), status=status) == tuple(said), words

@@ -180,39 +180,13 @@ def to_read():
     return table(["lines", "Rattle", "shell binary", "Rust", "C"], *([row, *map("{:,}".format, its)] for row, its in rows.items()))
 
 
-def lines_of(language, name):
-    """The lines of a file of the hand-written Rust or C, or of a function or type in it with all methods, without tests."""
-    start, found = f"bindings/{language.lower()}/src/", []
-    item = rf"^( *)(?!//)[^\n]*\b(?:fn {name}|struct {name}|impl[^\n{{]*\b{name})\b(?:[^\n]*(?:\{{\}}|;)|.*?^\1\}})$"
-    for file in (it for it in tracked if it.startswith(start) and not it[len(start):].startswith(("proved", "bytes"))):
-        text = read(file).partition("#[cfg(test)]\nmod")[0]
-        found += [text] if file == start + name else [it[0] for it in re.finditer(item, text, re.M | re.S)]
-    assert found, f"{start} has no {name}"
-    return sum(map(code_in, found))
-
-
-def decided():
-    """PROOFS: what hand-written Rust and C decide, with the lines of what each row names."""
-    rows = re.search(r"^<!-- generated: decided -->\n(.*?)\n<!-- end -->$", pages["docs/PROOFS.md"], re.M | re.S)[1]
-    return re.sub(r"^\| (Rust|C) \| (.*?) \| \d+ \|", lambda it: f"| {it[1]} | {it[2]} | "
-                  f"{sum(lines_of(it[1], name) for name in re.findall('`(.*?)`', it[2]))} |", rows, flags=re.M)
-
-
-# Calls whose names and types say what the first sentence of their documentation does.
-PLAIN = {"Options::opt", "Options::long_only", "Options::len", "Occurrences::len", "Occurrences::is_empty", "Matches::occurrences",
-         "Matches::values", "Matches::opt_count", "Matches::opt_present", "Matches::opt_positions", "Matches::opt_strs",
-         "Matches::opts_str_first", "Options::canonical_words", "Options::parse", "Options::reader"}
-
-
 def calls():
-    """CALLING: all calls with their parameters, and with the first sentence of their documentation, unless they are plain."""
+    """CALLING: all calls with their parameters."""
     rows = []
-    for name, _, before in public_functions():
+    for name, _, _ in public_functions():
         head = re.split(r"\n +(?=(?:requires|ensures)\b)", contracts()[name])[0].removeprefix(f"fn {name}")
         types = re.sub(r"(?<=\() |,? (?=\))|\bmut (?=[a-z]\w*: )", "", " ".join(head.split()))
-        docs = " ".join(re.findall(r"/// (.*)", re.search(r"(?: *///.*\n)*(?: *#.*\n)*$", before)[0]))
-        first = [] if name in PLAIN else [f"    // {docs.partition('. ')[0].rstrip('.')}"]
-        rows += [name + types, *first] if "->" in types else []
+        rows += [name + types] if "->" in types else []
     return listing(rows)
 
 
@@ -245,7 +219,7 @@ def cited_clauses():
 
 # What --fix writes between `<!-- generated: NAME -->` and `<!-- end -->`.
 GENERATED = {make.__name__: make for make in (usage_example, moving, speed, costs, speed_in_c, behind, memory, first_output,
-                                              to_read, decided, calls, variants, cited_clauses)}
+                                              to_read, calls, variants, cited_clauses)}
 
 
 @pytest.mark.parametrize("page", pages)

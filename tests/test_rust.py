@@ -81,6 +81,7 @@ def test_source_that_ends_in_a_clause(tmp_path):
 @pytest.fixture
 def erase(tmp_path):
     """erase(TEXT, file=.., status=..) runs a copy of the eraser on a crate with this module: its errors."""
+    need_rustfmt()
     source, eraser = tmp_path / "crates/getopts/src", tmp_path / "bindings/rust/erase.py"
     for folder in (source, eraser.parent):
         folder.mkdir(parents=True)
@@ -124,7 +125,6 @@ def test_erased_sources_compile_over_types(tmp_path):
 
 
 def test_rustc_rejects_sources(erase, tmp_path):
-    need_rustfmt()
     erase((ROOT / "tests/eraser/rejected_by_rustc.txt").read_text(), file="lib")
     proved = tmp_path / "bindings/rust/src/proved"
     said = compile_over_types(tmp_path, proved)

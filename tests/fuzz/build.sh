@@ -3,7 +3,8 @@
 # usage: tests/fuzz/build.sh shell|c OUT
 #   OUT   a folder outside the repository; later builds reuse what is there
 #
-# Debian's unicode-width is used if it is installed. CARGO_FLAGS is passed to cargo.
+# It needs Debian's clang and libclang-rt-14-dev, and a recent rustc, such as 1.95. Debian's unicode-width is used if it is
+# installed. CARGO_FLAGS is passed to cargo.
 set -euo pipefail
 unset CDPATH
 case ${1:-} in --help | -h) sed -n '2,/^[^#]/s/^# \{0,1\}//p' "$0"; exit ;; esac
