@@ -83,12 +83,11 @@ static size_t getopts_iteration(void) {
 }
 
 static size_t order_iteration(void) {
-    struct getopts *given = getopts_new(table, GETOPTS_KEEP_ORDER);
-    if (getopts_read(given, count - 1, words + 1) != GETOPTS_OK)
-        exit(2);
+    struct getopts *given = getopts_new(table, GETOPTS_ORDINARY);
+    struct getopts_unread unread = { count - 1, words + 1, NULL, NULL };
     const char *value;
     size_t sum = 0;
-    for (int row, nth = 0; (row = getopts_nth(given, nth, &value)) >= 0; nth++)
+    for (int row; (row = getopts_next(given, &unread, &value)) != -1;)
         sum += (row != GETOPTS_FREE_WORD) + length(value);
     getopts_delete(given);
     return sum;

@@ -104,12 +104,11 @@ def test_misspelt_names(build):
         for function, name in [*((one, "hepl") for one in "cpvl"), ("N", "NULL")]:
             said = run(*program, function, *words.split(), status=-6)
             assert said == ("", f"getopts.h: no option has the name '{name}'\n"), function
-        assert run(*program, "order", *words.split(), status=-6)[1] == "getopts.h: getopts_nth needs the mode GETOPTS_KEEP_ORDER\n"
 
 
 # ---- answers on random tables and words, compared with tests/model.py
 
-STOP, LONG_ONLY, KEEP_ORDER, REPEAT, STRICT, BAD = 16, 32, 64, 128, 256, 7
+STOP, LONG_ONLY, REPEAT, STRICT, BAD = 16, 32, 64, 128, 7
 FREE_WORD = 0x7FFFFFFF
 # In C, an option that must be given may be repeated: by its kind, or in the mode REPEAT. These are in the order of C's
 # numbers, whatever the model's order is.
@@ -148,7 +147,7 @@ def random_case(rng):
     words = [word.replace("\0", "") for word in generate.words(rng, case, rng.choice([2, 4, 8, 24]))][:24]
     if rng.random() < 0.25:
         words.insert(rng.randrange(len(words) + 1), "".join(rng.choices(PARTS, k=rng.randrange(5))))
-    return 16 * rng.randrange(32), rng.choice([0, rng.randrange(24, 99), 2**32 - 1]), rows, wrong, words
+    return 16 * rng.randrange(16), rng.choice([0, rng.randrange(24, 99), 2**32 - 1]), rows, wrong, words
 
 
 def in_bytes(text):
@@ -198,16 +197,18 @@ def answers(modes, columns, rows, names, words):
     fault, name = read if len(read) == 2 else ("", b"")
     line = [] if fault else options.canonical(read) or []
     read = options.parse(words, with_counts=False) if fault.startswith("Option") else read
-    occurrences, free, start, order = read if len(read) > 2 else ([], [], None, [])
-    yield from [b"", *map(int, defined), STATUSES.index(fault), model.TEXTS[fault] % name if fault else b"",
-                name if fault else b""]
+    read_all = len(read) > 2
+    occurrences, free, start, order = read if read_all else ([], [], None, [])
+    message = model.TEXTS[fault] % name if fault else b""
+    yield from [b"", *map(int, defined), STATUSES.index(fault), message, name if fault else b""]
+    for place, text in order:
+        yield from [FREE_WORD if place is None else place, text]
+    yield from [-1, *([0, b""] if read_all else [STATUSES.index(fault), message])]
     for name, is_defined in zip(names, defined):
         place = options.resolve(name)
         given = [(at, value) for mine, at, value in occurrences if mine == place]
         yield from said_of_option(is_defined, given[-1:] if is_defined and last[place] else given)
-    for place, text in order if modes & KEEP_ORDER and not fault else []:
-        yield from [FREE_WORD if place is None else place, text]
-    yield from [-1, None, len(free), *free, None, -1 if start is None else start, STATUSES.index(fault), *line, None]
+    yield from [len(free), *free, None, -1 if start is None else start, STATUSES.index(fault), *line, None]
     measured = all(model.is_measured(it.short, it.long, it.hint) and model.is_measured(it.desc, of=rb"[ -~\n]*") for it in groups)
     yield from [options.usage(b""), options.usage(b"brief", columns)] if measured else [..., ...]
     yield options.short_usage(b"brief")
@@ -217,7 +218,7 @@ def answers_if_wrong(place, names):
     """The answers if a row is wrong. The message begins with its place."""
     wrong = b"table[%d]: " % place
     nothing = [one for _ in names for one in said_of_option(False, [])]
-    return [wrong, *(0 for _ in names), BAD, wrong, b"", *nothing, -1, None, 0, None, -1, BAD, None, None, None, None]
+    return [wrong, *(0 for _ in names), BAD, wrong, b"", -1, BAD, wrong, *nothing, 0, None, -1, BAD, None, None, None, None]
 
 
 @functools.cache
@@ -308,13 +309,18 @@ def test_answers_match_model(build, cases, tmp_path):
 
 
 def test_no_warnings_and_one_unsafe_file(tmp_path):
-    """Clippy has no warnings, only one file has unsafe code, and no query changes anything that threads share."""
+    """Clippy has no warnings, only one file has unsafe code, and no query changes anything that threads share: getopts.h names
+    the functions that do."""
     folder = copy_tree(tmp_path, "bindings/c", "bindings/rust") / "bindings/c"
     cargo(folder, "clippy", "--release", "--", "-D", "warnings")
     sources = {path.name: path.read_text() for path in (C / "src").glob("*.rs")}
     assert {name for name, text in sources.items() if re.search(r"\bunsafe\b(?![_ ]code)", text)} == {"c.rs"}
     assert "#![deny(unsafe_code)]" in sources["lib.rs"]
     assert not re.search("Cell|Atomic", "".join(sources.values()))
+    named = re.search(r"threads may share a struct getopts as long as none.*?calls(.*?) on it", HEADER, re.S)[1]
+    changing = re.findall(r"^\w.*\b(getopts_\w+)\(struct getopts \*", HEADER, re.M)
+    mutable = re.findall(r"fn (getopts_\w+)\(\s*options: \*mut Getopts\b", sources["c.rs"])
+    assert {*re.findall(r"getopts_\w+", named)} == {*changing} == {*mutable}
 
 
 @pytest.mark.parametrize("compiler", ["gcc -std=c99", "clang -std=c99", "g++ -std=c++11", "clang++ -std=c++20", "gcc -std=c2x"])
@@ -978,7 +984,7 @@ def test_page(library, tmp_path):
     assert sorted(listed) == sorted(re.findall(r"^([a-z].*\W)(getopts_\w+)\(", HEADER, re.M)) and len(listed) == len(FUNCTIONS)
     rows = "".join(re.findall(r"^\|.*GETOPTS_.*\n", PAGE.partition("\n## Use\n")[2], re.M))
     constants = re.findall(r"^    (GETOPTS_\w+)\b", HEADER, re.M)
-    assert {*re.findall(r"GETOPTS_\w+", rows)} == {it for it in constants if not it.endswith("_MAX")} and len(constants) == 21
+    assert {*re.findall(r"GETOPTS_\w+", rows)} == {it for it in constants if not it.endswith("_MAX")} and len(constants) == 20
     example = re.search(r"^```c\n(.*?)^```", PAGE, re.M | re.S)[1]
     (tmp_path / "head.c").write_text(example)
     run("gcc", *WARNINGS, "-I", C, tmp_path / "head.c", library(None), "-o", tmp_path / "head")

@@ -20,8 +20,8 @@
  * the bytes of words that aren't UTF-8.
  *
  * There is no global state, and threads may share a struct getopts as long as none of them calls
- * getopts_read or getopts_delete on it, or changes a free word. No function reports an error in
- * errno, but functions that allocate or free memory may change it.
+ * getopts_read, getopts_next or getopts_delete on it, or changes a free word. No function reports
+ * an error in errno, but functions that allocate or free memory may change it.
  *
  * `pkg-config --cflags --libs getopts` prints the flags for the shared library, and those for the
  * static library if `getopts-static` stands in place of `getopts`. PREFIX/share/doc/getopts/head.c
@@ -59,8 +59,8 @@
 extern "C" {
 #endif
 
-/* Return values of getopts_read and getopts_canonical. Later versions may add some: treat any value
- * but GETOPTS_OK as an error. */
+/* What getopts_read, getopts_canonical and getopts_status return. Later versions may add some:
+ * treat any value but GETOPTS_OK as an error. */
 enum {
     GETOPTS_OK,
     GETOPTS_ARGUMENT_MISSING,    /* this and the next four: the words are rejected */
@@ -105,20 +105,18 @@ struct getopts_option {
  * which getopt_long_only accepts, are rejected.
  *
  * With GETOPTS_REPEAT, an option whose kind doesn't include GETOPTS_MULTI may be given again. Its
- * last occurrence then replaces the others, except for getopts_nth and getopts_canonical, and usage
- * lines show `..` after it, unless it is required.
+ * last occurrence then replaces the others, except for getopts_next and getopts_canonical, and
+ * usage lines show `..` after it, unless it is required.
  *
  * With GETOPTS_STRICT, a function that is passed NULL or the name of no option prints the name to
  * stderr and calls abort(), as assert() does, even if nothing was read. Only getopts_defined
- * accepts such names. getopts_nth also calls abort() if GETOPTS_KEEP_ORDER isn't set. If the table
- * is invalid, GETOPTS_STRICT has no effect. */
+ * accepts such names. If the table is invalid, GETOPTS_STRICT has no effect. */
 enum getopts_modes {
     GETOPTS_ORDINARY = 0,    /* no mode */
     GETOPTS_STOP = 16,       /* the first free word ends the options */
     GETOPTS_LONG_ONLY = 32,  /* long options begin with one dash or two */
-    GETOPTS_KEEP_ORDER = 64, /* getopts_nth returns options and free words in order */
-    GETOPTS_REPEAT = 128,    /* options may be repeated: the last occurrence counts */
-    GETOPTS_STRICT = 256,    /* a mistaken call ends the program */
+    GETOPTS_REPEAT = 64,     /* options may be repeated: the last occurrence counts */
+    GETOPTS_STRICT = 128,    /* a mistaken call ends the program */
     GETOPTS_MODES_MAX = 0x7fffffff /* not a mode: makes the enum four bytes wide */
 };
 
@@ -129,9 +127,10 @@ struct getopts;
 void getopts_delete(struct getopts *options);
 
 /* Creates options from a table, to be freed with getopts_delete, or returns NULL if out of memory.
- * You needn't check for NULL, because all functions accept NULL options: getopts_read and
- * getopts_canonical return GETOPTS_NO_MEMORY, getopts_message returns "Out of memory", the usage
- * functions return NULL, and the others behave as if nothing had been read.
+ * You needn't check for NULL, because all functions accept NULL options: getopts_read,
+ * getopts_canonical and getopts_status return GETOPTS_NO_MEMORY, getopts_next returns -1,
+ * getopts_message returns "Out of memory", the usage functions return NULL, and the others behave
+ * as if nothing had been read.
  *
  * If the table is NULL, or a row or the modes are invalid, getopts_message says what is wrong,
  * such as "table[2]: short name 'ab' isn't one ASCII character". Then getopts_read and
@@ -148,18 +147,22 @@ struct getopts *getopts_new(const struct getopts_option *table, enum getopts_mod
  *
  * - GETOPTS_OPTION_MISSING, GETOPTS_OPTION_DUPLICATED: a required option is missing, or an option
  *   was given too often. If this is true of several options, the error is about the first in the
- *   table. Except for getopts_nth, the functions below return what was read, so that a program can
- *   look for its help option.
+ *   table. The functions below return what was read, so that a program can look for its help
+ *   option.
  * - GETOPTS_ARGUMENT_MISSING, GETOPTS_UNRECOGNIZED_OPTION, GETOPTS_UNEXPECTED_ARGUMENT: a word
  *   is invalid. The functions below behave as if nothing had been read.
  * - GETOPTS_NO_MEMORY: out of memory. What was read before is kept.
  * - GETOPTS_BAD: the table is invalid, or a word is NULL. What was read before is kept. */
 int getopts_read(struct getopts *options, int count, char *const *words);
 
-/* Why the last getopts_read failed, such as "Unrecognized option: 'x'". Returns "" if it
- * succeeded, or if nothing was read and the table is valid. The string is valid until the next
- * getopts_read. Of an unknown character from U+10FF80 up in a cluster such as -vx, it shows only
- * the first byte.
+/* The status of the last getopts_read or getopts_next. If there was none, GETOPTS_OK, or
+ * GETOPTS_BAD if the table is invalid. */
+int getopts_status(const struct getopts *options);
+
+/* Why the last getopts_read or getopts_next failed, such as "Unrecognized option: 'x'". Returns ""
+ * if it succeeded, or if nothing was read and the table is valid. The string is valid until the
+ * next getopts_read or getopts_next. Of an unknown character from U+10FF80 up in a cluster such as
+ * -vx, it shows only the first byte.
  *
  * The message contains words as given, even control characters. If others choose the words, replace
  * at least the bytes for which iscntrl() is true before a terminal or a log shows the message. In
@@ -172,7 +175,7 @@ const char *getopts_message(const struct getopts *options);
  *     if (status == GETOPTS_UNRECOGNIZED_OPTION)
  *         fprintf(stderr, "Unbekannte Option: %s\n", getopts_message_name(options));
  *
- * The string is valid until the next getopts_read. */
+ * The string is valid until the next getopts_read or getopts_next. */
 const char *getopts_message_name(const struct getopts *options);
 
 /* In the next functions, `name` is the short or long name of an option, and nth counts from 0. If
@@ -196,21 +199,52 @@ int getopts_position(const struct getopts *options, const char *name, size_t nth
  * so loop up to the count, not to NULL. Valid until the next getopts_read. */
 const char *getopts_value(const struct getopts *options, const char *name, size_t nth);
 
-/* What getopts_nth returns for a free word. No row has this number. */
+/* What getopts_next returns for a free word. No row has this number. */
 #define GETOPTS_FREE_WORD 0x7fffffff
 
-/* Returns the nth of the options and free words, in the order given. For an option, returns its
- * table row, counted from 0, and stores its value in *value, or NULL if it has none. For a free
- * word, returns GETOPTS_FREE_WORD, and stores the word. `value` may be NULL. Returns -1 after the
- * last one, if the mode GETOPTS_KEEP_ORDER isn't set, or if the words last read were rejected. The
- * string is valid until the next getopts_read. Call it in a loop, as you would call getopt_long if
- * its short options began with `-`:
+/* What a loop hasn't read yet. At first, it is { argc - 1, argv + 1, NULL, NULL }. With a copy, a
+ * program can go back to where the copy was made. */
+struct getopts_unread {
+    int count;               /* the number of words that are left */
+    char *const *words;      /* these words */
+    const char *names;       /* what is left of the word before, as x after v in -vx, or NULL */
+    char *const *free_words; /* NULL while options may follow: see below */
+};
+
+/* Reads the next option or free word, and moves `unread` past it. For an option, returns its table
+ * row, counted from 0, and stores its value in *value, or NULL if it has none. For a free word,
+ * returns GETOPTS_FREE_WORD, and stores the word. Both are parts of the words, not copies. `value`
+ * may be NULL.
  *
- *     for (size_t nth = 0; (row = getopts_nth(options, nth, &value)) >= 0; nth++)
- *         switch (row) ..
+ * Returns -1 at the end, and if what is next can't be read. Then getopts_status and getopts_message
+ * say why, and `unread` stays as it was: an invalid word is unread.words[0] or, if names are left,
+ * unread.words[-1].
  *
- * PREFIX/share/doc/getopts/order.c is a complete program. */
-int getopts_nth(const struct getopts *options, size_t nth, const char **value);
+ *     struct getopts_unread unread = { argc - 1, argv + 1, NULL, NULL };
+ *     while ((row = getopts_next(options, &unread, &value)) != -1)
+ *         switch (row) {
+ *         case HELP: ..
+ *         case GETOPTS_FREE_WORD: ..
+ *         }
+ *     if (getopts_status(options) != GETOPTS_OK) .. getopts_message(options) ..
+ *
+ * Once all of unread.words are free words, as after `--`, unread.free_words begins with the free
+ * word that was returned last, and equals unread.words at the end. So with GETOPTS_STOP, it is a
+ * command and its arguments, as execvp() takes them. Without that mode, it is NULL after the first
+ * free word, because options may follow.
+ *
+ * A program may stop anywhere, and change `unread`:
+ *
+ * - For a subcommand's options, make a new { unread.count, unread.words, NULL, NULL }.
+ * - To take a word as it is, such as a negative number, add 1 to unread.words, and subtract 1 from
+ *   unread.count, if unread.names is NULL and unread.count isn't 0.
+ * - To skip the names that are left, set unread.names to NULL.
+ * - To end the options, set unread.free_words to unread.words. Names that are left are still read
+ *   first.
+ *
+ * getopts_next doesn't check how often options were given: to do so, call getopts_read after the
+ * loop. What getopts_read read is kept. PREFIX/share/doc/getopts/order.c is a complete program. */
+int getopts_next(struct getopts *options, struct getopts_unread *unread, const char **value);
 
 /* If the value of the option's nth occurrence is a decimal number that fits in a long, stores the
  * number in *value and returns true. Such a number consists of digits, perhaps after `+` or `-`,

@@ -16,14 +16,11 @@ static const struct getopts_option table[ROWS + 1] = {
 };
 
 static int run(struct getopts *options, int count, char **words) {
+    struct getopts_unread unread = { count, words, NULL, NULL };
     const char *value, *folder = ".";
     bool quiet = false;
     int row;
-    if (getopts_read(options, count, words) != GETOPTS_OK) {
-        fprintf(stderr, "order: %s\n", getopts_message(options));
-        return 2;
-    }
-    for (size_t nth = 0; (row = getopts_nth(options, nth, &value)) >= 0; nth++) {
+    while ((row = getopts_next(options, &unread, &value)) != -1) {
         switch (row) {
         case QUIET: case SILENT: quiet = true; break;
         case VERBOSE: quiet = false; break;
@@ -32,12 +29,16 @@ static int run(struct getopts *options, int count, char **words) {
         case GETOPTS_FREE_WORD: printf("take %s/%s\n", folder, value); break;
         }
     }
+    if (getopts_status(options) != GETOPTS_OK) {
+        fprintf(stderr, "order: %s\n", getopts_message(options));
+        return 2;
+    }
     puts(quiet ? "quiet" : "verbose");
     return 0;
 }
 
 int main(int argc, char **argv) {
-    struct getopts *options = getopts_new(table, GETOPTS_KEEP_ORDER + GETOPTS_REPEAT);
+    struct getopts *options = getopts_new(table, GETOPTS_ORDINARY);
     int status = run(options, argc - 1, argv + 1);
     getopts_delete(options);
     return status;

@@ -12,7 +12,7 @@
 enum { DIRECTORY, OUTPUT, ROWS };
 
 static const struct getopts_option table[ROWS + 1] = {
-    [DIRECTORY] = { "C", NULL, "DIR", "change to this folder", GETOPTS_YES + GETOPTS_MULTI },
+    [DIRECTORY] = { "C", NULL, "DIR", "change to this folder", GETOPTS_YES },
     [OUTPUT] = { "o", NULL, "FILE", "write to this file", GETOPTS_YES },
 };
 
@@ -28,20 +28,20 @@ static int failed(const char *name) {
 }
 
 static int run(struct getopts *options, int count, char **words) {
+    struct getopts_unread unread = { count, words, NULL, NULL };
     const char *value;
     int row;
-    if (getopts_read(options, count, words) != GETOPTS_OK || getopts_free_count(options) == 0)
-        return usage(options);
-    for (size_t nth = 0; (row = getopts_nth(options, nth, &value)) != GETOPTS_FREE_WORD; nth++)
+    while ((row = getopts_next(options, &unread, &value)) == DIRECTORY || row == OUTPUT)
         if (row == DIRECTORY ? chdir(value) != 0 : freopen(value, "w", stdout) == NULL)
             return failed(value);
-    char *const *command = getopts_free_words(options);
-    execvp(command[0], command);
-    return failed(command[0]);
+    if (row == -1)
+        return usage(options);
+    execvp(value, unread.free_words);
+    return failed(value);
 }
 
 int main(int argc, char **argv) {
-    struct getopts *options = getopts_new(table, GETOPTS_STOP + GETOPTS_KEEP_ORDER);
+    struct getopts *options = getopts_new(table, GETOPTS_STOP);
     int status = run(options, argc - 1, argv + 1);
     getopts_delete(options);
     return status;

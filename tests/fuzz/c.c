@@ -84,7 +84,7 @@ static void ask_for(const struct getopts *options, const char *name) {
 /* Makes all queries. */
 static void ask(const struct getopts *options, const struct getopts_option *table, size_t rows, const char *other) {
     CHECK(strstr(getopts_message(options), getopts_message_name(options)) != NULL);
-    int free_count = getopts_free_count(options), row, seen = 0;
+    int free_count = getopts_free_count(options);
     char *const *free_words = getopts_free_words(options);
     look_at(free_words, (size_t)free_count);
     CHECK(getopts_trailing_start(options) <= free_count);
@@ -94,12 +94,39 @@ static void ask(const struct getopts *options, const struct getopts_option *tabl
     }
     ask_for(options, other);
     ask_for(options, NULL);
+}
+
+/* Reads words in a loop, from names that may be any text, and goes on after words that can't be read. */
+static void loop(struct getopts *options, size_t rows, struct getopts_unread unread) {
     const char *value = "";
-    for (size_t nth = 0; (row = getopts_nth(options, nth, &value)) >= 0; nth++) {
-        CHECK(getopts_nth(options, nth, NULL) == row);
-        CHECK(row == GETOPTS_FREE_WORD ? value == free_words[seen++] : (size_t)row < rows);
+    for (int row;;) {
+        struct getopts_unread before = unread, again = unread;
+        row = getopts_next(options, &unread, &value);
+        looked_at += (value != NULL ? strlen(value) : 0) + (unread.names != NULL ? strlen(unread.names) : 0);
+        CHECK(getopts_next(options, &again, NULL) == row && again.words == unread.words && again.names == unread.names
+              && again.free_words == unread.free_words);
+        CHECK((*getopts_message(options) == 0) == (getopts_status(options) == GETOPTS_OK));
+        CHECK(unread.count <= before.count && before.count - unread.count == unread.words - before.words);
+        CHECK(row == -1 ? value == NULL : row == GETOPTS_FREE_WORD ? value != NULL : (size_t)row < rows);
+        /* Options that are left in a cluster come first, whatever free_words is. */
+        if (before.names != NULL && *before.names != 0)
+            CHECK(row != GETOPTS_FREE_WORD && unread.free_words == before.free_words);
+        else if (before.free_words != NULL)
+            CHECK(row == (before.count > 0 ? GETOPTS_FREE_WORD : -1) || getopts_status(options) == GETOPTS_BAD);
+        if (row == GETOPTS_FREE_WORD)
+            CHECK(unread.words[-1] == value && (unread.free_words == NULL || unread.free_words == unread.words - 1));
+        if (row != -1)
+            continue;
+        CHECK(getopts_status(options) == GETOPTS_OK
+              ? unread.count <= 0 && unread.names == NULL && unread.free_words == unread.words
+              : unread.count == before.count && unread.names == before.names && unread.free_words == before.free_words);
+        if (unread.names != NULL)
+            unread.names = NULL;
+        else if (unread.count > 0)
+            unread.words++, unread.count--;
+        else
+            return;
     }
-    CHECK(value == NULL && (seen == 0 || seen == free_count));
 }
 
 int LLVMFuzzerTestOneInput(const uint8_t *bytes, size_t len);
@@ -107,10 +134,10 @@ int LLVMFuzzerTestOneInput(const uint8_t *bytes, size_t len) {
     input = bytes;
     end = bytes + len;
     owned_len = 0;
-    unsigned head = byte(), modes = (head & 31) << 4, more = byte(), columns = byte();
+    unsigned head = byte(), modes = (head & 15) << 4, more = byte(), columns = byte();
     if (head >= 0xF8)
         modes = byte() << 8 | more;
-    bool wrong_modes = (modes & ~0x1F0u) != 0;
+    bool wrong_modes = (modes & ~0xF0u) != 0;
     size_t rows = byte() % 16;
     /* The last row ends the table: its other fields stay uninitialized. */
     struct getopts_option *table = malloc((rows + 1) * sizeof *table);
@@ -173,6 +200,8 @@ int LLVMFuzzerTestOneInput(const uint8_t *bytes, size_t len) {
         looked_at += strlen(*word);
     getopts_free(line);
     getopts_read(options, getopts_free_count(options), getopts_free_words(options));
+    ask(options, table, rows, other);
+    loop(options, rows, (struct getopts_unread){ count, words, head & 16 ? other : NULL, head & 32 ? words : NULL });
     ask(options, table, rows, other);
     getopts_delete(options);
     while (owned_len > 0)

@@ -3,7 +3,7 @@
 #![allow(unsafe_code)]
 #![deny(unsafe_op_in_unsafe_fn)]
 
-use crate::options::{Getopts, NOTHING, OUT_OF_MEMORY};
+use crate::options::{Declared, Getopts, Last, NOTHING, OUT_OF_MEMORY};
 use crate::reading::{Given, none};
 use crate::{AllocResult, NO_MEMORY, OK, Status};
 use core::alloc::{GlobalAlloc, Layout};
@@ -13,7 +13,7 @@ use core::{ptr, slice};
 use library::alloc::Global;
 use library::bytes::plain_text;
 use library::fallible::String;
-use library::proved::{Matches, Options};
+use library::proved::{Matches, Options, Reader};
 
 /// A C string, or NULL.
 pub type Text = *const u8;
@@ -128,10 +128,14 @@ impl<'c> Words<'c> {
         self.0.len()
     }
 
-    pub fn iter(self) -> impl Iterator<Item = &'c [u8]> {
+    /// The nth word, or an empty one if there are fewer.
+    pub fn get(self, nth: usize) -> &'c [u8] {
         // SAFETY: words are strings.
-        let bytes = |word: &Text| unsafe { bytes(*word) }.unwrap_or(&[]);
-        self.0.iter().map(bytes)
+        self.0.get(nth).and_then(|word| unsafe { bytes(*word) }).unwrap_or(&[])
+    }
+
+    pub fn iter(self) -> impl Iterator<Item = &'c [u8]> {
+        (0..self.len()).map(move |nth| self.get(nth))
     }
 }
 
@@ -199,18 +203,24 @@ unsafe extern "C" fn getopts_delete(options: *mut Getopts) {
 // The functions below require options that `getopts_new` returned and that haven't been deleted, or
 // NULL, and strings that end with a zero byte.
 
+/// The two parts of options. The first is borrowed as if for ever, by a reader in the second.
+unsafe fn parts<'o>(options: *mut Getopts) -> Option<(&'static Declared, &'o mut Last)> {
+    // SAFETY: options stay where they are until they are deleted, and only `Last` ever changes.
+    (!options.is_null()).then(|| unsafe { (&(*options).declared, &mut (*options).last) })
+}
+
 #[no_mangle]
 unsafe extern "C" fn getopts_read(
     options: *mut Getopts,
     count: c_int,
     words: *const Text,
 ) -> Status {
-    if options.is_null() {
-        return NO_MEMORY;
-    }
     // SAFETY: as above. The words may belong to the previous reading: nothing uses them after it is
     // replaced.
-    unsafe { (*options).read(Words::of(count, words)) }
+    unsafe {
+        let Some((declared, last)) = parts(options) else { return NO_MEMORY };
+        last.read(declared, Words::of(count, words))
+    }
 }
 
 #[no_mangle]
@@ -224,7 +234,7 @@ unsafe extern "C" fn getopts_canonical(
     unsafe {
         store(line, ptr::null_mut());
         let Some(options) = options else { return NO_MEMORY };
-        let (texts, count) = match options.canonical(Words::of(count, words)) {
+        let (texts, count) = match options.declared.canonical(Words::of(count, words)) {
             Ok(Some(made)) if !line.is_null() => made,
             Ok(_) => return OK,
             Err(error) => return error.status(),
@@ -234,14 +244,53 @@ unsafe extern "C" fn getopts_canonical(
     }
 }
 
+/// A `struct getopts_unread`.
+#[repr(C)]
+pub struct Unread {
+    pub count: c_int,
+    pub words: *const Text,
+    pub names: Text,
+    pub free_words: *const Text,
+}
+
+#[no_mangle]
+unsafe extern "C" fn getopts_next(
+    options: *mut Getopts,
+    unread: &mut Unread,
+    value: *mut Text,
+) -> c_int {
+    // SAFETY: as above. The names are a string, or NULL.
+    unsafe {
+        let (row, text) = match parts(options) {
+            Some((declared, last)) => {
+                let words = declared.valid(Words::of(unread.count.min(2), unread.words));
+                let given = words.and_then(|words| {
+                    let bytes = [bytes(unread.names).unwrap_or(&[]), words.get(0), words.get(1)];
+                    Ok(last.next(declared, unread, bytes, words.len())?)
+                });
+                last.report(given.as_ref().err());
+                given.unwrap_or((-1, ptr::null()))
+            }
+            None => (-1, ptr::null()),
+        };
+        store(value, text);
+        row
+    }
+}
+
+#[no_mangle]
+extern "C" fn getopts_status(options: Option<&Getopts>) -> Status {
+    options.map_or(NO_MEMORY, |options| options.last.status)
+}
+
 #[no_mangle]
 extern "C" fn getopts_message(options: Option<&Getopts>) -> Text {
-    options.map_or(OUT_OF_MEMORY.as_ptr(), |options| options.message)
+    options.map_or(OUT_OF_MEMORY.as_ptr(), |options| options.last.message)
 }
 
 #[no_mangle]
 extern "C" fn getopts_message_name(options: Option<&Getopts>) -> Text {
-    options.map_or(NOTHING.as_ptr(), |options| options.name)
+    options.map_or(NOTHING.as_ptr(), |options| options.last.name)
 }
 
 // Threads may share what `Getopts` contains: the library's types, and pointers to its own texts.
@@ -249,13 +298,14 @@ const _: () = {
     const fn shared<T: Sync>() {}
     shared::<Options>();
     shared::<Matches>();
+    shared::<Reader<'_>>();
 };
 
 #[no_mangle]
 unsafe extern "C" fn getopts_defined(options: Option<&Getopts>, name: Text) -> bool {
     // SAFETY: as above, also in the functions below.
     let name = unsafe { bytes(name) };
-    options.map_or(false, |options| options.declares(name))
+    options.map_or(false, |options| options.declared.declares(name))
 }
 
 /// Ends the program after a message.
@@ -272,7 +322,7 @@ fn end(parts: &[&[u8]]) -> ! {
 /// Ends the program if strict options have no option of this name.
 #[cold]
 fn check_name(options: Option<&Getopts>, name: Option<&[u8]>) {
-    if options.map_or(false, |options| options.misses(name)) {
+    if options.map_or(false, |options| options.declared.misses(name)) {
         end(&[b"getopts.h: no option has the name '", name.unwrap_or(b"NULL"), b"'\n"]);
     }
 }
@@ -305,16 +355,6 @@ unsafe extern "C" fn getopts_value(options: Option<&Getopts>, name: Text, nth: u
 }
 
 #[no_mangle]
-unsafe extern "C" fn getopts_nth(options: Option<&Getopts>, nth: usize, value: *mut Text) -> c_int {
-    let given = options.and_then(|options| options.reading.nth(nth));
-    if given.is_none() && options.map_or(false, Getopts::misses_order) {
-        end(&[b"getopts.h: getopts_nth needs the mode GETOPTS_KEEP_ORDER\n"]);
-    }
-    unsafe { store(value, given.map_or(ptr::null(), |(_, text)| text)) };
-    given.map_or(-1, |(row, _)| row as c_int)
-}
-
-#[no_mangle]
 unsafe extern "C" fn getopts_long_value(
     options: Option<&Getopts>,
     name: Text,
@@ -334,17 +374,17 @@ unsafe extern "C" fn getopts_long_value(
 
 #[no_mangle]
 extern "C" fn getopts_free_count(options: Option<&Getopts>) -> c_int {
-    options.map_or(0, |options| options.reading.free_count() as c_int)
+    options.map_or(0, |options| options.last.reading.free_count() as c_int)
 }
 
 #[no_mangle]
 extern "C" fn getopts_free_words(options: Option<&Getopts>) -> *const Text {
-    options.map_or(none(), |options| options.reading.free_words())
+    options.map_or(none(), |options| options.last.reading.free_words())
 }
 
 #[no_mangle]
 extern "C" fn getopts_trailing_start(options: Option<&Getopts>) -> c_int {
-    let start = options.and_then(|options| options.reading.trailing_start());
+    let start = options.and_then(|options| options.last.reading.trailing_start());
     start.map_or(-1, |start| start as c_int)
 }
 
@@ -359,9 +399,9 @@ unsafe extern "C" fn getopts_free(block: *mut u8) {
 fn usage(
     options: Option<&Getopts>,
     start: Option<&[u8]>,
-    make: impl FnOnce(&Getopts, &str) -> AllocResult<String>,
+    make: impl FnOnce(&Declared, &str) -> AllocResult<String>,
 ) -> *mut u8 {
-    let text = options.and_then(|options| options.usage(start, make));
+    let text = options.and_then(|options| options.declared.usage(start, make));
     text.map_or(ptr::null_mut(), |text| ManuallyDrop::new(text).as_mut_ptr())
 }
 
@@ -382,7 +422,7 @@ unsafe extern "C" fn getopts_usage_in(
 
 #[no_mangle]
 unsafe extern "C" fn getopts_short_usage(options: Option<&Getopts>, program: Text) -> *mut u8 {
-    usage(options, unsafe { bytes(program) }, Getopts::short_usage)
+    usage(options, unsafe { bytes(program) }, Declared::short_usage)
 }
 
 #[no_mangle]

@@ -8,11 +8,13 @@
 #![cfg_attr(old_rustc, feature(default_alloc_error_handler, core_ffi_c, let_else))]
 
 mod c;
+mod next;
 mod options;
 mod reading;
 mod table;
 mod words;
 
+use c::Text;
 use library::alloc::AllocError;
 use library::proved::Fail;
 
@@ -24,28 +26,22 @@ pub const BAD: Status = 7;
 
 /// Why words are rejected.
 pub enum Error {
-    /// The table is invalid, or a word is NULL.
-    Bad,
+    /// The table is invalid, or a word is NULL, as this message says.
+    Bad(Text),
     Fail(Fail),
 }
 
 impl Error {
     pub fn status(&self) -> Status {
         match self {
-            Error::Fail(fail) => status_of(fail),
-            Error::Bad => BAD,
+            Error::Fail(Fail::ArgumentMissing(_)) => 1,
+            Error::Fail(Fail::UnrecognizedOption(_)) => 2,
+            Error::Fail(Fail::OptionMissing(_)) => 3,
+            Error::Fail(Fail::OptionDuplicated(_)) => 4,
+            Error::Fail(Fail::UnexpectedArgument(_)) => 5,
+            Error::Fail(Fail::OutOfMemory) => NO_MEMORY,
+            Error::Bad(_) => BAD,
         }
-    }
-}
-
-pub fn status_of(fail: &Fail) -> Status {
-    match fail {
-        Fail::ArgumentMissing(_) => 1,
-        Fail::UnrecognizedOption(_) => 2,
-        Fail::OptionMissing(_) => 3,
-        Fail::OptionDuplicated(_) => 4,
-        Fail::UnexpectedArgument(_) => 5,
-        Fail::OutOfMemory => NO_MEMORY,
     }
 }
 

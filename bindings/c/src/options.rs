@@ -2,25 +2,41 @@
 
 use crate::c::{Row, Text, Words, text};
 use crate::reading::{Given, Reading};
-use crate::table::{self, KEEP_ORDER, MULTI, REPEAT, REQ, STRICT, Table};
+use crate::table::{self, MULTI, REPEAT, REQ, STRICT, Table};
 use crate::words::ask;
-use crate::{AllocResult, Error, Status};
-use library::alloc::Global;
+use crate::{AllocResult, BAD, Error, NO_MEMORY, OK, Status};
+use library::alloc::{AllocError, Global};
 use library::bytes::push_bytes;
 use library::fallible::{String, TryList, TryText, Vec};
-use library::proved::{Fail, Matches, Occur, Options};
+use library::proved::{Fail, Matches, Occur, Options, Reader};
 
 /// A `struct getopts`.
 pub struct Getopts {
+    // Dropped first, because its reader borrows the options.
+    pub last: Last,
+    pub declared: Declared,
+}
+
+/// What `getopts_new` declares. It never changes.
+pub struct Declared {
     pub options: Options,
     table: Table,
     modes: u32,
-    /// What `getopts_message` returns: a constant below, what is wrong with the table, or the
-    /// reading's message.
+}
+
+/// What was read last.
+pub struct Last {
+    pub status: Status,
+    /// What `getopts_message` returns: a constant below, what is wrong with the table, or one of
+    /// `texts`.
     pub message: Text,
-    /// The option's name in a reading's message, or `NOTHING`.
+    /// The option's name in the message, or `NOTHING`.
     pub name: Text,
+    /// The message about words that were rejected and the name in it, each followed by a zero byte.
+    texts: Vec<u8>,
     pub reading: Reading,
+    /// Reads in loops. It is made when a loop first needs it.
+    pub reader: Option<Reader<'static>>,
 }
 
 pub const NOTHING: &str = "\0";
@@ -34,25 +50,90 @@ impl Getopts {
     ) -> AllocResult<Getopts> {
         let mut options = Options::new(Global);
         let table = table::declare(&mut options, rows, modes)?;
-        let message = table.wrong.as_ref().map_or(NOTHING.as_ptr(), |wrong| wrong.as_ptr());
-        let (name, reading) = (NOTHING.as_ptr(), Reading::default());
-        Ok(Getopts { options, table, modes, message, name, reading })
+        let (status, message) = match &table.wrong {
+            Some(wrong) => (BAD, wrong.as_ptr()),
+            None => (OK, NOTHING.as_ptr()),
+        };
+        let (name, texts, reading) = (NOTHING.as_ptr(), Vec::new(), Reading::default());
+        let last = Last { status, message, name, texts, reading, reader: None };
+        Ok(Getopts { last, declared: Declared { options, table, modes } })
     }
 
     /// What was given of an option, if words were read and it is declared.
     #[inline(always)]
     pub fn given(&self, name: Option<&[u8]>) -> Option<Given<'_>> {
-        let mut given = self.reading.given(name)?;
-        if self.modes & REPEAT != 0 && self.table.kinds[given.place] < MULTI {
+        let mut given = self.last.reading.given(name)?;
+        let Declared { table, modes, .. } = &self.declared;
+        if modes & REPEAT != 0 && table.kinds[given.place] < MULTI {
             given.keep_last();
         }
         Some(given)
     }
+}
 
+impl Last {
+    /// Reads words, and stores what was read, or why nothing was. Returns the status.
+    pub fn read(&mut self, declared: &Declared, words: Option<Words<'_>>) -> Status {
+        let mut reading = Reading::default();
+        let read = declared.read_into(&mut reading, words);
+        let status = self.report(read.as_ref().err());
+        if status != NO_MEMORY && status != BAD {
+            self.reading = reading;
+        }
+        status
+    }
+
+    /// Stores the status and the message of an error, or that there is none. Returns the status.
+    pub fn report(&mut self, error: Option<&Error>) -> Status {
+        (self.message, self.name) = (NOTHING.as_ptr(), NOTHING.as_ptr());
+        self.status = error.map_or(OK, Error::status);
+        if let Some(error) = error {
+            self.say(error);
+        }
+        self.status
+    }
+
+    #[cold]
+    fn say(&mut self, error: &Error) {
+        self.message = match error {
+            Error::Bad(message) => *message,
+            Error::Fail(fail) => match texts_of(fail) {
+                Ok((texts, name)) => {
+                    self.texts = texts;
+                    self.name = self.texts[name..].as_ptr();
+                    self.texts.as_ptr()
+                }
+                Err(AllocError) => {
+                    self.status = NO_MEMORY;
+                    OUT_OF_MEMORY.as_ptr()
+                }
+            },
+        };
+    }
+}
+
+/// The message about rejected words and, from the index on, the name in it, each followed by a zero
+/// byte.
+fn texts_of(fail: &Fail) -> AllocResult<(Vec<u8>, usize)> {
+    if let Fail::OutOfMemory = fail {
+        return Err(AllocError);
+    }
+    let ((before, name, after), mut texts) = (fail.parts(), Vec::empty(Global));
+    for part in [before, name, after, "\0"] {
+        push_bytes(&mut texts, part)?;
+    }
+    let start = texts.len();
+    push_bytes(&mut texts, name)?;
+    texts.try_push(0)?;
+    Ok((texts, start))
+}
+
+impl Declared {
     /// Whether an option of the table, if it is valid, has this name.
     pub fn declares(&self, name: Option<&[u8]>) -> bool {
-        let name = name.and_then(text).filter(|_| self.table.wrong.is_none());
-        name.map_or(false, |name| table::named(&self.options, [name; 2]).is_some())
+        let Some(name) = name.and_then(text).filter(|name| !name.is_empty()) else { return false };
+        let mut groups = (0..self.table.rows).filter_map(|place| self.options.get(place));
+        groups.any(|group| group.short_name == name || group.long_name == name)
     }
 
     /// Whether names have to be declared, and this one isn't.
@@ -61,35 +142,11 @@ impl Getopts {
         self.modes & STRICT != 0 && self.table.wrong.is_none() && !self.declares(name)
     }
 
-    /// Whether the order has to be kept, and isn't.
-    #[cold]
-    pub fn misses_order(&self) -> bool {
-        self.table.wrong.is_none() && self.modes & (STRICT | KEEP_ORDER) == STRICT
-    }
-
     /// The words, if none is NULL and the table is valid.
-    fn valid<'c>(&self, words: Option<Words<'c>>) -> Result<Words<'c>, Error> {
-        words.filter(|_| self.table.wrong.is_none()).ok_or(Error::Bad)
-    }
-
-    /// Reads words, and stores what was read, or why nothing was. Returns the status.
-    pub fn read(&mut self, words: Option<Words<'_>>) -> Status {
-        let mut reading = Reading::default();
-        match self.read_into(&mut reading, words) {
-            Ok(()) => {
-                (self.message, self.name) = reading.message();
-                self.reading = reading;
-                self.reading.status
-            }
-            Err(error) => {
-                self.message = match (&error, &self.table.wrong) {
-                    (Error::Fail(_), _) => OUT_OF_MEMORY.as_ptr(),
-                    (Error::Bad, Some(wrong)) => wrong.as_ptr(),
-                    (Error::Bad, None) => NULL_WORD.as_ptr(),
-                };
-                self.name = NOTHING.as_ptr();
-                error.status()
-            }
+    pub fn valid<'c>(&self, words: Option<Words<'c>>) -> Result<Words<'c>, Error> {
+        match &self.table.wrong {
+            Some(wrong) => Err(Error::Bad(wrong.as_ptr())),
+            None => words.ok_or(Error::Bad(NULL_WORD.as_ptr())),
         }
     }
 
@@ -97,18 +154,10 @@ impl Getopts {
     /// is missing or was given too often, everything was.
     fn read_into(&self, reading: &mut Reading, words: Option<Words<'_>>) -> Result<(), Error> {
         Ok(ask(self.valid(words)?, |texts| {
-            let fail = match self.options.parse_ignoring_counts(Global, texts.words) {
-                Ok(matches) => self.count_error(reading.matches.insert(matches))?,
-                Err(fail) => Some(fail),
-            };
-            if let Some(Fail::OutOfMemory) = fail {
-                return Err(Fail::OutOfMemory);
-            }
-            reading.lay_out(fail.as_ref(), self.table.rows, &texts)?;
-            if self.modes & KEEP_ORDER != 0 && fail.is_none() {
-                reading.keep_order(&self.options.parse_in_order(Global, texts.words)?)?;
-            }
-            Ok(())
+            let matches = self.options.parse_ignoring_counts(Global, texts.words)?;
+            let error = self.count_error(reading.matches.insert(matches))?;
+            reading.lay_out(self.table.rows, &texts)?;
+            error.map_or(Ok(()), Err)
         })?)
     }
 
@@ -151,7 +200,7 @@ impl Getopts {
     pub fn usage(
         &self,
         start: Option<&[u8]>,
-        make: impl FnOnce(&Getopts, &str) -> AllocResult<String>,
+        make: impl FnOnce(&Declared, &str) -> AllocResult<String>,
     ) -> Option<String> {
         let start = text(start.filter(|_| self.table.wrong.is_none())?)?;
         let mut text = make(self, start).ok()?;

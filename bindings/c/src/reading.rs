@@ -1,38 +1,26 @@
 //! The result of reading words, in the form that C gets.
 
+use crate::AllocResult;
 use crate::c::{Text, text};
-use crate::options::NOTHING;
 use crate::words::Texts;
-use crate::{AllocResult, OK, Status, status_of};
-use core::ffi::c_int;
 use core::mem::take;
 use core::ptr::null;
 use library::alloc::Global;
 use library::bytes::push_bytes;
 use library::fallible::{TryCopies, TryList, Vec};
-use library::proved::{self, Fail, Matches, Occurrences};
-
-/// Stands for the row of a free word: `GETOPTS_FREE_WORD`.
-const FREE_WORD: usize = c_int::MAX as usize;
+use library::proved::{Matches, Occurrences};
 
 /// The result of reading words: empty if they couldn't be read.
 #[derive(Default)]
 pub struct Reading {
-    pub status: Status,
     pub matches: Option<Matches>,
-    /// The message and its name, if there is one, the values and the free words, each followed by a
-    /// zero byte.
+    /// The values and the free words, each followed by a zero byte.
     texts: Vec<u8>,
-    /// The index in `texts` of the message's name.
-    name: usize,
     /// For each option, the values of its occurrences, with NULL for one that has none. After all
     /// options the free words, then NULL.
     lists: Vec<Text>,
     /// The index in `lists` at which the values of each option begin, and then the free words.
     starts: Vec<usize>,
-    /// For all options and free words in order: the row of an option, or `FREE_WORD`, and the index
-    /// in `lists` of its value, or of the free word. Empty if the order isn't kept.
-    order: Vec<(usize, usize)>,
 }
 
 /// An empty list of C strings: just NULL.
@@ -72,81 +60,30 @@ impl Given<'_> {
 }
 
 impl Reading {
-    /// Stores the status and the message of an error, and what the matches have of this number of
-    /// options.
-    pub fn lay_out(
-        &mut self,
-        fail: Option<&Fail>,
-        groups: usize,
-        of: &Texts<'_>,
-    ) -> AllocResult<()> {
-        let (before, name, after) = fail.map_or(("", "", ""), Fail::parts);
-        let message = name.len().saturating_mul(2).saturating_add(before.len() + after.len() + 2);
-        let mut texts = Vec::empty(Global);
-        texts.try_grow_exact(of.bytes.saturating_add(message))?;
-        if let Some(fail) = fail {
-            self.status = status_of(fail);
-            for part in [before, name, after] {
-                push_bytes(&mut texts, part)?;
-            }
-            texts.try_push(0)?;
-            self.name = texts.len();
-            push_bytes(&mut texts, name)?;
-            texts.try_push(0)?;
-        }
-        if let Some(matches) = &mut self.matches {
-            let free = take(&mut matches.free);
-            let (mut starts, mut len) = (Vec::of_capacity(Global, groups + 1)?, 0);
-            for place in 0..groups {
-                starts.push(len);
-                len += matches.occurrences_at(place).len();
-            }
+    /// Stores what the matches have of this number of options.
+    pub fn lay_out(&mut self, groups: usize, of: &Texts<'_>) -> AllocResult<()> {
+        let Some(matches) = &mut self.matches else { return Ok(()) };
+        self.texts.try_grow_exact(of.bytes)?;
+        let free = take(&mut matches.free);
+        let (mut starts, mut len) = (Vec::of_capacity(Global, groups + 1)?, 0);
+        for place in 0..groups {
             starts.push(len);
-            let mut lists = Vec::filled(Global, null(), len + free.len() + 1)?;
-            for place in 0..groups {
-                for (nth, (_, value)) in matches.occurrences_at(place).into_iter().enumerate() {
-                    if let Some(value) = value {
-                        lists[starts[place] + nth] = push_text(&mut texts, value, of.marked)?;
-                    }
+            len += matches.occurrences_at(place).len();
+        }
+        starts.push(len);
+        let mut lists = Vec::filled(Global, null(), len + free.len() + 1)?;
+        for place in 0..groups {
+            for (nth, (_, value)) in matches.occurrences_at(place).into_iter().enumerate() {
+                if let Some(value) = value {
+                    lists[starts[place] + nth] = push_text(&mut self.texts, value, of.marked)?;
                 }
             }
-            for (to, word) in lists[len..].iter_mut().zip(&free) {
-                *to = push_text(&mut texts, word, of.marked)?;
-            }
-            (self.lists, self.starts) = (lists, starts);
         }
-        self.texts = texts;
+        for (to, word) in lists[len..].iter_mut().zip(&free) {
+            *to = push_text(&mut self.texts, word, of.marked)?;
+        }
+        (self.lists, self.starts) = (lists, starts);
         Ok(())
-    }
-
-    /// Stores the order of all options and free words.
-    #[cold]
-    pub fn keep_order(&mut self, order: &[proved::Given<'_>]) -> AllocResult<()> {
-        let mut next = self.starts.try_clone()?;
-        self.order = Vec::of_capacity(Global, order.len())?;
-        for given in order {
-            let (row, list) = match *given {
-                proved::Given::Option { place, .. } => (place, place),
-                proved::Given::Free(_) => (FREE_WORD, next.len() - 1),
-            };
-            self.order.push((row, next[list]));
-            next[list] += 1;
-        }
-        Ok(())
-    }
-
-    /// The row of the nth option or free word, and its value.
-    pub fn nth(&self, nth: usize) -> Option<(usize, Text)> {
-        let (row, at) = *self.order.get(nth_of(nth, self.order.len())?)?;
-        Some((row, self.lists[at]))
-    }
-
-    /// The message and the name in it; both are empty unless the words were rejected.
-    pub fn message(&self) -> (Text, Text) {
-        match self.status {
-            OK => (NOTHING.as_ptr(), NOTHING.as_ptr()),
-            _ => (self.texts.as_ptr(), self.texts[self.name..].as_ptr()),
-        }
     }
 
     /// What was given of an option, if words were read and it is declared.

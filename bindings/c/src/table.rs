@@ -2,16 +2,15 @@
 
 use crate::AllocResult;
 use crate::c::{Row, text};
-use library::alloc::Global;
+use library::alloc::{AllocError, Global};
 use library::fallible::{TryCopies, TryList, Vec};
-use library::proved::{HasArg, Occur, OptGroup, Options, ParsingStyle, names_lawful};
+use library::proved::{HasArg, Occur, Options, ParsingStyle, names_lawful};
 
 /// The modes, which may be added.
 const STOP: u32 = 16;
 const LONG_ONLY: u32 = 32;
-pub const KEEP_ORDER: u32 = 64;
-pub const REPEAT: u32 = 128;
-pub const STRICT: u32 = 256;
+pub const REPEAT: u32 = 64;
+pub const STRICT: u32 = 128;
 
 /// The kinds of required and of repeatable options.
 pub const REQ: u32 = 4;
@@ -43,16 +42,23 @@ pub fn declare<'c>(
 ) -> AllocResult<Table> {
     let wrong_table = |wrong| Table { rows: 0, kinds: Vec::new(), wrong };
     let Some(rows) = rows else { return Ok(wrong_table(message_of(&[b"the table is NULL"])?)) };
-    let (mut names, mut place) = (Names { shorts: 0, longs: [0; 16] }, 0);
-    let mut has_own_kinds = modes & REPEAT != 0;
+    let (mut names, mut may_repeat) = (Names { shorts: 0, longs: [0; 64] }, false);
+    let (mut has_own_kinds, mut wrong) = (modes & REPEAT != 0, None);
     for row in rows.clone() {
         has_own_kinds |= row.kind >= REQ + MULTI;
-        if !declare_row(options, &mut names, row, modes)? {
-            return Ok(wrong_table(wrong_row(options, place, row)?));
+        may_repeat |= names.add(row.texts[0], row.texts[1]);
+        if !declare_row(options, row, modes)? {
+            wrong = wrong_row(options.len(), row)?;
+            break;
         }
-        place += 1;
     }
-    if modes & !(STOP | LONG_ONLY | KEEP_ORDER | REPEAT | STRICT) != 0 {
+    if may_repeat {
+        wrong = repeated_name(options)?.or(wrong);
+    }
+    if wrong.is_some() {
+        return Ok(wrong_table(wrong));
+    }
+    if modes & !(STOP | LONG_ONLY | REPEAT | STRICT) != 0 {
         return Ok(wrong_table(message_of(&[b"invalid modes ", &digits(modes as usize)?, MODES])?));
     }
     if modes & STOP != 0 {
@@ -65,17 +71,17 @@ pub fn declare<'c>(
             kinds.try_push(row.kind)?;
         }
     }
-    Ok(Table { rows: place, kinds, wrong: None })
+    Ok(Table { rows: options.len(), kinds, wrong })
 }
 
 /// The names of rows: a bit for each, at a hash of the name.
 struct Names {
     shorts: u64,
-    longs: [u64; 16],
+    longs: [u64; 64],
 }
 
 impl Names {
-    /// Adds the names of a valid row. Returns whether one of them may have been added before.
+    /// Adds the names of a row. Returns whether one of them may have been added before.
     #[inline(always)]
     fn add(&mut self, short: &[u8], long: &[u8]) -> bool {
         let short = short.first().map_or(0, |byte| 1 << (byte % 64));
@@ -83,7 +89,7 @@ impl Names {
         self.shorts |= short;
         let [first, .., last] = long else { return repeats };
         let sample = [*first, long[long.len() - 2], *last, long.len() as u8];
-        let hash = u32::from_le_bytes(sample).wrapping_mul(0x9e37_79b1) >> 22;
+        let hash = u32::from_le_bytes(sample).wrapping_mul(0x9e37_79b1) >> 20;
         let (longs, long) = (&mut self.longs[hash as usize / 64], 1 << (hash % 64));
         let found = *longs & long != 0;
         *longs |= long;
@@ -98,15 +104,9 @@ fn kind_of(kind: u32) -> Option<(HasArg, Occur)> {
     Some((*HASARGS.get((kind % REQ) as usize)?, *OCCURS.get((kind / REQ) as usize)?))
 }
 
-/// Declares a row if it is valid, and returns whether it is.
-fn declare_row(
-    options: &mut Options,
-    names: &mut Names,
-    row: Row<&[u8]>,
-    modes: u32,
-) -> AllocResult<bool> {
+/// Declares a row if it is valid by itself, and returns whether it is.
+fn declare_row(options: &mut Options, row: Row<&[u8]>, modes: u32) -> AllocResult<bool> {
     let [short, long, hint, desc] = row.texts;
-    let may_repeat = names.add(short, long);
     let (Some(short), Some(long), Some(hint), Some(desc), Some((hasarg, occur))) =
         (text(short), text(long), text(hint), text(desc), kind_of(row.kind))
     else {
@@ -116,7 +116,6 @@ fn declare_row(
         || short == "-"
         || long.starts_with('-')
         || !hint.is_empty() && hasarg == HasArg::No
-        || may_repeat && named(options, [short, long]).is_some()
     {
         return Ok(false);
     }
@@ -126,7 +125,7 @@ fn declare_row(
 
 /// What to write instead of invalid modes.
 const MODES: &[u8] =
-    b": combine GETOPTS_STOP, LONG_ONLY, KEEP_ORDER, REPEAT and STRICT, or write GETOPTS_ORDINARY";
+    b": combine GETOPTS_STOP, LONG_ONLY, REPEAT and STRICT, or write GETOPTS_ORDINARY";
 
 /// What to write instead of an invalid kind.
 const KINDS: &[u8] =
@@ -139,9 +138,9 @@ const NO_ARGUMENT: &[u8] =
 /// What is wrong with bytes for which `text` returns none.
 const NO_TEXT: &[u8] = b" must be UTF-8 with all characters below U+10FF80";
 
-/// What is wrong with a row: the first mistake, in the order of the cases below.
+/// What is wrong with a row by itself: the first mistake, in the order of the cases below.
 #[cold]
-fn wrong_row(options: &Options, place: usize, row: Row<&[u8]>) -> AllocResult<Wrong> {
+fn wrong_row(place: usize, row: Row<&[u8]>) -> AllocResult<Wrong> {
     let ([short, long, hint, _], texts) = (row.texts, row.texts.map(text));
     let (kind, bad) = (digits(row.kind as usize)?, texts.iter().position(Option::is_none));
     let parts: [&[u8]; 3] = match bad {
@@ -154,34 +153,36 @@ fn wrong_row(options: &Options, place: usize, row: Row<&[u8]>) -> AllocResult<Wr
         }
         _ if kind_of(row.kind).is_none() => [b"invalid kind ", &kind, KINDS],
         Some(nth) => [b"the ", TEXTS[nth], NO_TEXT],
-        None if row.kind % REQ == 0 && !hint.is_empty() => [b"hint '", shown(hint), NO_ARGUMENT],
-        None => {
-            let names = [texts[0], texts[1]].map(Option::unwrap_or_default);
-            let (nth, other) = named(options, names).unwrap_or_default();
-            return message_of(&[
-                b"table[",
-                &digits(place)?,
-                b"]: ",
-                TEXTS[nth],
-                b" '",
-                shown(row.texts[nth]),
-                b"' is also in table[",
-                &digits(other)?,
-                b"]: rename one",
-            ]);
-        }
+        None => [b"hint '", shown(hint), NO_ARGUMENT],
     };
     message_of(&[b"table[", &digits(place)?, b"]: ", parts[0], parts[1], parts[2]])
 }
 
-/// Which of a short and a long name an option has, and its place.
+/// What is wrong with a row that has a name of an earlier row, if there is one: the name then means
+/// the option of another row. A short name means what its row's long name means, so that a repeated
+/// long name has to be reported first.
 #[cold]
-pub fn named(options: &Options, names: [&str; 2]) -> Option<(usize, usize)> {
-    names.into_iter().enumerate().filter(|(_, name)| !name.is_empty()).find_map(|(nth, name)| {
-        let has = |group: OptGroup<'_>| [group.short_name, group.long_name][nth] == name;
-        let place = (0..options.len()).find(|place| options.get(*place).map_or(false, has))?;
-        Some((nth, place))
-    })
+fn repeated_name(options: &Options) -> AllocResult<Wrong> {
+    let matches = options.parse_ignoring_counts(Global, &[""; 0]).map_err(|_| AllocError)?;
+    let groups = (0..options.len()).filter_map(|place| Some((options.get(place)?, place)));
+    let names = groups.flat_map(|(it, place)| [(it.short_name, place), (it.long_name, place)]);
+    let twice = names.filter_map(|(name, place)| {
+        let other = matches.opt_place(name).filter(|other| *other != place)?;
+        Some((place.max(other), name, place.min(other)))
+    });
+    let first = twice.min_by_key(|(place, name, _)| (*place, name.len() == 1));
+    let Some((place, name, other)) = first else { return Ok(None) };
+    message_of(&[
+        b"table[",
+        &digits(place)?,
+        b"]: ",
+        TEXTS[usize::from(name.len() > 1)],
+        b" '",
+        shown(name.as_bytes()),
+        b"' is also in table[",
+        &digits(other)?,
+        b"]: rename one",
+    ])
 }
 
 /// The part of a name that a message shows: all, or its first bytes up to the end of a character.

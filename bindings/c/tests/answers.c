@@ -59,12 +59,8 @@ static void say_and_free(char *text) {
     getopts_free(text);
 }
 
-/* Whether getopts_nth may be called. */
-static bool may_ask_order;
-
 /* Says what was read, also for an occurrence after the last one, and for the last. */
 static void say_reading(const struct getopts *options) {
-    const char *value;
     for (char **name = names; *name != NULL; name++) {
         size_t times = getopts_count(options, *name);
         say_number(getopts_defined(options, *name));
@@ -78,18 +74,29 @@ static void say_reading(const struct getopts *options) {
             say_number(number);
         }
     }
-    int row = 0;
-    for (size_t nth = 0; row >= 0; nth++) {
-        value = NULL;
-        say_number(row = may_ask_order ? getopts_nth(options, nth, &value) : -1);
-        say(value);
-    }
     say_number(getopts_free_count(options));
     say_list((const char *const *)getopts_free_words(options), (size_t)getopts_free_count(options));
     say_number(getopts_trailing_start(options));
 }
 
-/* Answers with new options. Nothing of an earlier reading shows. */
+/* Says what a loop reads, if it can read all words, and its status. */
+static void say_loop(struct getopts *options) {
+    const char *value;
+    int row = 0;
+    for (int times = 0; times < 2; times++) {
+        struct getopts_unread unread = { count, words, NULL, NULL };
+        while ((row = getopts_next(options, &unread, &value)) != -1)
+            if (times > 0)
+                say_number(row), say(value);
+        if (getopts_status(options) != GETOPTS_OK)
+            break;
+    }
+    say_number(row);
+    say_number(getopts_status(options));
+    say(getopts_message(options));
+}
+
+/* Answers with new options. Nothing of an earlier reading shows, and nothing of a loop. */
 static void answer(struct getopts *options) {
     char **line;
     say(getopts_message(options));
@@ -99,6 +106,7 @@ static void answer(struct getopts *options) {
     say_number(getopts_read(options, count, words));
     say(getopts_message(options));
     say(getopts_message_name(options));
+    say_loop(options);
     say_reading(options);
     say_number(getopts_canonical(options, count, words, &line));
     for (size_t nth = 0; line != NULL && line[nth] != NULL; nth++)
@@ -158,7 +166,26 @@ static int status_of_text(char *text) {
     return text != NULL ? GETOPTS_OK : GETOPTS_NO_MEMORY;
 }
 
-/* Makes one of seven calls, and returns its status. */
+/* Reads the words in a loop, which goes on if an allocation failed. Returns GETOPTS_NO_MEMORY if one did. */
+static int read_in_loop(struct getopts *options) {
+    struct getopts_unread unread = { count, words, NULL, NULL };
+    int row, failed = GETOPTS_OK;
+    do {
+        struct getopts_unread before = unread;
+        row = getopts_next(options, &unread, NULL);
+        if (getopts_status(options) == GETOPTS_NO_MEMORY) {
+            expect(row == -1 && strcmp(getopts_message(options), "Out of memory") == 0, "the message of a loop");
+            expect(before.count == unread.count && before.words == unread.words && before.names == unread.names
+                   && before.free_words == unread.free_words, "what is left after an allocation failed");
+            failed = GETOPTS_NO_MEMORY;
+            row = 0;
+            heap.at = 0;
+        }
+    } while (row != -1);
+    return failed;
+}
+
+/* Makes one of eight calls, and returns its status. */
 static int call(int which, struct getopts *options, enum getopts_modes modes) {
     char **line = NULL;
     if (which == 0 || which == 5) {
@@ -169,6 +196,8 @@ static int call(int which, struct getopts *options, enum getopts_modes modes) {
     }
     if (which == 1)
         return getopts_read(options, count, words);
+    if (which == 7)
+        return read_in_loop(options);
     if (which == 6)
         return status_of_text(getopts_usage_in(options, "brief", columns));
     if (which > 2)
@@ -184,22 +213,25 @@ static uint64_t hash_of_reading(const struct getopts *options) {
     return hash;
 }
 
-/* If an allocation fails, a call reports it, leaks nothing, and keeps what was read before (half of the words). */
-static void check_failures(struct getopts *options, enum getopts_modes modes) {
-    for (int which = 0; which < 7; which++)
+/* If an allocation fails, a call reports it, leaks nothing, and keeps what was read before (half of the words). A loop keeps a
+ * table of names. */
+static void check_failures(enum getopts_modes modes) {
+    for (int which = 0; which < 8; which++)
         for (int on = 0; on < 2; on++)
             for (size_t nth = 1; nth == 1 || heap.failures > 0; nth++, heap.runs += heap.failures > 0) {
+                struct getopts *options = getopts_new(table, modes);
                 getopts_read(options, count / 2, words);
                 size_t blocks = heap.blocks;
                 uint64_t before = hash_of_reading(options);
                 heap.at = nth, heap.on = on == 1, heap.requests = heap.failures = 0;
                 int status = call(which, options, modes);
                 heap.at = 0;
-                if (heap.failures == 0)
-                    continue;
-                expect(status == GETOPTS_NO_MEMORY && heap.blocks == blocks, "reported, and nothing leaked");
-                expect(hash_of_reading(options) == before, "earlier results stay");
-                expect(which != 1 || strcmp(getopts_message(options), "Out of memory") == 0, "its message");
+                if (heap.failures > 0) {
+                    expect(status == GETOPTS_NO_MEMORY && (which == 7 || heap.blocks == blocks), "reported, and nothing leaked");
+                    expect(hash_of_reading(options) == before, "earlier results stay");
+                    expect(which != 1 || strcmp(getopts_message(options), "Out of memory") == 0, "its message");
+                }
+                getopts_delete(options);
             }
 }
 #endif
@@ -207,7 +239,6 @@ static void check_failures(struct getopts *options, enum getopts_modes modes) {
 /* Reads a case, and answers it. */
 static void answer_case(void) {
     int modes = atoi(next());
-    may_ask_order = !(modes & GETOPTS_STRICT) || (modes & GETOPTS_KEEP_ORDER);
     columns = strtoul(next(), NULL, 10);
     int rows = atoi(next());
     for (struct getopts_option *row = table; row < table + rows; row++) {
@@ -225,7 +256,7 @@ static void answer_case(void) {
     struct getopts *options = getopts_new(table, (enum getopts_modes)modes);
     answer(options);
 #ifdef REFUSES
-    check_failures(options, (enum getopts_modes)modes);
+    check_failures((enum getopts_modes)modes);
 #endif
     getopts_delete(options);
 }

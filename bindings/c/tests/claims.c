@@ -46,12 +46,15 @@ static bool frees_are(const struct getopts *it, const char *line) {
     return is(all, line);
 }
 
-/* Whether getopts_nth returns these rows, each with its value, and free words. */
-static bool order_is(const struct getopts *it, const char *line) {
+/* Whether a loop over the words gives these rows, each with its value, and free words. */
+static bool loop_is(struct getopts *it, const char *line) {
+    struct getopts_unread unread = { 0, words + 1, NULL, NULL };
     char all[99] = "", digit[] = "0";
     const char *value;
     int row;
-    for (size_t nth = 0; (row = getopts_nth(it, nth, &value)) >= 0; nth++) {
+    while (words[1 + unread.count] != NULL)
+        unread.count++;
+    while ((row = getopts_next(it, &unread, &value)) != -1) {
         digit[0] = (char)('0' + row % 10);
         add(all, row == GETOPTS_FREE_WORD ? "" : digit, value);
     }
@@ -107,12 +110,12 @@ static void differences_from_getopt_long(void) {
     CLAIM("Long names can't be abbreviated, as in `--verb` for `--verbose`.", GETOPTS_ORDINARY, "--verb",
           status == GETOPTS_UNRECOGNIZED_OPTION && glibc_is("", "V"), LONG("verbose", GETOPTS_NO));
     CLAIM("`no_argument`, `required_argument`, `optional_argument` | the kinds `GETOPTS_NO`, `GETOPTS_YES`, `GETOPTS_MAYBE`",
-          GETOPTS_KEEP_ORDER, "--verbose|--file|f|--color=c|--color|c",
-          order_is(it, "0|1=f|2=c|2|c") && glibc_is("", "V|F=f|C=c|C|c"),
+          GETOPTS_ORDINARY, "--verbose|--file|f|--color=c|--color|c",
+          loop_is(it, "0|1=f|2=c|2|c") && glibc_is("", "V|F=f|C=c|C|c"),
           LONG("verbose", GETOPTS_NO), LONG("file", GETOPTS_YES), LONG("color", GETOPTS_MAYBE + GETOPTS_MULTI));
     CLAIM("`argv` isn't permuted", GETOPTS_ORDINARY, "f|-v", is(words[1], "f") && frees_are(it, "f") && glibc_is("v", "v|f"), FLAG);
-    CLAIM("`-` before the short options | the mode `GETOPTS_KEEP_ORDER`, and `getopts_nth`", GETOPTS_KEEP_ORDER, "f|-v",
-          order_is(it, "f|0") && glibc_is("-v", "f|v"), FLAG);
+    CLAIM("`-` before the short options | a loop over `getopts_next`", GETOPTS_ORDINARY, "f|-v",
+          loop_is(it, "f|0") && glibc_is("-v", "f|v"), FLAG);
     CLAIM("`+` before them, or `POSIXLY_CORRECT` | the mode `GETOPTS_STOP`", GETOPTS_STOP, "f|-v",
           frees_are(it, "f|-v") && glibc_is("+v", "f|-v"), FLAG);
     setenv("POSIXLY_CORRECT", "", 1);
@@ -120,8 +123,8 @@ static void differences_from_getopt_long(void) {
     unsetenv("POSIXLY_CORRECT");
     CLAIM("`getopts_message_name(options)`, which is the whole name", GETOPTS_ORDINARY, "--nope",
           is(getopts_message_name(it), "nope") && glibc_is("", "?") && optopt == 0, FLAG);
-    CLAIM("the results `?` and `:` | what `getopts_read` returns", GETOPTS_ORDINARY, "-o",
-          status == GETOPTS_ARGUMENT_MISSING && glibc_is(":o:", ":"), ROW("o", GETOPTS_YES));
+    CLAIM("the results `?` and `:` | what `getopts_read` or, after a loop, `getopts_status` returns", GETOPTS_ORDINARY, "-o",
+          status == GETOPTS_ARGUMENT_MISSING && loop_is(it, "") && getopts_status(it) == status && glibc_is(":o:", ":"), ROW("o", GETOPTS_YES));
     CLAIM("to read other words | nothing: call `getopts_read` again", GETOPTS_ORDINARY, "-v|f",
           read_line(it, "a") == GETOPTS_OK && COUNT("v") == 0 && frees_are(it, "a"), FLAG);
     CLAIM("takes the next word**, as in `-O f`", GETOPTS_ORDINARY, "-O|f", is(VALUE("O"), "f"), ROW("O", GETOPTS_MAYBE));
@@ -162,8 +165,8 @@ static void how_often_options_occur(void) {
               { "b", "both", NULL, NULL, GETOPTS_REQ + GETOPTS_MULTI }, FLAG, ROW("c", GETOPTS_NO));
     CLAIM("the error names the one that comes first in the table.", GETOPTS_ORDINARY, "-vv", is(getopts_message_name(it), "v"),
           FLAG, ROW("b", GETOPTS_REQ + GETOPTS_MULTI), ROW("r", GETOPTS_REQ));
-    CLAIM("Each row then has a count and values of its own", GETOPTS_KEEP_ORDER, "-q|--silent",
-          COUNT("quiet") == 1 && COUNT("silent") == 1 && order_is(it, "0|1"),
+    CLAIM("Each row then has a count and values of its own", GETOPTS_ORDINARY, "-q|--silent",
+          COUNT("quiet") == 1 && COUNT("silent") == 1 && loop_is(it, "0|1"),
           { "q", "quiet", NULL, NULL, GETOPTS_NO }, LONG("silent", GETOPTS_NO));
 }
 
@@ -174,12 +177,16 @@ static void errors(void) {
           is(getopts_message(it), "Unrecognized option: '\033x'"), FLAG);
     CLAIM("In `head --help --nope`, the second word is an error", GETOPTS_ORDINARY, "--help|--nope", COUNT("help") == 0,
           { "h", "help", NULL, NULL, GETOPTS_NO });
-    CLAIM("after `-n 1 -n 2`, the count is 2.", GETOPTS_KEEP_ORDER, "-n|1|-n|2|f",
-          status == GETOPTS_OPTION_DUPLICATED && COUNT("n") == 2 && number(it, GETOPTS_LAST) == 2 && frees_are(it, "f")
-          && getopts_nth(it, 0, NULL) == -1, ROW("n", GETOPTS_YES));
-    CLAIM("If a word is invalid, they behave as if nothing had been read.", GETOPTS_KEEP_ORDER, "-n|1|f|--nope",
-          COUNT("n") == 0 && VALUE("n") == NULL && getopts_free_count(it) == 0 && getopts_nth(it, 0, NULL) == -1,
+    CLAIM("A loop would print it.", GETOPTS_ORDINARY, "--help|--nope",
+          loop_is(it, "0") && getopts_status(it) == GETOPTS_UNRECOGNIZED_OPTION && is(getopts_message_name(it), "nope"),
+          { "h", "help", NULL, NULL, GETOPTS_NO });
+    CLAIM("A loop doesn't check how often options are given, so `getopts_read` does it afterwards.", GETOPTS_ORDINARY, "-vv",
+          loop_is(it, "0|0") && getopts_status(it) == GETOPTS_OK && read_line(it, "-vv") == GETOPTS_OPTION_DUPLICATED, FLAG);
+    CLAIM("after `-n 1 -n 2`, the count is 2.", GETOPTS_ORDINARY, "-n|1|-n|2|f",
+          status == GETOPTS_OPTION_DUPLICATED && COUNT("n") == 2 && number(it, GETOPTS_LAST) == 2 && frees_are(it, "f"),
           ROW("n", GETOPTS_YES));
+    CLAIM("If a word is invalid, they behave as if nothing had been read.", GETOPTS_ORDINARY, "-n|1|f|--nope",
+          COUNT("n") == 0 && VALUE("n") == NULL && getopts_free_count(it) == 0, ROW("n", GETOPTS_YES));
     CLAIM("`table[3]: short name 'v' is also in table[1]: rename one`", GETOPTS_ORDINARY, "", status == GETOPTS_BAD
           && is(getopts_message(it), "table[3]: short name 'v' is also in table[1]: rename one"), ROW("a", GETOPTS_NO), FLAG,
           ROW("b", GETOPTS_NO), FLAG);
@@ -191,8 +198,7 @@ static void errors(void) {
           { "v", NULL, "H", NULL, GETOPTS_NO });
     CLAIM("A missing hint isn't, but leaves a gap in the help: `[-n ]`.", GETOPTS_ORDINARY, "", is(text, "Usage: it [-n ]"),
           ROW("n", GETOPTS_YES));
-    CLAIM("and aborts, unless the table is invalid.", GETOPTS_STRICT, "-v", COUNT("nope") == 0 && getopts_nth(it, 0, NULL) == -1,
-          FLAG, FLAG);
+    CLAIM("and aborts, unless the table is invalid.", GETOPTS_STRICT, "-v", COUNT("nope") == 0, FLAG, FLAG);
 }
 
 static void results(void) {
@@ -200,8 +206,6 @@ static void results(void) {
           number(it, 0) == 10 && number(it, 1) == 10 && number(it, 2) == -1 && number(it, 3) == -1 && number(it, 4) == -10,
           ROW("n", GETOPTS_YES + GETOPTS_MULTI));
     CLAIM("or if there is no value, so that `number` keeps its default", GETOPTS_ORDINARY, "", number(it, 0) == 42, ROW("n", GETOPTS_YES));
-    CLAIM("after the last, or without the mode `GETOPTS_KEEP_ORDER`, -1", GETOPTS_ORDINARY, "-v", getopts_nth(it, 0, NULL) == -1, FLAG);
-    CLAIM("after the last, or without the mode `GETOPTS_KEEP_ORDER`, -1", GETOPTS_KEEP_ORDER, "-v", getopts_nth(it, 1, NULL) == -1, FLAG);
     CLAIM("**Negative numbers** such as `-5` are read as options, unless they are the argument of the option before them.",
           GETOPTS_ORDINARY, "-n|-5", number(it, 0) == -5 && read_line(it, "-5") == GETOPTS_UNRECOGNIZED_OPTION, ROW("n", GETOPTS_YES));
     CLAIM("all words from it on are free words, as they were given.", GETOPTS_STOP, "-v|f|-v|--|f", frees_are(it, "f|-v|--|f"), FLAG);
@@ -209,8 +213,6 @@ static void results(void) {
     CLAIM("getopts_read(other, getopts_free_count(options) - 1, getopts_free_words(options) + 1)", GETOPTS_STOP, "-v|add|-v|x",
           getopts_read(it, getopts_free_count(it) - 1, getopts_free_words(it) + 1) == GETOPTS_OK && COUNT("v") == 1
           && frees_are(it, "x"), FLAG);
-    CLAIM("A loop over `getopts_nth` may end anywhere, but `getopts_read` has read all words by then, and reports an error in any",
-          GETOPTS_KEEP_ORDER, "-v|f|--nope", getopts_nth(it, 0, NULL) == -1 && is(getopts_message_name(it), "nope"), FLAG);
 }
 
 int main(void) {

@@ -30,7 +30,10 @@ int main(int argc, char **argv) {
     }
     const char *output = getopts_value(options.get(), "output", GETOPTS_LAST);
     std::cout << getopts_count(options.get(), "verbose") << ' ' << (output ? output : "none");
-    for (auto word = getopts_free_words(options.get()); *word; ++word)
+    getopts_unread unread = { argc - 1, argv + 1, nullptr, nullptr };
+    while (!unread.free_words && getopts_next(options.get(), &unread, nullptr) != -1) {
+    }
+    for (auto word = unread.free_words; *word; ++word)
         std::cout << ' ' << *word;
     std::cout << '\n';
 }

@@ -17,7 +17,7 @@ use std::slice;
 ///
 /// Its items are the options and positional arguments in command-line order or, if a word can't be
 /// read, those before the error, and last the error. Words are read when an item is asked for, so a
-/// program may stop anywhere, and use the [`rest`](Self::rest) in another way.
+/// program may stop anywhere, and use the [`words`](Self::words) that are left in another way.
 ///
 /// [`Options::read`]: crate::Options::read
 ///
@@ -30,7 +30,8 @@ use std::slice;
 /// for given in options.read(&words) {
 ///     match given.unwrap() {
 ///         Given::Option { long: "verbose", .. } => {}
-///         Given::Option { value, .. } => assert_eq!(value, Some("file")),
+///         Given::Option { short: "o", value, .. } => assert_eq!(value, Some("file")),
+///         Given::Option { short, .. } => unreachable!("-{short} has no arm here"),
 ///         Given::Free(word) => assert!(["in.txt", "-x"].contains(&word)),
 ///     }
 /// }
@@ -61,11 +62,30 @@ impl<'o, 'w, S: AsRef<str>> Reader<'o, 'w, S> {
     /// options.optflag("v", "", "say more");
     /// let mut reader = options.read(&["-v", "run", "--", "-x"]);
     /// assert_eq!(reader.nth(1), Some(Ok(getopts::Given::Free("run"))));
-    /// assert_eq!(reader.rest(), ["--", "-x"]);
+    /// assert_eq!(reader.words(), ["--", "-x"]);
     /// ```
     #[inline]
-    pub fn rest(&self) -> &'w [S] {
+    pub fn words(&self) -> &'w [S] {
         self.unread.words
+    }
+
+    /// The positional argument that `next` returned last and those after it, such as a command and
+    /// its arguments, or `None` while options may follow. At the end, there are none: `Some(&[])`.
+    ///
+    /// ```
+    /// use getopts::{Given, Options, ParsingStyle};
+    ///
+    /// let mut options = Options::new();
+    /// options.optflag("v", "", "say more").parsing_style(ParsingStyle::StopAtFirstFree);
+    /// let mut reader = options.read(&["-v", "run", "-x"]);
+    /// assert_eq!((reader.nth(1), reader.words()), (Some(Ok(Given::Free("run"))), &["-x"][..]));
+    /// assert_eq!(reader.free_words().unwrap(), ["run", "-x"]);
+    /// ```
+    ///
+    /// Without `StopAtFirstFree`, it would be `None` here, because options may follow `run`.
+    #[inline]
+    pub fn free_words(&self) -> Option<&'w [S]> {
+        self.unread.free_words
     }
 
     /// Takes the next word as it was given, if the closure returns true for it. At the end, and
@@ -73,7 +93,7 @@ impl<'o, 'w, S: AsRef<str>> Reader<'o, 'w, S> {
     ///
     /// After an error, the next word is the one that couldn't be read, unless an option of this
     /// word was read before. A program that passes such words on takes it, and goes on with
-    /// `options.read(reader.rest())`.
+    /// `options.read(reader.words())`.
     ///
     /// ```
     /// let mut options = getopts::Options::new();
@@ -82,7 +102,7 @@ impl<'o, 'w, S: AsRef<str>> Reader<'o, 'w, S> {
     /// assert!(reader.next().unwrap().is_ok());
     /// assert_eq!(reader.next_word_if(|word| word != ";"), Some("-f"));
     /// assert_eq!(reader.next_word_if(|word| word != ";"), None);
-    /// assert_eq!(reader.rest(), [";", "in.txt"]);
+    /// assert_eq!(reader.words(), [";", "in.txt"]);
     /// ```
     #[inline]
     pub fn next_word_if(&mut self, take: impl FnOnce(&str) -> bool) -> Option<&'w str> {
@@ -119,7 +139,7 @@ impl<S: AsRef<str>> FusedIterator for Reader<'_, '_, S> {}
 impl<S: fmt::Debug> fmt::Debug for Reader<'_, '_, S> {
     fn fmt(&self, f: &mut fmt::Formatter<'_>) -> fmt::Result {
         let Unread { names, words, .. } = &self.unread;
-        f.debug_struct("Reader").field("names", names).field("rest", words).finish_non_exhaustive()
+        f.debug_struct("Reader").field("names", names).field("words", words).finish_non_exhaustive()
     }
 }
 
@@ -142,7 +162,8 @@ impl<S: fmt::Debug> fmt::Debug for Reader<'_, '_, S> {
 /// let (mut output, mut inputs) = (None, Vec::new());
 /// for given in options.read_os(&words) {
 ///     match given.unwrap() {
-///         Given::Option { value, .. } => output = value,
+///         Given::Option { short: "o", value, .. } => output = value,
+///         Given::Option { short, .. } => unreachable!("-{short} has no arm here"),
 ///         Given::Free(name) => inputs.push(PathBuf::from(&name)),
 ///     }
 /// }
@@ -159,8 +180,8 @@ pub struct OsReader<'o, 'w, S> {
     /// How many words were read, and how many bytes of names are left in the last one's text.
     read: usize,
     left: usize,
-    /// Whether only free words are left.
-    only_free: bool,
+    /// What `free_words` returns.
+    free_words: Option<&'w [S]>,
     /// Whether a word couldn't be read.
     failed: bool,
 }
@@ -169,22 +190,36 @@ impl<'o, 'w, S: AsRef<OsStr>> OsReader<'o, 'w, S> {
     pub(crate) fn of(options: &'o proved::Options, words: &'w [S]) -> OsReader<'o, 'w, S> {
         let proved = granted(options.reader(Global));
         let texts = Vec::with_capacity(words.len().min(FIRST_ROOM));
-        let (only_free, failed) = (false, false);
-        OsReader { options, proved, words, texts, read: 0, left: 0, only_free, failed }
+        let (free_words, failed) = (None, false);
+        OsReader { options, proved, words, texts, read: 0, left: 0, free_words, failed }
     }
 
-    /// The words that weren't read yet, as [`Reader::rest`] returns them.
+    /// The words that weren't read yet, as [`Reader::words`] returns them.
     ///
     /// ```
     /// let mut options = getopts::Options::new();
     /// options.optflag("v", "", "say more");
     /// let mut reader = options.read_os(&["-v", "run", "--", "-x"]);
     /// assert!(reader.nth(1).unwrap().is_ok());
-    /// assert_eq!(reader.rest(), ["--", "-x"]);
+    /// assert_eq!(reader.words(), ["--", "-x"]);
     /// ```
     #[inline]
-    pub fn rest(&self) -> &'w [S] {
+    pub fn words(&self) -> &'w [S] {
         &self.words[self.read..]
+    }
+
+    /// The positional argument that `next` returned last and those after it, or `None` while
+    /// options may follow, as [`Reader::free_words`] returns them.
+    ///
+    /// ```
+    /// let options = getopts::Options::new();
+    /// let mut reader = options.read_os(&["--", "a", "b"]);
+    /// assert!(reader.nth(1).unwrap().is_ok());
+    /// assert_eq!(reader.free_words().unwrap(), ["b"]);
+    /// ```
+    #[inline]
+    pub fn free_words(&self) -> Option<&'w [S]> {
+        self.free_words
     }
 
     /// Takes the next word as it was given, if the closure returns true for it, as
@@ -200,7 +235,7 @@ impl<'o, 'w, S: AsRef<OsStr>> OsReader<'o, 'w, S> {
     /// ```
     #[inline]
     pub fn next_word_if(&mut self, take: impl FnOnce(&OsStr) -> bool) -> Option<&'w OsStr> {
-        let word = self.rest().first()?.as_ref();
+        let word = self.words().first()?.as_ref();
         if self.left > 0 || !take(word) {
             return None;
         }
@@ -215,7 +250,7 @@ impl<'o, 'w, S: AsRef<OsStr>> OsReader<'o, 'w, S> {
             self.texts.push(text_of(self.words[self.texts.len()].as_ref())?);
         }
         let (words, names) = (&self.texts[self.read..end], self.end(self.left));
-        let free_words: Option<&[_]> = self.only_free.then_some(&[]);
+        let free_words = self.free_words.map(|_| &[][..]);
         let mut unread = Unread { words, names, free_words };
         let given = self.proved.next(Global, &mut unread).map_err(|fail| {
             let text = if names.is_empty() { &words[0] } else { names };
@@ -223,7 +258,7 @@ impl<'o, 'w, S: AsRef<OsStr>> OsReader<'o, 'w, S> {
         })?;
         let (read, left) = (words.len() - unread.words.len(), unread.names.len());
         let given = given.map(|given| Given::of(self.options, given, str::len));
-        self.only_free = unread.free_words.is_some();
+        self.free_words = unread.free_words.map(|free| &self.words[end - free.len()..]);
         (self.read, self.left) = (self.read + read, left);
         Ok(given.map(|given| given.map(|len| self.value(len))))
     }
@@ -267,9 +302,9 @@ impl<S: AsRef<OsStr>> FusedIterator for OsReader<'_, '_, S> {}
 
 impl<S: fmt::Debug> fmt::Debug for OsReader<'_, '_, S> {
     fn fmt(&self, f: &mut fmt::Formatter<'_>) -> fmt::Result {
-        let (names, rest) = (os_of(self.end(self.left)), &self.words[self.read..]);
+        let (names, words) = (os_of(self.end(self.left)), &self.words[self.read..]);
         let mut shown = f.debug_struct("OsReader");
-        shown.field("names", &names).field("rest", &rest).finish_non_exhaustive()
+        shown.field("names", &names).field("words", &words).finish_non_exhaustive()
     }
 }
 

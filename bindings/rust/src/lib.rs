@@ -104,7 +104,8 @@ option is missing. If the order of options and positional arguments matters, use
 //!             continue;
 //!         }
 //!         match reader.next().transpose()? {
-//!             Some(Given::Option { value, .. }) => separator = value.unwrap(),
+//!             Some(Given::Option { short: "s", value, .. }) => separator = value.unwrap(),
+//!             Some(Given::Option { short, .. }) => unreachable!("-{short} has no arm here"),
 //!             Some(Given::Free(word)) => numbers.push(word),
 //!             None => return Ok((separator, numbers)),
 //!         }

@@ -420,14 +420,15 @@ impl Options {
     ///     while let Some(given) = reader.next() {
     ///         match given? {
     ///             Given::Option { short: "C", value, .. } => dir = value.unwrap(),
-    ///             Given::Option { .. } => return Ok(options.usage("Usage: launch COMMAND")),
-    ///             Given::Free(name) => return Ok(format!("{dir}: {name} {:?}", reader.rest())),
+    ///             Given::Option { long: "help", .. } => return Ok(options.usage("Usage: launch ..")),
+    ///             Given::Option { short, .. } => unreachable!("-{short} has no arm here"),
+    ///             Given::Free(name) => return Ok(format!("{dir}: {name} {:?}", reader.words())),
     ///         }
     ///     }
     ///     Ok("no command".to_string())
     /// }
     /// assert_eq!(launch(&["-C", "src", "make", "-j", "4"]).unwrap(), r#"src: make ["-j", "4"]"#);
-    /// assert!(launch(&["--help", "--unknown"]).unwrap().starts_with("Usage: launch COMMAND"));
+    /// assert!(launch(&["--help", "--unknown"]).unwrap().starts_with("Usage: launch .."));
     /// ```
     ///
     /// For a program's own arguments, collect `args_os().skip(1).map(OsString::into_string)` into a

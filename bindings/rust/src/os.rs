@@ -172,8 +172,9 @@ impl Options {
     ///     let (mut reader, mut dir) = (options.read_os(words), OsStr::new(".").into());
     ///     while let Some(given) = reader.next() {
     ///         match given? {
-    ///             Given::Option { value, .. } => dir = value.unwrap(),
-    ///             Given::Free(it) => return Ok(format!("{dir:?}: {it:?} {:?}", reader.rest())),
+    ///             Given::Option { short: "C", value, .. } => dir = value.unwrap(),
+    ///             Given::Option { short, .. } => unreachable!("-{short} has no arm here"),
+    ///             Given::Free(it) => return Ok(format!("{dir:?}: {it:?} {:?}", reader.words())),
     ///         }
     ///     }
     ///     Ok("no command".to_string())

@@ -165,11 +165,18 @@ fn a_loop_gives_what_parse_os_in_order_gives() {
         let mut reader = options.read_os(&line);
         let (mut given, mut fail) = (Vec::new(), None);
         while let Some(item) = reader.next() {
-            assert!(fail.is_none() && line.ends_with(reader.rest()));
+            assert!(fail.is_none() && line.ends_with(reader.words()));
+            if let Some(free_words) = reader.free_words() {
+                assert!(line.ends_with(free_words) && free_words[1..] == *reader.words());
+            }
             if let Some(of_texts) = &mut of_texts {
                 // The loop over texts stops and goes on at the same words.
                 assert_eq!(of_texts.next().unwrap().is_err(), item.is_err());
-                assert_eq!(of_texts.rest().len(), reader.rest().len());
+                assert_eq!(of_texts.words().len(), reader.words().len());
+                assert_eq!(
+                    of_texts.free_words().map(<[_]>::len),
+                    reader.free_words().map(<[_]>::len)
+                );
                 assert_eq!(format!("Os{of_texts:?}"), format!("{reader:?}"));
             }
             match item {
@@ -180,7 +187,8 @@ fn a_loop_gives_what_parse_os_in_order_gives() {
                 Err(error) => fail = Some(error),
             }
         }
-        assert!(reader.next().is_none() && (fail.is_some() || reader.rest().is_empty()));
+        assert!(reader.next().is_none() && (fail.is_some() || reader.words().is_empty()));
+        assert_eq!(reader.free_words(), fail.is_none().then_some(&[][..]));
         // No name has an invalid byte, so an error shows the same as that of the texts.
         let lossy = line.iter().map(|word| word.to_string_lossy().into_owned());
         assert_eq!(fail, options.parse_in_order(lossy).err(), "{line:?}");
@@ -201,12 +209,12 @@ fn a_loop_borrows_what_it_can() {
         let mut reader = options.read_os(&words);
         assert!(matches!(reader.next(), Some(Ok(Given::Option { short: "v", .. }))));
         assert_eq!(reader.next_word_if(|_| unreachable!()), None);
-        let shown = format!("OsReader {{ names: {:?}, rest: ", joined("o", &word));
+        let shown = format!("OsReader {{ names: {:?}, words: ", joined("o", &word));
         assert!(format!("{reader:?}").starts_with(&shown));
         for (rest, may_copy) in [(&words[1..], true), (&words[3..], false)] {
             match reader.next() {
                 Some(Ok(Given::Option { short: "o", value: Some(value), .. })) => {
-                    assert_eq!((&*value, reader.rest()), (&*word, rest));
+                    assert_eq!((&*value, reader.words()), (&*word, rest));
                     assert!(may_copy || matches!(value, Cow::Borrowed(_)));
                 }
                 item => panic!("{item:?}"),
@@ -215,7 +223,7 @@ fn a_loop_borrows_what_it_can() {
         assert_eq!(reader.next_word_if(|next| next != word), None);
         assert_eq!(reader.next_word_if(|next| next == word), Some(&*words[3]));
         assert!(matches!(reader.next(), Some(Ok(Given::Option { short: "v", .. }))));
-        assert!(reader.next().is_none() && reader.rest().is_empty());
+        assert!(reader.next().is_none() && reader.words().is_empty());
     }
 }
 

@@ -65,9 +65,9 @@ fn an_error_is_the_last_item() {
         let mut reader = options.read(line);
         assert!(reader.next().unwrap().is_ok());
         assert!(reader.next().unwrap().is_err());
-        assert_eq!(reader.rest(), &line[1..]);
+        assert_eq!(reader.words(), &line[1..]);
         assert!(reader.next().is_none() && reader.next().is_none());
-        assert_eq!(reader.rest(), &line[1..]);
+        assert_eq!(reader.words(), &line[1..]);
     }
 }
 
@@ -77,12 +77,42 @@ fn stops_anywhere() {
     let mut reader = options.read(&words);
     for (given, rest) in [("-v", &words[1..]), ("-v", &words[1..]), ("free run", &words[2..])] {
         assert_eq!(shown(reader.next().unwrap().unwrap()), given);
-        assert_eq!(reader.rest(), rest);
+        assert_eq!(reader.words(), rest);
     }
     let mut reader = options.read(&words[3..]);
-    assert_eq!(reader.rest(), ["--", "y"]);
+    assert_eq!(reader.words(), ["--", "y"]);
     assert_eq!(reader.by_ref().count(), 1);
-    assert!(reader.rest().is_empty() && reader.next().is_none());
+    assert!(reader.words().is_empty() && reader.next().is_none());
+}
+
+#[test]
+fn free_words_begin_with_the_last() {
+    let words = ["-C", "a", "-vv", "run", "-v", "--"];
+    let (stopping, ordinary) = (options(ParsingStyle::StopAtFirstFree, false), ordinary());
+    let mut reader = stopping.read(&words);
+    assert_eq!(reader.free_words(), None);
+    for given in ["-C=a", "-v", "-v"] {
+        assert_eq!(shown(reader.next().unwrap().unwrap()), given);
+        assert_eq!(reader.free_words(), None);
+    }
+    for at in 3..6 {
+        assert_eq!(reader.next(), Some(Ok(Given::Free(words[at]))));
+        assert_eq!(reader.free_words(), Some(&words[at..]));
+    }
+    assert!(reader.next().is_none());
+    assert_eq!(reader.free_words(), Some(&[][..]));
+    // Options may follow a word, and an error.
+    let mut reader = ordinary.read(&["run", "-v", "-x"]);
+    while reader.next().is_some() {
+        assert_eq!(reader.free_words(), None);
+    }
+    // After `--`, and at the end.
+    let mut reader = ordinary.read(&["-v", "--", "a", "b"]);
+    assert_eq!(reader.nth(1), Some(Ok(Given::Free("a"))));
+    assert_eq!(reader.next_word_if(|_| true), Some("b"));
+    assert_eq!((reader.free_words(), reader.words()), (Some(&["a", "b"][..]), &[][..]));
+    let mut reader = ordinary.read(&["-v"]);
+    assert_eq!((reader.by_ref().count(), reader.free_words()), (1, Some(&[][..])));
 }
 
 #[test]
@@ -115,7 +145,7 @@ fn reads_on_after_an_error() {
         assert!(reader.by_ref().any(|given| given.is_err()));
         assert_eq!(reader.next_word_if(|_| true), word);
         assert!(reader.next().is_none());
-        assert_eq!(read(&options, reader.rest()), given);
+        assert_eq!(read(&options, reader.words()), given);
     }
 }
 
@@ -124,7 +154,7 @@ fn debug_shows_what_is_left() {
     let options = ordinary();
     let mut reader = options.read(&["-vC", "a"]);
     assert!(reader.next().is_some());
-    assert_eq!(format!("{reader:?}"), r#"Reader { names: "C", rest: ["a"], .. }"#);
+    assert_eq!(format!("{reader:?}"), r#"Reader { names: "C", words: ["a"], .. }"#);
 }
 
 /// Calls a closure with all lines of up to this many of some words.
