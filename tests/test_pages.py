@@ -203,7 +203,7 @@ def variants():
 
 # The clauses that callers cite most.
 CITED = {"Options::parse_words": ["result"], "Options::parse_in_order": ["result"],
-         "Reader::next": ["result", "some", "less", "ended", "free_words", "err"],
+         "Reader::next": ["trace", "ended", "declared", "free_words", "less"],
          "Matches::opt_present": ["present"], "Matches::opt_count": ["count"], "Matches::opt_str": ["value"],
          "Matches::opt_strs": ["values"], "Options::usage": ["result"]}
 

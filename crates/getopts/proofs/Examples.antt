@@ -7,7 +7,8 @@ use Rattle.getopts.specs.Options.{Declared, group_of}
 use Rattle.getopts.specs.Only.{IsTheOnly}
 use Rattle.getopts.specs.Fail.{Fault, unrecognized_option, option_duplicated}
 use Rattle.getopts.specs.Reading.{Reading, Item, free, long, cluster, two, flags, ends_in, none, attached, separate}
-use Rattle.getopts.specs.Reading.{Tail, line_end, stop, Mention}
+use Rattle.getopts.specs.Reading.{Tail, line_end, stop, Mention, option, free_word}
+use Rattle.getopts.specs.Reader.{Left, fails, gives, no_more, trace, whole}
 use Rattle.getopts.specs.Canon.{content_of}
 use Rattle.getopts.specs.Results.{accepted_reading}
 use Rattle.getopts.specs.Parse.{IsLineOf}
@@ -62,9 +63,9 @@ IsRejectedWith words fault = IsTheOnly (IsLineOf sample words) (Err fault)
 
 computed : (words : List Text) (result : Result Reading Fault) → list_all is_plain_text words ≡ true
     → accepted_reading sample words ≡ result → IsTheOnly (IsLineOf sample words) result
-computed words result plain gives =
+computed words result plain is =
     let declared = MayBeDeclared-plain sample refl in
-    subst (IsTheOnly (IsLineOf sample words)) gives
+    subst (IsTheOnly (IsLineOf sample words)) is
     (HasResults-declared sample declared words (AreTexts-plain words plain)).line
 
 -- `-vofile in`: `v` and `o` share a dash, and the rest of the word is the value of `o`
@@ -133,3 +134,45 @@ unknown_option = computed _ _ refl refl
 pub option_given_twice : IsRejectedWith (codes "-oa" ∷ codes "-ob" ∷ []) (option_duplicated (codes "output"))
 unfolding getopts_on_literals
 option_given_twice = computed _ _ refl refl
+
+-- ---- what a loop gives
+
+-- what is left after an option: these names and words
+abbrev pub after : Text → List Text → Left
+after names words = record { names = names; words = words; free_words = None }
+
+-- `-vx`: `v`, and then the error of `x`
+pub loop_with_an_unknown_option : trace sample (whole (codes "-vx" ∷ []))
+    ≡ gives (option 1 None) (after (codes "x") []) (fails (unrecognized_option (codes "x")))
+unfolding getopts_on_literals
+loop_with_an_unknown_option = refl
+
+-- `-oa in -v`: `o` with its value, a free word, and `v`
+pub loop_in_order : trace sample (whole (codes "-oa" ∷ codes "in" ∷ codes "-v" ∷ []))
+    ≡ gives (option 0 (Some (codes "a"))) (after [] (codes "in" ∷ codes "-v" ∷ []))
+    (gives (free_word (codes "in")) (after [] (codes "-v" ∷ []))
+    (gives (option 1 None) (after [] []) no_more))
+unfolding getopts_on_literals
+loop_in_order = refl
+
+-- `-vofile -c red`: `v`, `o` with the rest of its word, and `c` with the next word
+pub loop_in_a_cluster : trace sample (whole (codes "-vofile" ∷ codes "-c" ∷ codes "red" ∷ []))
+    ≡ gives (option 1 None) (after (codes "ofile") (codes "-c" ∷ codes "red" ∷ []))
+    (gives (option 0 (Some (codes "file"))) (after [] (codes "-c" ∷ codes "red" ∷ []))
+    (gives (option 2 (Some (codes "red"))) (after [] []) no_more))
+unfolding getopts_on_literals
+loop_in_a_cluster = refl
+
+-- `-v -- -v`: the word after `--` is free
+pub loop_past_the_stop : trace sample (whole (codes "-v" ∷ codes "--" ∷ codes "-v" ∷ []))
+    ≡ gives (option 1 None) (after [] (codes "--" ∷ codes "-v" ∷ []))
+    (gives (free_word (codes "-v")) (record { names = []; words = []; free_words = Some (codes "-v" ∷ []) }) no_more)
+unfolding getopts_on_literals
+loop_past_the_stop = refl
+
+-- the rest of a cluster comes first if a program ends the options within it
+pub loop_ended_in_a_cluster : trace sample (record { names = codes "v"; words = codes "-v" ∷ []; free_words = Some [] })
+    ≡ gives (option 1 None) (record { names = []; words = codes "-v" ∷ []; free_words = Some [] })
+    (gives (free_word (codes "-v")) (record { names = []; words = []; free_words = Some (codes "-v" ∷ []) }) no_more)
+unfolding getopts_on_literals
+loop_ended_in_a_cluster = refl

@@ -17,9 +17,10 @@
 --    have a reading or a scan error (`read_sound`).
 -- 4. The code follows `read`. Each call of `Scanner::next` reads one option or free word, and keeps
 --    that what was read is valid items, and perhaps the first flags of a cluster. It is called by
---    the loop of `scan` and, through `Reader::next`, by the caller's. By their invariants (`SoFar`,
---    `IsReadTo`), these items and flags give what was found so far, and `read` of the whole line is
---    these items, followed by `read` of the words that are left (`items_read`).
+--    the loop of `scan` and, through `Reader::next`, by the caller's. What is next is an error of the
+--    line, its tail, or one option or free word more (`IsNext`). So in `scan`, these items and flags
+--    give what was found so far (`SoFar`), and `read` of the whole line is these items, followed by
+--    `read` of the words that are left (`items_read`); and a line's trace has its order (`along`).
 -- 5. A name without `=` ends at the first `=` of its word, so the content can be read back from a
 --    canonical line (`content_in-canonical`).
 -- Wrapping: if a run of words fits a row, each part of the run fits, too (`FitsIn-inside`), so no
@@ -36,3 +37,4 @@ pub mod OnLiterals
 pub mod Examples
 pub mod Chained
 pub mod InLoops
+pub mod Traces

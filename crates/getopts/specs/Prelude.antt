@@ -12,7 +12,8 @@ pub use Rattle.getopts.specs.Accessors.{IsDefined, IsParsedAs, IsParsedOr, first
 pub use Rattle.getopts.specs.Accessors.{borrowed_given, borrowed_group, occurrences_of_name}
 pub use Rattle.getopts.specs.Accessors.{is_present, values_of}
 pub use Rattle.getopts.specs.Reading.{Given, option, free_word}
-pub use Rattle.getopts.specs.Reader.{IsReadTo, left_in, next_result, size_of}
+pub use Rattle.getopts.specs.Reader.{Left, Trace, fails, gives, left_in, no_more, order_in, size_of}
+pub use Rattle.getopts.specs.Reader.{trace, whole}
 pub use Rattle.getopts.specs.Results.{order_or_error, parse_ignoring_counts_result, parse_in_order_result}
 pub use Rattle.getopts.specs.Results.{parse_result}
 pub use Rattle.getopts.specs.Parse.{EndsInTrailing, FitOptions, FitOptionsAndCounts}

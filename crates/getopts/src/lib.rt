@@ -70,4 +70,5 @@ pub use laws::{
     declared_options_keep_laws, equal_input_equal_results, held_names_resolve, names_resolve,
     one_reading_one_canonical_line, results_are_computed, usage_texts_are_computed,
 };
+pub use reader::traces_are_orders;
 pub use scan::words_are_texts;

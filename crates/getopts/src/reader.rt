@@ -1,13 +1,15 @@
 //! Reading a command line in a loop of the caller's, one option or free word at a time.
 
-ghost use Rattle.std.specs.Prelude.{◌≡◌, ◌<◌, ◌∷◌, ◌++◌, [], Ok, Err, IfOk, IfErr, OnErr, IfSome, IfNone, map};
+ghost use Rattle.std.specs.Prelude.{◌≡◌, ◌<◌, [], List, Err, IfOk, OnErr, IfSome, IfNone};
 ghost use Rattle.std.specs.Option.{option_map};
 ghost use Rattle.getopts.specs.Accessors.{borrowed_given};
-ghost use Rattle.getopts.specs.Fail.{IsOutOfMemoryOr};
-ghost use Rattle.getopts.specs.Options.{grammar_of};
 ghost use Rattle.getopts.specs.Parse.{IsDeclared, ReturnsConverted};
-ghost use Rattle.getopts.specs.Reader.{IfReadTo, IsReadTo, left_in, next_result, size_of};
-ghost use Rattle.getopts.specs.Reading.{free_word};
+ghost use Rattle.getopts.specs.declared.kinds.ParsingStyle.TheVariants.{StopAtFirstFree};
+ghost use Rattle.getopts.specs.Fail.{Fault};
+ghost use Rattle.getopts.specs.Names.{Text};
+ghost use Rattle.getopts.specs.Options.{Declared, MayBeDeclared};
+ghost use Rattle.getopts.specs.Reader.{AreLast, EndsInFrees, PrecedeError, given_in, left_in, order_in};
+ghost use Rattle.getopts.specs.Reader.{size_of, trace, trace_from, whole};
 ghost use Rattle.getopts.specs.Results.{order_or_error};
 
 use crate::fail::Fail;
@@ -85,36 +87,33 @@ impl<'o> Reader<'o> {
         alloc: Global,
         unread: &mut Unread<'w, S>,
     ) -> Result<Option<Given<'w>>, Fail>
-        ensures result { ReturnsConverted
-            (λ given. (option_map borrowed_given given, left_in S.text unread.new)) result
-            (λ returned. next_result self.now (left_in S.text unread.old) ≡ returned) }
-        ensures some { IfOk result (λ given. IfSome given (λ given.
-            IfReadTo self.now (left_in S.text unread.old) (λ line before.
-            IsReadTo self.now line (before ++ borrowed_given given ∷ []) (left_in S.text unread.new)))) }
+        // What was left gives what is returned, and then what is left now gives, or an error.
+        ensures trace { ReturnsConverted
+            (option_map (λ given. (borrowed_given given, left_in S.text unread.new))) result
+            (λ returned. trace self.now (left_in S.text unread.old)
+            ≡ trace_from (trace self.now) returned) }
+
+        // At the end, nothing is left.
+        ensures ended { IfOk result (λ given. IfNone given
+            ((unread.new.names.now ≡ []) × (unread.new.words.now ≡ [])
+            × (unread.new.free_words ≡ unread.old.free_words))) }
 
         // The place is below the number of options, and the value fits the option's kind.
         ensures declared { IfOk result (λ given. IfSome given (λ given.
-            IfReadTo self.now (left_in S.text unread.old)
-            (λ line before. IsDeclared self.now.groups (borrowed_given given)))) }
+            IsDeclared self.now.groups (borrowed_given given))) }
 
-        // So a loop ends.
+        // Under `StopAtFirstFree`, a free word and all words that are left are the free words.
+        ensures free_words { self.now.style ≡ StopAtFirstFree → IfOk result (λ given. IfSome given
+            (λ given. EndsInFrees S.text unread.old.words.now (borrowed_given given) unread.new)) }
+
+        // The words that are left are the last of those that were left. There is less, so a loop
+        // ends.
         ensures less { IfOk result (λ given. IfSome given (λ given.
-            size_of (left_in S.text unread.new) < size_of (left_in S.text unread.old))) }
-
-        // At the end, the line gives what was given.
-        ensures ended { IfOk result (λ given. IfNone given
-            (IfReadTo self.now (left_in S.text unread.old)
-            (λ line before. order_or_error self.now line ≡ Ok before))) }
-
-        // Once options can't follow, the line gives what was given before, and then free words.
-        ensures free_words { IfSome unread.new.free_words (λ words. IfReadTo self.now (left_in S.text unread.old)
-            (λ line before. order_or_error self.now line ≡ Ok (before ++ map free_word (map S.text words.now)))) }
-        ensures err { IfErr result (λ fail. IsOutOfMemoryOr fail (λ fault.
-            IfReadTo self.now (left_in S.text unread.old)
-            (λ line before. order_or_error self.now line ≡ Err fault))) }
+            AreLast unread.new.words.now unread.old.words.now
+            × (size_of (left_in S.text unread.new) < size_of (left_in S.text unread.old)))) }
         ensures unchanged { OnErr result (unread.new ≡ unread.old) }
     {
-        if unread.free_words.is_none() {
+        if unread.free_words.is_none() || !unread.names.is_empty() {
             let scanner = Scanner {
                 options: self.options,
                 table: &self.table,
@@ -124,9 +123,10 @@ impl<'o> Reader<'o> {
             }
             unread.words = free_words(unread.words);
         }
-        unread.free_words = Some(unread.words);
-        match unread.words.split_first() {
+        let words = unread.words;
+        match words.split_first() {
             Some((word, others)) => {
+                unread.free_words = Some(words);
                 unread.words = others;
                 Ok(Some(Given::Free(word.as_str())))
             }
@@ -134,3 +134,16 @@ impl<'o> Reader<'o> {
         }
     }
 }
+
+/// What a loop gives of a whole line. This is a lemma for proofs, which does nothing.
+///
+/// It has the options and free words that `parse_in_order` returns, in the same order, and ends at
+/// the same error, except that counts aren't checked. Before an error, it has the options and free
+/// words of the line up to there.
+pub fn traces_are_orders()
+    ensures order { (options : Declared) (line : List Text) → MayBeDeclared options.groups
+        → order_in (trace options (whole line)) ≡ order_or_error options line }
+    ensures before_error { (options : Declared) (line : List Text) (fault : Fault)
+        → MayBeDeclared options.groups → order_or_error options line ≡ Err fault
+        → PrecedeError options line (given_in (trace options (whole line))) fault }
+{}

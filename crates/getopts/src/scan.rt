@@ -6,7 +6,7 @@ ghost use Rattle.std.specs.Prelude.{map};
 ghost use Rattle.std.specs.String.{string_bytes};
 ghost use Rattle.std.specs.Option.{option_copied};
 ghost use Rattle.getopts.specs.Reading.{Dashes, holds_equals, is_dashed, free_word, tail_frees};
-ghost use Rattle.getopts.specs.Reader.{next_option};
+ghost use Rattle.getopts.specs.Reader.{AreLast, EndsInFrees, left_in, next_option};
 ghost use Rattle.getopts.specs.Stored.Scan.{tail_of, words_left};
 ghost use Rattle.getopts.specs.Accessors.{borrowed_given};
 ghost use Rattle.getopts.specs.Fail.{IsOutOfMemoryOr};
@@ -119,12 +119,13 @@ pub struct Unread<'w, S> {
     /// The words after the last word that was read.
     pub words: &'w [S],
     /// What is left of that word, if it combines short options: after the first option of `-vx`,
-    /// `x`. Otherwise empty. A program may set it to `""`, to skip these options, but to no other
-    /// text.
+    /// `x`. Otherwise empty. These options come before `words`. A program may set it to `""`, to
+    /// skip them, but to no other text.
     pub names: &'w str,
     /// `None` while options may follow. Otherwise, all of `words` are free words, and this is the
     /// free word that `next` returned last and those after it, such as a command and its arguments.
-    /// A program may set it to `Some(&[])`, to end the options itself.
+    /// A program may set it to `Some(&[])`, to end the options itself. If `names` isn't empty then,
+    /// its options still come first.
     pub free_words: Option<&'w [S]>,
 }
 
@@ -222,7 +223,8 @@ fn push_copies<S: AsStr>(
 /// The free words among the words that `Scanner::next` leaves when it returns `None`: all of them,
 /// except a first `--`.
 pub(crate) fn free_words<S: AsStr>(left: &[S]) -> &[S]
-    ensures { map S.text result.now ≡ tail_frees (tail_of (map S.text left.now)) }
+    ensures words { map S.text result.now ≡ tail_frees (tail_of (map S.text left.now)) }
+    ensures last { AreLast result.now left.now }
 {
     match left.first() {
         Some(word) if word.as_str() == "--" => &left[1..],
@@ -274,6 +276,7 @@ fn long_argument<'w, S: AsStr>(
     ensures ok { let after = map S.text after.now in IfOk result (λ argument.
         Chooses (chosen_long kind name.now (option_copied attached.entry) after) after
         (option_copied argument.value) (map S.text argument.left.now)) }
+    ensures last { IfOk result (λ argument. AreLast argument.left.now after.now) }
     ensures err { IfErr result (λ fail. IsOutOfMemoryOr fail (λ fault.
         chosen_long kind name.now (option_copied attached.entry) (map S.text after.now) ≡ Err fault)) }
 {
@@ -302,6 +305,7 @@ fn last_argument<'w, S: AsStr>(
     ensures ok { let after = map S.text after.now in IfOk result (λ argument.
         Chooses (chosen_end kind name.now rest.now after) after
         (option_copied argument.value) (map S.text argument.left.now)) }
+    ensures last { IfOk result (λ argument. AreLast argument.left.now after.now) }
     ensures err { IfErr result (λ fail. IsOutOfMemoryOr fail (λ fault.
         chosen_end kind name.now rest.now (map S.text after.now) ≡ Err fault)) }
 {
@@ -322,7 +326,6 @@ impl<'o> Scanner<'o> {
     ghost use Rattle.getopts.specs.Stored.Scan.{GivesLine, HasShape};
     ghost use Rattle.getopts.specs.Reading.{IsLawfulTail};
     ghost use Rattle.getopts.specs.Results.{read};
-    ghost use Rattle.getopts.specs.Stored.Scan.{ReadsOne};
 
     /// The kind of the option at a place.
     #[inline(always)]
@@ -348,6 +351,7 @@ impl<'o> Scanner<'o> {
             IfOk result (λ taken. (dashes : Dashes)
             → TakesOne grammar (long_step grammar dashes text.now after) after
             taken.place (option_copied taken.value) (map S.text taken.left.now)) }
+        ensures last { IfOk result (λ taken. AreLast taken.left.now after.now) }
         ensures err { let grammar = scanner_grammar self.now in
             IfErr result (λ fail. (dashes : Dashes) → IsOutOfMemoryOr fail (λ fault.
             long_step grammar dashes text.now (map S.text after.now) ≡ faults fault)) }
@@ -380,6 +384,7 @@ impl<'o> Scanner<'o> {
         ensures ok { IfOk result (λ taken.
             TakesName (scanner_grammar self.now) names.now (map S.text after.now)
             taken.place (option_copied taken.value) taken.names.now (map S.text taken.left.now)) }
+        ensures last { IfOk result (λ taken. AreLast taken.left.now after.now) }
         ensures err { let grammar = scanner_grammar self.now in
             IfErr result (λ fail. IsOutOfMemoryOr fail (λ fault. (bytes : List ℕ) (more : Step)
             → name_step grammar bytes names.now (map S.text after.now) more ≡ faults fault)) }
@@ -435,27 +440,22 @@ impl<'o> Scanner<'o> {
         unread: &mut Unread<'w, S>,
     ) -> Result<Option<Given<'w>>, Fail>
         requires { IsLawfulScanner self.now }
-        ensures some { IfOk result (λ given. IfSome given (λ given.
-            ReadsOne (scanner_grammar self.now)
-            unread.old.names.now (map S.text unread.old.words.now)
-            unread.new.names.now (map S.text unread.new.words.now) (borrowed_given given))) }
         ensures none { IfOk result (λ given. IfNone given
             ((unread.old.names.now ≡ []) × (unread.new ≡ unread.old))) }
         ensures tail { IfOk result (λ given. IfNone given
             (IsLawfulTail (scanner_grammar self.now) (tail_of (map S.text unread.old.words.now)))) }
-        ensures next { IfOk result (λ given. IfSome given (λ given.
-            next_option (scanner_grammar self.now) unread.old.names.now (map S.text unread.old.words.now)
-            ≡ Ok (
-              Some (borrowed_given given),
-              record {
-                names = unread.new.names.now;
-                words = map S.text unread.new.words.now;
-                only_free = false;
-              },
-            ))) }
-        ensures err { IfErr result (λ fail. IsOutOfMemoryOr fail (λ fault.
-            next_option (scanner_grammar self.now) unread.old.names.now (map S.text unread.old.words.now)
-            ≡ Err fault)) }
+        ensures next { let left = left_in S.text unread.old in
+            IfOk result (λ given. IfSome given (λ given.
+            next_option (scanner_grammar self.now) left.names left.words left.free_words
+            ≡ Ok (Some (borrowed_given given, left_in S.text unread.new)))) }
+        ensures stops { self.now.options.now.style ≡ ParsingStyle.StopAtFirstFree → IfOk result
+            (λ given. IfSome given (λ given.
+            EndsInFrees S.text unread.old.words.now (borrowed_given given) unread.new)) }
+        ensures last { IfOk result (λ given. IfSome given (λ given.
+            AreLast unread.new.words.now unread.old.words.now)) }
+        ensures err { let left = left_in S.text unread.old in
+            IfErr result (λ fail. IsOutOfMemoryOr fail (λ fault.
+            next_option (scanner_grammar self.now) left.names left.words left.free_words ≡ Err fault)) }
         ensures free_words { unread.new.free_words ≡ unread.old.free_words }
         ensures unchanged { OnErr result (unread.new ≡ unread.old) }
     {

@@ -1,10 +1,8 @@
 -- A program that runs another: its options, and what a command line asks for.
-use Rattle.std.specs.Prelude.{◌≡◌, ◌≢◌, ◌++◌, List, [], ◌∷◌, codes, map, Ok, Err, Option}
-use Rattle.std.specs.List.{AllByRecursion}
-use Rattle.getopts.specs.Prelude.{Declared, Fault, Given, IsReadTo, Text}
-use Rattle.getopts.specs.Prelude.{borrowed_given, free_word, next_result, optflagmulti, option, options_of}
-use Rattle.getopts.specs.Prelude.{optmulti, order_or_error}
-use Rattle.getopts.specs.Reader.{Left}
+use Rattle.std.specs.Prelude.{◌==◌, ◌++◌, if◌then◌else◌, List, [], ◌∷◌, codes, map, Result, Ok, Err}
+use Rattle.getopts.specs.Prelude.{Declared, Fault, Given, Text, borrowed_given, free_word}
+use Rattle.getopts.specs.Prelude.{optflagmulti, option, options_of, optmulti}
+use Rattle.getopts.specs.Prelude.{Trace, fails, gives, no_more, trace, whole}
 use Rattle.getopts.specs.declared.kinds.ParsingStyle.TheVariants.{StopAtFirstFree}
 use Rattle.getopts_uses.specs.declared.launcher.Launch.{Launch}
 use Rattle.getopts_uses.specs.declared.request.Request.{Request}
@@ -18,20 +16,27 @@ launch_options = record (options_of (
     ∷ optflagmulti [] (codes "help") (codes "print this help")
     ∷ [])) { style = StopAtFirstFree }
 
--- This is an option, and not help.
-abbrev pub IsOther : Given → Type 0
-IsOther (option place value) = place ≢ 2
-IsOther (free_word word) = ⊥
+-- what a command line asks for: help, or to run a command by these options
+pub data Asked : Type 0 where
+  help : Asked
+  run : List Given → List Text → Asked
 
--- This is what a command line asks for: help, if no error precedes it, or else to run a command.
-abbrev pub IsAsked : {S : Type 0} → (S → Text) → List Text → Request (Launch S) → Type 0
-IsAsked text line Help = (others : List Given) × (value : Option Text) × (left : Left)
-    × AllByRecursion IsOther others × IsReadTo launch_options line (others ++ option 2 value ∷ []) left
-IsAsked text line (Parsed launch) = AllByRecursion IsOther (map borrowed_given launch.options.items)
-    × (order_or_error launch_options line
-    ≡ Ok (map borrowed_given launch.options.items ++ map free_word (map text launch.command.now)))
+-- what is asked for, as it is stored
+abbrev pub asked_view : {S : Type 0} → (S → Text) → Request (Launch S) → Asked
+asked_view text Help = help
+asked_view text (Parsed launch) =
+    run (map borrowed_given launch.options.items) (map text launch.command.now)
 
--- This is the error of a command line, and no help precedes it.
-abbrev pub IsRefusedFor : List Text → Fault → Type 0
-IsRefusedFor line fault = (others : List Given) × (left : Left) × AllByRecursion IsOther others
-    × IsReadTo launch_options line others left × (next_result launch_options left ≡ Err fault)
+-- what is asked for after these options: help if it comes next, or else the command, which is the
+-- next free word and the words after it
+abbrev pub asked_after : List Given → Trace → Result Asked Fault
+asked_after options no_more = Ok (run options [])
+asked_after options (fails fault) = Err fault
+asked_after options (gives (option place value) left more) =
+    if place == 2 then Ok help else asked_after (options ++ option place value ∷ []) more
+asked_after options (gives (free_word word) left more) =
+    Ok (run options (word ∷ left.words))
+
+-- what a command line asks for, or its error
+abbrev pub asked_by : List Text → Result Asked Fault
+asked_by line = asked_after [] (trace launch_options (whole line))

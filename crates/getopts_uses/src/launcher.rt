@@ -2,9 +2,9 @@
 //! `env -u HOME ls -l`. The command's words aren't read. Help is given at once, even if a later
 //! word is an error.
 
-ghost use Rattle.std.specs.Prelude.{◌≡◌, IfErr, IfOk, map};
-ghost use Rattle.getopts.specs.Prelude.{IsOutOfMemoryOr};
-ghost use Rattle.getopts_uses.specs.Launcher.{IsAsked, IsRefusedFor, launch_options};
+ghost use Rattle.std.specs.Prelude.{◌≡◌, IfOk, map};
+ghost use Rattle.getopts.specs.Parse.{ReturnsConverted};
+ghost use Rattle.getopts_uses.specs.Launcher.{asked_by, asked_view, launch_options};
 
 use crate::request::Request;
 use getopts::{Fail, Given, Options, ParsingStyle, Unread};
@@ -18,6 +18,12 @@ pub struct Launch<'w, S> {
     /// The program and its words, as they were typed. Empty if there is no program.
     pub command: &'w [S],
 }
+
+/// The place of the option `unset`.
+const UNSET: usize = 0;
+
+/// The place of the option `ignore`.
+const IGNORE: usize = 1;
 
 /// The place of the option `help`.
 const HELP: usize = 2;
@@ -40,8 +46,8 @@ pub fn read_launch<'w, S: AsStr>(
     alloc: Global,
     words: &'w [S],
 ) -> Result<Request<Launch<'w, S>>, Fail>
-    ensures asked { IfOk result (IsAsked S.text (map S.text words.now)) }
-    ensures err { IfErr result (λ fail. IsOutOfMemoryOr fail (IsRefusedFor (map S.text words.now))) }
+    ensures { ReturnsConverted (asked_view S.text) result
+        (λ returned. asked_by (map S.text words.now) ≡ returned) }
 {
     let options = options(alloc)?;
     let reader = options.reader(alloc)?;
@@ -50,7 +56,11 @@ pub fn read_launch<'w, S: AsStr>(
     while let Some(given) = reader.next(alloc, &mut unread)? {
         match given {
             Given::Option { place: HELP, .. } => return Ok(Request::Help),
-            Given::Option { .. } => read.push(given)?,
+            Given::Option {
+                place: UNSET | IGNORE,
+                ..
+            } => read.push(given)?,
+            Given::Option { .. } => unreachable!(),
             Given::Free(_) => {
                 return Ok(Request::Parsed(Launch {
                     options: read,

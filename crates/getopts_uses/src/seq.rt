@@ -1,10 +1,11 @@
 //! Negative numbers as operands, as in `seq -5 5`. If an option is repeated, its last value wins.
 
-ghost use Rattle.std.specs.Prelude.{◌≡◌, [], ◌∷◌, codes, map, IfErr, IfOk, Some, None};
+ghost use Rattle.std.specs.Prelude.{◌≡◌, ◌<◌, [], ◌∷◌, codes, length, map, Err, IfOk, Ok, Some, true};
 ghost use Rattle.std.specs.Option.{option_copied};
-ghost use Rattle.getopts.specs.Prelude.{IsOutOfMemoryOr, free_word, left_in, option, unrecognized_option};
-ghost use Rattle.getopts_uses.specs.Seq.{AsksFor, IsLine, IsRefusedFor, asked_view, is_at_number};
-ghost use Rattle.getopts_uses.specs.Seq.{is_negative, seq_options, with_option};
+ghost use Rattle.getopts.specs.Parse.{ReturnsConverted};
+ghost use Rattle.getopts.specs.Prelude.{left_in, unrecognized_option};
+ghost use Rattle.getopts_uses.specs.Seq.{asked_by, asked_view, is_at_number, is_negative, nothing};
+ghost use Rattle.getopts_uses.specs.Seq.{seq_options, with_option};
 
 use getopts::{Fail, Given, Options, ParsingStyle, Unread};
 use std::alloc::{AllocError, Global};
@@ -25,6 +26,9 @@ const FORMAT: usize = 0;
 /// The place of the option `separator`.
 const SEPARATOR: usize = 1;
 
+/// The place of the option `equal-width`.
+const EQUAL_WIDTH: usize = 2;
+
 /// The options. Each may be repeated.
 fn options(alloc: Global) -> Result<Options, AllocError>
     ensures { IfOk result (λ options. options ≡ seq_options) }
@@ -41,20 +45,23 @@ fn options(alloc: Global) -> Result<Options, AllocError>
 /// Command lines written out: a negative number ends the options, unless it is an option's value.
 #[tactic(auto, unfolding(getopts::proofs::OnLiterals::getopts_on_literals))]
 fn lines_written_out()
-    ensures operands { IsLine (codes "-5" ∷ codes "5" ∷ [])
-        (free_word (codes "-5") ∷ free_word (codes "5") ∷ []) }
-    ensures value { IsLine (codes "-s" ∷ codes "-5" ∷ codes "-.5" ∷ codes "-x" ∷ [])
-        (option 1 (Some (codes "-5")) ∷ free_word (codes "-.5") ∷ free_word (codes "-x") ∷ []) }
-    ensures stop { IsLine (codes "-w" ∷ codes "--" ∷ codes "-5" ∷ [])
-        (option 2 None ∷ free_word (codes "-5") ∷ []) }
-    ensures cluster { IsRefusedFor (codes "-w5" ∷ codes "-5" ∷ [])
-        (unrecognized_option (codes "5")) }
+    ensures operands { asked_by (codes "-5" ∷ codes "5" ∷ [])
+        ≡ Ok (record nothing { operands = codes "-5" ∷ codes "5" ∷ [] }) }
+    ensures value { asked_by (codes "-s" ∷ codes "-5" ∷ codes "-.5" ∷ codes "-x" ∷ [])
+        ≡ Ok (record nothing {
+          separator = Some (codes "-5");
+          operands = codes "-.5" ∷ codes "-x" ∷ [];
+        }) }
+    ensures stop { asked_by (codes "-w" ∷ codes "--" ∷ codes "-5" ∷ [])
+        ≡ Ok (record nothing { equal_width = true; operands = codes "-5" ∷ [] }) }
+    ensures cluster { asked_by (codes "-w5" ∷ codes "-5" ∷ [])
+        ≡ Err (unrecognized_option (codes "5")) }
 {}
 
 /// What a command line asks for.
 pub fn read_seq<'w, S: AsStr>(alloc: Global, words: &'w [S]) -> Result<Seq<'w, S>, Fail>
-    ensures seq { IfOk result (AsksFor S.text (map S.text words.now)) }
-    ensures err { IfErr result (λ fail. IsOutOfMemoryOr fail (IsRefusedFor (map S.text words.now))) }
+    ensures { ReturnsConverted (asked_view S.text) result
+        (λ returned. asked_by (map S.text words.now) ≡ returned) }
 {
     let options = options(alloc)?;
     let reader = options.reader(alloc)?;
@@ -81,6 +88,7 @@ pub fn read_seq<'w, S: AsStr>(alloc: Global, words: &'w [S]) -> Result<Seq<'w, S
 
 /// Notes the option at a place, and its value.
 fn set_option<'w, S: AsStr>(seq: &mut Seq<'w, S>, place: usize, value: Option<&'w str>)
+    requires { place < length seq_options.groups }
     ensures asked { asked_view S.text seq.new
         ≡ with_option place (option_copied value.entry) (asked_view S.text seq.old) }
     ensures operands { seq.new.operands ≡ seq.old.operands }
@@ -88,7 +96,8 @@ fn set_option<'w, S: AsStr>(seq: &mut Seq<'w, S>, place: usize, value: Option<&'
     match place {
         FORMAT => seq.format = value,
         SEPARATOR => seq.separator = value,
-        _ => seq.equal_width = true,
+        EQUAL_WIDTH => seq.equal_width = true,
+        _ => unreachable!(),
     }
 }
 

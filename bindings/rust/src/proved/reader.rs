@@ -61,7 +61,7 @@ impl<'o> Reader<'o> {
         alloc: Global,
         unread: &mut Unread<'w, S>,
     ) -> Result<Option<Given<'w>>, Fail> {
-        if unread.free_words.is_none() {
+        if unread.free_words.is_none() || !unread.names.is_empty() {
             let scanner = Scanner {
                 options: self.options,
                 table: &self.table,
@@ -71,9 +71,10 @@ impl<'o> Reader<'o> {
             }
             unread.words = free_words(unread.words);
         }
-        unread.free_words = Some(unread.words);
-        match unread.words.split_first() {
+        let words = unread.words;
+        match words.split_first() {
             Some((word, others)) => {
+                unread.free_words = Some(words);
                 unread.words = others;
                 Ok(Some(Given::Free(word.as_str())))
             }

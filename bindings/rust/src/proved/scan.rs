@@ -85,12 +85,13 @@ pub struct Unread<'w, S> {
     /// The words after the last word that was read.
     pub words: &'w [S],
     /// What is left of that word, if it combines short options: after the first option of `-vx`,
-    /// `x`. Otherwise empty. A program may set it to `""`, to skip these options, but to no other
-    /// text.
+    /// `x`. Otherwise empty. These options come before `words`. A program may set it to `""`, to
+    /// skip them, but to no other text.
     pub names: &'w str,
     /// `None` while options may follow. Otherwise, all of `words` are free words, and this is the
     /// free word that `next` returned last and those after it, such as a command and its arguments.
-    /// A program may set it to `Some(&[])`, to end the options itself.
+    /// A program may set it to `Some(&[])`, to end the options itself. If `names` isn't empty then,
+    /// its options still come first.
     pub free_words: Option<&'w [S]>,
 }
 

@@ -81,7 +81,7 @@ pub record IsGood (groups : List Group) (m : Mention) : Type 0 where
   pub fits : FitsGroup groups m
 
 -- the mention of a name that resolves to a group of this kind
-IsGood-mention : (options : Declared) (name : Text) (kind : HasArg) (value : Option Text)
+pub IsGood-mention : (options : Declared) (name : Text) (kind : HasArg) (value : Option Text)
     → kind_of options.groups name ≡ Some kind → FitsKind kind value
     → IsGood options.groups (mention_of (grammar_of options) name value)
 IsGood-mention options name kind value signature fits =
@@ -95,7 +95,7 @@ IsGood-mention options name kind value signature fits =
           rw same (search (rules, MainResolves-resolution))
 
 -- a valid argument gives a value that the kind may have
-FitsKind-long : (kind : HasArg) (argument : Argument) → FitsLong kind argument → FitsKind kind (value_of argument)
+pub FitsKind-long : (kind : HasArg) (argument : Argument) → FitsLong kind argument → FitsKind kind (value_of argument)
 FitsKind-long kind argument fits = search rules
 
 FitsKind-end : (kind : HasArg) (argument : Argument) → FitsEnd kind argument → FitsKind kind (value_of argument)

@@ -23,7 +23,6 @@ use Rattle.getopts.proofs.counts.Groups.{AllByRecursion-matched}
 use Rattle.getopts.specs.Reading.{Given, option, free_word, Item, mentions, options_in, order_of_reading, Reading}
 use Rattle.getopts.proofs.Reading.Positions.{options_in-order, options_in-items}
 use Rattle.std.proofs.Permutation.{every_append}
-use Rattle.getopts.specs.Reader.{AreReadTo, IsReadTo, Left, between_words, within_word}
 use Rattle.getopts.proofs.canon.Lines.{FitsGroup, FitsGroup-within, IsFitting-reading, IsGood, IsGood-flags, IsGood-items, IsGood-reading}
 use Rattle.getopts.proofs.Stored.Matches.{signatures-matched, occurrences-matched, opt_place-signatures}
 use Rattle.getopts.proofs.Reading.Laws.{TrailingStartIsAfterStop_lem, HavePositionsInOrder-matched}
@@ -186,29 +185,3 @@ pub IsDeclared-order : (options : Declared) (reading : Reading) (words : List Te
     → IsReading (grammar_of options) reading words
     → AllByRecursion (IsDeclared options.groups) (order_of_reading (grammar_of options) reading)
 IsDeclared-order options reading words reads = search (rules, IsDeclared-options, options_in-order, IsGood-reading)
-
--- so does what was read of a line
-IsGood-read : (options : Declared) {line : List Text} {items : List Item} {names : Text} {words : List Text}
-    → AreReadTo (grammar_of options) line items names words
-    → AllByRecursion (IsGood options.groups) (flat_map (mentions (grammar_of options)) items)
-IsGood-read options {items = items} (between_words none read_to) = IsGood-items options items read_to.lawful
-IsGood-read options (within_word before word filled has begun items_are read_to) =
-    search (
-      rules,
-      every_append,
-      flat_map-append,
-      IsGood-items options before read_to.lawful,
-      IsGood-flags options has.bytes has.each,
-    )
-
-pub IsDeclared-last : (options : Declared) (before : List Given) (given : Given) {line : List Text} {left : Left}
-    → left.only_free ≡ false → IsReadTo options line (before ++ given ∷ []) left
-    → IsDeclared options.groups given
-IsDeclared-last options before given may read_to =
-    let read = read_to.among_options may in
-    last before (rw read.given_is (IsDeclared-options options.groups _
-    (rw (options_in-items (grammar_of options) read.items) (IsGood-read options read.read)))) where
-      last : (before : List Given) → AllByRecursion (IsDeclared options.groups) (before ++ given ∷ [])
-          → IsDeclared options.groups given
-      last [] each = each.0
-      last (first ∷ before) each = last before each.1

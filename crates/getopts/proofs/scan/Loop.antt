@@ -2,10 +2,9 @@
 use Rattle.std.proofs.Common.{◌≡◌, List, [], ◌∷◌, rules, false, refl}
 use Rattle.getopts.specs.Names.{Text}
 use Rattle.getopts.specs.Options.{Grammar}
-use Rattle.getopts.specs.Reader.{AreRead}
 use Rattle.getopts.specs.Reading as Spec
 use Rattle.std.specs.Str.{bytes_eq}
-use Rattle.getopts.specs.Stored.Scan.{tail_of}
+use Rattle.getopts.specs.Stored.Scan.{AreRead, tail_of}
 use Rattle.getopts.specs.declared.kinds.ParsingStyle.TheVariants.{StopAtFirstFree}
 
 -- a word that isn't dashed isn't the stop

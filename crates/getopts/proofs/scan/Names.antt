@@ -1,9 +1,11 @@
 -- A line that is read one option or free word at a time: a name in long form, a name of a cluster,
 -- and a free word.
 use Rattle.std.proofs.Common.{Err, ◌≡◌, ◌≢◌, ◌+◌, ◌-◌, ◌<◌, ◌≤◌, ℕ, List, [], ◌∷◌, ◌++◌, length, rules, drop, refl}
-use Rattle.std.proofs.Common.{◌∙◌, ap, sym, Option, Some, None, arith, ◌==◌, true, false, map, append_assoc}
+use Rattle.std.proofs.Common.{◌∙◌, ap, sym, Option, Some, None, arith, ◌==◌, ◌&&◌, not, if◌then◌else◌, Bool, true, false, map, append_assoc, Result, Ok, option_map, slice_get}
+use Rattle.std.proofs.lemmas.Bool.{cases_Bool}
+use Rattle.std.specs.Prelude.{⊤}
 use Rattle.std.proofs.Common.{slice_index, slice_range}
-use Rattle.std.proofs.lemmas.Bool.{false≢true}
+use Rattle.std.proofs.lemmas.Bool.{and_parts}
 use Rattle.std.proofs.lemmas.List.{append-nil, map-append}
 use Rattle.std.proofs.Math.Seq.{drop-append_seam}
 use Rattle.std.proofs.Permutation.{every_append}
@@ -11,15 +13,15 @@ use Rattle.getopts.specs.Names.{Text}
 use Rattle.getopts.specs.Options.{Declared, Grammar, grammar_of}
 use Rattle.getopts.specs.Fail.{Fault, unrecognized_option}
 use Rattle.getopts.specs.Reading as Spec
-use Rattle.getopts.specs.Reader.{AreRead, AreReadTo, IsReadTo, Left, between_words, within_word, words_size}
-use Rattle.getopts.specs.Reader.{next_option}
+use Rattle.getopts.specs.Reader.{Left, Next, next_by_step, next_free, next_name, next_option, next_word, size_of, words_size}
+use Rattle.getopts.specs.Parse.{IsDeclared}
 use Rattle.getopts.specs.Results.{reading_or_error}
-use Rattle.getopts.specs.Step.{Step, takes, faults, name_step, cluster_step, TakesOne, TakesName, takes_last, takes_flag}
+use Rattle.getopts.specs.Step.{Step, ends, takes, faults, byte_step, name_step, chosen_step, cluster_step, TakesName, takes_last, takes_flag}
 use Rattle.getopts.specs.Step.{chosen_end, first_char, Chooses, long_step, IsInLongForm, IsShortForm}
-use Rattle.getopts.specs.Stored.Scan.{HasOneMore, ReadsOne, tail_of, words_left}
+use Rattle.getopts.specs.Stored.Scan.{AreRead, AreReadTo, HasOneMore, ReadsOne, between_words, within_word, words_left}
 use Rattle.getopts.specs.declared.kinds.HasArg.{HasArg}
-use Rattle.getopts.specs.declared.kinds.HasArg.TheVariants.{No}
-use Rattle.getopts.specs.declared.kinds.ParsingStyle.TheVariants.{FloatingFrees}
+use Rattle.getopts.specs.declared.kinds.HasArg.TheVariants.{Maybe, No, Yes}
+use Rattle.getopts.specs.declared.kinds.ParsingStyle.TheVariants.{StopAtFirstFree}
 use Rattle.getopts.proofs.Lists.{filled-append}
 use Rattle.getopts.proofs.Reading.Reader.{HasTextNames, step, read}
 use Rattle.getopts.proofs.Reading.Readings.{reading_read, read_step, items_read, spelled_all-joined}
@@ -27,7 +29,7 @@ use Rattle.getopts.proofs.Reading.Positions.{order_of_items-append, occurrences_
 use Rattle.getopts.proofs.Reading.Positions.{options_in-append, options_in-options, options_in-given_by}
 use Rattle.getopts.proofs.Reading.Steps as Steps
 use Rattle.getopts.proofs.scan.Loop.{IsReading-tail}
-use Rattle.getopts.proofs.scan.Next.{error-name, error-word, given_by-dashed}
+use Rattle.getopts.proofs.canon.Lines.{FitsGroup-within, FitsKind-long, IsGood-mention}
 
 -- words, and those that are left after an argument
 words_size-left : (words left : List Text) → words_size left ≤ words_size (words ++ left)
@@ -81,12 +83,12 @@ first_name (byte ∷ rest) filled = refl
 followed-item : (items : List Spec.Item) (item : Spec.Item) (left : List Text)
     → Spec.AreWellFollowed items (Spec.item_words item ++ left)
     → (Spec.is_bare item ≡ true → Spec.EndsOrIsDashed left) → Spec.AreWellFollowed (items ++ item ∷ []) left
-followed-item [] item left followed ends = (ends, tt)
-followed-item (first ∷ items) item left followed ends =
-    search (rules, spelled_all-joined items (item ∷ []) left, followed-item items item left followed.1 ends)
+followed-item [] item left followed end = (end, tt)
+followed-item (first ∷ items) item left followed end =
+    search (rules, spelled_all-joined items (item ∷ []) left, followed-item items item left followed.1 end)
 
 -- one more item
-AreRead-item : {grammar : Grammar} {line : List Text} {items : List Spec.Item} {words : List Text} (item : Spec.Item)
+pub AreRead-item : {grammar : Grammar} {line : List Text} {items : List Spec.Item} {words : List Text} (item : Spec.Item)
     (left : List Text) → AreRead grammar line items words → Steps.BeginsWith grammar words item left
     → AreRead grammar line (items ++ item ∷ []) left
 AreRead-item {grammar} {line} {items} item left read_to begins =
@@ -165,6 +167,14 @@ module _ {grammar : Grammar} {line words : List Text} {items : List Spec.Item} {
     occurrences = sym (append-nil _);
   }
 
+-- the step of a word at a name after its flags
+step-inside : {grammar : Grammar} {word : Text} {byte : ℕ} {names : Text} (more : List Text)
+    (has : Spec.HasAfterFlags grammar word (byte ∷ names)) (kind : Option HasArg) → grammar.kind (byte ∷ []) ≡ kind
+    → step grammar word more ≡ byte_step kind has.bytes byte names more (cluster_step grammar (has.bytes ++ byte ∷ []) names more)
+step-inside {grammar} {word} {byte} {names} more has kind is =
+    Steps.short_step_byte grammar word has.bytes byte names more kind
+    (Steps.short_of grammar word (byte ∷ names) has (filled-append has.bytes byte names)) has.each is
+
 -- A line, and its words after the one that is being read.
 module _ {grammar : Grammar} (named : HasTextNames grammar) (line words : List Text) where
   -- one more item
@@ -192,11 +202,11 @@ module _ {grammar : Grammar} (named : HasTextNames grammar) (line words : List T
         (AreReadTo-item item argument read is after_is)
 
     -- a flag in a cluster
-    HasOneMore-flag : (byte place : ℕ) (names : Text) → Spec.IsFlag grammar byte → grammar.place (byte ∷ []) ≡ Some place
-        → IsInWord grammar line items (byte ∷ names) words
-        → HasOneMore grammar line items position (Spec.option place None) names words
+    HasOneMore-flag : (byte : ℕ) (names : Text) → Spec.IsFlag grammar byte
+        → IsInWord grammar line items (byte ∷ names) words → HasOneMore grammar line items position
+        (Spec.given_option (Spec.mention_of grammar (byte ∷ []) None)) names words
     unfolding cluster_step
-    HasOneMore-flag byte place names flag place_is inside =
+    HasOneMore-flag byte names flag inside =
         HasOneMore-item (Spec.cluster (inside.has.bytes ++ byte ∷ []) Spec.flags)
         (Spec.given_by grammar (Spec.cluster inside.has.bytes Spec.flags)) inside.read_to here
         (search (rules, map-append)) inside.order inside.occurrences (more names inside.has) where
@@ -215,145 +225,189 @@ module _ {grammar : Grammar} (named : HasTextNames grammar) (line words : List T
           }) (filled-append has.bytes byte []) refl inside.read_to
 
     -- the last option in a cluster
-    HasOneMore-last : (byte place : ℕ) (text : Text) (kind : HasArg) {value : Option Text} {left : List Text}
-        → grammar.place (byte ∷ []) ≡ Some place → kind ≢ No → grammar.kind (byte ∷ []) ≡ Some kind
-        → Chooses (chosen_end kind (byte ∷ []) text words) words value left
-        → IsInWord grammar line items (byte ∷ text) words
-        → HasOneMore grammar line items position (Spec.option place value) [] left
-    HasOneMore-last byte place text kind place_is other kind_is chooses inside =
-        let has = inside.has in
-        let form = Steps.short_of grammar inside.word (byte ∷ text) has (filled-append has.bytes byte text) in
-        let item = Spec.cluster has.bytes (Spec.ends_in byte chooses.argument) in
-        HasOneMore-item item (Spec.given_by grammar (Spec.cluster has.bytes Spec.flags)) inside.read_to here
+    HasOneMore-last : (byte : ℕ) (text : Text) (kind : HasArg) (argument : Spec.Argument) {left : List Text}
+        → grammar.kind (byte ∷ []) ≡ Some kind → kind ≢ No → chosen_end kind (byte ∷ []) text words ≡ Ok argument
+        → words ≡ Spec.argument_words argument ++ left → IsInWord grammar line items (byte ∷ text) words
+        → HasOneMore grammar line items position
+        (Spec.given_option (Spec.mention_of grammar (byte ∷ []) (Spec.value_of argument))) [] left
+    HasOneMore-last byte text kind argument kind_is other chosen_is after_is inside =
+        let item = Spec.cluster inside.has.bytes (Spec.ends_in byte argument) in
+        HasOneMore-item item (Spec.given_by grammar (Spec.cluster inside.has.bytes Spec.flags)) inside.read_to here
         (search (rules, map-append)) inside.order inside.occurrences
-        (AreReadTo-item item chooses.argument inside.read_to (search (
-          rules,
-          Steps.short_step_byte grammar inside.word has.bytes byte text words (Some kind) form has.each kind_is,
-        )) chooses.after_is)
+        (AreReadTo-item item argument inside.read_to
+        (step-inside words inside.has (Some kind) kind_is ∙ Steps.byte_step-end kind inside.has.bytes byte text words _ other
+        ∙ ap (chosen_step (λ a. Spec.cluster inside.has.bytes (Spec.ends_in byte a))) chosen_is) after_is)
 
--- The words after the one that is being read.
-module _ {grammar : Grammar} (named : HasTextNames grammar) (words : List Text) where
-  -- the first name of a cluster
-  ReadsOne-name : {names_old : Text} {words_old : List Text} (names : Text) → ((line : List Text)
-      (items : List Spec.Item) → AreReadTo grammar line items names_old words_old
-      → IsInWord grammar line items names words)
-      → words_left names_old words_old ≡ 1 + length words
-      → length names + words_size words ≤ length names_old + words_size words_old
-      → {place : ℕ} {value : Option Text} {names_left : Text} {left : List Text}
-      → TakesName grammar names words place value names_left left
-      → ReadsOne grammar names_old words_old names_left left (Spec.option place value)
-  ReadsOne-name names inside begins less {place} {value} {names_left} {left}
-      (takes_last byte rest kind names_are none place_is other kind_is chooses) = rw none (record {
-        reads = λ line items read_to. HasOneMore-last named line words (rw begins refl) byte place rest kind
-            place_is other kind_is chooses (rw names_are at inside line items read_to);
-        less = omega (
-          arith,
-          less,
-          ap length names_are,
-          ap words_size chooses.after_is,
-          words_size-left (Spec.argument_words chooses.argument) left,
-        );
-      })
-  ReadsOne-name names inside begins less {place} {value} {names_left}
-      (takes_flag byte names_are flag place_is value_is left_is) = rw (left_is, value_is) (record {
-        reads = λ line items read_to. HasOneMore-flag named line words (rw begins refl) byte place
-            names_left flag place_is (rw names_are at inside line items read_to);
-        less = omega (arith, less, ap length names_are);
-      })
+-- ---- what is next
 
-  -- Words that begin with this one.
-  module _ (word : Text) where
-    -- it is free
-    pub ReadsOne-free : Spec.is_dashed word ≡ false → grammar.style ≡ FloatingFrees
-        → ReadsOne grammar [] (word ∷ words) [] words (Spec.free_word word)
-    ReadsOne-free plain floating = record {
-      reads = λ line items read_to. HasOneMore-word named line words (omega arith) word
-          (Spec.free word) Spec.none (Steps.step_free grammar word words plain ∙ rw floating refl) refl refl read_to;
-      less = omega arith;
-    }
+-- the words after an argument
+left_after : (words : List Text) (argument : Spec.Argument) {left : List Text} → words ≡ Spec.argument_words argument ++ left
+    → drop (length (Spec.argument_words argument)) words ≡ left
+left_after words argument {left} is = rw is (drop-append_seam (Spec.argument_words argument) left)
 
-    -- it is in long form
-    pub ReadsOne-long : (dashes : Spec.Dashes) (long : Text) → IsInLongForm grammar dashes word long
-        → {place : ℕ} {value : Option Text} {left : List Text}
-        → TakesOne grammar (long_step grammar dashes long words) words place value left
-        → ReadsOne grammar [] (word ∷ words) [] left (Spec.option place value)
-    ReadsOne-long dashes long form {left = left} takes_one = record {
-      reads = λ line items read_to.
-          HasOneMore-word named line words (omega arith) word takes_one.item takes_one.argument
-          (Steps.step_long grammar dashes word long words form ∙ takes_one.step_is) takes_one.after_is
-          (given_by-dashed grammar takes_one.item takes_one.no_free ∙ rw takes_one.mentioned refl) read_to;
-      less = rw takes_one.after_is (omega (arith, words_size-left (Spec.argument_words takes_one.argument) left));
-    }
+less : (word : Text) {words : List Text} (argument : Spec.Argument) (left : List Text) → words ≡ Spec.argument_words argument ++ left
+    → 0 + words_size left < 0 + words_size (word ∷ words)
+less word argument left is = omega (arith, ap words_size is, words_size-left (Spec.argument_words argument) left)
 
-    -- it is in short form
-    pub ReadsOne-short : (names : Text) → IsShortForm grammar word names
-        → {names_left : Text} {left : List Text} {place : ℕ} {value : Option Text}
-        → TakesName grammar names words place value names_left left
-        → ReadsOne grammar [] (word ∷ words) names_left left (Spec.option place value)
-    ReadsOne-short names form = ReadsOne-name names (λ line items read_to. IsInWord-begins form read_to) (search rules)
-        (rw form.word_is (omega arith))
-
-  -- names are left
-  pub ReadsOne-within : (names : Text) → names ≢ []
-      → {names_left : Text} {left : List Text} {place : ℕ} {value : Option Text}
-      → TakesName grammar names words place value names_left left
-      → ReadsOne grammar names words names_left left (Spec.option place value)
-  ReadsOne-within [] filled = absurd (filled refl)
-  ReadsOne-within (c ∷ names) filled = ReadsOne-name (c ∷ names) (λ line items read_to. IsInWord-within filled read_to) refl
-      (omega arith)
-
--- the error of a word, and of the next word or name, is that of the whole line
+-- the error of a word is that of the whole line
 line_fault : {grammar : Grammar} → HasTextNames grammar → {line : List Text} {items : List Spec.Item} {word : Text}
     (words : List Text) {fault : Fault} → AreRead grammar line items (word ∷ words)
     → step grammar word words ≡ faults fault → read grammar line ≡ Err fault
 line_fault named words read_to is = search (rules, items_read, read_step)
 
-pub AreReadTo-fault : {grammar : Grammar} → HasTextNames grammar → {line : List Text} {items : List Spec.Item} (names : Text) (words : List Text) {fault : Fault} → next_option grammar names words ≡ Err fault
-    → AreReadTo grammar line items names words → read grammar line ≡ Err fault
-AreReadTo-fault named [] [] fails read_to = absurd (cc fails)
-AreReadTo-fault {grammar} named [] (word ∷ words) fails read_to =
-    line_fault named words (AreRead-between refl read_to) (error-word grammar words word fails)
-AreReadTo-fault {grammar} named (byte ∷ names) words fails read_to =
-    let inside = IsInWord-within (λ e. cc e) read_to in
-    let has = inside.has in
-    let form = Steps.short_of grammar inside.word (byte ∷ names) has (filled-append has.bytes byte names) in
-    line_fault named words inside.read_to
-    (Steps.short_step_byte grammar inside.word has.bytes byte names words (grammar.kind (byte ∷ [])) form has.each refl
-    ∙ error-name grammar words (grammar.kind (byte ∷ [])) byte names fails has.bytes
-    (cluster_step grammar (has.bytes ++ byte ∷ []) names words))
+-- the argument that ends a cluster fits its option, and precedes the words that are left
+end_chosen : (kind : HasArg) (name text : Text) (words : List Text) (argument : Spec.Argument) → kind ≢ No
+    → chosen_end kind name text words ≡ Ok argument → Spec.FitsKind kind (Spec.value_of argument)
+    × (words ≡ Spec.argument_words argument ++ drop (length (Spec.argument_words argument)) words)
+end_chosen No name text words argument other is = absurd (other refl)
+end_chosen Yes name [] [] argument other is = absurd (cc is)
+end_chosen Yes name [] (word ∷ words) argument other is = search rules
+end_chosen Yes name (byte ∷ text) words argument other is = search rules
+end_chosen Maybe name [] [] argument other is = search rules
+end_chosen Maybe name [] (word ∷ words) argument other is = search (rules, cases_Bool)
+end_chosen Maybe name (byte ∷ text) words argument other is = search rules
 
--- One option or free word more of a line.
-module _ {options : Declared} {line : List Text} {before : List Spec.Given} {left : Left} where
-  -- while options may follow
-  pub IsReadTo-next : {given : Spec.Given} {names : Text} {words : List Text}
-      → left.only_free ≡ false → ReadsOne (grammar_of options) left.names left.words names words given
-      → IsReadTo options line before left
-      → IsReadTo options line (before ++ given ∷ []) (record { names = names; words = words; only_free = left.only_free })
-  IsReadTo-next may reads read_to =
-      let was = read_to.among_options may in
-      let one = reads.reads line was.items was.read in record {
-        among_options = λ same. record { items = one.all; read = one.read; given_is = rw was.given_is (sym one.order) };
-        among_frees = λ only. absurd (false≢true (sym may ∙ only));
-      }
+-- This is next of these names and words: the error of each line of which they are left, a tail, or
+-- an option or free word, which is declared.
+pub data IsNext (options : Declared) (names : Text) (words : List Text) (frees : Option (List Text)) : Next → Type 0 where
+  is_error : {fault : Fault} → ((line : List Text) (items : List Spec.Item)
+      → AreReadTo (grammar_of options) line items names words → read (grammar_of options) line ≡ Err fault)
+      → IsNext options names words frees (Err fault)
+  is_tail : (tail : Spec.Tail) → names ≡ [] → Spec.IsLawfulTail (grammar_of options) tail → words ≡ Spec.tail_words tail
+      → IsNext options names words frees (next_free (Spec.tail_frees tail))
+  is_one : {given : Spec.Given} {names_left : Text} {left : List Text}
+      → ReadsOne (grammar_of options) names words names_left left given → IsDeclared options.groups given
+      → IsNext options names words frees
+      (Ok (Some (given, record { names = names_left; words = left; free_words = frees })))
 
-  -- where only free words follow
-  pub IsReadTo-tail : HasTextNames (grammar_of options) → left.only_free ≡ false → left.names ≡ []
-      → Spec.IsLawfulTail (grammar_of options) (tail_of left.words)
-      → IsReadTo options line before left → IsReadTo options line before
-      (record { names = left.names; words = Spec.tail_frees (tail_of left.words); only_free = true })
-  unfolding reading_or_error
-  IsReadTo-tail named may none lawful read_to =
-      let was = read_to.among_options may in
-      let reads = IsReading-tail (AreRead-between none was.read) lawful in record {
-        among_options = λ same. absurd (false≢true (sym same));
-        among_frees = λ only. rw (reading_read (grammar_of options) named _ line reads, was.given_is) refl;
-      }
+module _ (options : Declared) (named : HasTextNames (grammar_of options)) (frees : Option (List Text)) where
+  abbrev grammar : Grammar
+  grammar = grammar_of options
 
-  -- after that
-  pub IsReadTo-free : (word : Text) {others : List Text} → left.only_free ≡ true → left.words ≡ word ∷ others
-      → IsReadTo options line before left → IsReadTo options line (before ++ Spec.free_word word ∷ [])
-      (record { names = left.names; words = others; only_free = left.only_free })
-  IsReadTo-free word only words_are read_to = record {
-    among_options = λ may. absurd (false≢true (sym may ∙ only));
-    among_frees = λ same. rw append_assoc (rw words_are at (read_to.among_frees only));
-  }
+  -- the option that a name means
+  declared-name : (name : Text) (value : Option Text) (kind : HasArg) → grammar.kind name ≡ Some kind → Spec.FitsKind kind value
+      → IsDeclared options.groups (Spec.given_option (Spec.mention_of grammar name value))
+  declared-name name value kind is fits =
+      let group = (IsGood-mention options name kind value is fits).fits in
+      (FitsGroup-within options.groups _ group, rw group.1 group.2)
+
+  -- A name of a cluster.
+  module _ (byte : ℕ) (names : Text) (words : List Text) {names_old : Text} {words_old : List Text}
+      (inside : (line : List Text) (items : List Spec.Item) → AreReadTo grammar line items names_old words_old
+      → IsInWord grammar line items (byte ∷ names) words) (begins : words_left names_old words_old ≡ 1 + length words)
+      (less : 1 + length names + words_size words ≤ length names_old + words_size words_old) where
+    IsNext-last : (kind : HasArg) → kind ≢ No → grammar.kind (byte ∷ []) ≡ Some kind → (chosen : Result Spec.Argument Fault)
+        → chosen_end kind (byte ∷ []) names words ≡ chosen → IsNext options names_old words_old frees
+        (next_by_step grammar (record { names = []; words = words; free_words = frees })
+        (chosen_step (λ a. Spec.cluster [] (Spec.ends_in byte a)) chosen))
+    IsNext-last kind other is (Err fault) chosen_is = is_error (λ line items read_to.
+        let here = inside line items read_to in
+        line_fault named words here.read_to (step-inside words here.has (Some kind) is
+        ∙ Steps.byte_step-end kind here.has.bytes byte names words _ other
+        ∙ ap (chosen_step (λ a. Spec.cluster here.has.bytes (Spec.ends_in byte a))) chosen_is))
+    IsNext-last kind other is (Ok argument) chosen_is =
+        let fits = end_chosen kind (byte ∷ []) names words argument other chosen_is in
+        is_one (record {
+          reads = λ line items read_to. HasOneMore-last named line words (rw begins refl) byte names kind argument is
+              other chosen_is fits.1 (inside line items read_to);
+          less = omega (
+            arith,
+            less,
+            ap words_size fits.1,
+            words_size-left (Spec.argument_words argument)
+                (drop (length (Spec.argument_words argument)) words),
+          );
+        }) (declared-name (byte ∷ []) (Spec.value_of argument) kind is fits.0)
+
+    IsNext-name : (kind : Option HasArg) → grammar.kind (byte ∷ []) ≡ kind → IsNext options names_old words_old frees
+        (next_name kind grammar byte (record { names = names; words = words; free_words = frees }))
+    IsNext-name None is = is_error (λ line items read_to.
+        let here = inside line items read_to in line_fault named words here.read_to (step-inside words here.has None is))
+    IsNext-name (Some No) is = is_one (record {
+      reads = λ line items read_to. HasOneMore-flag named line words (rw begins refl) byte names is (inside line items read_to);
+      less = omega (arith, less);
+    }) (declared-name (byte ∷ []) None No is tt)
+    IsNext-name (Some Yes) is = IsNext-last Yes (λ e. cc e) is (chosen_end Yes (byte ∷ []) names words) refl
+    IsNext-name (Some Maybe) is = IsNext-last Maybe (λ e. cc e) is (chosen_end Maybe (byte ∷ []) names words) refl
+
+  -- A word that isn't in short form.
+  module _ (word : Text) (words : List Text) (plain : (names : Text) → IsShortForm grammar word names → ⊥) where
+    IsNext-item : (item : Spec.Item) (argument : Spec.Argument) → step grammar word words ≡ takes item argument
+        → (left : List Text) → words ≡ Spec.argument_words argument ++ left → Steps.BeginsWith grammar (word ∷ words) item left
+        → IsNext options [] (word ∷ words) frees
+        (next_by_step grammar (record { names = []; words = words; free_words = frees }) (takes item argument))
+    IsNext-item (Spec.cluster bytes end) argument is left after_is begins =
+        let same : word ≡ Spec.dash ∷ (bytes ++ Spec.end_text end) = cc begins.spells in
+        absurd (plain (bytes ++ Spec.end_text end) (rw same (Steps.lawful_short grammar bytes end begins.lawful)))
+    IsNext-item (Spec.free free) argument is left after_is begins = rw (left_after words argument after_is) (is_one (record {
+      reads = λ line items read_to. HasOneMore-word named line words (omega arith) word (Spec.free free) argument is after_is
+          refl read_to;
+      less = less word argument left after_is;
+    }) tt)
+    IsNext-item (Spec.long dashes name value) argument is left after_is begins =
+        let resolves = begins.lawful.resolves in
+        rw (left_after words argument after_is) (is_one (record {
+          reads = λ line items read_to. HasOneMore-word named line words (omega arith) word (Spec.long dashes name value)
+              argument is after_is refl read_to;
+          less = less word argument left after_is;
+        }) (declared-name name (Spec.value_of value) resolves.0 resolves.1 (FitsKind-long resolves.0 value resolves.2)))
+
+    IsNext-step : (taken : Step) → step grammar word words ≡ taken → IsNext options [] (word ∷ words) frees
+        (next_by_step grammar (record { names = []; words = words; free_words = frees }) taken)
+    IsNext-step (ends tail) is =
+        let sound = rw is at (Steps.step_sound grammar named word words) in is_tail tail refl sound.0 (sym sound.1)
+    IsNext-step (faults fault) is = is_error (λ line items read_to. line_fault named words (AreRead-between refl read_to) is)
+    IsNext-step (takes item argument) is =
+        let sound = rw is at (Steps.step_sound grammar named word words) in
+        IsNext-item item argument is sound.0 sound.1 sound.2
+
+  IsNext-word : (word : Text) (words : List Text) → IsNext options [] (word ∷ words) frees
+      (next_word grammar word (record { names = []; words = words; free_words = frees }))
+  IsNext-word [] words = IsNext-step [] words (λ names form. cc form.word_is) (step grammar [] words) refl
+  IsNext-word (first ∷ []) words = IsNext-step (first ∷ []) words (λ names form. form.filled (cc form.word_is)) (step grammar (first ∷ []) words) refl
+  IsNext-word (first ∷ second ∷ names) words =
+      by_form ((first == Spec.dash) && (not (second == Spec.dash) && not options.long_only)) refl where
+        by_form : (short : Bool) → ((first == Spec.dash) && (not (second == Spec.dash) && not options.long_only)) ≡ short
+            → IsNext options [] ((first ∷ second ∷ names) ∷ words) frees
+            (if short then next_name (grammar.kind (second ∷ [])) grammar second (record { names = names; words = words; free_words = frees })
+            else next_by_step grammar (record { names = []; words = words; free_words = frees })
+            (step grammar (first ∷ second ∷ names) words))
+        by_form false long = IsNext-step (first ∷ second ∷ names) words (λ text form. search rules)
+            (step grammar (first ∷ second ∷ names) words) refl
+        by_form true short =
+            let dashed = and_parts (first == Spec.dash) (not (second == Spec.dash) && not options.long_only) short in
+            let once = and_parts (not (second == Spec.dash)) (not options.long_only) dashed.1 in
+            let form : IsShortForm grammar (first ∷ second ∷ names) (second ∷ names) = search rules in
+            IsNext-name second names words (λ line items. IsInWord-begins form) (omega arith) (omega arith)
+            (grammar.kind (second ∷ [])) refl
+
+  pub next : (names : Text) (words : List Text) → IsNext options names words frees (next_option grammar names words frees)
+  next [] [] = is_tail Spec.line_end refl tt refl
+  next [] (word ∷ words) = IsNext-word word words
+  next (byte ∷ names) words = IsNext-name byte names words (λ line items. IsInWord-within (λ e. cc e)) refl (omega arith)
+      (grammar.kind (byte ∷ [])) refl
+
+-- What is next is declared, and leaves less. Before the free words that end a line, it is one option
+-- or free word more of each line of which this is left, and an error is the error of each.
+abbrev pub Says : Declared → Left → Next → Type 0
+Says options left (Err fault) = (line : List Text) (items : List Spec.Item)
+    → AreReadTo (grammar_of options) line items left.names left.words → read (grammar_of options) line ≡ Err fault
+Says options left (Ok None) = ⊤
+Says options left (Ok (Some (given, after))) = IsDeclared options.groups given × (size_of after < size_of left)
+    × (after.free_words ≡ None → ReadsOne (grammar_of options) left.names left.words after.names after.words given)
+
+pub frees_say : (options : Declared) (left : Left) (tail : Spec.Tail) → left.words ≡ Spec.tail_words tail
+    → Says options left (next_free (Spec.tail_frees tail))
+frees_say options left Spec.line_end is = tt
+frees_say options left (Spec.stop []) is = tt
+frees_say options left (Spec.stop (word ∷ others)) is = (tt, omega (arith, ap words_size is), λ among. absurd (cc among))
+frees_say options left (Spec.rest []) is = tt
+frees_say options left (Spec.rest (word ∷ others)) is = (tt, omega (arith, ap words_size is), λ among. absurd (cc among))
+
+pub said : (options : Declared) → HasTextNames (grammar_of options) → (left : Left) {result : Next}
+    → next_option (grammar_of options) left.names left.words left.free_words ≡ result → Says options left result
+said options named left is = rw is at (says (next options named left.free_words left.names left.words)) where
+  says : {result : Next} → IsNext options left.names left.words left.free_words result → Says options left result
+  says (is_error fails) = fails
+  says (is_tail tail none lawful words_are) = frees_say options left tail words_are
+  says (is_one reads declared) = (declared, reads.less, λ among. reads)

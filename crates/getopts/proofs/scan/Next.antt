@@ -6,7 +6,7 @@ use Rattle.std.proofs.lemmas.Bool.{and_parts}
 use Rattle.getopts.specs.Names.{Text}
 use Rattle.getopts.specs.Options.{Grammar}
 use Rattle.getopts.specs.Fail.{Fault}
-use Rattle.getopts.specs.Reader.{next_by_step, next_free, next_name, next_option, next_word}
+use Rattle.getopts.specs.Reader.{Left, Next, names_after, next_by_step, next_free, next_name, next_option, next_word}
 use Rattle.getopts.specs.Reading as Spec
 use Rattle.getopts.specs.Results.{free_step, step}
 use Rattle.getopts.specs.Stored.Scan.{tail_of}
@@ -25,39 +25,42 @@ given_by-dashed grammar (Spec.free word) free = cc free
 given_by-dashed grammar (Spec.long dashes name argument) free = refl
 given_by-dashed grammar (Spec.cluster bytes end) free = refl
 
--- The words after the one that is next.
-module _ (grammar : Grammar) (words : List Text) where
+-- The words after the one that is next, and the free words that were given.
+module _ (grammar : Grammar) (words : List Text) (frees : Option (List Text)) where
+  -- these names are left, and these words
+  abbrev left_at : Text → List Text → Left
+  left_at names words = record { names = names; words = words; free_words = frees }
+
   -- a word that isn't dashed
-  next-plain : (word : Text) → Spec.is_dashed word ≡ false
-      → next_option grammar [] (word ∷ words) ≡ next_by_step grammar words (free_step grammar.style word words)
+  next-plain : (word : Text) → Spec.is_dashed word ≡ false → next_option grammar [] (word ∷ words) frees
+      ≡ next_by_step grammar (left_at [] words) (free_step grammar.style word words)
   next-plain [] plain = rw (Steps.step_free grammar [] words plain) refl
   next-plain (first ∷ []) plain = rw (Steps.step_free grammar (first ∷ []) words plain) refl
   next-plain (first ∷ second ∷ text) plain = rw (Steps.step_free grammar (first ∷ second ∷ text) words plain, plain) refl
 
   pub next-free : (word : Text) → Spec.is_dashed word ≡ false → grammar.style ≡ FloatingFrees
-      → next_option grammar [] (word ∷ words)
-      ≡ Ok (Some (Spec.free_word word), record { names = []; words = words; only_free = false })
+      → next_option grammar [] (word ∷ words) frees ≡ Ok (Some (Spec.free_word word, left_at [] words))
   next-free word plain floating = next-plain word plain ∙ rw floating refl
 
   -- the stop
-  next-stop : next_option grammar [] (Spec.stop_word ∷ words) ≡ Ok (next_free [] words)
+  next-stop : next_option grammar [] (Spec.stop_word ∷ words) frees ≡ next_free words
   next-stop = rw (Steps.step_stop grammar words) refl
 
   -- a word in long form
   pub next-long : (dashes : Spec.Dashes) (word text : Text) → IsInLongForm grammar dashes word text
-      → next_option grammar [] (word ∷ words) ≡ next_by_step grammar words (long_step grammar dashes text words)
+      → next_option grammar [] (word ∷ words) frees ≡ next_by_step grammar (left_at [] words) (long_step grammar dashes text words)
   next-long Spec.one word [] form = absurd (form.filled form.word_is)
   next-long Spec.one word (byte ∷ text) form =
       rw (← Steps.step_long grammar Spec.one word (byte ∷ text) words form, form.word_is, form.before.0, form.before.1) refl
   next-long Spec.two word text form = rw (← Steps.step_long grammar Spec.two word text words form, form.word_is) refl
 
   pub next-long_error : (dashes : Spec.Dashes) (word text : Text) → IsInLongForm grammar dashes word text → {fault : Fault}
-      → long_step grammar dashes text words ≡ faults fault → next_option grammar [] (word ∷ words) ≡ Err fault
-  next-long_error dashes word text form fails = next-long dashes word text form ∙ ap (next_by_step grammar words) fails
+      → long_step grammar dashes text words ≡ faults fault → next_option grammar [] (word ∷ words) frees ≡ Err fault
+  next-long_error dashes word text form fails = next-long dashes word text form ∙ ap (next_by_step grammar (left_at [] words)) fails
 
   -- a word in short form
   pub next-short : (word names : Text) → IsShortForm grammar word names
-      → next_option grammar [] (word ∷ words) ≡ next_option grammar names words
+      → next_option grammar [] (word ∷ words) frees ≡ next_option grammar names words frees
   next-short word [] form = absurd (form.filled refl)
   next-short word (byte ∷ names) form = rw (form.word_is, form.second, form.ordinary) refl
 
@@ -68,8 +71,7 @@ module _ (grammar : Grammar) (words : List Text) where
 
   -- an option in long form
   pub next-one : {place : ℕ} {value : Option Text} {left : List Text} {step : Step} → TakesOne grammar step words place value left
-      → next_by_step grammar words step
-      ≡ Ok (Some (Spec.option place value), record { names = []; words = left; only_free = false })
+      → next_by_step grammar (left_at [] words) step ≡ Ok (Some (Spec.option place value, left_at [] left))
   next-one takes_one = rw (
     takes_one.step_is,
     given_by-dashed grammar takes_one.item takes_one.no_free,
@@ -80,8 +82,7 @@ module _ (grammar : Grammar) (words : List Text) where
   -- an option in a cluster
   pub next-name : (names : Text) {place : ℕ} {value : Option Text} {names_left : Text} {left : List Text}
       → TakesName grammar names words place value names_left left
-      → next_option grammar names words
-      ≡ Ok (Some (Spec.option place value), record { names = names_left; words = left; only_free = false })
+      → next_option grammar names words frees ≡ Ok (Some (Spec.option place value, left_at names_left left))
   next-name names (takes_last byte text No names_are none place_is other kind_is chooses) = absurd (other refl)
   next-name names (takes_last byte text Yes names_are none place_is other kind_is chooses) = rw (
     names_are,
@@ -105,65 +106,21 @@ module _ (grammar : Grammar) (words : List Text) where
       rw (names_are, flag, place_is, value_is, left_is) refl
 
   -- the error of a name
-  kind_error : (kind : Option HasArg) (byte : ℕ) (names : Text) {fault : Fault}
-      → ((bytes : List ℕ) (more : Step) → byte_step kind bytes byte names words more ≡ faults fault)
-      → next_name kind grammar byte names words ≡ Err fault
-  kind_error None byte names fails = ap (next_by_step grammar words) (fails [] (ends Spec.line_end))
-  kind_error (Some No) byte names fails = absurd (cc (fails [] (ends Spec.line_end)))
-  kind_error (Some Yes) byte names fails = ap (next_by_step grammar words) (fails [] (ends Spec.line_end))
-  kind_error (Some Maybe) byte names fails = ap (next_by_step grammar words) (fails [] (ends Spec.line_end))
-
   pub next-error : (names : Text) → names ≢ [] → {fault : Fault}
       → ((bytes : List ℕ) (more : Step) → name_step grammar bytes names words more ≡ faults fault)
-      → next_option grammar names words ≡ Err fault
+      → next_option grammar names words frees ≡ Err fault
   next-error [] filled fails = absurd (filled refl)
-  next-error (byte ∷ names) filled fails = kind_error (grammar.kind (byte ∷ [])) byte names fails
-
-  -- and from there, the step
-  step_error : (step : Step) {fault : Fault} → next_by_step grammar words step ≡ Err fault → step ≡ faults fault
-  step_error (ends tail) is = absurd (cc is)
-  step_error (takes item argument) is = absurd (cc is)
-  step_error (faults fault) is = search rules
-
-  chosen_error : (chosen : Result Spec.Argument Fault) (item other : Spec.Argument → Spec.Item) {fault : Fault}
-      → next_by_step grammar words (chosen_step item chosen) ≡ Err fault → chosen_step other chosen ≡ faults fault
-  chosen_error (Ok argument) item other is = absurd (cc is)
-  chosen_error (Err fault) item other is = search rules
-
-  pub error-name : (kind : Option HasArg) (byte : ℕ) (names : Text) {fault : Fault}
-      → next_name kind grammar byte names words ≡ Err fault
-      → (bytes : List ℕ) (more : Step) → byte_step kind bytes byte names words more ≡ faults fault
-  error-name None byte names is bytes more = search rules
-  error-name (Some No) byte names is bytes more = absurd (cc is)
-  error-name (Some Yes) byte names is bytes more = chosen_error (chosen_end Yes (byte ∷ []) names words) _ _ is
-  error-name (Some Maybe) byte names is bytes more = chosen_error (chosen_end Maybe (byte ∷ []) names words) _ _ is
-
-  pub error-word : (word : Text) {fault : Fault} → next_word grammar word words ≡ Err fault
-      → step grammar word words ≡ faults fault
-  unfolding cluster_step
-  error-word [] is = step_error (step grammar [] words) is
-  error-word (first ∷ []) is = step_error (step grammar (first ∷ []) words) is
-  error-word (first ∷ second ∷ names) {fault} is =
-      by_form ((first == Spec.dash) && (not (second == Spec.dash) && not grammar.long_only)) refl is where
-        by_form : (short : Bool) → ((first == Spec.dash) && (not (second == Spec.dash) && not grammar.long_only)) ≡ short
-            → (if short then next_name (grammar.kind (second ∷ [])) grammar second names words
-            else next_by_step grammar words (step grammar (first ∷ second ∷ names) words)) ≡ Err fault
-            → step grammar (first ∷ second ∷ names) words ≡ faults fault
-        by_form false long is = step_error (step grammar (first ∷ second ∷ names) words) is
-        by_form true short is =
-            let dashed = and_parts (first == Spec.dash) (not (second == Spec.dash) && not grammar.long_only) short in
-            let once = and_parts (not (second == Spec.dash)) (not grammar.long_only) dashed.1 in
-            Steps.step_short grammar (first ∷ second ∷ names) (second ∷ names) words (search rules)
-            ∙ error-name (grammar.kind (second ∷ [])) second names is [] (cluster_step grammar (second ∷ []) names words)
+  next-error (byte ∷ names) filled fails =
+      ap (next_by_step grammar (left_at (names_after (grammar.kind (byte ∷ [])) names) words)) (fails [] _)
 
 -- the end of the line, the stop or the rest is next
-next-end : (grammar : Grammar) (tail : Spec.Tail) → Spec.IsLawfulTail grammar tail
-    → next_option grammar [] (Spec.tail_words tail) ≡ Ok (next_free [] (Spec.tail_frees tail))
-next-end grammar Spec.line_end lawful = refl
-next-end grammar (Spec.stop words) lawful = next-stop grammar words
-next-end grammar (Spec.rest []) lawful = absurd lawful
-next-end grammar (Spec.rest (word ∷ words)) lawful = next-plain grammar words word lawful.0 ∙ rw lawful.1 refl
+next-end : (grammar : Grammar) (frees : Option (List Text)) (tail : Spec.Tail) → Spec.IsLawfulTail grammar tail
+    → next_option grammar [] (Spec.tail_words tail) frees ≡ next_free (Spec.tail_frees tail)
+next-end grammar frees Spec.line_end lawful = refl
+next-end grammar frees (Spec.stop words) lawful = next-stop grammar words frees
+next-end grammar frees (Spec.rest []) lawful = absurd lawful
+next-end grammar frees (Spec.rest (word ∷ words)) lawful = next-plain grammar words frees word lawful.0 ∙ rw lawful.1 refl
 
-pub next-tail : (grammar : Grammar) (words : List Text) → Spec.IsLawfulTail grammar (tail_of words)
-    → next_option grammar [] words ≡ Ok (next_free [] (Spec.tail_frees (tail_of words)))
-next-tail grammar words lawful = rw tail_words-tail_of at (next-end grammar (tail_of words) lawful)
+pub next-tail : (grammar : Grammar) (left : Left) → left.names ≡ [] → Spec.IsLawfulTail grammar (tail_of left.words)
+    → next_option grammar left.names left.words left.free_words ≡ next_free (Spec.tail_frees (tail_of left.words))
+next-tail grammar left none lawful = rw none (rw tail_words-tail_of at (next-end grammar left.free_words (tail_of left.words) lawful))

@@ -5,9 +5,8 @@ use Rattle.std.specs.String.{string_bytes}
 use Rattle.getopts.specs.Names.{Text}
 use Rattle.getopts.specs.Options.{Grammar}
 use Rattle.getopts.specs.Reading as Spec
-use Rattle.getopts.specs.Reader.{AreReadTo}
 use Rattle.getopts.specs.Results.{read}
-use Rattle.getopts.specs.Stored.Scan.{GivesLine, words_left, HasOneMore, occurrences_at, tail_of}
+use Rattle.getopts.specs.Stored.Scan.{AreReadTo, GivesLine, words_left, HasOneMore, occurrences_at, tail_of}
 use Rattle.getopts.specs.declared.scan.Line.{Line}
 use Rattle.getopts.proofs.Reading.Positions.{frees_in-append, frees_in-items, length-spelled_all}
 use Rattle.getopts.proofs.Reading.Reader.{HasTextNames}

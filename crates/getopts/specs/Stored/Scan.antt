@@ -1,6 +1,7 @@
 -- What the functions of `scan` find in the words that they are given.
-use Rattle.std.specs.Prelude.{◌≡◌, Bool, true, false, List, [], ◌∷◌, ◌++◌, length, map}
+use Rattle.std.specs.Prelude.{◌≡◌, ◌≢◌, Bool, true, false, List, [], ◌∷◌, ◌++◌, length, map}
 use Rattle.std.specs.Prelude.{Result, Ok, ℕ, ◌<◌, ◌+◌, ◌-◌, if◌then◌else◌}
+use Rattle.std.specs.List.{AllByRecursion}
 use Rattle.std.specs.Str.{bytes_eq}
 use Rattle.std.specs.String.{string_bytes}
 use Rattle.getopts.specs.Names.{Text}
@@ -10,9 +11,10 @@ use Rattle.getopts.specs.Canon.{Content}
 use Rattle.getopts.specs.Fail.{Fault}
 use Rattle.getopts.specs.Reading.{Dashes, is_dashed, stop_word, Reading}
 use Rattle.getopts.specs.Reading.{occurrences_of, free_words, trailing_start}
-use Rattle.getopts.specs.Reading.{Occurrence, occurrences_after, Item, Tail, line_end, stop, rest}
+use Rattle.getopts.specs.Reading.{Occurrence, occurrences_after, Item, cluster, flags, Tail, line_end, stop, rest}
+use Rattle.getopts.specs.Reading.{IsLawfulItem, AreWellFollowed, HasAfterFlags, spelled_all}
 use Rattle.getopts.specs.Reading.{Given, options_in, frees_in, order_of_items, at_position}
-use Rattle.getopts.specs.Reader.{AreReadTo, words_size}
+use Rattle.getopts.specs.Reader.{words_size}
 use Rattle.getopts.specs.Results.{reading_or_error, accepted_reading}
 use Rattle.getopts.specs.Step.{IsInLongForm, IsShortForm}
 use Rattle.getopts.specs.declared.scan.Line.{Line}
@@ -63,6 +65,24 @@ order_content order = record { mentions = options_in order; free = frees_in orde
 -- the occurrence of an option at a position; a free word has none
 abbrev pub occurrences_at : ℕ → Given → List Occurrence
 occurrences_at position given = map (at_position position) (options_in (given ∷ []))
+
+-- These items begin the line, and these words are left.
+pub record AreRead (grammar : Grammar) (line : List Text) (items : List Item) (words : List Text)
+    : Type 0 where
+  pub spells : spelled_all items words ≡ line
+  pub lawful : AllByRecursion (IsLawfulItem grammar) items
+  pub followed : AreWellFollowed items words
+
+-- These items begin the line, and these names and words are left.
+pub data AreReadTo (grammar : Grammar) (line : List Text) (items : List Item) (names : Text)
+    (words : List Text) : Type 0 where
+  between_words : names ≡ [] → AreRead grammar line items words
+      → AreReadTo grammar line items names words
+  -- flags precede the names in their word, and the last item has these flags
+  within_word : (before : List Item) (word : Text) → names ≢ []
+      → (has : HasAfterFlags grammar word names) → has.bytes ≢ []
+      → items ≡ before ++ cluster has.bytes flags ∷ [] → AreRead grammar line before (word ∷ words)
+      → AreReadTo grammar line items names words
 
 -- After these items, an option or a free word was read, in a word at this position.
 pub record HasOneMore (grammar : Grammar) (line : List Text) (items : List Item) (position : ℕ)

@@ -1,7 +1,7 @@
 -- The order is that of the line's reading, if this keeps the counts.
-use Rattle.std.proofs.Common.{◌≡◌, Err, IfErr, List, Ok, Result, map, refl, sym, rules}
+use Rattle.std.proofs.Common.{◌≡◌, append_assoc, Err, IfErr, List, Ok, Result, map, refl, sym, rules}
 use Rattle.std.specs.List.{AllByRecursion}
-use Rattle.std.proofs.lemmas.List.{map-append}
+use Rattle.std.proofs.lemmas.List.{append-nil, map-append}
 use Rattle.std.proofs.lemmas.List.Elements.{All-from_recursion}
 use Rattle.std.proofs.lemmas.Result.{IfErr-weaker}
 use Rattle.getopts.specs.Accessors.{borrowed_given}
@@ -12,7 +12,9 @@ use Rattle.getopts.specs.Options.{Declared, MayBeDeclared}
 use Rattle.getopts.specs.Results.{accepted_reading, order_or_error, parse_result, reading_or_error}
 use Rattle.getopts.specs.declared.fail.Fail.{Fail}
 use Rattle.getopts.proofs.Lists.{AllByRecursion-unmap}
+use Rattle.getopts.proofs.Traces.{order-whole}
 use Rattle.getopts.proofs.MainTheorem.Results.{HasResults-declared, is_refused}
+use Rattle.getopts.proofs.table.Names.{has_text_names}
 use Rattle.getopts.proofs.Weaker.{IsOutOfMemoryOr-exit, IsOutOfMemoryOr-weaker}
 use Rattle.getopts.proofs.parse.Holds.{IsDeclared-order}
 use Rattle.getopts.proofs.parse.Made.{made_of-err, order-kept, order-broken}
@@ -33,20 +35,27 @@ refused options words result declared texts told =
 whole : (g : Over) (c : After-check_counts_in_order g) → order_or_error c.args.self.now (map g.S.AsStr.text c.args.words.now)
     ≡ Ok (map borrowed_given c.items.order.items)
 whole g c =
-    let ended = rw (c.in_default.is, c.in_ok-reader.ensures.options) at c.in_ok-given.ensures.ended in
-    ended _ _ c.items.invariant
+    let ended = rw (c.in_default.is, c.in_ok-reader.ensures.options) at c.in_ok-given.ensures.trace in
+    rw (ended, append-nil) at c.items.invariant
+
+pub items-init : goal.items-init
+items-init g c = search (
+  rules,
+  sym (order-whole c.args.self.now (has_text_names _ c.signatures-signatures.ensures.declared)
+      (map g.S.AsStr.text c.args.words.now)),
+)
 
 pub items-preserved : goal.items-preserved
 items-preserved g c =
-    let read = rw (c.in-Some.is, c.in_ok-reader.ensures.options) at c.in_ok-given.ensures.some in
-    search (rules, map-append, read _ _ c.items.invariant)
+    let read = rw (c.in-Some.is, c.in_ok-reader.ensures.options) at c.in_ok-given.ensures.trace in
+    search (rules, map-append, append_assoc, rw read at c.items.invariant)
 
 pub returns-in_err-given-clause-same_error : goal.returns-in_err-given-clause-same_error
 unfolding accepted_reading reading_or_error
 returns-in_err-given-clause-same_error g c =
     IsOutOfMemoryOr-exit _ c.in_err-given.field-0.0 _ _ c.from_residual-in_err-given.ensures.1
-    (rw c.in_ok-reader.ensures.options at c.in_err-given.ensures.err)
-    (λ fault told. rw (made_of-err _ _ fault (told _ _ c.items.invariant)) refl)
+    (rw c.in_ok-reader.ensures.options at c.in_err-given.ensures.trace)
+    (λ fault told. rw (made_of-err _ _ fault (rw told at c.items.invariant)) refl)
 
 pub returns-in_err-given-clause-result : goal.returns-in_err-given-clause-result
 unfolding accepted_reading

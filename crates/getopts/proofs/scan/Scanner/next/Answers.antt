@@ -3,6 +3,7 @@ use Rattle.std.proofs.Common.{◌≡◌, ◌≢◌, [], refl, sym, ◌∙◌, ru
 use Rattle.std.proofs.lemmas.List.{nil_from_length}
 use Rattle.getopts.specs.Stored.Scan.{scanner_grammar}
 use Rattle.getopts.specs.declared.kinds.ParsingStyle.TheVariants.{FloatingFrees, StopAtFirstFree}
+use Rattle.getopts.proofs.InLoops.{last_after, last_trans}
 use Rattle.getopts.proofs.Weaker.{IsOutOfMemoryOr-exit}
 use Rattle.getopts.proofs.scan.Loop.{IsLawfulTail-rest, IsLawfulTail-stop}
 use Rattle.getopts.proofs.scan.Names as Names
@@ -26,65 +27,36 @@ returns-in-Stop-clause-tail g c =
     let stops = rw c.as_str.ensures at c.in-Stop.ensures in
     rw c.in-Some.ensures.cases.0 (IsLawfulTail-stop (scanner_grammar c.args.self.now) _ (g.S.AsStr.text c.in-Some.word.now) _ refl stops)
 
-pub returns-in-Free-clause-some : goal.returns-in-Free-clause-some
-returns-in-Free-clause-some g c =
-    let floating : c.args.self.now.options.now.style ≡ FloatingFrees = search rules in
-    let none = Names.empty_names _ (sym c.is_empty.ensures ∙ c.if-is_empty.true) in
-    rw (none, c.in-Some.ensures.cases.0, c.as_str.ensures)
-    (Names.ReadsOne-free (has_text_names _ c.requires.declared) _ _
-    (rw c.as_str.ensures at c.in-Free.ensures) floating)
-
-pub returns-in-Long-clause-some : goal.returns-in-Long-clause-some
-returns-in-Long-clause-some g c =
-    let none = Names.empty_names _ (sym c.is_empty.ensures ∙ c.if-is_empty.true) in
-    rw (none, c.in-Some.ensures.cases.0)
-    (Names.ReadsOne-long (has_text_names _ c.requires.declared) _ _ c.in-Long.ensures.0 _
-    (rw c.as_str.ensures at c.in-Long.ensures.1) (c.in_ok-taken-in-Long.ensures.ok c.in-Long.ensures.0))
-
 pub returns-in-Free-clause-next : goal.returns-in-Free-clause-next
 returns-in-Free-clause-next g c =
     let floating : c.args.self.now.options.now.style ≡ FloatingFrees = search rules in
     let none = Names.empty_names _ (sym c.is_empty.ensures ∙ c.if-is_empty.true) in
     rw (none, c.in-Some.ensures.cases.0, c.as_str.ensures)
-    (next-free (scanner_grammar c.args.self.now) _ _ (rw c.as_str.ensures at c.in-Free.ensures) floating)
+    (next-free (scanner_grammar c.args.self.now) _ _ _ (rw c.as_str.ensures at c.in-Free.ensures) floating)
 
 pub returns-in-Long-clause-next : goal.returns-in-Long-clause-next
 returns-in-Long-clause-next g c =
     let none = Names.empty_names _ (sym c.is_empty.ensures ∙ c.if-is_empty.true) in
     rw (none, c.in-Some.ensures.cases.0)
-    (next-long (scanner_grammar c.args.self.now) _ c.in-Long.ensures.0 _ _ (rw c.as_str.ensures at c.in-Long.ensures.1)
-    ∙ next-one (scanner_grammar c.args.self.now) _ (c.in_ok-taken-in-Long.ensures.ok c.in-Long.ensures.0))
+    (next-long (scanner_grammar c.args.self.now) _ _ c.in-Long.ensures.0 _ _ (rw c.as_str.ensures at c.in-Long.ensures.1)
+    ∙ next-one (scanner_grammar c.args.self.now) _ _ (c.in_ok-taken-in-Long.ensures.ok c.in-Long.ensures.0))
 
 pub returns-in_err-taken-in-Long-clause-err : goal.returns-in_err-taken-in-Long-clause-err
 returns-in_err-taken-in-Long-clause-err g c =
     rw (Names.empty_names _ (sym c.is_empty.ensures ∙ c.if-is_empty.true), c.in-Some.ensures.cases.0)
     (IsOutOfMemoryOr-exit _ c.in_err-taken-in-Long.field-0.0 _ _ c.from_residual.ensures.1
     (c.in_err-taken-in-Long.ensures.err c.in-Long.ensures.0)
-    (λ fault told. next-long_error (scanner_grammar c.args.self.now) _ c.in-Long.ensures.0 _ _
+    (λ fault told. next-long_error (scanner_grammar c.args.self.now) _ _ c.in-Long.ensures.0 _ _
     (rw c.as_str.ensures at c.in-Long.ensures.1) told))
-
-pub returns-clause-some : goal.returns-clause-some
-returns-clause-some g c = elim c.if-is_empty.branch [
-  | goal.then-is_empty+in-Some+in-Cluster w ↦
-      let form = rw w.as_str.ensures at w.in-Cluster.ensures in
-      let none = Names.empty_names _ (sym c.is_empty.ensures ∙ w.if-is_empty.true) in
-      rw (none, w.in-Some.ensures.cases.0)
-      (Names.ReadsOne-short (has_text_names _ c.requires.declared) _ _ _ form
-      (rw (w.names-is, w.after-is) at c.in_ok-taken.ensures.ok))
-  | goal.else-is_empty w ↦
-      let filled : c.args.unread.now.names.now ≢ [] = search rules in
-      (Names.ReadsOne-within (has_text_names _ c.requires.declared) _ _ filled
-      (rw (w.names-is, w.after-is) at c.in_ok-taken.ensures.ok))
-]
 
 pub returns-clause-next : goal.returns-clause-next
 returns-clause-next g c = elim c.if-is_empty.branch [
   | goal.then-is_empty+in-Some+in-Cluster w ↦
       rw (Names.empty_names _ (sym c.is_empty.ensures ∙ w.if-is_empty.true), w.in-Some.ensures.cases.0)
-      (next-short (scanner_grammar c.args.self.now) _ _ _ (rw w.as_str.ensures at w.in-Cluster.ensures)
-      ∙ next-name (scanner_grammar c.args.self.now) _ _ (rw (w.names-is, w.after-is) at c.in_ok-taken.ensures.ok))
+      (next-short (scanner_grammar c.args.self.now) _ _ _ _ (rw w.as_str.ensures at w.in-Cluster.ensures)
+      ∙ next-name (scanner_grammar c.args.self.now) _ _ _ (rw (w.names-is, w.after-is) at c.in_ok-taken.ensures.ok))
   | goal.else-is_empty w ↦
-      next-name (scanner_grammar c.args.self.now) _ _ (rw (w.names-is, w.after-is) at c.in_ok-taken.ensures.ok)
+      next-name (scanner_grammar c.args.self.now) _ _ _ (rw (w.names-is, w.after-is) at c.in_ok-taken.ensures.ok)
 ]
 
 pub returns-in_err-taken-clause-err : goal.returns-in_err-taken-clause-err
@@ -93,11 +65,22 @@ returns-in_err-taken-clause-err g c = elim c.if-is_empty.branch [
       let form = rw w.as_str.ensures at w.in-Cluster.ensures in
       rw (Names.empty_names _ (sym c.is_empty.ensures ∙ w.if-is_empty.true), w.in-Some.ensures.cases.0)
       (IsOutOfMemoryOr-exit _ c.in_err-taken.field-0.0 _ _ c.from_residual-in_err-taken.ensures.1
-      (rw (w.names-is, w.after-is) at c.in_err-taken.ensures.err) (λ fault told. next-short (scanner_grammar c.args.self.now) _ _ _ form
-      ∙ next-error (scanner_grammar c.args.self.now) _ _ form.filled told))
+      (rw (w.names-is, w.after-is) at c.in_err-taken.ensures.err) (λ fault told. next-short (scanner_grammar c.args.self.now) _ _ _ _ form
+      ∙ next-error (scanner_grammar c.args.self.now) _ _ _ form.filled told))
   | goal.else-is_empty w ↦
       let filled : c.args.unread.now.names.now ≢ [] = search rules in
       IsOutOfMemoryOr-exit _ c.in_err-taken.field-0.0 _ _ c.from_residual-in_err-taken.ensures.1
       (rw (w.names-is, w.after-is) at c.in_err-taken.ensures.err)
-      (λ fault told. next-error (scanner_grammar c.args.self.now) _ _ filled told)
+      (λ fault told. next-error (scanner_grammar c.args.self.now) _ _ _ filled told)
+]
+
+pub returns-in-Long-clause-last : goal.returns-in-Long-clause-last
+returns-in-Long-clause-last g c =
+    rw c.in-Some.ensures.cases.0 (last_trans c.in_ok-taken-in-Long.ensures.last (last_after _ _))
+
+pub returns-clause-last : goal.returns-clause-last
+returns-clause-last g c = elim c.if-is_empty.branch [
+  | goal.then-is_empty+in-Some+in-Cluster w ↦
+      rw w.in-Some.ensures.cases.0 (last_trans (rw w.after-is at c.in_ok-taken.ensures.last) (last_after _ _))
+  | goal.else-is_empty w ↦ rw w.after-is at c.in_ok-taken.ensures.last
 ]

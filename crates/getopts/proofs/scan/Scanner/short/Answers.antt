@@ -55,5 +55,6 @@ returns-in_ok-argument-in_default g c =
       ok = Names.name_last (scanner_grammar c.args.self.now) _ c.args.names.now c.in-Some.place c.kind.result _ _
           c.requires.filled (rw is at place) c.in_default.not-No (rw is at (c.kind.ensures _ place))
           (rw (is, c.range_from-in_default.ensures.value) at c.in_ok-argument-in_default.ensures.ok);
+      last = c.in_ok-argument-in_default.ensures.last;
       err = tt;
     }
