@@ -137,16 +137,6 @@ def behind():
     return table(["job", "ours", "the other", "times as many"], *rows)
 
 
-def memory():
-    jobs = {"held-small": "3 words", "held-described": "options with long descriptions", "held-long": "1,000 words",
-            "held-cluster": "a cluster of 100,000 letters", "held-values": "three values of 1 MB", "memory": "100,000 words"}
-    columns = "this library", "bindings/rust", "Rust crate"
-    return table(["job", "Rattle", "`proved-getopts`", "the original"], *(
-        [f"`{job}`: {words}", *measured("Bytes that matches take" if "-" in job else
-                                        "Peak bytes while parsing, besides the words and the options", job, *columns)]
-        for job, words in jobs.items()))
-
-
 def first_output():
     """README: what its first command prints."""
     return f"```text\n{read('crates/getopts_show/stdout')}```"
@@ -218,7 +208,7 @@ def cited_clauses():
 
 
 # What --fix writes between `<!-- generated: NAME -->` and `<!-- end -->`.
-GENERATED = {make.__name__: make for make in (usage_example, moving, speed, costs, speed_in_c, behind, memory, first_output,
+GENERATED = {make.__name__: make for make in (usage_example, moving, speed, costs, speed_in_c, behind, first_output,
                                               to_read, calls, variants, cited_clauses)}
 
 
@@ -320,8 +310,8 @@ def test_example_lines():
         assert reading == wanted, line
         texts = " ∷ ".join(f'codes "{word}"' for word in line.split())
         assert f"({texts} ∷ [])" in proved and "\t".join(["\ncanonical", *line.split()]) + "\n" in cases, line
-    (number, name), = re.findall(r"^A negative number, such as `(.*)`, is read as the short option `(.)`, ", top, re.M)
-    assert Options(groups).parse([number.encode()]) == ("UnrecognizedOption", name.encode())
+    number = re.search(r"^- \*\*A negative number\*\*, such as `(.*)`, is read as an option", pages["docs/DIFFERENCES.md"], re.M)[1]
+    assert Options(groups).parse([number.encode()]) == ("UnrecognizedOption", number[1:].encode())
 
 
 # ---- code
