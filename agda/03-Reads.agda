@@ -131,7 +131,7 @@ module _ (g : Grammar) where
     ∙ taken g (cluster bs (ends-in o a)) a more
 
   tail-read : ∀ t → IsLawfulTail g t → read g (tail-words t) ≡ Ok (mk [] t)
-  tail-read line-end _ = refl
+  tail-read no-tail _ = refl
   tail-read (stop ws) _ = refl
   tail-read (rest (w ∷ ws)) (plain , style) rewrite free-word-step w ws plain | style = refl
 

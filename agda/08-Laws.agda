@@ -253,7 +253,7 @@ extended (x ∷ y ∷ items) more e (f , fs) =
     begun (cluster _ _) e = e
 
 -- Joined, two readings are a reading: no free word follows a bare cluster.
-joined : ∀ g first second {words more} → IsReading g first words → first .$tail ≡ line-end
+joined : ∀ g first second {words more} → IsReading g first words → first .$tail ≡ no-tail
   → is-last-bare (first .$items) ≡ false → IsReading g second more
   → IsReading g (joined-reading first second) (words ++ more)
 joined g (mk items _) (mk items′ t) (mk refl all _ fs) refl last (mk refl all′ tail fs′) = mk
@@ -262,7 +262,7 @@ joined g (mk items _) (mk items′ t) (mk refl all _ fs) refl last (mk refl all�
   (each-++ items all all′) tail
   (followed-join items items′ (tail-words t) (extended items _ last fs) fs′)
 
-content-of-both : ∀ g first second → first .$tail ≡ line-end
+content-of-both : ∀ g first second → first .$tail ≡ no-tail
   → HasContentOfBoth g first second (joined-reading first second)
 content-of-both g (mk items _) (mk items′ t) refl = mk
   (mentions-are g 0 (items ++ items′) ∙ flat-map-++ (mentions g) items items′
@@ -303,7 +303,7 @@ frees-law g = mk λ { r _ (mk refl _ _ _) → go (r .$items) (r .$tail) }
     ... | these , e = false ∷ these , e
     go : ∀ items t
       → IsSubsequence (free-items items ++ tail-frees t) (spelled-all items (tail-words t))
-    go [] line-end = [] , refl
+    go [] no-tail = [] , refl
     go [] (stop ws) = left-out (stop-word ∷ []) (kept ws)
     go [] (rest ws) = kept ws
     go (free w ∷ items) t with go items t

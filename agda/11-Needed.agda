@@ -14,7 +14,7 @@ flag s l = group-of s l [] [] No Multi
 -- Without `named` of `AreLawful`: a group without names. `--` is the stop, and its option.
 two-readings : ¬ (OneReading (declared-with (flag [] [] ∷ [])))
 two-readings unique
-  with unique (stop-word ∷ []) (mk [] (stop [])) (mk (long two [] none ∷ []) line-end)
+  with unique (stop-word ∷ []) (mk [] (stop [])) (mk (long two [] none ∷ []) no-tail)
     (mk refl tt tt tt) (mk refl (mk tt refl (No , refl , tt) , tt) tt ((λ ()) , tt))
 ... | ()
 

@@ -66,8 +66,8 @@ if [[ ${1:-} == --[rpc]* ]]; then
     if [ "$1" = --rust ]; then
         crate=$(cd "$from" && cd "${GETOPTS:-$here/../bindings/rust/getopts}" && pwd)
         CARGO_FLAGS=$([ "${GETOPTS:-}" ] || echo --features canonical) \
-            tests/differential/build.sh tests/differential/reference agda/_build/reference "$crate"
-        (cd "$from" && "$here/_build/reference/target/release/reference" answer "$2") >"$room/answered"
+            tests/differential/build.sh tests/differential/reference "$room/reference" "$crate"
+        (cd "$from" && "$room/reference/target/release/reference" answer "$2") >"$room/answered"
         set -- --run "$room/answered"
     fi
     cd "$from"

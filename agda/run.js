@@ -62,18 +62,10 @@ const given = it => {
 };
 const result = (value, of) => (([ok, it]) => ok === "Ok" ? of(it) : refused(it))(open(value));
 
-// What a loop over a line's words gives, and its error or nothing: the definition of one call, again
-// and again.
+// What a loop over a line's words gives, and its error or nothing.
 function loop(options, words) {
-  const all = [];
-  for (let left = D["of-Left"].mk(NIL)(words)(false); ;) {
-    const [ok, next] = open(D["next-result"](options)(left));
-    if (ok === "Err") return [all, next];
-    const [, item, after] = open(next);
-    if (open(item)[0] === "None") return [all];
-    all.push(option(item));
-    left = after;
-  }
+  const trace = D.trace(options)(D["of-Left"].mk(NIL)(words)(load("Base").Option.None));
+  return [array(D["given-in"](trace)), option(D["fault-in"](trace))];
 }
 
 // The kind of argument and the occurrences of the option that each call declares.
@@ -186,21 +178,17 @@ class Session {
     if (word === "clear" && this.fault) return [refused(this.fault)];
     const groups = this.matches && open(this.matches)[1];
     if (word in OF_MATCHES) return [[word, ...groups ? OF_MATCHES[word](groups, ...fields) : ["nothing"]]];
-    if (word === "clear" || word === "take_trailing") return groups ? this.cut(word, groups) : [[word, "nothing"]];
+    if (word === "clear") {
+      if (!groups) return [[word, "nothing"]];
+      this.matches = D["of-Matched"].mk(groups)(NIL)(open(this.matches)[3]);
+      return [accepted(this.matches)];
+    }
     if (!(word in OF_NAME)) return null;
     if (!groups) return [[word, "nothing"]];
     const name = bytes(fields[0]), isDefined = option(D["opt-place"](groups)(name)) !== undefined;
     if (!isDefined) return [[word, fields[0], "undefined"]];
     const [line, ...others] = OF_NAME[word](D["occurrences-of-name"](groups)(name), fields[1]);
     return [[word, fields[0], ...line], ...others];
-  }
-
-  // Takes all words off the free words, or those after `--`.
-  cut(word, groups) {
-    const taken = array(D["trailing-words"](this.matches), text);
-    const left = word === "clear" ? NIL : D["free-before-trailing"](this.matches);
-    this.matches = D["of-Matched"].mk(groups)(left)(open(this.matches)[3]);
-    return word === "clear" ? [accepted(this.matches)] : [[word, ...taken], ["free", ...array(left, text)]];
   }
 }
 

@@ -246,8 +246,9 @@ def rows_of(case, answers):
         return
     it = iter(answers[1 + len(names):])
     fault, text, name = STATUSES[next(it)], next(it), next(it)
+    order = [(place, next(it)) for place in iter(lambda: next(it), -1)]
+    next(it), next(it)  # The status and the message of a loop.
     given = [(next(it), [[next(it) for _ in range(4)] for _ in range(next(it) + 2)][:-2]) for _ in names]
-    order = [*iter(lambda: (next(it), next(it)), (-1, None))]
     free = [next(it) for _ in range(next(it) + 1)][:-1]
     start, _, line, usage, usage_in, short = next(it), next(it), [*iter(lambda: next(it), None)], *it
     accepted, refused = ("accepted", "-" if start < 0 else start, *free), ("refused", fault, name)
@@ -260,7 +261,7 @@ def rows_of(case, answers):
     yield ("words", *words), refused if fault else accepted
     yield ("error",), ("error", text if fault else "nothing")
     yield ("canonical", *words), ("canonical", *(refused if fault else ["line", *line] if line else ["none"]))
-    if modes & KEEP_ORDER and not fault:
+    if not fault:
         yield ("parse_in_order", *words), ("parse_in_order", "order", *order)
     yield ("short", "brief"), ("short", short)
     if usage is not ...:

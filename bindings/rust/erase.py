@@ -482,7 +482,7 @@ class Eraser:
             self.at = self.after(start)
             if self.has(self.at - 3, "{};") or self.has(self.at - 3, "::;"):
                 self.erase(start - self.has(start - 1, "pub use"))
-            elif self.has(self.at - 4, "{") and self.has(self.at - 2, "};"):
+            elif self.has(self.at - 4, "{") and self.has(self.at - 2, "};") and self.text(self.at - 3) not in lemmas:
                 self.delete(self.at - 2, self.at - 1)
                 self.delete(self.at - 4, self.at - 3)
 

@@ -66,7 +66,7 @@ def without_lemmas(source, lemmas):
 
     def used(item):
         item = re.sub(rf"(?<=[{{,:] )({lemmas}) ,? ?(?=[\w}};])", "", item[0])
-        item = re.sub(r"{ (\w+ )?(, )?}", r"\1", item)
+        item = re.sub(r"{ (\w+ )?(, )?} ", r"\1", item)
         return "" if item.endswith(":: ;") else item
 
     text = re.sub(r"\b(pub )?use [^;]*;", used, text)

@@ -73,7 +73,7 @@ impl Reading {
         starts.push(len);
         let mut lists = Vec::filled(Global, null(), len + free.len() + 1)?;
         for place in 0..groups {
-            for (nth, (_, value)) in matches.occurrences_at(place).into_iter().enumerate() {
+            for (nth, (_, value)) in matches.occurrences_at(place).enumerate() {
                 if let Some(value) = value {
                     lists[starts[place] + nth] = push_text(&mut self.texts, value, of.marked)?;
                 }

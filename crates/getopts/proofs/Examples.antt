@@ -7,7 +7,7 @@ use Rattle.getopts.specs.Options.{Declared, group_of}
 use Rattle.getopts.specs.Only.{IsTheOnly}
 use Rattle.getopts.specs.Fail.{Fault, unrecognized_option, option_duplicated}
 use Rattle.getopts.specs.Reading.{Reading, Item, free, long, cluster, two, flags, ends_in, none, attached, separate}
-use Rattle.getopts.specs.Reading.{Tail, line_end, stop, Mention, option, free_word}
+use Rattle.getopts.specs.Reading.{Tail, no_tail, stop, Mention, option, free_word}
 use Rattle.getopts.specs.Reader.{Left, fails, gives, no_more, trace, whole}
 use Rattle.getopts.specs.Canon.{content_of}
 use Rattle.getopts.specs.Results.{accepted_reading}
@@ -71,49 +71,49 @@ computed words result plain is =
 -- `-vofile in`: `v` and `o` share a dash, and the rest of the word is the value of `o`
 pub value_in_the_same_word : IsReadAs (codes "-vofile" ∷ codes "in" ∷ [])
     (cluster (codes "v") (ends_in letter_o (attached (codes "file"))) ∷ free (codes "in") ∷ [])
-    line_end
+    no_tail
     (verbose ∷ output (codes "file") ∷ []) (codes "in" ∷ [])
 unfolding getopts_on_literals
 value_in_the_same_word = record { only = computed _ _ refl refl; content = refl }
 
 -- `in -o -v`: the value of `o` is the next word, even if that begins with `-`
 pub value_in_the_next_word : IsReadAs (codes "in" ∷ codes "-o" ∷ codes "-v" ∷ [])
-    (free (codes "in") ∷ cluster [] (ends_in letter_o (separate (codes "-v"))) ∷ []) line_end
+    (free (codes "in") ∷ cluster [] (ends_in letter_o (separate (codes "-v"))) ∷ []) no_tail
     (output (codes "-v") ∷ []) (codes "in" ∷ [])
 unfolding getopts_on_literals
 value_in_the_next_word = record { only = computed _ _ refl refl; content = refl }
 
 -- `--output=file`: the value of a long name follows `=`
 pub value_after_equals : IsReadAs (codes "--output=file" ∷ [])
-    (long two (codes "output") (attached (codes "file")) ∷ []) line_end
+    (long two (codes "output") (attached (codes "file")) ∷ []) no_tail
     (output (codes "file") ∷ []) []
 unfolding getopts_on_literals
 value_after_equals = record { only = computed _ _ refl refl; content = refl }
 
 -- `-o=file`: after a short name, `=` is part of the value
 pub value_with_equals : IsReadAs (codes "-o=file" ∷ [])
-    (cluster [] (ends_in letter_o (attached (codes "=file"))) ∷ []) line_end
+    (cluster [] (ends_in letter_o (attached (codes "=file"))) ∷ []) no_tail
     (output (codes "=file") ∷ []) []
 unfolding getopts_on_literals
 value_with_equals = record { only = computed _ _ refl refl; content = refl }
 
 -- `-c red`: an optional value of a short name may be the next word
 pub optional_value : IsReadAs (codes "-c" ∷ codes "red" ∷ [])
-    (cluster [] (ends_in letter_c (separate (codes "red"))) ∷ []) line_end
+    (cluster [] (ends_in letter_c (separate (codes "red"))) ∷ []) no_tail
     (color (Some (codes "red")) ∷ []) []
 unfolding getopts_on_literals
 optional_value = record { only = computed _ _ refl refl; content = refl }
 
 -- `--color red`: an optional value of a long name is never the next word
 pub optional_value_of_a_long_name : IsReadAs (codes "--color" ∷ codes "red" ∷ [])
-    (long two (codes "color") none ∷ free (codes "red") ∷ []) line_end
+    (long two (codes "color") none ∷ free (codes "red") ∷ []) no_tail
     (color None ∷ []) (codes "red" ∷ [])
 unfolding getopts_on_literals
 optional_value_of_a_long_name = record { only = computed _ _ refl refl; content = refl }
 
 -- `-c -v`: an optional value is never a dashed word
 pub optional_value_before_an_option : IsReadAs (codes "-c" ∷ codes "-v" ∷ [])
-    (cluster [] (ends_in letter_c none) ∷ cluster (codes "v") flags ∷ []) line_end
+    (cluster [] (ends_in letter_c none) ∷ cluster (codes "v") flags ∷ []) no_tail
     (color None ∷ verbose ∷ []) []
 unfolding getopts_on_literals
 optional_value_before_an_option = record { only = computed _ _ refl refl; content = refl }

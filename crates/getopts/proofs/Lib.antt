@@ -28,13 +28,13 @@
 
 pub mod Lists
 pub mod Only
-pub mod Weaker
+pub mod Errors
 pub mod Joined
 pub mod Reading
 pub mod Stored
 pub mod MainTheorem
 pub mod OnLiterals
 pub mod Examples
-pub mod Chained
-pub mod InLoops
+pub mod AddingCalls
+pub mod Last
 pub mod Traces

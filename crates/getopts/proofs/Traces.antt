@@ -8,16 +8,15 @@ use Rattle.getopts.specs.Options.{Declared, Grammar, grammar_of}
 use Rattle.getopts.specs.Fail.{Fault}
 use Rattle.getopts.specs.Parse.{IsDeclared}
 use Rattle.getopts.specs.Reader.{IsCut, Left, Next, PrecedeError, Trace, after_word, fails, fault_in, given_in, gives}
-use Rattle.getopts.specs.Reader.{next_free, next_option, next_result, no_more, order_in, size_of, trace, trace_from, trace_within}
+use Rattle.getopts.specs.Reader.{next_free, next_option, next_result, order_in, size_of, trace, trace_from, trace_within}
 use Rattle.getopts.specs.Reader.{in_cluster, whole, words_size}
 use Rattle.getopts.specs.Reading as Spec
-use Rattle.getopts.specs.Results.{order_or_error, read, reading_or_error, unless_fault}
-use Rattle.getopts.specs.Stored.Scan.{AreRead, AreReadTo}
-use Rattle.getopts.specs.Stored.Scan as Scan
-use Rattle.getopts.specs.declared.kinds.ParsingStyle.TheVariants.{StopAtFirstFree}
+use Rattle.getopts.specs.Results.{order_or_error, reading_or_error, unless_fault}
+use Rattle.getopts.specs.Scan.{AreBeforeWords, AreBefore}
+use Rattle.getopts.specs.Scan as Scan
 use Rattle.getopts.proofs.Reading.Reader.{HasTextNames}
 use Rattle.getopts.proofs.Reading.Readings.{reading_read, spelled_all-append}
-use Rattle.getopts.proofs.scan.Names.{AreRead-between, AreRead-item, IsNext, Says, frees_say, is_error, is_one, is_tail, next, said}
+use Rattle.getopts.proofs.scan.One.{AreBeforeWords-between, AreBeforeWords-item, IsNext, Says, frees_say, is_error, is_one, is_tail, next, said}
 use Rattle.getopts.proofs.scan.Loop.{IsReading-tail}
 
 -- items that are well followed still are before other words, of which the first is dashed if one was
@@ -39,15 +38,15 @@ dashed (byte ∷ bytes) begun = refl
 
 -- a tail has its free words, and perhaps one more
 frees_size : (tail : Spec.Tail) → words_size (Spec.tail_frees tail) ≤ words_size (Spec.tail_words tail)
-frees_size Spec.line_end = omega arith
+frees_size Spec.no_tail = omega arith
 frees_size (Spec.stop words) = omega arith
 frees_size (Spec.rest words) = omega arith
 
 -- items and a valid tail are a reading
 IsReading-frees : {grammar : Grammar} {line : List Text} {items : List Spec.Item} (tail : Spec.Tail) → Spec.IsLawfulTail grammar tail
-    → AreReadTo grammar line items [] (Spec.tail_words tail) → Spec.IsReading grammar (record { items = items; tail = tail }) line
+    → AreBefore grammar line items [] (Spec.tail_words tail) → Spec.IsReading grammar (record { items = items; tail = tail }) line
 IsReading-frees tail lawful read_to =
-    let read = AreRead-between refl read_to in
+    let read = AreBeforeWords-between refl read_to in
     record { spells = read.spells; items = read.lawful; tail = lawful; followed = read.followed }
 
 module _ (options : Declared) (named : HasTextNames (grammar_of options)) where
@@ -123,7 +122,7 @@ module _ (options : Declared) (named : HasTextNames (grammar_of options)) where
     IsOrder given (Some fault) = (order_or_error options line ≡ Err fault) × PrecedeError options line given fault
 
     -- what these items give, before an error
-    before-error : (items : List Spec.Item) (left : Left) (fault : Fault) → AreReadTo grammar line items left.names left.words
+    before-error : (items : List Spec.Item) (left : Left) (fault : Fault) → AreBefore grammar line items left.names left.words
         → trace options left ≡ fails fault → PrecedeError options line (Spec.order_of_items grammar items) fault
     unfolding reading_or_error
     before-error items left fault read_to is =
@@ -131,11 +130,11 @@ module _ (options : Declared) (named : HasTextNames (grammar_of options)) where
           front = cut.0;
           left = left;
           cut = cut.2 left.free_words;
-          order = rw (reading_read grammar named (record { items = items; tail = Spec.line_end }) cut.0 (IsReading-tail cut.1 tt), append-nil) refl;
+          order = rw (reading_read grammar named (record { items = items; tail = Spec.no_tail }) cut.0 (IsReading-tail cut.1 tt), append-nil) refl;
           error = is;
         } where
-          cut_at : (items : List Spec.Item) (names : Text) (words : List Text) → AreReadTo grammar line items names words
-              → (front : List Text) × AreRead grammar front items [] × ((free_words : Option (List Text))
+          cut_at : (items : List Spec.Item) (names : Text) (words : List Text) → AreBefore grammar line items names words
+              → (front : List Text) × AreBeforeWords grammar front items [] × ((free_words : Option (List Text))
               → IsCut line front (record { names = names; words = words; free_words = free_words }))
           cut_at items names words (Scan.between_words none so_far) = (
             Spec.spelled_all items [],
@@ -144,7 +143,7 @@ module _ (options : Declared) (named : HasTextNames (grammar_of options)) where
           )
           cut_at items names words (Scan.within_word before word filled has begun items_are so_far) = (
             Spec.spelled_all before ((Spec.dash ∷ has.bytes) ∷ []),
-            rw items_are (AreRead-item (Spec.cluster has.bytes Spec.flags) [] (record {
+            rw items_are (AreBeforeWords-item (Spec.cluster has.bytes Spec.flags) [] (record {
               spells = refl;
               lawful = so_far.lawful;
               followed = followed-other before (word ∷ words) ((Spec.dash ∷ has.bytes) ∷ []) (λ ends. dashed has.bytes begun) so_far.followed;
@@ -154,14 +153,14 @@ module _ (options : Declared) (named : HasTextNames (grammar_of options)) where
           )
 
     along : (n : ℕ) (left : Left) (items : List Spec.Item) → size_of left < n → left.free_words ≡ None
-        → AreReadTo grammar line items left.names left.words
+        → AreBefore grammar line items left.names left.words
         → IsOrder (Spec.order_of_items grammar items ++ given_in (trace_within n options left)) (fault_in (trace_within n options left))
     unfolding reading_or_error
     along zero left items less among read_to = absurd (omega (arith, less))
     along (suc n) left items less among read_to =
         rw among (by_next (along n) (next options named None left.names left.words) (trace-next left ∙ rw among refl)) where
           by_next : ((left : Left) (items : List Spec.Item) → size_of left < n → left.free_words ≡ None
-              → AreReadTo grammar line items left.names left.words
+              → AreBefore grammar line items left.names left.words
               → IsOrder (Spec.order_of_items grammar items ++ given_in (trace_within n options left)) (fault_in (trace_within n options left)))
               → {result : Next} → IsNext options left.names left.words None result
               → trace options left ≡ trace_from (trace options) result

@@ -4,5 +4,5 @@ pub mod Words
 pub mod Items
 pub mod Loop
 pub mod Next
-pub mod Names
+pub mod One
 pub mod Placed

@@ -27,4 +27,5 @@ pub mod Usage
 pub mod UsageResults
 pub mod Prelude
 pub mod Step
+pub mod Scan
 pub mod Stored

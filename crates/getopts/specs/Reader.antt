@@ -33,6 +33,10 @@ left_in text unread = record {
 abbrev pub whole : List Text → Left
 whole line = record { names = []; words = line; free_words = None }
 
+-- what is left at the end: nothing
+abbrev pub ended : Left
+ended = record { names = []; words = []; free_words = Some [] }
+
 -- the bytes of words, and their number
 abbrev pub words_size : List Text → ℕ
 words_size [] = 0

@@ -167,12 +167,12 @@ AreWellFollowed (item ∷ items) more =
 
 -- what follows the items; the rest has all words from the first free word on
 pub data Tail : Type 0 where
-  line_end : Tail
+  no_tail : Tail
   stop : List Text → Tail
   rest : List Text → Tail
 
 abbrev pub tail_frees : Tail → List Text
-tail_frees line_end = []
+tail_frees no_tail = []
 tail_frees (stop words) = words
 tail_frees (rest words) = words
 
@@ -337,5 +337,5 @@ pub record IsScanFault (grammar : Grammar) (words : List Text) (fault : Fault) :
   pub after : List Text
   pub items : List Item
   pub words_are : words ≡ before ++ word ∷ after
-  pub reads : IsReading grammar (record { items = items; tail = line_end }) before
+  pub reads : IsReading grammar (record { items = items; tail = no_tail }) before
   pub fault_at : IsFaultAt grammar word after fault

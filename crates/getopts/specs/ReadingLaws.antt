@@ -10,7 +10,7 @@ use Rattle.getopts.specs.Names.{Text}
 use Rattle.getopts.specs.Options.{Grammar}
 use Rattle.getopts.specs.Reading.{begins_with_dash, Argument, attached, separate, Dashes, End, flags}
 use Rattle.getopts.specs.Reading.{ends_in, Item, long, cluster, end_text, item_words, spelled_all}
-use Rattle.getopts.specs.Reading.{is_bare, Tail, line_end, stop, tail_words, Reading, IsReading}
+use Rattle.getopts.specs.Reading.{is_bare, Tail, no_tail, stop, tail_words, Reading, IsReading}
 use Rattle.getopts.specs.Reading.{Mention, mentions, Occurrence, at_position, word_count}
 use Rattle.getopts.specs.Reading.{occurrences_of, free_items, free_words, trailing_start}
 use Rattle.getopts.specs.Reading.{Given, given_option, options_in, frees_in, order_of_reading}
@@ -104,7 +104,7 @@ pub record HasContentOfBoth (grammar : Grammar) (first second whole : Reading) :
 pub record LinesCompose (grammar : Grammar) : Type 0 where
   pub of_both : (first second : Reading) (words more : List Text)
       → IsReading grammar first words
-      → first.tail ≡ line_end
+      → first.tail ≡ no_tail
       → is_last_bare first.items ≡ false
       → IsReading grammar second more
       → IsReading grammar (joined_reading first second) (words ++ more)

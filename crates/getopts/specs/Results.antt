@@ -6,7 +6,7 @@ use Rattle.std.specs.List.{list_all}
 use Rattle.getopts.specs.Names.{Text, main_name}
 use Rattle.getopts.specs.Options.{Group, Grammar, Declared, grammar_of}
 use Rattle.getopts.specs.Fail.{Fault}
-use Rattle.getopts.specs.Reading.{dash, none, separate, one, two, Item, free, line_end, stop, rest}
+use Rattle.getopts.specs.Reading.{dash, none, separate, one, two, Item, free, no_tail, stop, rest}
 use Rattle.getopts.specs.Reading.{Reading, holds_equals, Given, order_of_reading}
 use Rattle.getopts.specs.Matches.{MatchedGroup, Matched, matches_of, fits_count, count_fault}
 use Rattle.getopts.specs.Canon.{Content, content_of, main_at, canonical_line}
@@ -55,7 +55,7 @@ both_after_step step after = (after_step step after.0 after.1, after.0)
 -- the results of a command line, and of the line without its first word
 unfoldable pub read_both : Grammar → List Text → Result Reading Fault × Result Reading Fault
 read_both grammar [] =
-    (Ok (record { items = []; tail = line_end }), Ok (record { items = []; tail = line_end }))
+    (Ok (record { items = []; tail = no_tail }), Ok (record { items = []; tail = no_tail }))
 read_both grammar (word ∷ more) = both_after_step (step grammar word more) (read_both grammar more)
 
 unfoldable pub read : Grammar → List Text → Result Reading Fault

@@ -2,11 +2,10 @@
 
 pub mod Texts
 pub mod Names
-pub mod Pairs
+pub mod Adjacent
 pub mod Signatures
 pub mod Groups
 pub mod Table
 pub mod Index
 pub mod Occurrences
-pub mod Scan
 pub mod Matches

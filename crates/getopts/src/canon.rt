@@ -11,7 +11,7 @@ ghost use Rattle.getopts.specs.Reading.{holds_equals, long_word, options_in, two
 ghost use Rattle.getopts.specs.Canon.{canonical_line, main_at};
 ghost use Rattle.getopts.specs.Fail.{IsOutOfMemoryOr};
 ghost use Rattle.getopts.specs.Names.{texts};
-ghost use Rattle.getopts.specs.Stored.Scan.{order_content};
+ghost use Rattle.getopts.specs.Scan.{order_content};
 
 use crate::fail::Fail;
 use crate::groups::Groups;

@@ -9,8 +9,8 @@ ghost use Rattle.getopts.specs.Options.{MayBeDeclared, group_of, signatures_of};
 ghost use Rattle.getopts.specs.Canon.{main_at};
 ghost use Rattle.getopts.specs.Stored.Signatures.{AreLawfulSignatures};
 
+use crate::adjacent::{FIRST_TEXT, PairEnds, first_at, push_pair, second_at};
 use crate::kinds::{HasArg, Kinds, Occur};
-use crate::pairs::{FIRST_TEXT, PairEnds, first_at, push_pair, second_at};
 use crate::signatures::{FIRST_GROUPS, Signatures};
 use std::alloc::{AllocError, Global};
 use std::marker::Model;

@@ -19,11 +19,11 @@
 #![tactic(auto)]
 
 // What a caller declares.
+mod adjacent;
 mod groups;
 mod kinds;
 mod names;
 mod options;
-mod pairs;
 mod signatures;
 
 // Reading a command line.
@@ -39,11 +39,10 @@ mod accessors;
 mod canon;
 mod matches;
 mod parse;
-mod reader;
 
 // Help texts.
+mod help;
 mod row;
-mod texts;
 mod usage;
 pub mod wrap;
 
@@ -57,8 +56,7 @@ pub use matches::Matches;
 pub use names::names_lawful;
 pub use occurrences::{Occurrences, Values};
 pub use options::Options;
-pub use reader::Reader;
-pub use scan::{Given, Unread};
+pub use scan::{Given, Reader, Unread};
 pub use usage::UsageRows;
 
 /// What `parse` returns: the matches of an accepted command line, or why it was rejected.
@@ -70,5 +68,4 @@ pub use laws::{
     declared_options_keep_laws, equal_input_equal_results, held_names_resolve, names_resolve,
     one_reading_one_canonical_line, results_are_computed, usage_texts_are_computed,
 };
-pub use reader::traces_are_orders;
-pub use scan::words_are_texts;
+pub use scan::{traces_are_orders, words_are_texts};

@@ -26,7 +26,7 @@ impl Options {
     ghost use Rattle.getopts.specs.Results.{counted_result, parse_in_order_result};
     ghost use Rattle.getopts.specs.Matches.{KeepsCounts, matches_of};
     ghost use Rattle.getopts.specs.Results.{made_of};
-    ghost use Rattle.getopts.specs.Stored.Scan.{reading_if};
+    ghost use Rattle.getopts.specs.Scan.{reading_if};
     ghost use Rattle.getopts.specs.Accessors.{borrowed_given};
 
     /// Parses a command line, given without the program's own name.

@@ -7,7 +7,7 @@ ghost use Rattle.getopts.specs.UsageResults.{usage_row_in};
 ghost use Rattle.getopts.specs.Accessors.{borrowed_group};
 
 use crate::groups::OptGroup;
-use crate::texts::{MARGIN, push_argument, push_joined};
+use crate::help::{MARGIN, push_argument, push_joined};
 use crate::wrap::each_split_within;
 use std::alloc::{AllocError, Global};
 use unicode_width::UnicodeWidthStr;

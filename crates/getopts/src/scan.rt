@@ -1,18 +1,22 @@
 //! Reading a command line, one option or free word at a time.
 
-ghost use Rattle.std.specs.Prelude.{◌≡◌, ◌≢◌, ◌≤◌, ◌+◌, ◌-◌, ◌<◌, ◌∷◌, ◌++◌, [], List, ℕ};
-ghost use Rattle.std.specs.Prelude.{OnOk, OnErr, IfOk, IfErr, IfSome, IfNone, Some, None, Ok, Err, true, false, length};
-ghost use Rattle.std.specs.Prelude.{map};
+ghost use Rattle.std.specs.Prelude.{◌≡◌, ◌≢◌, ◌≤◌, ◌+◌, ◌-◌, ◌<◌, ◌∷◌, ◌++◌, [], List, ℕ, OnOk, OnErr, IfOk};
+ghost use Rattle.std.specs.Prelude.{IfErr, IfSome, IfNone, Some, None, Ok, Err, true, false, length, map};
 ghost use Rattle.std.specs.String.{string_bytes};
-ghost use Rattle.std.specs.Option.{option_copied};
-ghost use Rattle.getopts.specs.Reading.{Dashes, holds_equals, is_dashed, free_word, tail_frees};
-ghost use Rattle.getopts.specs.Reader.{AreLast, EndsInFrees, left_in, next_option};
-ghost use Rattle.getopts.specs.Stored.Scan.{tail_of, words_left};
+ghost use Rattle.std.specs.Option.{option_copied, option_map};
+ghost use Rattle.getopts.specs.Reading.{Dashes, holds_equals, is_dashed, tail_frees};
+ghost use Rattle.getopts.specs.Reader.{AreLast, EndsInFrees, ended, left_in, next_option, PrecedeError, given_in};
+ghost use Rattle.getopts.specs.Reader.{order_in, size_of, trace, trace_from, whole};
+ghost use Rattle.getopts.specs.Scan.{tail_of, words_left};
 ghost use Rattle.getopts.specs.Accessors.{borrowed_given};
-ghost use Rattle.getopts.specs.Fail.{IsOutOfMemoryOr};
+ghost use Rattle.getopts.specs.Fail.{IsOutOfMemoryOr, Fault};
 ghost use Rattle.getopts.specs.Names.{AreTexts, Text};
-ghost use Rattle.getopts.specs.Step.{with_equals, first_char, chosen_long, chosen_end, Chooses};
-ghost use Rattle.getopts.specs.Step.{Step, name_step, faults};
+ghost use Rattle.getopts.specs.Step.{with_equals, first_char, chosen_long, chosen_end, Chooses, Step};
+ghost use Rattle.getopts.specs.Step.{name_step, faults};
+ghost use Rattle.getopts.specs.Parse.{IsDeclared, ReturnsConverted};
+ghost use Rattle.getopts.specs.declared.kinds.ParsingStyle.TheVariants.{StopAtFirstFree};
+ghost use Rattle.getopts.specs.Options.{Declared, MayBeDeclared};
+ghost use Rattle.getopts.specs.Results.{order_or_error};
 
 use crate::fail::Fail;
 use crate::kinds::{HasArg, ParsingStyle};
@@ -21,6 +25,7 @@ use crate::options::Options;
 use crate::table::Table;
 use std::alloc::{AllocError, Global};
 use std::convert::AsStr;
+use std::marker::Model;
 
 /// The most words for which memory is reserved without looking at them: an iterator may yield fewer
 /// words than it promises.
@@ -123,9 +128,9 @@ pub struct Unread<'w, S> {
     /// skip them, but to no other text.
     pub names: &'w str,
     /// `None` while options may follow. Otherwise, all of `words` are free words, and this is the
-    /// free word that `next` returned last and those after it, such as a command and its arguments.
-    /// A program may set it to `Some(&[])`, to end the options itself. If `names` isn't empty then,
-    /// its options still come first.
+    /// free word that `next` returned last and those after it, such as a command and its arguments,
+    /// or none at the end. A program may set it to `Some(&[])`, to end the options itself. If
+    /// `names` isn't empty then, its options still come first.
     pub free_words: Option<&'w [S]>,
 }
 
@@ -322,8 +327,8 @@ fn last_argument<'w, S: AsStr>(
 
 impl<'o> Scanner<'o> {
     ghost use Rattle.getopts.specs.Step.{long_step, TakesOne, TakesName};
-    ghost use Rattle.getopts.specs.Stored.Scan.{scanner_grammar, IsLawfulScanner};
-    ghost use Rattle.getopts.specs.Stored.Scan.{GivesLine, HasShape};
+    ghost use Rattle.getopts.specs.Scan.{scanner_grammar, IsLawfulScanner};
+    ghost use Rattle.getopts.specs.Scan.{GivesLine, HasShape};
     ghost use Rattle.getopts.specs.Reading.{IsLawfulTail};
     ghost use Rattle.getopts.specs.Results.{read};
 
@@ -531,3 +536,132 @@ impl<'o> Scanner<'o> {
         Ok(())
     }
 }
+
+/// Reads command lines by the options from which it was made, one option or free word at a time.
+#[derive(Debug, Drop)]
+pub struct Reader<'o> {
+    options: &'o Options,
+    table: Table,
+}
+
+impl<'o> Model for Reader<'o> {
+    ghost use Rattle.getopts.specs.Options.{Declared, MayBeDeclared, names_of};
+    ghost use Rattle.getopts.specs.Stored.Table.{IsTableOf};
+
+    ghost Value = { Declared };
+
+    ghost view = { λ a. a.options.now };
+
+    ghost invariant = { λ a. MayBeDeclared a.options.now.groups
+        × IsTableOf (names_of a.options.now.groups) a.table };
+}
+
+impl Options {
+    /// Returns a reader, which reads any number of command lines by these options.
+    ///
+    /// Use it if what was read decides how to go on: to stop at a subcommand and hand over the
+    /// words after it, to print help before a later word is rejected, or to read a word such as
+    /// `-5` as an operand. Otherwise, `parse_words` and `parse_in_order` are simpler, and they also
+    /// check how often options occur. Fails only if an allocation fails. The Rust crate has no such
+    /// method.
+    ///
+    /// ```
+    /// let reader = options.reader(alloc)?;
+    /// let mut unread = Unread::new(words);
+    /// while let Some(given) = reader.next(alloc, &mut unread)? {
+    ///     match given {
+    ///         Given::Option { place, value } => ..,
+    ///         Given::Free(word) => ..,
+    ///     }
+    /// }
+    /// ```
+    pub fn reader(&self, alloc: Global) -> Result<Reader<'_>, AllocError>
+        ensures options { IfOk result (λ reader. reader ≡ self.now) }
+    {
+        let table = Table::of(alloc, self.signatures())?;
+        Ok(Reader {
+            options: self,
+            table,
+        })
+    }
+}
+
+impl<'o> Reader<'o> {
+    /// Reads the next option or free word of a command line, and moves `unread` past it.
+    ///
+    /// Returns `None` at the end, and again if it is called again. Then all that was returned is
+    /// what `parse_in_order` returns if it accepts the line.
+    ///
+    /// Returns an error if what is next can't be read: the one that `parse_words` returns for a
+    /// line of which this is left, or `OutOfMemory` if it can't be allocated. `unread` is then
+    /// unchanged. What was returned before remains valid.
+    ///
+    /// Doesn't check how often options occur. If `unread.names` is empty, `unread.words.first()`
+    /// shows, before the call, how an option is typed.
+    #[inline(always)]
+    pub fn next<'w, S: AsStr>(
+        &self,
+        alloc: Global,
+        unread: &mut Unread<'w, S>,
+    ) -> Result<Option<Given<'w>>, Fail>
+        // What was left gives what is returned, and then what is left now gives, or an error.
+        ensures trace { ReturnsConverted
+            (option_map (λ given. (borrowed_given given, left_in S.text unread.new))) result
+            (λ returned. trace self.now (left_in S.text unread.old)
+            ≡ trace_from (trace self.now) returned) }
+
+        // At the end, nothing is left.
+        ensures ended { IfOk result (λ given. IfNone given (left_in S.text unread.new ≡ ended)) }
+
+        // The place is below the number of options, and the value fits the option's kind.
+        ensures declared { IfOk result (λ given. IfSome given (λ given.
+            IsDeclared self.now.groups (borrowed_given given))) }
+
+        // Under `StopAtFirstFree`, a free word and all words that are left are the free words.
+        ensures free_words { self.now.style ≡ StopAtFirstFree → IfOk result (λ given. IfSome given
+            (λ given. EndsInFrees S.text unread.old.words.now (borrowed_given given) unread.new)) }
+
+        // The words that are left are the last of those that were left. There is less, so a loop
+        // ends.
+        ensures less { IfOk result (λ given. IfSome given (λ given.
+            AreLast unread.new.words.now unread.old.words.now
+            × (size_of (left_in S.text unread.new) < size_of (left_in S.text unread.old)))) }
+        ensures unchanged { OnErr result (unread.new ≡ unread.old) }
+    {
+        if unread.free_words.is_none() || !unread.names.is_empty() {
+            let scanner = Scanner {
+                options: self.options,
+                table: &self.table,
+            };
+            if let Some(given) = scanner.next(alloc, unread)? {
+                return Ok(Some(given));
+            }
+            unread.words = free_words(unread.words);
+        }
+        let words = unread.words;
+        match words.split_first() {
+            Some((word, others)) => {
+                unread.free_words = Some(words);
+                unread.words = others;
+                Ok(Some(Given::Free(word.as_str())))
+            }
+            None => {
+                unread.free_words = Some(&[]);
+                Ok(None)
+            }
+        }
+    }
+}
+
+/// What a loop gives of a whole line. This is a lemma for proofs, which does nothing.
+///
+/// It has the options and free words that `parse_in_order` returns, in the same order, and ends at
+/// the same error, except that counts aren't checked. Before an error, it has the options and free
+/// words of the line up to there.
+pub fn traces_are_orders()
+    ensures order { (options : Declared) (line : List Text) → MayBeDeclared options.groups
+        → order_in (trace options (whole line)) ≡ order_or_error options line }
+    ensures before_error { (options : Declared) (line : List Text) (fault : Fault)
+        → MayBeDeclared options.groups → order_or_error options line ≡ Err fault
+        → PrecedeError options line (given_in (trace options (whole line))) fault }
+{}

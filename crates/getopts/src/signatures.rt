@@ -11,9 +11,9 @@ ghost use Rattle.getopts.specs.Stored.Signatures.{signature_view, names_in, sign
 ghost use Rattle.getopts.specs.Stored.Signatures.{HasKeys, ends_of};
 ghost use Rattle.getopts.specs.Stored.Names.{names_at};
 
+use crate::adjacent::{FIRST_TEXT, PairEnds, first_at, push_pair, second_at};
 use crate::kinds::Kinds;
 use crate::names::{key_of, short_byte};
-use crate::pairs::{FIRST_TEXT, PairEnds, first_at, push_pair, second_at};
 use std::alloc::{AllocError, Global};
 use std::marker::Model;
 

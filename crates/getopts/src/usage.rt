@@ -11,10 +11,10 @@ ghost use Rattle.getopts.specs.Wrap.{joined};
 ghost use Rattle.getopts.specs.UsageResults.{usage_in_result, usage_result, usage_rows_in_result, usage_rows_result};
 
 use crate::groups::OptGroup;
+use crate::help::{MARGIN, push_argument, push_joined};
 use crate::kinds::{HasArg, Occur};
 use crate::options::Options;
 use crate::row::{Layout, row_of};
-use crate::texts::{MARGIN, push_argument, push_joined};
 use std::alloc::{AllocError, Global};
 use std::marker::Model;
 use std::vec;

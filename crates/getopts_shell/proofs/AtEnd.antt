@@ -11,7 +11,7 @@ use Rattle.getopts.specs.Matches.{Matched, MatchedGroup, matches_of}
 use Rattle.getopts.specs.Names.{AreTexts, Text, texts}
 use Rattle.getopts.specs.Options.{Declared, Grammar, MayBeDeclared, grammar_of}
 use Rattle.getopts.specs.Reading.{AreWellFollowed, EndsOrIsDashed, IsReading, Item, Reading, Tail, free_items}
-use Rattle.getopts.specs.Reading.{line_end, rest, spelled_all, stop, stop_word}
+use Rattle.getopts.specs.Reading.{no_tail, rest, spelled_all, stop, stop_word}
 use Rattle.getopts.specs.Results.{made_of, parse_ignoring_counts_result, reading_or_error}
 use Rattle.std.proofs.Permutation.{every_append}
 use Rattle.getopts.proofs.MainTheorem.Results.{HasResults-declared}
@@ -47,7 +47,7 @@ followed_other (item ∷ items) xs ys may is = search (rules, ends_other, follow
 
 -- a reading that ends with the line, with the stop
 stop_reads : (grammar : Grammar) (items : List Item) (words : List Text)
-    → IsReading grammar (record { items = items; tail = line_end }) words
+    → IsReading grammar (record { items = items; tail = no_tail }) words
     → IsReading grammar (record { items = items; tail = stop ([] ∷ []) }) (with_stop words)
 stop_reads grammar items words is = record {
   spells = search (rules, spelled_all-append items [] (stop_word ∷ [] ∷ []));
@@ -66,7 +66,7 @@ same_front xs ys a b c same =
 -- such a reading without the stop
 front_reads : (grammar : Grammar) (items : List Item) (words : List Text) (word : Text)
     → IsReading grammar (record { items = items; tail = stop (word ∷ []) }) (with_stop words)
-    → IsReading grammar (record { items = items; tail = line_end }) words
+    → IsReading grammar (record { items = items; tail = no_tail }) words
 front_reads grammar items words word is = record {
   spells = same_front (spelled_all items []) words stop_word word []
       (sym (spelled_all-append items [] (stop_word ∷ word ∷ [])) ∙ is.spells);
@@ -104,13 +104,13 @@ module _ (options : Declared) (declared : MayBeDeclared options.groups) where
     by : (items : List Item) (tail : Tail)
         → Reads options (with_stop words) (record { items = items; tail = tail })
         → groups_after (Ok (matches_of options (record { items = items; tail = tail }))) ≡ None
-    by items line_end is = refl
+    by items no_tail is = refl
     by items (rest words) is = refl
     by items (stop []) is = refl
     by items (stop (word ∷ [])) is =
-        let reads = read_as words (record { items = items; tail = line_end }) are
+        let reads = read_as words (record { items = items; tail = no_tail }) are
         (front_reads (grammar_of options) items words word is) in
-        let both : Some (matches_of options (record { items = items; tail = line_end })).groups
+        let both : Some (matches_of options (record { items = items; tail = no_tail })).groups
         ≡ None = sym (ap (groups_at_end options) reads) ∙ unread in absurd cc
     by items (stop (word ∷ other ∷ more)) is =
         rw (more_after items (word ∷ other ∷ more) (omega arith)) refl
@@ -131,7 +131,7 @@ module _ (options : Declared) (declared : MayBeDeclared options.groups) where
         → Reads options words (record { items = items; tail = tail })
         → groups_after (parse_ignoring_counts_result options (with_stop words))
         ≡ groups_at_end options (Ok (record { items = items; tail = tail }))
-    by_tail items line_end is reads =
+    by_tail items no_tail is reads =
         let one : length (free_items items ++ [] ∷ []) - length (free_items items) ≡ 1 =
         omega (arith, length-append (free_items items) ([] ∷ [])) in
         ap (λ (result : Result Reading Fault).

@@ -9,7 +9,7 @@ use Rattle.getopts.specs.Fail.{Fault}
 use Rattle.getopts.specs.Matches.{MatchedGroup, matches_of}
 use Rattle.getopts.specs.Names.{Text, is_empty, main_name}
 use Rattle.getopts.specs.Options.{Declared}
-use Rattle.getopts.specs.Reading.{Reading, Tail, line_end}
+use Rattle.getopts.specs.Reading.{Reading, Tail, no_tail}
 use Rattle.getopts.specs.Results.{reading_or_error}
 use Rattle.getopts.specs.declared.kinds.HasArg.{HasArg}
 use Rattle.getopts.specs.declared.kinds.HasArg.TheVariants.{No}
@@ -22,14 +22,14 @@ use Rattle.getopts_shell.specs.declared.row.Frequency.TheVariants.{Once}
 -- ---- which options may follow
 
 -- whether a tail is the end of the line
-abbrev pub is_line_end : Tail → Bool
-is_line_end line_end = true
-is_line_end tail = false
+abbrev pub has_no_tail : Tail → Bool
+has_no_tail no_tail = true
+has_no_tail tail = false
 
 -- the groups of a reading that ends with the line, and so neither in a stop nor in a rest
 abbrev pub groups_at_end : Declared → Result Reading Fault → Option (List MatchedGroup)
 groups_at_end options (Ok reading) =
-    if is_line_end reading.tail then Some (matches_of options reading).groups else None
+    if has_no_tail reading.tail then Some (matches_of options reading).groups else None
 groups_at_end options (Err fault) = None
 
 -- the groups of words whose reading ends with the line, so that an option may follow them

@@ -3,8 +3,8 @@
 
 use crate::fallible::*;
 
+use super::adjacent::{FIRST_TEXT, PairEnds, first_at, push_pair, second_at};
 use super::kinds::{HasArg, Kinds, Occur};
-use super::pairs::{FIRST_TEXT, PairEnds, first_at, push_pair, second_at};
 use super::signatures::{FIRST_GROUPS, Signatures};
 use crate::alloc::{AllocError, Global};
 

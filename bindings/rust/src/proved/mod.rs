@@ -19,11 +19,11 @@
 //! measured.
 
 // What a caller declares.
+mod adjacent;
 mod groups;
 mod kinds;
 mod names;
 mod options;
-mod pairs;
 mod signatures;
 
 // Reading a command line.
@@ -39,11 +39,10 @@ mod accessors;
 mod canon;
 pub(crate) mod matches;
 mod parse;
-mod reader;
 
 // Help texts.
+mod help;
 mod row;
-mod texts;
 mod usage;
 pub mod wrap;
 
@@ -54,8 +53,7 @@ pub use matches::Matches;
 pub use names::names_lawful;
 pub use occurrences::{Occurrences, Values};
 pub use options::Options;
-pub use reader::Reader;
-pub use scan::{Given, Unread};
+pub use scan::{Given, Reader, Unread};
 pub use usage::UsageRows;
 
 /// What `parse` returns: the matches of an accepted command line, or why it was rejected.

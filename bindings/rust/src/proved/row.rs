@@ -4,7 +4,7 @@
 use crate::fallible::*;
 
 use super::groups::OptGroup;
-use super::texts::{MARGIN, push_argument, push_joined};
+use super::help::{MARGIN, push_argument, push_joined};
 use super::wrap::each_split_within;
 use crate::alloc::{AllocError, Global};
 use crate::width::UnicodeWidthStr;

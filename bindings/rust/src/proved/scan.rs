@@ -89,9 +89,9 @@ pub struct Unread<'w, S> {
     /// skip them, but to no other text.
     pub names: &'w str,
     /// `None` while options may follow. Otherwise, all of `words` are free words, and this is the
-    /// free word that `next` returned last and those after it, such as a command and its arguments.
-    /// A program may set it to `Some(&[])`, to end the options itself. If `names` isn't empty then,
-    /// its options still come first.
+    /// free word that `next` returned last and those after it, such as a command and its arguments,
+    /// or none at the end. A program may set it to `Some(&[])`, to end the options itself. If
+    /// `names` isn't empty then, its options still come first.
     pub free_words: Option<&'w [S]>,
 }
 
@@ -396,5 +396,83 @@ impl<'o> Scanner<'o> {
         }
         line.end(alloc, unread.words)?;
         Ok(())
+    }
+}
+
+/// Reads command lines by the options from which it was made, one option or free word at a time.
+#[derive(Debug)]
+pub struct Reader<'o> {
+    options: &'o Options,
+    table: Table,
+}
+
+impl Options {
+    /// Returns a reader, which reads any number of command lines by these options.
+    ///
+    /// Use it if what was read decides how to go on: to stop at a subcommand and hand over the
+    /// words after it, to print help before a later word is rejected, or to read a word such as
+    /// `-5` as an operand. Otherwise, `parse_words` and `parse_in_order` are simpler, and they also
+    /// check how often options occur. Fails only if an allocation fails. The Rust crate has no such
+    /// method.
+    ///
+    /// ```text
+    /// let reader = options.reader(alloc)?;
+    /// let mut unread = Unread::new(words);
+    /// while let Some(given) = reader.next(alloc, &mut unread)? {
+    ///     match given {
+    ///         Given::Option { place, value } => ..,
+    ///         Given::Free(word) => ..,
+    ///     }
+    /// }
+    /// ```
+    pub fn reader(&self, alloc: Global) -> Result<Reader<'_>, AllocError> {
+        let table = Table::of(alloc, self.signatures())?;
+        Ok(Reader {
+            options: self,
+            table,
+        })
+    }
+}
+
+impl<'o> Reader<'o> {
+    /// Reads the next option or free word of a command line, and moves `unread` past it.
+    ///
+    /// Returns `None` at the end, and again if it is called again. Then all that was returned is
+    /// what `parse_in_order` returns if it accepts the line.
+    ///
+    /// Returns an error if what is next can't be read: the one that `parse_words` returns for a
+    /// line of which this is left, or `OutOfMemory` if it can't be allocated. `unread` is then
+    /// unchanged. What was returned before remains valid.
+    ///
+    /// Doesn't check how often options occur. If `unread.names` is empty, `unread.words.first()`
+    /// shows, before the call, how an option is typed.
+    #[inline(always)]
+    pub fn next<'w, S: AsStr>(
+        &self,
+        alloc: Global,
+        unread: &mut Unread<'w, S>,
+    ) -> Result<Option<Given<'w>>, Fail> {
+        if unread.free_words.is_none() || !unread.names.is_empty() {
+            let scanner = Scanner {
+                options: self.options,
+                table: &self.table,
+            };
+            if let Some(given) = scanner.next(alloc, unread)? {
+                return Ok(Some(given));
+            }
+            unread.words = free_words(unread.words);
+        }
+        let words = unread.words;
+        match words.split_first() {
+            Some((word, others)) => {
+                unread.free_words = Some(words);
+                unread.words = others;
+                Ok(Some(Given::Free(word.as_str())))
+            }
+            None => {
+                unread.free_words = Some(&[]);
+                Ok(None)
+            }
+        }
     }
 }

@@ -3,9 +3,9 @@
 
 use crate::fallible::*;
 
+use super::adjacent::{FIRST_TEXT, PairEnds, first_at, push_pair, second_at};
 use super::kinds::Kinds;
 use super::names::{key_of, short_byte};
-use super::pairs::{FIRST_TEXT, PairEnds, first_at, push_pair, second_at};
 use crate::alloc::{AllocError, Global};
 
 /// Initial capacity: up to this many groups fit without reallocating.

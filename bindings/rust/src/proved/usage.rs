@@ -4,10 +4,10 @@
 use crate::fallible::*;
 
 use super::groups::OptGroup;
+use super::help::{MARGIN, push_argument, push_joined};
 use super::kinds::{HasArg, Occur};
 use super::options::Options;
 use super::row::{Layout, row_of};
-use super::texts::{MARGIN, push_argument, push_joined};
 use crate::alloc::{AllocError, Global};
 use crate::heap::vec;
 

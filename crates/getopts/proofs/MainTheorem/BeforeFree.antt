@@ -3,7 +3,7 @@ use Rattle.std.proofs.Common.{◌≡◌, List, [], ◌∷◌, ◌++◌, None, re
 use Rattle.std.specs.List.{AllByRecursion}
 use Rattle.getopts.specs.Names.{Text}
 use Rattle.getopts.specs.Options.{Declared, Grammar, MayBeDeclared, grammar_of}
-use Rattle.getopts.specs.Reading.{Item, free, long, cluster, Tail, line_end, stop, rest, Reading, IsLawfulItem}
+use Rattle.getopts.specs.Reading.{Item, free, long, cluster, Tail, no_tail, stop, rest, Reading, IsLawfulItem}
 use Rattle.getopts.specs.Reading.{AreWellFollowed, free_items, spelled_all, stop_word, tail_frees, tail_words}
 use Rattle.getopts.specs.Matches.{Matched}
 use Rattle.getopts.specs.Parse.{Reads, HasReading, IsAccepted, HaveLastWordsFree, Accepts}
@@ -18,7 +18,7 @@ use Rattle.getopts.proofs.Reading.Positions.{HavePositionsBelow-matched}
 -- a tail without its free words
 abbrev cut_tail : Tail → Tail
 cut_tail (stop words) = stop []
-cut_tail tail = line_end
+cut_tail tail = no_tail
 
 -- under `StopAtFirstFree` no item is free
 pub no_free_items : (grammar : Grammar) → grammar.style ≡ StopAtFirstFree → (items : List Item)
@@ -30,7 +30,7 @@ no_free_items grammar style (cluster names end ∷ items) lawful = no_free_items
 
 words_cut : (items : List Item) (tail : Tail)
     → spelled_all items (tail_words tail) ≡ spelled_all items (tail_words (cut_tail tail)) ++ tail_frees tail
-words_cut items line_end = sym (append-nil (spelled_all items []))
+words_cut items no_tail = sym (append-nil (spelled_all items []))
 words_cut items (stop words) = spelled_all-append items (stop_word ∷ []) words
 words_cut items (rest words) = spelled_all-append items [] words
 

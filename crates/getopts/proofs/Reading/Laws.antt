@@ -13,7 +13,7 @@ use Rattle.getopts.specs.Names.{Text}
 use Rattle.getopts.specs.Options.{Signature, Grammar}
 use Rattle.getopts.specs.Reading.{item_words, tail_words, Occurrence, at_position, word_count, ends_in, free_items}
 use Rattle.getopts.specs.Reading.{tail_frees, free_words, begins_with_dash, spelled_all, occurrences_after, Argument}
-use Rattle.getopts.specs.Reading.{IsLawfulEnd, IsLawfulLong, IsLawfulItem, end_text, FitsLong, line_end, IsReading}
+use Rattle.getopts.specs.Reading.{IsLawfulEnd, IsLawfulLong, IsLawfulItem, end_text, FitsLong, no_tail, IsReading}
 use Rattle.getopts.specs.Reading.{Dashes, attached, separate, cluster, FitsEnd, is_bare, Reading, Mention, mentions, End}
 use Rattle.getopts.specs.Reading.{flags, Item, free, long, Tail, stop, rest, EndsOrIsDashed, AreWellFollowed, occurrences_of}
 use Rattle.getopts.specs.Matches.{GroupOccurrence, matched, occurrences_mentioning}
@@ -230,7 +230,7 @@ AreWellFollowed-append (item ∷ next ∷ items) others more last before after =
     search (rules, EndsOrIsDashed-spelled, AreWellFollowed-append (next ∷ items) others more last before.1 after)
 
 -- the concatenation of two readings has the content of both
-HasContentOfBoth-joined : (grammar : Grammar) (first second : Reading) → first.tail ≡ line_end
+HasContentOfBoth-joined : (grammar : Grammar) (first second : Reading) → first.tail ≡ no_tail
     → Spec.HasContentOfBoth grammar first second (Spec.joined_reading first second)
 HasContentOfBoth-joined grammar first second ends =
     search (
@@ -246,7 +246,7 @@ HasContentOfBoth-joined grammar first second ends =
 
 -- a first line read to its end, and the items and the tail of a second, are read together
 IsReading-joined : (grammar : Grammar) (first second : Reading) (words more : List Text)
-    → IsReading grammar first words → first.tail ≡ line_end → Spec.is_last_bare first.items ≡ false
+    → IsReading grammar first words → first.tail ≡ no_tail → Spec.is_last_bare first.items ≡ false
     → IsReading grammar second more → IsReading grammar (Spec.joined_reading first second) (words ++ more)
 IsReading-joined grammar first second words more reads ends last after =
     search (
@@ -293,7 +293,7 @@ all_kept (word ∷ words) = kept word words words (all_kept words)
 
 -- the free words of a tail are among its words
 IsSubsequence-tail : (tail : Tail) → Spec.IsSubsequence (tail_frees tail) (tail_words tail)
-IsSubsequence-tail line_end = ([], refl)
+IsSubsequence-tail no_tail = ([], refl)
 IsSubsequence-tail (stop words) = left_out _ words words (all_kept words)
 IsSubsequence-tail (rest words) = all_kept words
 

@@ -7,7 +7,7 @@ use Rattle.std.specs.Prelude.{MatchResult}
 use Rattle.getopts.specs.Names.{Text, AreTexts}
 use Rattle.getopts.specs.Options.{Grammar}
 use Rattle.getopts.specs.Fail.{Fault}
-use Rattle.getopts.specs.Reading.{Argument, line_end, IsReading, Item, Tail, Reading, argument_words, IsLawfulItem}
+use Rattle.getopts.specs.Reading.{Argument, no_tail, IsReading, Item, Tail, Reading, argument_words, IsLawfulItem}
 use Rattle.getopts.specs.Reading.{EndsOrIsDashed, AreWellFollowed, spelled_all, tail_words, IsLawfulTail, IsScanFault}
 use Rattle.getopts.specs.Results.{made_of}
 use Rattle.getopts.specs.Step.{Step, takes}
@@ -30,7 +30,7 @@ module _ (grammar : Grammar) (word : Text) (more : List Text) where
   read_item item argument said = search (rules, with_items)
 
 -- the end of the line
-pub read_nil : (grammar : Grammar) → read grammar [] ≡ Ok (record { items = []; tail = line_end })
+pub read_nil : (grammar : Grammar) → read grammar [] ≡ Ok (record { items = []; tail = no_tail })
 unfolding read
 read_nil grammar = refl
 

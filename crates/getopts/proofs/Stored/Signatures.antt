@@ -15,12 +15,12 @@ use Rattle.getopts.specs.Options.{Signature, Group, MayBeDeclared, signatures_of
 use Rattle.getopts.specs.Canon.{main_at}
 use Rattle.getopts.specs.Stored.Names.{names_at}
 use Rattle.getopts.specs.Stored.Texts.{IsOfBytes}
-use Rattle.getopts.specs.Stored.Pairs.{pair_at, AreEndsOf, IsPairAt}
+use Rattle.getopts.specs.Stored.Adjacent.{pair_at, AreEndsOf, IsPairAt}
 use Rattle.getopts.specs.Stored.Signatures.{signature_with, names_in, ends_of}
 use Rattle.getopts.specs.Stored.Signatures.{signature_in, AreLawfulSignatures, IsStored, kinds_of}
 use Rattle.getopts.specs.Stored.Groups.{group_with, groups_with, groups_view, HoldGroups}
 use Rattle.getopts.specs.declared.groups.Groups.TheInside.{Inside}
-use Rattle.getopts.specs.declared.pairs.PairEnds.{PairEnds}
+use Rattle.getopts.specs.declared.adjacent.PairEnds.{PairEnds}
 use Rattle.getopts.specs.declared.signatures.SignatureRecord.{SignatureRecord}
 use Rattle.getopts.specs.declared.kinds.Kinds.{Kinds}
 use Rattle.getopts.proofs.Lists.{AllByRecursion-map, AllByRecursion-unmap, AllByRecursion-at, AllByRecursion-follows}

@@ -10,8 +10,8 @@ use Rattle.std.proofs.Math.Seq.{drop-append_seam}
 use Rattle.std.proofs.Math.Utf8.{encode, encodes, scalar, scalars, scalar_cases}
 use Rattle.getopts.specs.Names.{Text}
 use Rattle.getopts.specs.Stored.Texts.{IsOfBytes}
-use Rattle.getopts.specs.Stored.Pairs.{pair_at, AreEndsOf, IsPairAt}
-use Rattle.getopts.specs.declared.pairs.PairEnds.{PairEnds}
+use Rattle.getopts.specs.Stored.Adjacent.{pair_at, AreEndsOf, IsPairAt}
+use Rattle.getopts.specs.declared.adjacent.PairEnds.{PairEnds}
 use Rattle.std.proofs.lemmas.Grind.{common_steps}
 
 -- a text may still be split at a place with more after it

@@ -17,7 +17,7 @@ use Rattle.getopts.specs.Stored.Signatures.{kinds_of, names_in}
 use Rattle.getopts.specs.declared.fail.Fail.{Fail}
 use Rattle.getopts.specs.declared.kinds.Kinds.{Kinds}
 use Rattle.getopts.proofs.Stored.Index.{length-indices_of}
-use Rattle.getopts.proofs.Weaker.{IsOutOfMemoryOr-weaker}
+use Rattle.getopts.proofs.Errors.{IsOutOfMemoryOr-weaker}
 
 -- the number of a group's occurrences, from the index
 pub length-occurrences_mentioning : (count : ℕ) (occurrences : List Occurrence) (i : ℕ) → i < count

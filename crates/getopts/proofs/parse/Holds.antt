@@ -1,7 +1,7 @@
 -- What accepted matches say about the declared names.
-use Rattle.std.proofs.Common.{◌≡◌, ◌<◌, ℕ, zero, suc, true, false, List, [], rules, ◌∷◌, ◌++◌, drop, length, map, slice_get}
+use Rattle.std.proofs.Common.{◌≡◌, ◌<◌, ℕ, zero, suc, true, List, [], rules, ◌∷◌, drop, length, map, slice_get}
 use Rattle.std.proofs.Common.{Option, Some, None, IfSome, IsSome, refl, ap, sym, subst, ◌∙◌, arith, zero-add}
-use Rattle.std.specs.List.{AllByRecursion, flat_map}
+use Rattle.std.specs.List.{AllByRecursion}
 use Rattle.std.specs.Option.{option_and_then, option_map, option_map_or}
 use Rattle.std.proofs.lemmas.Bool.{eqb-true}
 use Rattle.std.proofs.lemmas.Option.{option_and_then_some, same_Some}
@@ -20,17 +20,16 @@ use Rattle.getopts.specs.declared.kinds.Occur.{Occur}
 use Rattle.getopts.specs.declared.kinds.Occur.TheVariants.{Req}
 use Rattle.getopts.proofs.Lists.{AllByRecursion-filter, AllByRecursion-map, AllByRecursion-unmap}
 use Rattle.getopts.proofs.counts.Groups.{AllByRecursion-matched}
-use Rattle.getopts.specs.Reading.{Given, option, free_word, Item, mentions, options_in, order_of_reading, Reading}
-use Rattle.getopts.proofs.Reading.Positions.{options_in-order, options_in-items}
-use Rattle.std.proofs.Permutation.{every_append}
-use Rattle.getopts.proofs.canon.Lines.{FitsGroup, FitsGroup-within, IsFitting-reading, IsGood, IsGood-flags, IsGood-items, IsGood-reading}
+use Rattle.getopts.specs.Reading.{Given, option, free_word, options_in, order_of_reading, Reading}
+use Rattle.getopts.proofs.Reading.Positions.{options_in-order}
+use Rattle.getopts.proofs.canon.Lines.{FitsGroup, FitsGroup-within, IsFitting-reading, IsGood, IsGood-reading}
 use Rattle.getopts.proofs.Stored.Matches.{signatures-matched, occurrences-matched, opt_place-signatures}
 use Rattle.getopts.proofs.Reading.Laws.{TrailingStartIsAfterStop_lem, HavePositionsInOrder-matched}
 use Rattle.getopts.proofs.Reading.Readings.{spelled_all-append}
 use Rattle.getopts.proofs.Stored.Signatures.{names-signatures_of, kind-signatures_of}
 use Rattle.getopts.proofs.table.Names.{resolution_within}
 use Rattle.std.proofs.lemmas.List.{length-map}
-use Rattle.std.proofs.lemmas.Grind.{common_steps, flat_map-append}
+use Rattle.std.proofs.lemmas.Grind.{common_steps}
 
 -- each occurrence has a value or none, as this kind of argument requires
 abbrev HaveValuesFor : HasArg → List GroupOccurrence → Type 0

@@ -12,7 +12,7 @@ use Rattle.getopts.specs.Matches.{matched, matches_of, occurrences_mentioning}
 use Rattle.getopts.specs.Results.{made_of, accepted_reading, reading_or_error, with_counts_kept, unless_fault, written_line}
 use Rattle.getopts.specs.Results.{canonical_result, parse_in_order_result}
 use Rattle.getopts.specs.Stored.Index.{Indexed, count_given, count_in, first_wrong, indices_in, index_of}
-use Rattle.getopts.specs.Stored.Scan.{GivesLine, order_content, reading_if}
+use Rattle.getopts.specs.Scan.{GivesLine, order_content, reading_if}
 use Rattle.getopts.specs.declared.scan.Line.{Line}
 use Rattle.getopts.proofs.counts.Groups.{first_wrong-counts, first_wrong_matched}
 use Rattle.getopts.proofs.Lists.{filter-map}

@@ -4,7 +4,7 @@ use Rattle.getopts.specs.Names.{Text}
 use Rattle.getopts.specs.Options.{Grammar}
 use Rattle.getopts.specs.Reading as Spec
 use Rattle.std.specs.Str.{bytes_eq}
-use Rattle.getopts.specs.Stored.Scan.{AreRead, tail_of}
+use Rattle.getopts.specs.Scan.{AreBeforeWords, tail_of}
 use Rattle.getopts.specs.declared.kinds.ParsingStyle.TheVariants.{StopAtFirstFree}
 
 -- a word that isn't dashed isn't the stop
@@ -30,7 +30,7 @@ tail_words-tail_of (word ∷ after) = search rules
 
 -- items that were read, and a valid tail of the words that are left, are a reading
 pub IsReading-tail : {grammar : Grammar} {line : List Text} {items : List Spec.Item} {words : List Text}
-    → AreRead grammar line items words → Spec.IsLawfulTail grammar (tail_of words)
+    → AreBeforeWords grammar line items words → Spec.IsLawfulTail grammar (tail_of words)
     → Spec.IsReading grammar (record { items = items; tail = tail_of words }) line
 IsReading-tail read lawful = record {
   spells = rw tail_words-tail_of read.spells;

@@ -1,18 +1,16 @@
 -- What is next of a line, by its names and words.
-use Rattle.std.proofs.Common.{◌≡◌, ◌≢◌, ◌==◌, ◌&&◌, ℕ, Bool, true, false, not, List, [], ◌∷◌, ◌∙◌, Option, Some, None}
-use Rattle.std.proofs.Common.{◌++◌, Result, Ok, Err, ap, drop, if◌then◌else◌, length, map, refl, rules}
+use Rattle.std.proofs.Common.{◌≡◌, ◌≢◌, ℕ, false, List, [], ◌∷◌, ◌∙◌, Option, Some}
+use Rattle.std.proofs.Common.{◌++◌, Ok, Err, ap, drop, length, map, refl}
 use Rattle.std.proofs.Math.Seq.{drop-append_seam}
-use Rattle.std.proofs.lemmas.Bool.{and_parts}
 use Rattle.getopts.specs.Names.{Text}
 use Rattle.getopts.specs.Options.{Grammar}
 use Rattle.getopts.specs.Fail.{Fault}
-use Rattle.getopts.specs.Reader.{Left, Next, names_after, next_by_step, next_free, next_name, next_option, next_word}
+use Rattle.getopts.specs.Reader.{Left, names_after, next_by_step, next_free, next_option}
 use Rattle.getopts.specs.Reading as Spec
-use Rattle.getopts.specs.Results.{free_step, step}
-use Rattle.getopts.specs.Stored.Scan.{tail_of}
-use Rattle.getopts.specs.Step.{IsInLongForm, IsShortForm, Step, TakesName, TakesOne, byte_step, chosen_end, chosen_step, cluster_step}
-use Rattle.getopts.specs.Step.{ends, faults, long_step, name_step, takes, takes_flag, takes_last}
-use Rattle.getopts.specs.declared.kinds.HasArg.{HasArg}
+use Rattle.getopts.specs.Results.{free_step}
+use Rattle.getopts.specs.Scan.{tail_of}
+use Rattle.getopts.specs.Step.{IsInLongForm, IsShortForm, Step, TakesName, TakesOne}
+use Rattle.getopts.specs.Step.{faults, long_step, name_step, takes_flag, takes_last}
 use Rattle.getopts.specs.declared.kinds.HasArg.TheVariants.{Maybe, No, Yes}
 use Rattle.getopts.specs.declared.kinds.ParsingStyle.TheVariants.{FloatingFrees}
 use Rattle.getopts.proofs.Reading.Steps as Steps
@@ -116,7 +114,7 @@ module _ (grammar : Grammar) (words : List Text) (frees : Option (List Text)) wh
 -- the end of the line, the stop or the rest is next
 next-end : (grammar : Grammar) (frees : Option (List Text)) (tail : Spec.Tail) → Spec.IsLawfulTail grammar tail
     → next_option grammar [] (Spec.tail_words tail) frees ≡ next_free (Spec.tail_frees tail)
-next-end grammar frees Spec.line_end lawful = refl
+next-end grammar frees Spec.no_tail lawful = refl
 next-end grammar frees (Spec.stop words) lawful = next-stop grammar words frees
 next-end grammar frees (Spec.rest []) lawful = absurd lawful
 next-end grammar frees (Spec.rest (word ∷ words)) lawful = next-plain grammar words frees word lawful.0 ∙ rw lawful.1 refl

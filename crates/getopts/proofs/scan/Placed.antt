@@ -6,24 +6,24 @@ use Rattle.getopts.specs.Names.{Text}
 use Rattle.getopts.specs.Options.{Grammar}
 use Rattle.getopts.specs.Reading as Spec
 use Rattle.getopts.specs.Results.{read}
-use Rattle.getopts.specs.Stored.Scan.{AreReadTo, GivesLine, words_left, HasOneMore, occurrences_at, tail_of}
+use Rattle.getopts.specs.Scan.{AreBefore, GivesLine, words_left, HasOneMore, placed, tail_of}
 use Rattle.getopts.specs.declared.scan.Line.{Line}
 use Rattle.getopts.proofs.Reading.Positions.{frees_in-append, frees_in-items, length-spelled_all}
 use Rattle.getopts.proofs.Reading.Reader.{HasTextNames}
 use Rattle.getopts.proofs.Reading.Readings.{reading_read}
 use Rattle.getopts.proofs.scan.Loop.{IsReading-tail}
-use Rattle.getopts.proofs.scan.Names.{AreRead-between}
+use Rattle.getopts.proofs.scan.One.{AreBeforeWords-between}
 
 -- no more words are left than the line has
 words_left-within : {grammar : Grammar} {whole : List Text} {items : List Spec.Item} (names : Text)
-    (words : List Text) → AreReadTo grammar whole items names words → words_left names words ≤ length whole
+    (words : List Text) → AreBefore grammar whole items names words → words_left names words ≤ length whole
 words_left-within names words read_to = search (rules, length-spelled_all)
 
 -- Items of the line were read. They gave these occurrences and free words.
 pub record SoFar (grammar : Grammar) (found : List Spec.Occurrence) (frees : List Text) (whole : List Text)
     (names : Text) (words : List Text) : Type 0 where
   pub items : List Spec.Item
-  pub read_to : AreReadTo grammar whole items names words
+  pub read_to : AreBefore grammar whole items names words
   pub found_are : found ≡ Spec.occurrences_after 0 grammar items
   pub frees_are : frees ≡ Spec.free_items items
 
@@ -33,7 +33,7 @@ module _ {grammar : Grammar} {found : List Spec.Occurrence} {frees : List Text} 
   pub SoFar-next : {position : ℕ} {given : Spec.Given} {names_new : Text} {words_new : List Text}
       {found_new : List Spec.Occurrence} {frees_new : List Text}
       → HasOneMore grammar whole so_far.items position given names_new words_new
-      → found_new ≡ found ++ occurrences_at position given → frees_new ≡ frees ++ Spec.frees_in (given ∷ [])
+      → found_new ≡ found ++ placed position given → frees_new ≡ frees ++ Spec.frees_in (given ∷ [])
       → SoFar grammar found_new frees_new whole names_new words_new
   SoFar-next {given = given} one found_are frees_are = record {
     items = one.all;
@@ -49,7 +49,7 @@ module _ {grammar : Grammar} {found : List Spec.Occurrence} {frees : List Text} 
       → GivesLine grammar (read grammar whole) line
   GivesLine-ended named none lawful line found_is free_is trailing_is = record {
     reading = record { items = so_far.items; tail = tail_of words };
-    result_is = reading_read grammar named _ whole (IsReading-tail (AreRead-between none so_far.read_to) lawful);
+    result_is = reading_read grammar named _ whole (IsReading-tail (AreBeforeWords-between none so_far.read_to) lawful);
     occurrences = found_is ∙ so_far.found_are;
     free = rw so_far.frees_are at free_is;
     trailing = rw so_far.frees_are at trailing_is;

@@ -4,7 +4,7 @@ use Rattle.std.specs.List.{AllByRecursion}
 use Rattle.std.specs.String.{string_bytes}
 use Rattle.getopts.specs.Names.{Text}
 use Rattle.getopts.specs.Options.{Signature, Group}
-use Rattle.getopts.specs.Stored.Pairs.{pair_at, AreEndsOf}
+use Rattle.getopts.specs.Stored.Adjacent.{pair_at, AreEndsOf}
 use Rattle.getopts.specs.Stored.Signatures.{AreLawfulSignatures}
 use Rattle.getopts.specs.declared.groups.Groups.TheInside.{Inside}
 

@@ -7,9 +7,9 @@ use Rattle.std.specs.String.{string_bytes}
 use Rattle.getopts.specs.Names.{Text, Names, IsLawfullyNamed, is_empty, main_name}
 use Rattle.getopts.specs.Options.{Signature}
 use Rattle.getopts.specs.Stored.Names.{key_of}
-use Rattle.getopts.specs.Stored.Pairs.{pair_at, AreEndsOf}
+use Rattle.getopts.specs.Stored.Adjacent.{pair_at, AreEndsOf}
 use Rattle.getopts.specs.declared.kinds.Kinds.{Kinds}
-use Rattle.getopts.specs.declared.pairs.PairEnds.{PairEnds}
+use Rattle.getopts.specs.declared.adjacent.PairEnds.{PairEnds}
 use Rattle.getopts.specs.declared.signatures.SignatureRecord.{SignatureRecord}
 use Rattle.getopts.specs.declared.signatures.SignatureView.{SignatureView}
 use Rattle.getopts.specs.declared.signatures.Signatures.TheInside.{Inside}

@@ -4,7 +4,7 @@ use Rattle.std.specs.String.{string_bytes}
 use Rattle.getopts.specs.Accessors.{borrowed_given}
 use Rattle.getopts.specs.Reading.{frees_in, options_in}
 use Rattle.getopts.specs.Canon.{canonical_line, canonical_word}
-use Rattle.getopts.specs.Stored.Scan.{order_content}
+use Rattle.getopts.specs.Scan.{order_content}
 use Rattle.getopts.proofs.canon.canonical_line.Given as goal
 
 abbrev pub invariant-loop-given : goal.invariant-loop-given

@@ -4,7 +4,7 @@ use Rattle.std.proofs.lemmas.Option.{slice_get-map, slice_get_read}
 use Rattle.std.specs.Option.{option_map}
 use Rattle.std.specs.String.{string_bytes}
 use Rattle.getopts.specs.Stored.Groups.{group_with}
-use Rattle.getopts.specs.Stored.Pairs.{pair_at, AreEndsOf}
+use Rattle.getopts.specs.Stored.Adjacent.{pair_at, AreEndsOf}
 use Rattle.getopts.specs.Stored.Signatures.{signature_view}
 use Rattle.getopts.proofs.Lists.{AllByRecursion-at}
 use Rattle.getopts.proofs.Stored.Signatures.{signatures_stored, groups_with-at}

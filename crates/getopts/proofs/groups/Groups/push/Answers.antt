@@ -8,9 +8,9 @@ use Rattle.std.specs.List.{AllByRecursion}
 use Rattle.std.specs.String.{string_bytes}
 use Rattle.getopts.specs.Names.{Text}
 use Rattle.getopts.specs.Options.{Signature}
-use Rattle.getopts.specs.Stored.Pairs.{pair_at, AreEndsOf}
+use Rattle.getopts.specs.Stored.Adjacent.{pair_at, AreEndsOf}
 use Rattle.getopts.specs.Stored.Signatures.{signature_with, IsLawfulSignature}
-use Rattle.getopts.specs.declared.pairs.PairEnds.{PairEnds}
+use Rattle.getopts.specs.declared.adjacent.PairEnds.{PairEnds}
 use Rattle.std.proofs.Permutation.{every_append}
 use Rattle.getopts.proofs.Stored.Signatures.{groups_with-push, twos-push}
 use Rattle.getopts.proofs.groups.Groups.push.Goals as goal

@@ -2,7 +2,7 @@
 use Rattle.std.proofs.Common.{rules}
 use Rattle.getopts.proofs.MainTheorem.Counted.{counted_result-kept, counted_result-broken, KeepsCounts-kept}
 use Rattle.getopts.proofs.MainTheorem.Counted.{IsCountFault-broken}
-use Rattle.getopts.proofs.Weaker.{IsOutOfMemoryOr-weaker}
+use Rattle.getopts.proofs.Errors.{IsOutOfMemoryOr-weaker}
 use Rattle.getopts.proofs.matches.Matches.check_counts.Goals as goal
 
 pub returns-clause-result : goal.returns-clause-result

@@ -2,7 +2,7 @@
 use Rattle.std.proofs.Common.{◌∙◌}
 use Rattle.std.proofs.lemmas.Result.{IfOk-weaker, IfErr-weaker, MatchResult-weaker}
 use Rattle.std.proofs.lemmas.Option.{IfSome_then}
-use Rattle.getopts.proofs.Weaker.{IfNone-weaker, IsOutOfMemoryOr-weaker}
+use Rattle.getopts.proofs.Errors.{IfNone-weaker, IsOutOfMemoryOr-weaker}
 use Rattle.getopts.proofs.options.Options.canonical.Goals as goal
 
 pub returns-clause-written : goal.returns-clause-written

@@ -1,9 +1,9 @@
 -- `opt` lends its options to `add_group`, gets them back, and returns them, or gives them up.
-use Rattle.getopts.proofs.Chained.{◌≡◌, ℕ, List, [], ◌∷◌, refl, lit<, MutBor, inl, inr, proved, full_share, id⊢, SProp, emp, Fml, ftrue, flft, fres, fsep, Lfts, fact, fact_i, tables, yes, no, Is, valss, all_Typed, shows, Spells, RattleType, owns, MutRef, mut_vals, makes_shadow, plain, types_at, AllWithin, nothing, heard, peeks, StrRefOf, calls_at, lasts, Lasts, triple_of, framed, AllGo, Stays, walk_of, stay_dropped, Goes-dropped, Goes-spent_ref, ends_at, subst, Body, named, Val, vptr, vstruct, vcons, vnil, Ura, alloc_all, pass_all, free_all, look_at, get, through, sets, lands_as, env, get_tag, get_in, sets_last, ‵, raw, ◌⊛◌, some, later, at_ret, ◌$◌, ◌∵◌, !, qed, done, move, keep, drop, use0, use1, use2, use3, split, join, group, fsplit, fsplit3, pick, await, rewrite, suffices, any_q, Logic, live, vrt, in_variant, agg, whole, enter, of_opd, lit, addr, stop, fld, no_more, and_then, first, exec, returns, switches_on, Ok, Err, OnOk, OnErr, AllocError, UnchangedIfErr, AreLawful, Declared, Options, has_arg_laws, has_arg_row, occur_laws, occur_row, Returned, Added, AddedResult, added_values, unchanged_ok, unchanged_err, text_laws, Str, spells, tells, lawfuls}
-use Rattle.getopts.proofs.Chained.enums
-use Rattle.getopts.proofs.Chained.AE
-use Rattle.getopts.proofs.Chained.has_arg
-use Rattle.getopts.proofs.Chained.occurs
+use Rattle.getopts.proofs.AddingCalls.{◌≡◌, ℕ, List, [], ◌∷◌, refl, lit<, MutBor, inl, inr, proved, full_share, id⊢, SProp, emp, Fml, ftrue, flft, fres, fsep, Lfts, fact, fact_i, tables, yes, no, Is, valss, all_Typed, shows, Spells, RattleType, owns, MutRef, mut_vals, makes_shadow, plain, types_at, AllWithin, nothing, heard, peeks, StrRefOf, calls_at, lasts, Lasts, triple_of, framed, AllGo, Stays, walk_of, stay_dropped, Goes-dropped, Goes-spent_ref, ends_at, subst, Body, named, Val, vptr, vstruct, vcons, vnil, Ura, alloc_all, pass_all, free_all, look_at, get, through, sets, lands_as, env, get_tag, get_in, sets_last, ‵, raw, ◌⊛◌, some, later, at_ret, ◌$◌, ◌∵◌, !, qed, done, move, keep, drop, use0, use1, use2, use3, split, join, group, fsplit, fsplit3, pick, await, rewrite, suffices, any_q, Logic, live, vrt, in_variant, agg, whole, enter, of_opd, lit, addr, stop, fld, no_more, and_then, first, exec, returns, switches_on, Ok, Err, OnOk, OnErr, AllocError, UnchangedIfErr, AreLawful, Declared, Options, has_arg_laws, has_arg_row, occur_laws, occur_row, Returned, Added, AddedResult, added_values, unchanged_ok, unchanged_err, text_laws, Str, spells, tells, lawfuls}
+use Rattle.getopts.proofs.AddingCalls.enums
+use Rattle.getopts.proofs.AddingCalls.AE
+use Rattle.getopts.proofs.AddingCalls.has_arg
+use Rattle.getopts.proofs.AddingCalls.occurs
 use prog.Wp.{Wp, after_seq, at_return}
 use types.Tokens.{lft_new, lft_end}
 use denote.Lend.{lends_again, comes_back, LentAgain}

@@ -1,5 +1,5 @@
 -- `optflag` only calls `opt`, and returns its result.
-use Rattle.getopts.proofs.Chained.{kind_in, occur_in, passes_3, refl}
+use Rattle.getopts.proofs.AddingCalls.{kind_in, occur_in, passes_3, refl}
 use Rattle.getopts.specs.contracts.options.Options.optflag as f
 use Rattle.getopts.proofs.options.Options.optflag.Statement.{statement}
 use Rattle.getopts.proofs.options.Options.optflag.Code as code

@@ -1,5 +1,5 @@
 -- `optflagopt` only calls `opt`, and returns its result.
-use Rattle.getopts.proofs.Chained.{kind_in, occur_in, passes_4, refl}
+use Rattle.getopts.proofs.AddingCalls.{kind_in, occur_in, passes_4, refl}
 use Rattle.getopts.specs.contracts.options.Options.optflagopt as f
 use Rattle.getopts.proofs.options.Options.optflagopt.Statement.{statement}
 use Rattle.getopts.proofs.options.Options.optflagopt.Code as code

@@ -1,5 +1,5 @@
 -- `optopt` only calls `opt`, and returns its result.
-use Rattle.getopts.proofs.Chained.{kind_in, occur_in, passes_4, refl}
+use Rattle.getopts.proofs.AddingCalls.{kind_in, occur_in, passes_4, refl}
 use Rattle.getopts.specs.contracts.options.Options.optopt as f
 use Rattle.getopts.proofs.options.Options.optopt.Statement.{statement}
 use Rattle.getopts.proofs.options.Options.optopt.Code as code

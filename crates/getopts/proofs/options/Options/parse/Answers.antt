@@ -1,7 +1,7 @@
 -- The collected words are those of the iterator.
 use Rattle.std.proofs.Common.{◌∙◌}
 use Rattle.std.proofs.lemmas.Result.{IfOk-weaker, IfErr-weaker, MatchResult-weaker}
-use Rattle.getopts.proofs.Weaker.{IsOutOfMemoryOr-weaker}
+use Rattle.getopts.proofs.Errors.{IsOutOfMemoryOr-weaker}
 use Rattle.getopts.proofs.options.Options.parse.Goals as goal
 
 pub returns-clause-accepted : goal.returns-clause-accepted

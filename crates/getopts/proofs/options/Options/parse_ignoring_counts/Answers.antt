@@ -6,7 +6,7 @@ use Rattle.getopts.proofs.MainTheorem.BeforeFree.{Accepts-accepted}
 use Rattle.getopts.proofs.MainTheorem.Counted.{parse_result-counted, parse_result-unread}
 use Rattle.getopts.proofs.MainTheorem.Results.{is_read, isnt_read}
 use Rattle.getopts.proofs.parse.Holds.{FitOptions-read, FitOptionsAndCounts-accepted, EndsInTrailing-read}
-use Rattle.getopts.proofs.Weaker.{IsOutOfMemoryOr-weaker}
+use Rattle.getopts.proofs.Errors.{IsOutOfMemoryOr-weaker}
 use Rattle.getopts.proofs.options.Options.parse_ignoring_counts.Goals as goal
 
 pub returns-clause-read : goal.returns-clause-read

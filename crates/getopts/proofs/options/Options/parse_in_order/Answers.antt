@@ -15,7 +15,7 @@ use Rattle.getopts.proofs.Lists.{AllByRecursion-unmap}
 use Rattle.getopts.proofs.Traces.{order-whole}
 use Rattle.getopts.proofs.MainTheorem.Results.{HasResults-declared, is_refused}
 use Rattle.getopts.proofs.table.Names.{has_text_names}
-use Rattle.getopts.proofs.Weaker.{IsOutOfMemoryOr-exit, IsOutOfMemoryOr-weaker}
+use Rattle.getopts.proofs.Errors.{IsOutOfMemoryOr-exit, IsOutOfMemoryOr-weaker}
 use Rattle.getopts.proofs.parse.Holds.{IsDeclared-order}
 use Rattle.getopts.proofs.parse.Made.{made_of-err, order-kept, order-broken}
 use Rattle.getopts.proofs.options.Options.parse_in_order.Goals as goal

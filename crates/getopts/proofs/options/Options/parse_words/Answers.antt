@@ -3,7 +3,7 @@ use Rattle.std.proofs.Common.{rules}
 use Rattle.std.proofs.lemmas.Result.{IfOk-weaker, MatchResult-weaker}
 use Rattle.getopts.proofs.MainTheorem.Results.{is_accepted, is_refused}
 use Rattle.getopts.proofs.parse.Holds.{FitOptionsAndCounts-accepted}
-use Rattle.getopts.proofs.Weaker.{IsOutOfMemoryOr-weaker}
+use Rattle.getopts.proofs.Errors.{IsOutOfMemoryOr-weaker}
 use Rattle.getopts.proofs.options.Options.parse_words.Goals as goal
 
 pub returns-clause-accepted : goal.returns-clause-accepted

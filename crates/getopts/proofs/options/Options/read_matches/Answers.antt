@@ -3,11 +3,11 @@ use Rattle.std.proofs.Common.{◌≡◌, ◌∙◌, Err, IfErr, Some, map, rules
 use Rattle.getopts.specs.Fail.{IsOutOfMemoryOr}
 use Rattle.getopts.specs.Options.{grammar_of, signatures_of}
 use Rattle.getopts.specs.Results.{accepted_reading, reading_or_error}
-use Rattle.getopts.specs.Stored.Scan.{GivesLine, reading_if}
+use Rattle.getopts.specs.Scan.{GivesLine, reading_if}
 use Rattle.getopts.proofs.parse.Made.{GivesLine-kept, made_of-matches, with_counts_kept-line, reading_if-fault}
 use Rattle.getopts.proofs.parse.Parsed.{keeps_laws}
 use Rattle.getopts.proofs.Stored.Signatures.{names-signatures_of}
-use Rattle.getopts.proofs.Weaker.{IsOutOfMemoryOr-exit}
+use Rattle.getopts.proofs.Errors.{IsOutOfMemoryOr-exit}
 use Rattle.getopts.proofs.options.Options.read_matches.Goals as goal
 use Rattle.getopts.proofs.options.Options.read_matches.Goals.{then-counted+in_ok-check_counts, else-counted}
 

@@ -1,9 +1,9 @@
 -- The name in long form gives an option with its argument, or an error.
 use Rattle.std.proofs.Common.{◌≡◌, Some, map, rules}
 use Rattle.std.specs.Option.{option_copied}
-use Rattle.getopts.specs.Stored.Scan.{scanner_grammar}
+use Rattle.getopts.specs.Scan.{scanner_grammar}
 use Rattle.getopts.proofs.Stored.Signatures.{names-signatures_of}
-use Rattle.getopts.proofs.Weaker.{IsOutOfMemoryOr-one, IsOutOfMemoryOr-weaker, IfErr-exit}
+use Rattle.getopts.proofs.Errors.{IsOutOfMemoryOr-one, IsOutOfMemoryOr-weaker, IfErr-exit}
 use Rattle.getopts.proofs.scan.Items as Items
 use Rattle.getopts.proofs.scan.Scanner.long.Goals as goal
 use Rattle.getopts.proofs.scan.Scanner.long.Goals.{In-Some}

@@ -1,14 +1,13 @@
 -- The next word is free, in long form or in short form, or ends the items.
 use Rattle.std.proofs.Common.{◌≡◌, ◌≢◌, [], refl, sym, ◌∙◌, rules}
 use Rattle.std.proofs.lemmas.List.{nil_from_length}
-use Rattle.getopts.specs.Stored.Scan.{scanner_grammar}
+use Rattle.getopts.specs.Scan.{scanner_grammar}
 use Rattle.getopts.specs.declared.kinds.ParsingStyle.TheVariants.{FloatingFrees, StopAtFirstFree}
-use Rattle.getopts.proofs.InLoops.{last_after, last_trans}
-use Rattle.getopts.proofs.Weaker.{IsOutOfMemoryOr-exit}
+use Rattle.getopts.proofs.Last.{last_after, last_trans}
+use Rattle.getopts.proofs.Errors.{IsOutOfMemoryOr-exit}
 use Rattle.getopts.proofs.scan.Loop.{IsLawfulTail-rest, IsLawfulTail-stop}
-use Rattle.getopts.proofs.scan.Names as Names
+use Rattle.getopts.proofs.scan.One as Names
 use Rattle.getopts.proofs.scan.Next.{next-error, next-free, next-long, next-long_error, next-name, next-one, next-short}
-use Rattle.getopts.proofs.table.Names.{has_text_names}
 use Rattle.getopts.proofs.scan.Scanner.next.Goals as goal
 
 pub returns-in-None-clause-tail : goal.returns-in-None-clause-tail

@@ -1,10 +1,10 @@
 -- Each iteration adds an option or a free word, and each exit leaves the words after the items.
-use Rattle.std.proofs.Common.{◌≡◌, ◌∙◌, ◌+◌, ◌-◌, [], length, map, rules, arith, None, append-nil, refl}
+use Rattle.std.proofs.Common.{◌≡◌, ◌∙◌, ◌-◌, [], length, map, rules, arith, None, append-nil, refl}
 use Rattle.std.proofs.lemmas.List.{length-map}
 use Rattle.getopts.specs.Reader.{left_in}
-use Rattle.getopts.specs.Stored.Scan.{between_words, words_left}
-use Rattle.getopts.proofs.Weaker.{IsOutOfMemoryOr-exit}
-use Rattle.getopts.proofs.scan.Names.{said}
+use Rattle.getopts.specs.Scan.{between_words, words_left}
+use Rattle.getopts.proofs.Errors.{IsOutOfMemoryOr-exit}
+use Rattle.getopts.proofs.scan.One.{said}
 use Rattle.getopts.proofs.scan.Placed as Placed
 use Rattle.getopts.proofs.table.Names.{has_text_names}
 use Rattle.getopts.proofs.scan.Scanner.scan.Goals as goal

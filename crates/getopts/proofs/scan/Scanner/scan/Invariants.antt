@@ -2,7 +2,7 @@
 use Rattle.std.proofs.Common.{◌≡◌, ◌+◌, None, length, map}
 use Rattle.std.specs.String.{string_bytes}
 use Rattle.getopts.specs.Reader.{left_in, size_of}
-use Rattle.getopts.specs.Stored.Scan.{scanner_grammar, words_left}
+use Rattle.getopts.specs.Scan.{scanner_grammar, words_left}
 use Rattle.getopts.proofs.scan.Placed.{SoFar}
 use Rattle.getopts.proofs.scan.Scanner.scan.Given as goal
 

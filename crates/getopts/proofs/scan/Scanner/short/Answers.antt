@@ -3,9 +3,9 @@ use Rattle.std.proofs.Common.{◌≡◌, ◌<◌, ◌≤◌, slice_index, sym, �
 use Rattle.std.proofs.lemmas.Str.{IsCharBoundary-after_ascii}
 use Rattle.getopts.specs.Fail.{unrecognized_option}
 use Rattle.getopts.specs.Step.{faults}
-use Rattle.getopts.specs.Stored.Scan.{scanner_grammar}
-use Rattle.getopts.proofs.Weaker.{IsOutOfMemoryOr-one}
-use Rattle.getopts.proofs.scan.Names as Names
+use Rattle.getopts.specs.Scan.{scanner_grammar}
+use Rattle.getopts.proofs.Errors.{IsOutOfMemoryOr-one}
+use Rattle.getopts.proofs.scan.One as Names
 use Rattle.getopts.proofs.table.Names.{wide_unknown}
 use Rattle.getopts.proofs.scan.Scanner.short.Goals as goal
 

@@ -2,7 +2,7 @@
 
 ghost use Rattle.std.specs.Prelude.{◌≡◌, ◌++◌, ◌+◌, ◌≤◌, length};
 ghost use Rattle.std.specs.String.{string_bytes, string_len, string_capacity};
-ghost use Rattle.getopts.specs.Stored.Pairs.{AreEndsOf, IsPairAt, pair_at};
+ghost use Rattle.getopts.specs.Stored.Adjacent.{AreEndsOf, IsPairAt, pair_at};
 
 /// Initial capacity for a text that all groups share, in bytes.
 pub(crate) const FIRST_TEXT: usize = 1024;

@@ -11,7 +11,7 @@ use Rattle.getopts.specs.Canon.{Content}
 use Rattle.getopts.specs.Fail.{Fault}
 use Rattle.getopts.specs.Reading.{Dashes, is_dashed, stop_word, Reading}
 use Rattle.getopts.specs.Reading.{occurrences_of, free_words, trailing_start}
-use Rattle.getopts.specs.Reading.{Occurrence, occurrences_after, Item, cluster, flags, Tail, line_end, stop, rest}
+use Rattle.getopts.specs.Reading.{Occurrence, occurrences_after, Item, cluster, flags, Tail, no_tail, stop, rest}
 use Rattle.getopts.specs.Reading.{IsLawfulItem, AreWellFollowed, HasAfterFlags, spelled_all}
 use Rattle.getopts.specs.Reading.{Given, options_in, frees_in, order_of_items, at_position}
 use Rattle.getopts.specs.Reader.{words_size}
@@ -55,7 +55,7 @@ pub record GivesLine (grammar : Grammar) (result : Result Reading Fault) (line :
 
 -- a tail of these words: free words, or a stop and free words
 abbrev pub tail_of : List Text → Tail
-tail_of [] = line_end
+tail_of [] = no_tail
 tail_of (word ∷ after) = if bytes_eq word stop_word then stop after else rest (word ∷ after)
 
 -- the content of an order
@@ -63,36 +63,36 @@ abbrev pub order_content : List Given → Content
 order_content order = record { mentions = options_in order; free = frees_in order }
 
 -- the occurrence of an option at a position; a free word has none
-abbrev pub occurrences_at : ℕ → Given → List Occurrence
-occurrences_at position given = map (at_position position) (options_in (given ∷ []))
+abbrev pub placed : ℕ → Given → List Occurrence
+placed position given = map (at_position position) (options_in (given ∷ []))
 
 -- These items begin the line, and these words are left.
-pub record AreRead (grammar : Grammar) (line : List Text) (items : List Item) (words : List Text)
+pub record AreBeforeWords (grammar : Grammar) (line : List Text) (items : List Item) (words : List Text)
     : Type 0 where
   pub spells : spelled_all items words ≡ line
   pub lawful : AllByRecursion (IsLawfulItem grammar) items
   pub followed : AreWellFollowed items words
 
 -- These items begin the line, and these names and words are left.
-pub data AreReadTo (grammar : Grammar) (line : List Text) (items : List Item) (names : Text)
+pub data AreBefore (grammar : Grammar) (line : List Text) (items : List Item) (names : Text)
     (words : List Text) : Type 0 where
-  between_words : names ≡ [] → AreRead grammar line items words
-      → AreReadTo grammar line items names words
+  between_words : names ≡ [] → AreBeforeWords grammar line items words
+      → AreBefore grammar line items names words
   -- flags precede the names in their word, and the last item has these flags
   within_word : (before : List Item) (word : Text) → names ≢ []
       → (has : HasAfterFlags grammar word names) → has.bytes ≢ []
-      → items ≡ before ++ cluster has.bytes flags ∷ [] → AreRead grammar line before (word ∷ words)
-      → AreReadTo grammar line items names words
+      → items ≡ before ++ cluster has.bytes flags ∷ [] → AreBeforeWords grammar line before (word ∷ words)
+      → AreBefore grammar line items names words
 
 -- After these items, an option or a free word was read, in a word at this position.
 pub record HasOneMore (grammar : Grammar) (line : List Text) (items : List Item) (position : ℕ)
     (given : Given) (names : Text) (words : List Text) : Type 0 where
   pub all : List Item
   -- these names and words are left
-  pub read : AreReadTo grammar line all names words
+  pub read : AreBefore grammar line all names words
   pub order : order_of_items grammar all ≡ order_of_items grammar items ++ given ∷ []
   pub occurrences : occurrences_after 0 grammar all
-      ≡ occurrences_after 0 grammar items ++ occurrences_at position given
+      ≡ occurrences_after 0 grammar items ++ placed position given
 
 -- the number of words left, and one more if names of a cluster are left
 abbrev pub words_left : {S : Type 0} → Text → List S → ℕ
@@ -100,8 +100,8 @@ words_left [] words = length words
 words_left (byte ∷ names) words = 1 + length words
 
 -- An option or a free word was read, after which these names and words are left.
-pub record ReadsOne (grammar : Grammar) (names : Text) (words : List Text) (names_new : Text)
+pub record GivesOne (grammar : Grammar) (names : Text) (words : List Text) (names_new : Text)
     (words_new : List Text) (given : Given) : Type 0 where
-  pub reads : (line : List Text) (items : List Item) → AreReadTo grammar line items names words
+  pub reads : (line : List Text) (items : List Item) → AreBefore grammar line items names words
       → HasOneMore grammar line items (length line - words_left names words) given names_new words_new
   pub less : length names_new + words_size words_new < length names + words_size words

@@ -1,7 +1,7 @@
 -- The texts so far were appended.
 use Rattle.std.proofs.Common.{map, string_bytes, take}
 use Rattle.getopts.proofs.Joined.{JoinedSoFar}
-use Rattle.getopts.proofs.texts.push_joined.Given as goal
+use Rattle.getopts.proofs.help.push_joined.Given as goal
 
 abbrev pub invariant-loop-part : goal.invariant-loop-part
 invariant-loop-part l =

@@ -1,21 +1,19 @@
 -- While options may follow, the scanner's steps are the reader's. After that, each word is free.
-use Rattle.std.proofs.Common.{◌≡◌, ◌∙◌, ◌==◌, ◌&&◌, [], None, Some, false, is_some, length, map, option_map, true, refl, rules, sym}
+use Rattle.std.proofs.Common.{◌≡◌, ◌∙◌, ◌==◌, ◌&&◌, [], false, is_some, length, map, true, refl, rules, sym}
 use Rattle.std.proofs.lemmas.List.{nil_from_length}
 use Rattle.std.proofs.lemmas.Result.{err_from_is_err_and}
 use Rattle.getopts.specs.Options.{grammar_of}
 use Rattle.getopts.specs.Reader.{AreLast, left_in, next_free, trace, trace_from}
-use Rattle.getopts.specs.Reading.{tail_frees}
-use Rattle.getopts.specs.Stored.Scan.{tail_of}
-use Rattle.getopts.proofs.InLoops.{last_after, last_all, last_trans}
+use Rattle.getopts.proofs.Last.{last_after, last_all, last_trans}
 use Rattle.getopts.proofs.Reading.Reader.{HasTextNames}
 use Rattle.getopts.proofs.Traces.{BeginsWell, begins_well, trace-frees, trace-option}
-use Rattle.getopts.proofs.Weaker.{IsOutOfMemoryOr-weaker}
-use Rattle.getopts.proofs.scan.Names.{empty_names}
+use Rattle.getopts.proofs.Errors.{IsOutOfMemoryOr-weaker}
+use Rattle.getopts.proofs.scan.One.{empty_names}
 use Rattle.getopts.proofs.scan.Next.{next-tail}
 use Rattle.getopts.proofs.table.Names.{has_text_names}
-use Rattle.getopts.proofs.reader.Reader.next.Goals as goal
-use Rattle.getopts.proofs.reader.Reader.next.Goals.{After-self, After-next, After-split_first}
-use Rattle.getopts.proofs.reader.Reader.next.Given.{Over}
+use Rattle.getopts.proofs.scan.Reader.next.Goals as goal
+use Rattle.getopts.proofs.scan.Reader.next.Goals.{After-self, After-next, After-split_first}
+use Rattle.getopts.proofs.scan.Reader.next.Given.{Over}
 
 named : (g : Over) (c : After-self g) → HasTextNames (grammar_of c.args.self.now)
 named g c = rw (← c.self.view_is) (has_text_names c.self.inside.options.now c.self.invariant.0)

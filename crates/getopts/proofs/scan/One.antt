@@ -1,7 +1,7 @@
 -- A line that is read one option or free word at a time: a name in long form, a name of a cluster,
 -- and a free word.
 use Rattle.std.proofs.Common.{Err, ◌≡◌, ◌≢◌, ◌+◌, ◌-◌, ◌<◌, ◌≤◌, ℕ, List, [], ◌∷◌, ◌++◌, length, rules, drop, refl}
-use Rattle.std.proofs.Common.{◌∙◌, ap, sym, Option, Some, None, arith, ◌==◌, ◌&&◌, not, if◌then◌else◌, Bool, true, false, map, append_assoc, Result, Ok, option_map, slice_get}
+use Rattle.std.proofs.Common.{◌∙◌, ap, sym, Option, Some, None, arith, ◌==◌, ◌&&◌, not, if◌then◌else◌, Bool, true, false, map, append_assoc, Result, Ok}
 use Rattle.std.proofs.lemmas.Bool.{cases_Bool}
 use Rattle.std.specs.Prelude.{⊤}
 use Rattle.std.proofs.Common.{slice_index, slice_range}
@@ -15,20 +15,17 @@ use Rattle.getopts.specs.Fail.{Fault, unrecognized_option}
 use Rattle.getopts.specs.Reading as Spec
 use Rattle.getopts.specs.Reader.{Left, Next, next_by_step, next_free, next_name, next_option, next_word, size_of, words_size}
 use Rattle.getopts.specs.Parse.{IsDeclared}
-use Rattle.getopts.specs.Results.{reading_or_error}
 use Rattle.getopts.specs.Step.{Step, ends, takes, faults, byte_step, name_step, chosen_step, cluster_step, TakesName, takes_last, takes_flag}
-use Rattle.getopts.specs.Step.{chosen_end, first_char, Chooses, long_step, IsInLongForm, IsShortForm}
-use Rattle.getopts.specs.Stored.Scan.{AreRead, AreReadTo, HasOneMore, ReadsOne, between_words, within_word, words_left}
+use Rattle.getopts.specs.Step.{chosen_end, first_char, Chooses, IsShortForm}
+use Rattle.getopts.specs.Scan.{AreBeforeWords, AreBefore, HasOneMore, GivesOne, between_words, within_word, words_left}
 use Rattle.getopts.specs.declared.kinds.HasArg.{HasArg}
 use Rattle.getopts.specs.declared.kinds.HasArg.TheVariants.{Maybe, No, Yes}
-use Rattle.getopts.specs.declared.kinds.ParsingStyle.TheVariants.{StopAtFirstFree}
 use Rattle.getopts.proofs.Lists.{filled-append}
 use Rattle.getopts.proofs.Reading.Reader.{HasTextNames, step, read}
-use Rattle.getopts.proofs.Reading.Readings.{reading_read, read_step, items_read, spelled_all-joined}
+use Rattle.getopts.proofs.Reading.Readings.{read_step, items_read, spelled_all-joined}
 use Rattle.getopts.proofs.Reading.Positions.{order_of_items-append, occurrences_after-append, length-spelled_all}
 use Rattle.getopts.proofs.Reading.Positions.{options_in-append, options_in-options, options_in-given_by}
 use Rattle.getopts.proofs.Reading.Steps as Steps
-use Rattle.getopts.proofs.scan.Loop.{IsReading-tail}
 use Rattle.getopts.proofs.canon.Lines.{FitsGroup-within, FitsKind-long, IsGood-mention}
 
 -- words, and those that are left after an argument
@@ -88,27 +85,27 @@ followed-item (first ∷ items) item left followed end =
     search (rules, spelled_all-joined items (item ∷ []) left, followed-item items item left followed.1 end)
 
 -- one more item
-pub AreRead-item : {grammar : Grammar} {line : List Text} {items : List Spec.Item} {words : List Text} (item : Spec.Item)
-    (left : List Text) → AreRead grammar line items words → Steps.BeginsWith grammar words item left
-    → AreRead grammar line (items ++ item ∷ []) left
-AreRead-item {grammar} {line} {items} item left read_to begins =
+pub AreBeforeWords-item : {grammar : Grammar} {line : List Text} {items : List Spec.Item} {words : List Text} (item : Spec.Item)
+    (left : List Text) → AreBeforeWords grammar line items words → Steps.BeginsWith grammar words item left
+    → AreBeforeWords grammar line (items ++ item ∷ []) left
+AreBeforeWords-item {grammar} {line} {items} item left read_to begins =
     search (rules, spelled_all-joined, every_append, followed-item)
 
 -- between words, no word is half read
-pub AreRead-between : {grammar : Grammar} {line : List Text} {items : List Spec.Item} {names : Text}
-    {words : List Text} → names ≡ [] → AreReadTo grammar line items names words → AreRead grammar line items words
-AreRead-between empty (between_words none read) = read
-AreRead-between empty (within_word before word filled has begun items_are read) = absurd (filled empty)
+pub AreBeforeWords-between : {grammar : Grammar} {line : List Text} {items : List Spec.Item} {names : Text}
+    {words : List Text} → names ≡ [] → AreBefore grammar line items names words → AreBeforeWords grammar line items words
+AreBeforeWords-between empty (between_words none read) = read
+AreBeforeWords-between empty (within_word before word filled has begun items_are read) = absurd (filled empty)
 
 -- one option or free word more, from an item in place of one that gave less
 HasOneMore-item : {grammar : Grammar} {line : List Text} {before items : List Spec.Item} {word : Text}
     {words left : List Text} {names : Text} {position : ℕ} {given : Spec.Given} (item : Spec.Item)
-    (part : List Spec.Given) → AreRead grammar line before (word ∷ words)
+    (part : List Spec.Given) → AreBeforeWords grammar line before (word ∷ words)
     → position ≡ length line - (1 + length words) → Spec.given_by grammar item ≡ part ++ given ∷ []
     → Spec.order_of_items grammar items ≡ Spec.order_of_items grammar before ++ part
     → Spec.occurrences_after 0 grammar items ≡ Spec.occurrences_after 0 grammar before
     ++ map (Spec.at_position (Spec.word_count before)) (Spec.options_in part)
-    → AreReadTo grammar line (before ++ item ∷ []) names left
+    → AreBefore grammar line (before ++ item ∷ []) names left
     → HasOneMore grammar line items position given names left
 HasOneMore-item {grammar} {line} {before} {items} {word} {words} {position = position} {given = given} item part read_to
     position_is gives order occurrences longer =
@@ -129,7 +126,7 @@ record IsInWord (grammar : Grammar) (line : List Text) (items : List Spec.Item) 
   before : List Spec.Item
   word : Text
   has : Spec.HasAfterFlags grammar word names
-  read_to : AreRead grammar line before (word ∷ words)
+  read_to : AreBeforeWords grammar line before (word ∷ words)
   order : Spec.order_of_items grammar items ≡ Spec.order_of_items grammar before
       ++ Spec.given_by grammar (Spec.cluster has.bytes Spec.flags)
   occurrences : Spec.occurrences_after 0 grammar items ≡ Spec.occurrences_after 0 grammar before
@@ -144,7 +141,7 @@ unflagged form =
 
 module _ {grammar : Grammar} {line words : List Text} {items : List Spec.Item} {names : Text} where
   -- after a flag
-  IsInWord-within : names ≢ [] → AreReadTo grammar line items names words → IsInWord grammar line items names words
+  IsInWord-within : names ≢ [] → AreBefore grammar line items names words → IsInWord grammar line items names words
   IsInWord-within filled (between_words none read_to) = absurd (filled none)
   IsInWord-within filled (within_word before word other has begun items_are read_to) = record {
     before = before;
@@ -156,13 +153,13 @@ module _ {grammar : Grammar} {line words : List Text} {items : List Spec.Item} {
   }
 
   -- when a cluster begins
-  IsInWord-begins : {word : Text} → IsShortForm grammar word names → AreReadTo grammar line items [] (word ∷ words)
+  IsInWord-begins : {word : Text} → IsShortForm grammar word names → AreBefore grammar line items [] (word ∷ words)
       → IsInWord grammar line items names words
   IsInWord-begins {word} form read_to = record {
     before = items;
     word = word;
     has = unflagged form;
-    read_to = AreRead-between refl read_to;
+    read_to = AreBeforeWords-between refl read_to;
     order = sym (append-nil _);
     occurrences = sym (append-nil _);
   }
@@ -178,28 +175,28 @@ step-inside {grammar} {word} {byte} {names} more has kind is =
 -- A line, and its words after the one that is being read.
 module _ {grammar : Grammar} (named : HasTextNames grammar) (line words : List Text) where
   -- one more item
-  AreReadTo-item : {before : List Spec.Item} {word : Text} (item : Spec.Item) (argument : Spec.Argument)
-      {left : List Text} → AreRead grammar line before (word ∷ words) → step grammar word words ≡ takes item argument
-      → words ≡ Spec.argument_words argument ++ left → AreReadTo grammar line (before ++ item ∷ []) [] left
-  AreReadTo-item {word = word} item argument {left} read_to is after_is =
+  AreBefore-item : {before : List Spec.Item} {word : Text} (item : Spec.Item) (argument : Spec.Argument)
+      {left : List Text} → AreBeforeWords grammar line before (word ∷ words) → step grammar word words ≡ takes item argument
+      → words ≡ Spec.argument_words argument ++ left → AreBefore grammar line (before ++ item ∷ []) [] left
+  AreBefore-item {word = word} item argument {left} read_to is after_is =
       let sound = rw is at (Steps.step_sound grammar named word words) in
       let same : sound.0 ≡ left = search (
         rules,
         drop-append_seam (Spec.argument_words argument) sound.0,
         drop-append_seam (Spec.argument_words argument) left,
       ) in
-      between_words refl (AreRead-item item left read_to (rw same at sound.2))
+      between_words refl (AreBeforeWords-item item left read_to (rw same at sound.2))
 
   module _ {position : ℕ} (here : position ≡ length line - (1 + length words)) {items : List Spec.Item} where
     -- a word that gives one option or free word
     HasOneMore-word : (word : Text) (item : Spec.Item) (argument : Spec.Argument) {given : Spec.Given} {left : List Text}
         → step grammar word words ≡ takes item argument → words ≡ Spec.argument_words argument ++ left
-        → Spec.given_by grammar item ≡ given ∷ [] → AreReadTo grammar line items [] (word ∷ words)
+        → Spec.given_by grammar item ≡ given ∷ [] → AreBefore grammar line items [] (word ∷ words)
         → HasOneMore grammar line items position given [] left
     HasOneMore-word word item argument is after_is gives read_to =
-        let read = AreRead-between refl read_to in
+        let read = AreBeforeWords-between refl read_to in
         HasOneMore-item item [] read here gives (sym (append-nil _)) (sym (append-nil _))
-        (AreReadTo-item item argument read is after_is)
+        (AreBefore-item item argument read is after_is)
 
     -- a flag in a cluster
     HasOneMore-flag : (byte : ℕ) (names : Text) → Spec.IsFlag grammar byte
@@ -210,11 +207,11 @@ module _ {grammar : Grammar} (named : HasTextNames grammar) (line words : List T
         HasOneMore-item (Spec.cluster (inside.has.bytes ++ byte ∷ []) Spec.flags)
         (Spec.given_by grammar (Spec.cluster inside.has.bytes Spec.flags)) inside.read_to here
         (search (rules, map-append)) inside.order inside.occurrences (more names inside.has) where
-          more : (names : Text) (has : Spec.HasAfterFlags grammar inside.word (byte ∷ names)) → AreReadTo grammar line
+          more : (names : Text) (has : Spec.HasAfterFlags grammar inside.word (byte ∷ names)) → AreBefore grammar line
               (inside.before ++ Spec.cluster (has.bytes ++ byte ∷ []) Spec.flags ∷ []) names words
           more [] has =
               let form = Steps.short_of grammar inside.word (byte ∷ []) has (filled-append has.bytes byte []) in
-              AreReadTo-item (Spec.cluster (has.bytes ++ byte ∷ []) Spec.flags) Spec.none inside.read_to
+              AreBefore-item (Spec.cluster (has.bytes ++ byte ∷ []) Spec.flags) Spec.none inside.read_to
               (Steps.short_step_byte grammar inside.word has.bytes byte [] words (Some No) form has.each flag) refl
           more (c ∷ names) has = within_word inside.before inside.word (λ e. cc e) (record {
             bytes = has.bytes ++ byte ∷ [];
@@ -234,7 +231,7 @@ module _ {grammar : Grammar} (named : HasTextNames grammar) (line words : List T
         let item = Spec.cluster inside.has.bytes (Spec.ends_in byte argument) in
         HasOneMore-item item (Spec.given_by grammar (Spec.cluster inside.has.bytes Spec.flags)) inside.read_to here
         (search (rules, map-append)) inside.order inside.occurrences
-        (AreReadTo-item item argument inside.read_to
+        (AreBefore-item item argument inside.read_to
         (step-inside words inside.has (Some kind) kind_is ∙ Steps.byte_step-end kind inside.has.bytes byte text words _ other
         ∙ ap (chosen_step (λ a. Spec.cluster inside.has.bytes (Spec.ends_in byte a))) chosen_is) after_is)
 
@@ -251,7 +248,7 @@ less word argument left is = omega (arith, ap words_size is, words_size-left (Sp
 
 -- the error of a word is that of the whole line
 line_fault : {grammar : Grammar} → HasTextNames grammar → {line : List Text} {items : List Spec.Item} {word : Text}
-    (words : List Text) {fault : Fault} → AreRead grammar line items (word ∷ words)
+    (words : List Text) {fault : Fault} → AreBeforeWords grammar line items (word ∷ words)
     → step grammar word words ≡ faults fault → read grammar line ≡ Err fault
 line_fault named words read_to is = search (rules, items_read, read_step)
 
@@ -271,12 +268,12 @@ end_chosen Maybe name (byte ∷ text) words argument other is = search rules
 -- an option or free word, which is declared.
 pub data IsNext (options : Declared) (names : Text) (words : List Text) (frees : Option (List Text)) : Next → Type 0 where
   is_error : {fault : Fault} → ((line : List Text) (items : List Spec.Item)
-      → AreReadTo (grammar_of options) line items names words → read (grammar_of options) line ≡ Err fault)
+      → AreBefore (grammar_of options) line items names words → read (grammar_of options) line ≡ Err fault)
       → IsNext options names words frees (Err fault)
   is_tail : (tail : Spec.Tail) → names ≡ [] → Spec.IsLawfulTail (grammar_of options) tail → words ≡ Spec.tail_words tail
       → IsNext options names words frees (next_free (Spec.tail_frees tail))
   is_one : {given : Spec.Given} {names_left : Text} {left : List Text}
-      → ReadsOne (grammar_of options) names words names_left left given → IsDeclared options.groups given
+      → GivesOne (grammar_of options) names words names_left left given → IsDeclared options.groups given
       → IsNext options names words frees
       (Ok (Some (given, record { names = names_left; words = left; free_words = frees })))
 
@@ -293,7 +290,7 @@ module _ (options : Declared) (named : HasTextNames (grammar_of options)) (frees
 
   -- A name of a cluster.
   module _ (byte : ℕ) (names : Text) (words : List Text) {names_old : Text} {words_old : List Text}
-      (inside : (line : List Text) (items : List Spec.Item) → AreReadTo grammar line items names_old words_old
+      (inside : (line : List Text) (items : List Spec.Item) → AreBefore grammar line items names_old words_old
       → IsInWord grammar line items (byte ∷ names) words) (begins : words_left names_old words_old ≡ 1 + length words)
       (less : 1 + length names + words_size words ≤ length names_old + words_size words_old) where
     IsNext-last : (kind : HasArg) → kind ≢ No → grammar.kind (byte ∷ []) ≡ Some kind → (chosen : Result Spec.Argument Fault)
@@ -356,7 +353,7 @@ module _ (options : Declared) (named : HasTextNames (grammar_of options)) (frees
         (next_by_step grammar (record { names = []; words = words; free_words = frees }) taken)
     IsNext-step (ends tail) is =
         let sound = rw is at (Steps.step_sound grammar named word words) in is_tail tail refl sound.0 (sym sound.1)
-    IsNext-step (faults fault) is = is_error (λ line items read_to. line_fault named words (AreRead-between refl read_to) is)
+    IsNext-step (faults fault) is = is_error (λ line items read_to. line_fault named words (AreBeforeWords-between refl read_to) is)
     IsNext-step (takes item argument) is =
         let sound = rw is at (Steps.step_sound grammar named word words) in
         IsNext-item item argument is sound.0 sound.1 sound.2
@@ -382,7 +379,7 @@ module _ (options : Declared) (named : HasTextNames (grammar_of options)) (frees
             (grammar.kind (second ∷ [])) refl
 
   pub next : (names : Text) (words : List Text) → IsNext options names words frees (next_option grammar names words frees)
-  next [] [] = is_tail Spec.line_end refl tt refl
+  next [] [] = is_tail Spec.no_tail refl tt refl
   next [] (word ∷ words) = IsNext-word word words
   next (byte ∷ names) words = IsNext-name byte names words (λ line items. IsInWord-within (λ e. cc e)) refl (omega arith)
       (grammar.kind (byte ∷ [])) refl
@@ -391,14 +388,14 @@ module _ (options : Declared) (named : HasTextNames (grammar_of options)) (frees
 -- or free word more of each line of which this is left, and an error is the error of each.
 abbrev pub Says : Declared → Left → Next → Type 0
 Says options left (Err fault) = (line : List Text) (items : List Spec.Item)
-    → AreReadTo (grammar_of options) line items left.names left.words → read (grammar_of options) line ≡ Err fault
+    → AreBefore (grammar_of options) line items left.names left.words → read (grammar_of options) line ≡ Err fault
 Says options left (Ok None) = ⊤
 Says options left (Ok (Some (given, after))) = IsDeclared options.groups given × (size_of after < size_of left)
-    × (after.free_words ≡ None → ReadsOne (grammar_of options) left.names left.words after.names after.words given)
+    × (after.free_words ≡ None → GivesOne (grammar_of options) left.names left.words after.names after.words given)
 
 pub frees_say : (options : Declared) (left : Left) (tail : Spec.Tail) → left.words ≡ Spec.tail_words tail
     → Says options left (next_free (Spec.tail_frees tail))
-frees_say options left Spec.line_end is = tt
+frees_say options left Spec.no_tail is = tt
 frees_say options left (Spec.stop []) is = tt
 frees_say options left (Spec.stop (word ∷ others)) is = (tt, omega (arith, ap words_size is), λ among. absurd (cc among))
 frees_say options left (Spec.rest []) is = tt

@@ -2,7 +2,7 @@
 use Rattle.std.specs.Prelude.{◌≡◌, ◌≤◌, slice_range}
 use Rattle.std.specs.Str.{IsCharBoundary}
 use Rattle.getopts.specs.Names.{Text}
-use Rattle.getopts.specs.declared.pairs.PairEnds.{PairEnds}
+use Rattle.getopts.specs.declared.adjacent.PairEnds.{PairEnds}
 
 abbrev pub pair_at : Text → PairEnds → Text × Text
 pair_at text e = (slice_range text e.start e.middle, slice_range text e.middle e.end)

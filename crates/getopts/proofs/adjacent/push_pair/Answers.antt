@@ -2,7 +2,7 @@
 use Rattle.std.proofs.Common.{arith}
 use Rattle.std.proofs.lemmas.Grind.{common_steps}
 use Rattle.getopts.proofs.Stored.Texts.{two-added}
-use Rattle.getopts.proofs.pairs.push_pair.Goals as goal
+use Rattle.getopts.proofs.adjacent.push_pair.Goals as goal
 
 pub returns-clause-two : goal.returns-clause-two
 returns-clause-two c =
