@@ -601,7 +601,7 @@ def test_installed_documents(prefix):
 
 
 def test_program_size(prefix, tmp_path):
-    ranges = re.search(r"by (\d+) to\s+(\d+) KB,\s+or\s+by (\d+) to\s+(\d+) KB if you link", PAGE).groups()
+    ranges = re.search(r"by (\d+) to\s+(\d+) KB,\s+or\s+by (\d+) to\s+(\d+) KB\s+if\s+you\s+link", PAGE).groups()
     (tmp_path / "empty.c").write_text("int main(void) { return 0; }\n")
     library = ["-isystem", prefix / "include", prefix / "lib/libgetopts.a"]
 
@@ -956,9 +956,10 @@ def test_rejected_arguments(shell, tmp_path):
 
 @pytest.mark.parametrize("build", builds("gcc", "clang-san"), indirect=True)
 def test_claims_of_page(build):
-    """What the page says of functions, modes and getopt_long is so."""
+    """What the page and getopts.h say of functions, modes and getopt_long is so."""
+    said = " ".join(PAGE.split() + re.sub(r"^ \* ?", "", HEADER, flags=re.M).split())
     for sentence in run(*build(C / "tests/claims.c"))[0].splitlines():
-        assert sentence in " ".join(PAGE.split())
+        assert sentence in said
 
 
 def test_example_that_stops_at_a_word(library, tmp_path):
@@ -979,10 +980,10 @@ def test_example_that_stops_at_a_word(library, tmp_path):
 
 
 def test_page(library, tmp_path):
-    """The page has a whole program, and lists all functions with their results, and all kinds, modes and statuses."""
+    """The page has a whole program, and its tables have all functions, kinds, modes and statuses."""
     need("gcc")
-    listed = re.findall(r"^- `(\w.*\W)(getopts_\w+)\(", PAGE, re.M)
-    assert sorted(listed) == sorted(re.findall(r"^([a-z].*\W)(getopts_\w+)\(", HEADER, re.M)) and len(listed) == len(FUNCTIONS)
+    calls = PAGE.partition("\n| to | call |\n")[2].partition("\n\n")[0]
+    assert sorted(re.findall(r"`(getopts_\w+)`", calls)) == sorted(FUNCTIONS)
     rows = "".join(re.findall(r"^\|.*GETOPTS_.*\n", PAGE.partition("\n## Use\n")[2], re.M))
     constants = re.findall(r"^    (GETOPTS_\w+)\b", HEADER, re.M)
     assert {*re.findall(r"GETOPTS_\w+", rows)} == {it for it in constants if not it.endswith("_MAX")} and len(constants) == 20

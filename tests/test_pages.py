@@ -71,16 +71,6 @@ def listing(texts):
     return "\n".join(["```text", *lines, "```"])
 
 
-def usage_example():
-    """GRAMMAR: a usage text with each kind of row, as the second implementation of the rules prints it."""
-    when = b"colour the output: always, never or, which is usual, only on a terminal"
-    options = Options([Group(b"i", b"input", "yes", "required", b"read this file", b"FILE"),
-                       Group(b"", b"color", "maybe", "optional", when, b"WHEN"),
-                       Group(b"v", b"", "no", "multi", b"say more"),
-                       Group(b"", b"stay-in-the-first-folder", "no", "optional", b"ignore the others")])
-    return f"```text\n{options.usage(b'Usage: x FILE..').decode()}```"
-
-
 def paragraph(text):
     """A text in lines of at most 120 columns."""
     return textwrap.fill(text, 120, break_long_words=False, break_on_hyphens=False)
@@ -112,8 +102,7 @@ def costs():
     """The Rust page: what libraries cost a small program."""
     columns = {"bindings/rust": "`proved-getopts`", "Rust crate": "the original",
                **{name: f"`{name}`" for name in ("lexopt", "pico-args", "clap")}}
-    rows = {"kilobytes": ("adds to a small stripped program", " KB"), "seconds": ("processor time to build", " s"),
-            "packages": ("packages that it depends on", "")}
+    rows = {"kilobytes": ("adds to a small stripped program", " KB"), "seconds": ("processor time to build", " s")}
     return table(["", *columns.values()], *(
         [text, *(f"{cell}{unit}" for cell in measured(bench_py.SMALL, job, *columns))] for job, (text, unit) in rows.items()))
 
@@ -123,23 +112,28 @@ def speed_in_c():
     return instructions(["job", *columns], "Instructions per iteration in C", ["small", "typical", "long"], *columns)
 
 
+def cost_in_c():
+    """C page: how many times as many instructions reading words takes as with getopt_long."""
+    def times(job):
+        cells = bench_py.recorded()["Instructions per iteration in C", job]
+        return f"{int(cells['bindings/c']) / int(cells['getopt_long']):.1f}"
+
+    return paragraph(
+        f"On 3 words, `getopts_read` takes {times('small')} times as many instructions as `getopt_long`, and a loop over "
+        f"`getopts_next` {times('order-small')} times; on 1,000 words, {times('long')} and {times('order-long')} times.")
+
+
 def behind():
-    """The jobs on which a library that declares options takes fewer instructions than this one."""
-    rows, compared = [], {"Instructions per iteration": ("bindings/rust", "proved-getopts", "Rust crate"),
-                          "Instructions per iteration in C": ("bindings/c", "bindings/c", "argp")}
-    for (title, job), cells in bench_py.recorded().items():
-        if title in compared and not job.startswith("read-"):
-            column, name, peer = compared[title]
-            mine, theirs = (cells[it].rstrip("*") for it in (column, peer))
-            if "-" not in (mine, theirs) and int(theirs) < int(mine):
-                rows.append([f"`{job}`", f"`{name}`: {int(mine):,}", f"{peer.replace('Rust crate', 'the original')}: {int(theirs):,}",
-                             f"{int(mine) / int(theirs):.2f}"])
-    return table(["job", "ours", "the other", "times as many"], *rows)
+    """The jobs in which a library that prints help from declared options takes fewer instructions than this one."""
+    def jobs(title, column, peer):
+        return [f"`{job}`" for (where, job), cells in bench_py.recorded().items() if where == title and not job.startswith("read-")
+                and "-" not in (cells[column], cells[peer]) and int(cells[peer].rstrip("*")) < int(cells[column].rstrip("*"))]
 
-
-def first_output():
-    """README: what its first command prints."""
-    return f"```text\n{read('crates/getopts_show/stdout')}```"
+    *front, last = jobs("Instructions per iteration in C", "bindings/c", "argp")
+    return paragraph(
+        "Of the libraries that print help from declared options, the original takes fewer instructions than `proved-getopts` in "
+        f"{' and '.join(jobs('Instructions per iteration', 'bindings/rust', 'Rust crate'))}, and argp fewer than `bindings/c` in "
+        f"{', '.join(front)} and {last}.")
 
 
 def code_in(text):
@@ -193,7 +187,7 @@ def variants():
 
 # The clauses that callers cite most.
 CITED = {"Options::parse_words": ["result"], "Options::parse_in_order": ["result"],
-         "Reader::next": ["trace", "ended", "declared", "free_words", "less"],
+         "Reader::next": ["trace", "declared"],
          "Matches::opt_present": ["present"], "Matches::opt_count": ["count"], "Matches::opt_str": ["value"],
          "Matches::opt_strs": ["values"], "Options::usage": ["result"]}
 
@@ -208,8 +202,8 @@ def cited_clauses():
 
 
 # What --fix writes between `<!-- generated: NAME -->` and `<!-- end -->`.
-GENERATED = {make.__name__: make for make in (usage_example, moving, speed, costs, speed_in_c, behind, first_output,
-                                              to_read, calls, variants, cited_clauses)}
+GENERATED = {make.__name__: make for make in (moving, speed, costs, speed_in_c, cost_in_c, behind, to_read, calls, variants,
+                                              cited_clauses)}
 
 
 @pytest.mark.parametrize("page", pages)
@@ -348,8 +342,8 @@ def test_first_command():
 @pytest.mark.rt
 def test_program_in_rattle(tmp_path):
     """README's program in Rattle is a whole crate. It prints what README says, as the one in Rust does in `test_doors`."""
-    (words, printed), = re.findall(r"With `(.*)`, the program\s+prints\s+`(.*)`,", pages["README.md"])
-    assert f" -- {words}\n" in doors()["Rust"][0] and f"{printed}\n" == doors()["Rust"][1]
+    words, printed = printed_by_program()
+    assert f" -- {words}\n" in doors()["Rust"]
     copy = copy_tree(tmp_path / "copy", "crates/getopts")
     (copy / "crates/join/src").mkdir(parents=True)
     (copy / "crates/join/src/main.rt").write_text(rust_blocks("README.md")[0])
@@ -357,11 +351,17 @@ def test_program_in_rattle(tmp_path):
     assert rt_try("join", "--", *words.split(), root=copy)[0] == f"{printed}\n"
 
 
+def printed_by_program():
+    """The words for README's program, and what it prints, as README says."""
+    (words, printed), = re.findall(r"With\s+`(.*)`, the program\s+prints\s+`(.*)`,", pages["README.md"])
+    return words, printed
+
+
 def doors():
-    """For each language, README's commands under *Try it*, and what they print."""
+    """For each language, README's commands under *Try it*."""
     part = pages["README.md"].partition("\n## Try it\n")[2].partition("\n## ")[0]
-    found = re.findall(r"^\*\*(\w+)\.\*\* .*\n(?:\S.*\n)*\n((?: {4}.*\n)+)\n(?:<!-- .*\n)?```text\n((?:[^`].*\n)*)```$", part, re.M)
-    return {language: (textwrap.dedent(commands), printed) for language, commands, printed in found}
+    found = re.findall(r"^\*\*(\w+)\.\*\* .*\n(?:\S.*\n)*\n((?: {4}.*\n)+)", part, re.M)
+    return {language: textwrap.dedent(commands) for language, commands in found}
 
 
 @pytest.mark.xdist_group("Rust")
@@ -373,13 +373,14 @@ def test_doors(language, folder, tmp_path):
         need("ld", "objcopy", "ar")
     else:
         shell_binary()
-    commands, printed = doors()[language]
+    printed = {"Rust": f"{printed_by_program()[1]}\n", "C": pages["README.md"].partition("\n")[0] + "\n",
+               "Shell": "input: a b\noutput: out\nverbose: 2\ncolor: never\nfolders:\nfile: x\n"}[language]
     copy = copy_tree(tmp_path / "clone")
     if offline():
         (tmp_path / "config.toml").write_text('[net]\noffline = true\n[source.crates-io]\nreplace-with = "debian"\n'
                                               f'[source.debian]\ndirectory = "{REGISTRY}"\n')
     env = {"CARGO_HOME": str(tmp_path), "TMPDIR": str(tmp_path)}
-    said, _ = run("bash", "-euc", commands, cwd=copy, env=env)
+    said, _ = run("bash", "-euc", doors()[language], cwd=copy, env=env)
     assert re.sub("^installed in .*\n", "", said) == printed
 
 

@@ -1,4 +1,4 @@
-/* Tests what README.md says of functions and modes, and of getopt_long. Prints the sentences that are true. */
+/* Tests what README.md and getopts.h say of functions and modes, and of getopt_long. Prints the sentences that are true. */
 #define _GNU_SOURCE
 #include <getopt.h>
 #include "../getopts.h"
@@ -149,7 +149,7 @@ static void how_often_options_occur(void) {
     CLAIM("options may be repeated, and the last occurrence counts", GETOPTS_REPEAT,
           "-n1|-r2|-n3|-r4", status == GETOPTS_OK && is(VALUE("n"), "3") && is(VALUE("r"), "4"),
           ROW("n", GETOPTS_YES), ROW("r", GETOPTS_YES + GETOPTS_REQ));
-    CLAIM("in the mode `GETOPTS_REPEAT`, at most 1, unless its kind includes `GETOPTS_MULTI`", GETOPTS_REPEAT, "-vvmmrrbb",
+    CLAIM("`getopts_count` is at most 1, unless the kind includes `GETOPTS_MULTI`", GETOPTS_REPEAT, "-vvmmrrbb",
           COUNT("v") == 1 && COUNT("m") == 2 && COUNT("r") == 1 && COUNT("b") == 2 && is(text, "Usage: it [-v].. [-m].. -r -b"),
           FLAG, ROW("m", GETOPTS_MULTI), ROW("r", GETOPTS_REQ), ROW("b", GETOPTS_REQ + GETOPTS_MULTI));
     CLAIM("`+ GETOPTS_REQ` | must be given once", GETOPTS_ORDINARY, "-rr",
@@ -157,13 +157,13 @@ static void how_often_options_occur(void) {
     CLAIM("or with `GETOPTS_REQ` at least once", GETOPTS_ORDINARY, "-bb",
           status == GETOPTS_OK && COUNT("b") == 2 && read_line(it, "") == GETOPTS_OPTION_MISSING,
           ROW("b", GETOPTS_REQ + GETOPTS_MULTI));
-    CLAIM("the line doesn't show that a required option may be repeated", GETOPTS_ORDINARY, "",
+    CLAIM("It doesn't show that a required option may be repeated.", GETOPTS_ORDINARY, "",
           is(text, "Usage: it [-m].. -r -b"), ROW("m", GETOPTS_MULTI), ROW("r", GETOPTS_REQ), ROW("b", GETOPTS_REQ + GETOPTS_MULTI));
     for (int times = 0; times < 3; times++)
-        CLAIM("the error names the one that comes first in the table.", GETOPTS_ORDINARY, times > 1 ? "-vvb|-cc" : "-vv|-cc",
+        CLAIM("the error is about the first in the table.", GETOPTS_ORDINARY, times > 1 ? "-vvb|-cc" : "-vv|-cc",
               is(getopts_message_name(it), times > 1 ? "v" : "both"),
               { "b", "both", NULL, NULL, GETOPTS_REQ + GETOPTS_MULTI }, FLAG, ROW("c", GETOPTS_NO));
-    CLAIM("the error names the one that comes first in the table.", GETOPTS_ORDINARY, "-vv", is(getopts_message_name(it), "v"),
+    CLAIM("the error is about the first in the table.", GETOPTS_ORDINARY, "-vv", is(getopts_message_name(it), "v"),
           FLAG, ROW("b", GETOPTS_REQ + GETOPTS_MULTI), ROW("r", GETOPTS_REQ));
     CLAIM("Each row then has a count and values of its own", GETOPTS_ORDINARY, "-q|--silent",
           COUNT("quiet") == 1 && COUNT("silent") == 1 && loop_is(it, "0|1"),
@@ -180,36 +180,37 @@ static void errors(void) {
     CLAIM("A loop would print it.", GETOPTS_ORDINARY, "--help|--nope",
           loop_is(it, "0") && getopts_status(it) == GETOPTS_UNRECOGNIZED_OPTION && is(getopts_message_name(it), "nope"),
           { "h", "help", NULL, NULL, GETOPTS_NO });
-    CLAIM("A loop doesn't check how often options are given, so `getopts_read` does it afterwards.", GETOPTS_ORDINARY, "-vv",
+    CLAIM("A loop doesn't check how often options are given, so `getopts_read` does it afterwards", GETOPTS_ORDINARY, "-vv",
           loop_is(it, "0|0") && getopts_status(it) == GETOPTS_OK && read_line(it, "-vv") == GETOPTS_OPTION_DUPLICATED, FLAG);
-    CLAIM("after `-n 1 -n 2`, the count is 2.", GETOPTS_ORDINARY, "-n|1|-n|2|f",
+    CLAIM("The functions below return what was read", GETOPTS_ORDINARY, "-n|1|-n|2|f",
           status == GETOPTS_OPTION_DUPLICATED && COUNT("n") == 2 && number(it, GETOPTS_LAST) == 2 && frees_are(it, "f"),
           ROW("n", GETOPTS_YES));
-    CLAIM("If a word is invalid, they behave as if nothing had been read.", GETOPTS_ORDINARY, "-n|1|f|--nope",
+    CLAIM("The functions below behave as if nothing had been read.", GETOPTS_ORDINARY, "-n|1|f|--nope",
           COUNT("n") == 0 && VALUE("n") == NULL && getopts_free_count(it) == 0, ROW("n", GETOPTS_YES));
-    CLAIM("`table[3]: short name 'v' is also in table[1]: rename one`", GETOPTS_ORDINARY, "", status == GETOPTS_BAD
+    CLAIM("No two rows may share a short name or a long name", GETOPTS_ORDINARY, "", status == GETOPTS_BAD
           && is(getopts_message(it), "table[3]: short name 'v' is also in table[1]: rename one"), ROW("a", GETOPTS_NO), FLAG,
           ROW("b", GETOPTS_NO), FLAG);
-    CLAIM("Two equal long names are a mistake, too", GETOPTS_ORDINARY, "",
+    CLAIM("No two rows may share a short name or a long name", GETOPTS_ORDINARY, "",
           is(getopts_message(it), "table[1]: long name 'out' is also in table[0]: rename one"),
           { "v", "out", NULL, NULL, GETOPTS_NO }, { "o", "out", NULL, NULL, GETOPTS_NO });
-    CLAIM("and so is a hint in a row with `GETOPTS_NO`.", GETOPTS_ORDINARY, "",
+    CLAIM("only options that take an argument have a hint.", GETOPTS_ORDINARY, "",
           status == GETOPTS_BAD && strstr(getopts_message(it), "hint 'H' on an option without argument"),
           { "v", NULL, "H", NULL, GETOPTS_NO });
-    CLAIM("A missing hint isn't, but leaves a gap in the help: `[-n ]`.", GETOPTS_ORDINARY, "", is(text, "Usage: it [-n ]"),
+    CLAIM("has no hint, usage texts have nothing in its place: `[-n ]`.", GETOPTS_ORDINARY, "", is(text, "Usage: it [-n ]"),
           ROW("n", GETOPTS_YES));
     CLAIM("and aborts, unless the table is invalid.", GETOPTS_STRICT, "-v", COUNT("nope") == 0, FLAG, FLAG);
 }
 
 static void results(void) {
-    CLAIM("`010` and `+10` are 10, but `0x10` and ` 10` aren't numbers", GETOPTS_ORDINARY, "-n010|-n+10|-n0x10|-n 10|-n-10",
-          number(it, 0) == 10 && number(it, 1) == 10 && number(it, 2) == -1 && number(it, 3) == -1 && number(it, 4) == -10,
+    CLAIM("consists of digits, perhaps after `+` or `-`, without blanks; `08` is 8.", GETOPTS_ORDINARY, "-n010|-n+10|-n0x10|-n 10|-n-10|-n08",
+          number(it, 0) == 10 && number(it, 1) == 10 && number(it, 2) == -1 && number(it, 3) == -1 && number(it, 4) == -10
+          && number(it, 5) == 8,
           ROW("n", GETOPTS_YES + GETOPTS_MULTI));
-    CLAIM("or if there is no value, so that `number` keeps its default", GETOPTS_ORDINARY, "", number(it, 0) == 42, ROW("n", GETOPTS_YES));
+    CLAIM("If there is no value, or no option of that name (see getopts_defined), keeps *value and returns true.", GETOPTS_ORDINARY, "", number(it, 0) == 42, ROW("n", GETOPTS_YES));
     CLAIM("**Negative numbers** such as `-5` are read as options, unless they are the argument of the option before them.",
           GETOPTS_ORDINARY, "-n|-5", number(it, 0) == -5 && read_line(it, "-5") == GETOPTS_UNRECOGNIZED_OPTION, ROW("n", GETOPTS_YES));
     CLAIM("all words from it on are free words, as they were given.", GETOPTS_STOP, "-v|f|-v|--|f", frees_are(it, "f|-v|--|f"), FLAG);
-    CLAIM("A `--` before it isn't one of them.", GETOPTS_STOP, "-v|--|-v|--", frees_are(it, "-v|--"), FLAG);
+    CLAIM("the first free word ends the options", GETOPTS_STOP, "-v|--|-v|--", frees_are(it, "-v|--"), FLAG);
     CLAIM("getopts_read(other, getopts_free_count(options) - 1, getopts_free_words(options) + 1)", GETOPTS_STOP, "-v|add|-v|x",
           getopts_read(it, getopts_free_count(it) - 1, getopts_free_words(it) + 1) == GETOPTS_OK && COUNT("v") == 1
           && frees_are(it, "x"), FLAG);
