@@ -1,5 +1,5 @@
 -- While options may follow, the scanner's steps are the reader's. After that, each word is free.
-use Rattle.std.proofs.Common.{◌≡◌, ◌∙◌, ◌==◌, ◌&&◌, [], false, is_some, length, map, true, refl, rules, sym}
+use Rattle.std.proofs.Common.{◌≡◌, ◌∙◌, ◌==◌, ◌&&◌, [], false, is_some, length, map, true, ap, refl, rules, sym}
 use Rattle.std.proofs.lemmas.List.{nil_from_length}
 use Rattle.std.proofs.lemmas.Result.{err_from_is_err_and}
 use Rattle.getopts.specs.Options.{grammar_of}
@@ -68,11 +68,11 @@ only_frees g c are_named = elim c.if-is_none.branch [
       let among : (is_some left.free_words && (length left.names == 0)) ≡ false = elim w.then-is_none.branch [
         | goal.then-is_none-via-then-is_none v ↦ search rules
         | goal.then-is_none-via-else-is_none+then-not-is_empty v ↦ search rules
-      ] in (
+      ] in
+      let frees = rw none.1 at w.free_words-unread.ensures.words in (
         rw (w.unread-is, none.1) none.0,
-        rw (w.unread-is, w.free_words-unread.ensures.words, none.1)
-            (trace-option c.args.self.now are_named left among
-            (rw c.self.view_is at (next-tail (grammar_of c.self.inside.options.now) left none.0 tail))),
+        rw w.unread-is (trace-option c.args.self.now are_named left among (rw c.self.view_is
+            at (next-tail (grammar_of c.self.inside.options.now) left none.0 tail) ∙ ap next_free (sym frees))),
       )
   | goal.else-is_none+else-not-is_empty w ↦
       let left = left_in g.S.AsStr.text c.args.unread.now in
