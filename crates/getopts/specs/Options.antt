@@ -1,9 +1,9 @@
 -- What options are: groups in order of declaration, a parsing style and a mode.
-use Rattle.std.specs.Prelude.{ℕ, Bool, List, [], ◌∷◌, ◌++◌, Option, IsSome, map, slice_get}
+use Rattle.std.specs.Prelude.{ℕ, Bool, List, [], ◌∷◌, ◌++◌, Option, IsSome, false, map, slice_get}
 use Rattle.std.specs.List.{AllByRecursion}
-use Rattle.std.specs.Option.{option_and_then, option_map}
+use Rattle.std.specs.Option.{option_and_then, option_map, option_map_or}
 use Rattle.std.specs.Str.{IsUtf8}
-use Rattle.getopts.specs.Names.{Text, Names, IsLawfullyNamed, resolution}
+use Rattle.getopts.specs.Names.{Text, Names, IsLawfullyNamed, is_main, resolution}
 use Rattle.getopts.specs.declared.kinds.HasArg.{HasArg}
 use Rattle.getopts.specs.declared.kinds.Occur.{Occur}
 use Rattle.getopts.specs.declared.kinds.ParsingStyle.{ParsingStyle}
@@ -56,6 +56,11 @@ pub record MayBeDeclared (groups : List Group) : Type 0 where
 
 abbrev pub names_of : List Group → List Names
 names_of groups = map (λ group. group.signature.names) groups
+
+-- whether the option at this place has this main name
+abbrev pub is_named : Declared → ℕ → Text → Bool
+is_named options place name =
+    option_map_or (λ group. is_main name group.signature.names) (slice_get options.groups place) false
 
 abbrev pub signatures_of : List Group → List Signature
 signatures_of groups = map (λ group. group.signature) groups

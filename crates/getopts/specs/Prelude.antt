@@ -1,7 +1,7 @@
 -- The definitions that most callers import, in one module. Types and variants that Rust declares,
 -- such as `HasArg` and `Yes`, have to be imported from their own modules.
 pub use Rattle.getopts.specs.Names.{Text, texts}
-pub use Rattle.getopts.specs.Options.{Declared, Declares, Group, group_of, with_groups}
+pub use Rattle.getopts.specs.Options.{Declared, Declares, Group, group_of, is_named, with_groups}
 pub use Rattle.getopts.specs.Declaring.{optflag, optflagmulti, optflagopt, optmulti, optopt}
 pub use Rattle.getopts.specs.Declaring.{options_of, reqopt}
 pub use Rattle.getopts.specs.Fail.{Fault, IsOutOfMemoryOr, fail_text, fault_of}

@@ -1,7 +1,7 @@
 -- A program that runs another: its options, and what a command line asks for.
-use Rattle.std.specs.Prelude.{◌==◌, ◌++◌, if◌then◌else◌, List, [], ◌∷◌, codes, map, Result, Ok, Err}
+use Rattle.std.specs.Prelude.{◌++◌, if◌then◌else◌, List, [], ◌∷◌, codes, map, Result, Ok, Err}
 use Rattle.getopts.specs.Prelude.{Declared, Fault, Given, Text, borrowed_given, free_word}
-use Rattle.getopts.specs.Prelude.{optflagmulti, option, options_of, optmulti}
+use Rattle.getopts.specs.Prelude.{is_named, optflagmulti, option, options_of, optmulti}
 use Rattle.getopts.specs.Prelude.{Trace, fails, gives, no_more, trace, whole}
 use Rattle.getopts.specs.declared.kinds.ParsingStyle.TheVariants.{StopAtFirstFree}
 use Rattle.getopts_uses.specs.declared.launcher.Launch.{Launch}
@@ -33,7 +33,8 @@ abbrev pub asked_after : List Given → Trace → Result Asked Fault
 asked_after options no_more = Ok (run options [])
 asked_after options (fails fault) = Err fault
 asked_after options (gives (option place value) left more) =
-    if place == 2 then Ok help else asked_after (options ++ option place value ∷ []) more
+    if is_named launch_options place (codes "help") then Ok help
+    else asked_after (options ++ option place value ∷ []) more
 asked_after options (gives (free_word word) left more) =
     Ok (run options (word ∷ left.words))
 

@@ -1,12 +1,12 @@
 -- A linker's command line: its options, and its files and libraries in order.
-use Rattle.std.specs.Prelude.{◌≡◌, ◌==◌, if◌then◌else◌, false, List, [], ◌∷◌, codes, map}
+use Rattle.std.specs.Prelude.{◌≡◌, if◌then◌else◌, false, List, [], ◌∷◌, codes, map}
 use Rattle.std.specs.Prelude.{Option, Some, None, Result, Ok, Err, unwrap_or}
 use Rattle.std.specs.List.{filter_map}
 use Rattle.std.specs.String.{string_bytes}
 use Rattle.std.specs.declared.alloc.Global.{Global}
 use Rattle.std.specs.declared.vec.Vec.{Vec}
 use Rattle.getopts.specs.Prelude.{Declared, Fault, IsOutOfMemoryOr, Text, group_of}
-use Rattle.getopts.specs.Prelude.{Given, option, free_word}
+use Rattle.getopts.specs.Prelude.{Given, is_named, option, free_word}
 use Rattle.getopts.specs.declared.fail.Fail.{Fail}
 use Rattle.getopts.specs.declared.kinds.HasArg.TheVariants.{Yes}
 use Rattle.getopts.specs.declared.kinds.Occur.TheVariants.{Optional, Multi}
@@ -39,7 +39,8 @@ input_view (linked.Library name) = library (string_bytes name)
 -- what is linked for an option or a free word, if anything
 abbrev pub input_of : Given → Option Input
 input_of (free_word word) = Some (file word)
-input_of (option place value) = if place == 0 then Some (library (unwrap_or value [])) else None
+input_of (option place value) = if is_named linker_options place (codes "library")
+    then Some (library (unwrap_or value [])) else None
 
 -- the files and libraries in this order
 abbrev pub inputs_in : List Given → List Input

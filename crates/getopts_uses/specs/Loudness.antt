@@ -1,11 +1,11 @@
 -- Help, a value, and flags of which the last one wins: the options, and what words ask for.
-use Rattle.std.specs.Prelude.{◌≡◌, ◌==◌, ⊤, if◌then◌else◌, false, ℕ, List, [], ◌∷◌, codes, map}
+use Rattle.std.specs.Prelude.{◌≡◌, ⊤, if◌then◌else◌, false, ℕ, List, [], ◌∷◌, codes, map}
 use Rattle.std.specs.Prelude.{Option, Some, None, Result, Ok, Err, unwrap_or}
 use Rattle.std.specs.Option.{option_map}
 use Rattle.std.specs.Result.{result_map_both}
 use Rattle.std.specs.String.{string_bytes}
 use Rattle.getopts.specs.Prelude.{Declared, Fault, IsOutOfMemoryOr, Matched, Text, first_value}
-use Rattle.getopts.specs.Prelude.{group_of, is_present, occurrences_of_name, Given, option, free_word}
+use Rattle.getopts.specs.Prelude.{group_of, is_named, is_present, occurrences_of_name, Given, option, free_word}
 use Rattle.getopts.specs.Prelude.{parse_ignoring_counts_result, parse_result}
 use Rattle.getopts.specs.declared.fail.Fail.{Fail}
 use Rattle.getopts.specs.declared.kinds.HasArg.TheVariants.{No, Yes}
@@ -32,7 +32,8 @@ report_options = record {
 
 -- how much output the option at a place asks for, if any
 abbrev pub loudness_at : ℕ → Option Loudness
-loudness_at place = if place == 0 then Some Quiet else (if place == 1 then Some Verbose else None)
+loudness_at place = if is_named report_options place (codes "quiet") then Some Quiet
+    else (if is_named report_options place (codes "verbose") then Some Verbose else None)
 
 -- how much output an order asks for, if it was `loudness` before: the last of the flags wins
 abbrev pub after : Loudness → List Given → Loudness

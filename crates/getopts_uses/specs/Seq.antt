@@ -4,7 +4,7 @@ use Rattle.std.specs.Prelude.{codes, length, map, Option, None, Result, Ok, Err,
 use Rattle.std.specs.List.{slice_get, slice_index}
 use Rattle.std.specs.Option.{option_copied}
 use Rattle.getopts.specs.Prelude.{Declared, Fault, Left, Text, Trace, fails, free_word, gives, no_more}
-use Rattle.getopts.specs.Prelude.{optflagmulti, option, options_of, optmulti, trace, whole}
+use Rattle.getopts.specs.Prelude.{is_named, optflagmulti, option, options_of, optmulti, trace, whole}
 use Rattle.getopts.specs.declared.kinds.ParsingStyle.TheVariants.{StopAtFirstFree}
 use Rattle.getopts_uses.specs.declared.seq.Seq.{Seq}
 
@@ -46,8 +46,10 @@ asked_view text seq = record {
 
 -- what is asked for after the option at a place, with its value
 abbrev pub with_option : ℕ → Option Text → Asked → Asked
-with_option place value asked = if place == 0 then record asked { format = value }
-    else (if place == 1 then record asked { separator = value } else record asked { equal_width = true })
+with_option place value asked =
+    if is_named seq_options place (codes "format") then record asked { format = value }
+    else (if is_named seq_options place (codes "separator") then record asked { separator = value }
+    else record asked { equal_width = true })
 
 -- what is asked for if a number is next, with the words that are left as operands, or else this
 abbrev pub unless_number : Asked → Left → Result Asked Fault → Result Asked Fault

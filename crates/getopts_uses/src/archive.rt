@@ -16,9 +16,6 @@ pub struct Entry<'w> {
     pub file: &'w str,
 }
 
-/// The place of the option `directory`.
-const DIRECTORY: usize = 0;
-
 /// The folder of later files.
 fn options(alloc: Global) -> Result<Options, AllocError>
     ensures { IfOk result (λ options. options ≡ archive_options) }
@@ -40,11 +37,13 @@ pub fn read_entries<'w, S: AsStr>(alloc: Global, words: &'w [S]) -> Result<Vec<E
     let mut entries = Vec::new(alloc);
     while let Some(given) = reader.next(alloc, &mut unread)? {
         match given {
-            Given::Option {
-                place: DIRECTORY,
-                value,
-            } => folder = value,
-            Given::Option { .. } => unreachable!(),
+            Given::Option { place, value } => match options
+                .get(place)
+                .map(|group| group.long_name)
+            {
+                Some("directory") => folder = value,
+                _ => unreachable!(),
+            },
             Given::Free(file) => entries.push(Entry { folder, file })?,
         }
     }

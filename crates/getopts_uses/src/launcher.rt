@@ -19,15 +19,6 @@ pub struct Launch<'w, S> {
     pub command: &'w [S],
 }
 
-/// The place of the option `unset`.
-const UNSET: usize = 0;
-
-/// The place of the option `ignore`.
-const IGNORE: usize = 1;
-
-/// The place of the option `help`.
-const HELP: usize = 2;
-
 /// Variables to unset, whether to begin without any, and help. Options precede the command.
 fn options(alloc: Global) -> Result<Options, AllocError>
     ensures { IfOk result (λ options. options ≡ launch_options) }
@@ -55,12 +46,11 @@ pub fn read_launch<'w, S: AsStr>(
     let mut read = Vec::new(alloc);
     while let Some(given) = reader.next(alloc, &mut unread)? {
         match given {
-            Given::Option { place: HELP, .. } => return Ok(Request::Help),
-            Given::Option {
-                place: UNSET | IGNORE,
-                ..
-            } => read.push(given)?,
-            Given::Option { .. } => unreachable!(),
+            Given::Option { place, .. } => match options.get(place).map(|group| group.long_name) {
+                Some("help") => return Ok(Request::Help),
+                Some("unset" | "ignore") => read.push(given)?,
+                _ => unreachable!(),
+            },
             Given::Free(_) => {
                 return Ok(Request::Parsed(Launch {
                     options: read,

@@ -98,13 +98,19 @@ fn last_of(order: &[Given<'_>]) -> Loudness
     loudness
 }
 
+/// The place of the option `quiet`.
+const QUIET: usize = 0;
+
+/// The place of the option `verbose`.
+const VERBOSE: usize = 1;
+
 /// How much output the option at a place asks for, if any.
 fn loudness_at(place: usize) -> Option<Loudness>
     ensures { result ≡ loudness_at place }
 {
     match place {
-        0 => Some(Loudness::Quiet),
-        1 => Some(Loudness::Verbose),
+        QUIET => Some(Loudness::Quiet),
+        VERBOSE => Some(Loudness::Verbose),
         _ => None,
     }
 }

@@ -20,15 +20,6 @@ pub struct Seq<'w, S> {
     pub operands: &'w [S],
 }
 
-/// The place of the option `format`.
-const FORMAT: usize = 0;
-
-/// The place of the option `separator`.
-const SEPARATOR: usize = 1;
-
-/// The place of the option `equal-width`.
-const EQUAL_WIDTH: usize = 2;
-
 /// The options. Each may be repeated.
 fn options(alloc: Global) -> Result<Options, AllocError>
     ensures { IfOk result (λ options. options ≡ seq_options) }
@@ -74,7 +65,7 @@ pub fn read_seq<'w, S: AsStr>(alloc: Global, words: &'w [S]) -> Result<Seq<'w, S
     };
     while !is_at_number(&unread) {
         match reader.next(alloc, &mut unread)? {
-            Some(Given::Option { place, value }) => set_option(&mut seq, place, value),
+            Some(Given::Option { place, value }) => set_option(&mut seq, &options, place, value),
             Some(Given::Free(_)) => {
                 seq.operands = unread.free_words.unwrap_or(&[]);
                 return Ok(seq);
@@ -87,16 +78,22 @@ pub fn read_seq<'w, S: AsStr>(alloc: Global, words: &'w [S]) -> Result<Seq<'w, S
 }
 
 /// Notes the option at a place, and its value.
-fn set_option<'w, S: AsStr>(seq: &mut Seq<'w, S>, place: usize, value: Option<&'w str>)
-    requires { place < length seq_options.groups }
+fn set_option<'w, S: AsStr>(
+    seq: &mut Seq<'w, S>,
+    options: &Options,
+    place: usize,
+    value: Option<&'w str>,
+)
+    requires options { options.now ≡ seq_options }
+    requires place { place < length seq_options.groups }
     ensures asked { asked_view S.text seq.new
         ≡ with_option place (option_copied value.entry) (asked_view S.text seq.old) }
     ensures operands { seq.new.operands ≡ seq.old.operands }
 {
-    match place {
-        FORMAT => seq.format = value,
-        SEPARATOR => seq.separator = value,
-        EQUAL_WIDTH => seq.equal_width = true,
+    match options.get(place).map(|group| group.long_name) {
+        Some("format") => seq.format = value,
+        Some("separator") => seq.separator = value,
+        Some("equal-width") => seq.equal_width = true,
         _ => unreachable!(),
     }
 }
